@@ -1,40 +1,73 @@
 #!/usr/bin/env python3
 """Runs every script that the gate does not run, the cheapest first.
 
-    tools/all/run.py [--from NAME] [--without NAME]..
+    tools/all/run.py [--unproved] [--from NAME] [--without NAME]..
 
 Each script has a line with how it ended, its seconds, and its own last line; what a failed one wrote follows. The last
 line is 'N passed, M failed'. The scripts want the built program: `./lanthovur </dev/null` makes it. A script that takes
-longer than its limit fails; it and the processes that it started are ended.
+longer than its limit fails; it and the processes that it started are ended. So does one whose last line is not of its form.
 
-If this machine lacks a program (QEMU, libiscsi, tgt, tshark), most scripts fail with their own words. Three leave out what
-they can't do and go on: door, many_sessions and lasting. Their parts that were left out are counted, and the last line is
+With --unproved the program is the one that `./lanthovur --unproved </dev/null` keeps. The scripts that measure memory or
+speed, and those that prove something, are left out then.
+
+If this machine lacks a program (QEMU, libiscsi, tgt, tshark), most scripts fail with their own words. Four leave out what
+they can't do and go on: door, many_sessions, lasting and nbd. And pages leaves out the blocks that no script can run. Their parts that were left out are counted, and the last line is
 then 'N passed, M failed, S parts skipped': those parts were not seen.
 """
 import argparse
 import os
+import re
 import signal
 import subprocess
 import sys
 import time
+from dataclasses import dataclass
 
 TOP = os.path.dirname(os.path.dirname(os.path.dirname(os.path.abspath(__file__))))
-# The name, the command, how long it took on four cores, in words, and the most minutes that it may take. Least first.
+PROVED = "crates/lanthovur/out/lanthovur"
+UNPROVED = ["crates/lanthovur/out/unproved/lanthovur"]
+# Forms of a last line.
+PASSED = r"[0-9]+ passed, 0 failed(, [0-9]+ skipped)?"
+MEASURED = r".*[0-9].*"
+
+
+@dataclass
+class Script:
+    """A script, below tools/."""
+
+    name: str
+    path: str
+    # How long it took on four cores, in words, and the most minutes that it may take.
+    takes: str
+    minutes: int
+    # The form of its last line.
+    ends: str = PASSED
+    # Its words for a program that was built without proofs, or None if it wants a proved one.
+    unproved: list = None
+
+    def command(self, is_unproved):
+        return [f"tools/{self.path}", *(self.unproved if is_unproved else [])]
+
+
+# The cheapest first.
 SCRIPTS = [
-    ("check_docs", ["tools/check_docs/check_docs.py"], "2 seconds", 2),
-    ("process", ["tools/process/run.py"], "seconds", 5),
-    ("strangers", ["tools/strangers/run.py"], "three minutes", 20),
-    ("door", ["tools/door/run.py"], "a minute", 20),
-    ("captures", ["tools/captures/run.py"], "a minute", 20),
-    ("memory, reads", ["tools/memory/reads.py"], "minutes", 30),
-    ("memory, writes", ["tools/memory/writes.py"], "minutes", 30),
-    ("floods", ["tools/strangers/floods.py"], "a minute", 20),
-    ("many_sessions", ["tools/many_sessions/run.py"], "minutes", 30),
-    ("lasting", ["tools/lasting/run.py"], "minutes", 60),
-    ("refused_memory", ["tools/refused_memory/run.py"], "15 minutes", 90),
-    ("store", ["tools/speed/store.py"], "minutes", 60),
-    ("speed", ["tools/speed/run.py"], "half an hour", 120),
-    ("wrong_bodies", ["tools/wrong_bodies/try"], "hours", 1440),
+    Script("check_docs", "check_docs/check_docs.py", "2 seconds", 2, r"[0-9]+ looked at, 0 not so", []),
+    Script("process", "process/run.py", "seconds", 5, unproved=UNPROVED),
+    Script("strangers", "strangers/run.py", "three minutes", 20, unproved=UNPROVED),
+    Script("door", "door/run.py", "a minute", 20, unproved=[]),
+    Script("pages", "pages/run.py", "two minutes", 30, unproved=[]),
+    Script("captures", "captures/run.py", "a minute", 40, unproved=[]),
+    Script("fields", "fields/run.py", "a minute", 20, unproved=["--program", *UNPROVED]),
+    Script("memory, reads", "memory/reads.py", "minutes", 30, MEASURED),
+    Script("memory, writes", "memory/writes.py", "minutes", 30, MEASURED),
+    Script("floods", "strangers/floods.py", "a minute", 20),
+    Script("many_sessions", "many_sessions/run.py", "minutes", 30, unproved=UNPROVED),
+    Script("lasting", "lasting/run.py", "minutes", 60, unproved=UNPROVED),
+    Script("nbd", "nbd/run.py", "minutes", 60, unproved=UNPROVED),
+    Script("refused_memory", "refused_memory/run.py", "15 minutes", 90, r"0 runs ended wrongly, [0-9]+ seconds", ["--unproved"]),
+    Script("store", "speed/store.py", "minutes", 60, MEASURED),
+    Script("speed", "speed/run.py", "half an hour", 120, MEASURED),
+    Script("wrong_bodies", "wrong_bodies/try", "hours", 1440, r"[0-9]+ well, 0 not"),
 ]
 
 
@@ -51,18 +84,30 @@ def output_of(command, seconds):
         try:
             written, _ = script.communicate(timeout=seconds)
         except subprocess.TimeoutExpired:
-            os.killpg(script.pid, signal.SIGKILL)
-            return script.communicate()[0], f"not done in {seconds / 60:.0f} minutes"
+            return interrupted(script), f"not done in {seconds / 60:g} minutes"
     return written, f"status {script.returncode}" if script.returncode else ""
 
 
-def run(name, command, minutes):
+def interrupted(script):
+    """Ends a script, with half a minute to put its things away, and returns what it wrote."""
+    os.killpg(script.pid, signal.SIGINT)
+    try:
+        return script.communicate(timeout=30)[0]
+    except subprocess.TimeoutExpired:
+        os.killpg(script.pid, signal.SIGKILL)
+        return script.communicate()[0]
+
+
+def run(script, is_unproved):
     """Runs a script, tells how it ended, and returns whether it ended well and how many of its parts it left out."""
     began = time.monotonic()
-    written, fault = output_of(command, 60 * minutes)
+    written, fault = output_of(script.command(is_unproved), 60 * script.minutes)
+    last = last_line(written)
+    if not fault and not re.fullmatch(script.ends, last):
+        fault = "another last line than is due"
     skipped = sum(line.startswith(b"skipped ") for line in written.splitlines())
     how = f"FAILED, {fault}" if fault else f"ok, but {skipped} skipped" if skipped else "ok"
-    print(f"{name}: {how}, {time.monotonic() - began:.0f} s: {last_line(written)}", flush=True)
+    print(f"{script.name}: {how}, {time.monotonic() - began:.0f} s: {last}", flush=True)
     if fault:
         for line in written.decode(errors="replace").splitlines()[-40:]:
             print(f"    {line}", flush=True)
@@ -71,12 +116,20 @@ def run(name, command, minutes):
 
 def main():
     parser = argparse.ArgumentParser(description=__doc__, formatter_class=argparse.RawDescriptionHelpFormatter)
-    names = [row[0] for row in SCRIPTS]
+    names = [script.name for script in SCRIPTS]
+    parser.add_argument("--unproved", action="store_true", help="the program that was built without proofs")
     parser.add_argument("--from", dest="first", choices=names, default=names[0], help="the first script to run")
     parser.add_argument("--without", action="append", choices=names, default=[], help="a script to leave out")
     words = parser.parse_args()
-    chosen = [row for row in SCRIPTS[names.index(words.first):] if row[0] not in words.without]
-    ended = [run(name, command, minutes) for name, command, _, minutes in chosen]
+    # A shell that starts this in the background has it ignore interrupts, and so would the scripts.
+    signal.signal(signal.SIGINT, signal.default_int_handler)
+    chosen = [script for script in SCRIPTS[names.index(words.first):] if script.name not in words.without]
+    program, how = (UNPROVED[0], "--unproved ") if words.unproved else (PROVED, "")
+    if not os.path.isfile(f"{TOP}/{program}"):
+        sys.exit(f"there is no program {program}: `./lanthovur {how}</dev/null` builds it")
+    if words.unproved:
+        chosen = [script for script in chosen if script.unproved is not None]
+    ended = [run(script, words.unproved) for script in chosen]
     passed, skipped = sum(is_well for is_well, _ in ended), sum(parts for _, parts in ended)
     print(f"{passed} passed, {len(ended) - passed} failed" + (f", {skipped} parts skipped" if skipped else ""))
     return 0 if passed == len(ended) else 1

@@ -61,7 +61,7 @@ def run(room):
         command, folder = [program], room
     else:
         data = [word for path in sorted(room.iterdir()) for word in ("--data", f"{path.name}={path}")]
-        command, folder = ["rt", "try", *data], CRATE
+        command, folder = ["rt", "try", "--seconds", "1000", *data], CRATE
     return subprocess.run(command, cwd=folder, capture_output=True, text=True)
 
 

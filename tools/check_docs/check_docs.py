@@ -1,7 +1,7 @@
 #!/usr/bin/env python3
 """Holds documents and wrong bodies against the tree, in two seconds. It proves nothing and is no part of the gate.
 
-    tools/check_docs/check_docs.py
+    tools/check_docs/check_docs.py [--lengths]
 
 It looks at:
 - links of all pages: the file is there, and has the heading;
@@ -14,13 +14,16 @@ It looks at:
 - the figures of docs/TRUST.md: they are those that tools/reach counts;
 - wrong bodies, in the gate and beside it: each old text stands in its file once;
 - src/asserts.rt of the test crates: what several of them have is one text;
-- other helpers that stand in several test crates: each is one text, wherever it stands.
+- other helpers that stand in several test crates: each is one text, wherever it stands;
+- the lengths of sentences and of table cells: those of the pages in PLAIN are within the limits of docs/STYLE.md.
 
-Each fault is a line. The last line is 'N looked at, M not so'; the status is 1 where M is not 0.
+It counts the longer ones of all pages in a line. With --lengths each is told, and there is a count for each page. Each fault is
+a line. The last line is 'N looked at, M not so'; the status is 1 where M is not 0.
 """
 import re
 import subprocess
 import sys
+from fnmatch import fnmatch
 from pathlib import Path
 
 TOP = Path(__file__).resolve().parents[2]
@@ -312,6 +315,69 @@ def check_repeated():
             look(item is not None and item == first, path, f"{name} is not as in {paths[0]}")
 
 
+# ---- lengths
+
+# The most words of a sentence, and of a cell of a table.
+SENTENCE, CELL = 30, 25
+# A participle and its verb, before the subject.
+OPENING = re.compile(r"(Proved|Seen|Tried|Wanted|Trusted|Measured|Kept|Taken|Given|Held|Asked|Written|Chosen) (is|are|was|were)\b")
+# Pages that keep to all of that.
+PLAIN = [
+    "README.md", "CONTRIBUTING.md", "docs/RECIPES.md", "docs/SPEED.md", "docs/STYLE.md", "docs/TESTS.md", "docs/TRUST.md",
+    "docs/GATE.md", "docs/session/README.md", "crates/*/README.md",
+]
+
+
+def words_in(text):
+    """How many words a text has. A list of names between backquotes is one, and a link's address is none."""
+    text = re.sub(r"`[^`]*`", "code", re.sub(r"\]\([^)]*\)", "]", text))
+    text = re.sub(r"\bcode(,? (and )?code\b)+", "code", text)
+    return sum(any(letter.isalnum() for letter in word) for word in text.split())
+
+
+def paragraphs_of(text):
+    """Paragraphs and items of lists, each with the number of its first line; no code, headings or tables."""
+    parts, number = [], 0
+    for number, line in enumerate(without_code(text).split("\n"), 1):
+        begins = re.match(r"\s*([-*]|[0-9]+\.)\s", line)
+        if not line.strip() or line.startswith("#") or line.lstrip().startswith("|"):
+            parts.append(None)
+        elif begins or not parts or parts[-1] is None:
+            parts.append((number, line[begins.end():] if begins else line))
+        else:
+            parts[-1] = parts[-1][0], f"{parts[-1][1]} {line.strip()}"
+    return filter(None, parts)
+
+
+def long_parts(page):
+    """The line, the kind and the words of each sentence and cell of a page that is too long, or begins as none should."""
+    text = page.read_text(encoding="utf8")
+    for number, paragraph in paragraphs_of(text):
+        for sentence in re.split(r"(?<=[.!?])[)*]*\s+(?=[^a-z])", paragraph):
+            if words_in(sentence) > SENTENCE or OPENING.match(sentence):
+                yield number, "sentence", sentence
+    for number, line in enumerate(without_code(text).split("\n"), 1):
+        for cell in cells_of(line.lstrip()) if is_row(line.lstrip()) else []:
+            if words_in(cell) > CELL:
+                yield number, "cell", cell
+
+
+def check_lengths(pages, is_told):
+    """Counts what is too long, by pages. On the pages in PLAIN it is a fault."""
+    total = {"sentence": 0, "cell": 0}
+    for page in pages:
+        name, found = str(page.relative_to(TOP)), list(long_parts(page))
+        counts = {kind: sum(each[1] == kind for each in found) for kind in total}
+        total = {kind: total[kind] + counts[kind] for kind in total}
+        if is_told and found:
+            print(f"{name}: {counts['sentence']} long sentences, {counts['cell']} long cells")
+            for number, kind, text in found:
+                print(f"    {number}: a {kind} of {words_in(text)} words: {text[:90]}")
+        if any(fnmatch(name, plain) for plain in PLAIN):
+            look(not found, name, f"{counts['sentence']} sentences over {SENTENCE} words, {counts['cell']} cells over {CELL}: see --lengths")
+    print(f"{total['sentence']} sentences over {SENTENCE} words, {total['cell']} cells over {CELL}, in {len(pages)} pages")
+
+
 def main():
     pages = [TOP / "README.md", TOP / "CONTRIBUTING.md"]
     for pattern in ("docs/**/*.md", "crates/*/README.md", "crates/*/proofs/README.md", "tools/**/*.md"):
@@ -327,6 +393,7 @@ def main():
     check_edits()
     check_asserts()
     check_repeated()
+    check_lengths(pages, "--lengths" in sys.argv[1:])
     for fault in faults:
         print(fault)
     print(f"{looked_at} looked at, {len(faults)} not so")

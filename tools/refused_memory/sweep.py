@@ -1,10 +1,10 @@
 #!/usr/bin/env python3
 """Refuses each allocation of the built program in turn, and looks at what it answers and has written then.
 
-    tools/refused_memory/sweep.py [PROGRAM]
+    tools/refused_memory/sweep.py [--unproved] [PROGRAM]
 
-PROGRAM is crates/lanthovur/out/lanthovur if none is named; `./lanthovur </dev/null` builds it. One that was built without
-proofs does not do: it has an allocator of its own, which can't be made to refuse from outside.
+PROGRAM is crates/lanthovur/out/lanthovur if none is named; `./lanthovur </dev/null` builds it. With --unproved it is
+crates/lanthovur/out/unproved/lanthovur, which `./lanthovur --unproved </dev/null` builds.
 
 Each run ends as with ample memory, or with status 3, the line `memory`, and less than the output that is due: whole
 PDUs or lines, of `answer` all answers to some first PDUs and to some first tasks of the next one, with `--hex` their
@@ -298,6 +298,17 @@ def sweep(name, words, data, stops=None, run=run):
     return failed
 
 
+def answer_to(peer, data):
+    """What comes at first behind some data, or nothing over a connection that is gone."""
+    try:
+        peer.sendall(data)
+        return peer.recv(4096)
+    except TimeoutError:
+        raise
+    except OSError:
+        return b""
+
+
 def rest_of(peer):
     """What still comes over a connection whose peer is told that no more is sent."""
     came = b""
@@ -340,8 +351,7 @@ def run_company(first, second, fail_at=0):
         if service.stdout.readline() == b"listening\n":
             try:
                 with socket.create_connection(("127.0.0.1", port), timeout=SECONDS) as one:
-                    one.sendall(first[:cut])
-                    came[0] = one.recv(4096)
+                    came[0] = answer_to(one, first[:cut])
                     with socket.create_connection(("127.0.0.1", port), timeout=SECONDS) as other:
                         other.sendall(second)
                         came[1] = rest_of(other)
@@ -418,13 +428,16 @@ def comparisons(session):
     return failed
 
 
-def main(words):
-    """Sweeps the program that is named, or else the proved one."""
+def main(words, is_unproved=False):
+    """Sweeps the program that is named, or else the proved one or the one without proofs."""
     global PROGRAM
+    if is_unproved:
+        PROGRAM = f"{TOP}/crates/lanthovur/out/unproved/lanthovur"
     if words:
         PROGRAM = os.path.abspath(words[0])
     if not os.path.isfile(PROGRAM):
-        sys.exit(f"there is no program {PROGRAM}: `./lanthovur </dev/null` builds it")
+        how = "--unproved " if is_unproved else ""
+        sys.exit(f"there is no program {PROGRAM}: `./lanthovur {how}</dev/null` builds it")
     source = f"{TOP}/tools/refused_memory/refuse.c"
     subprocess.run(["gcc", "-shared", "-fPIC", "-O1", "-o", f"{ROOM}/refuse.so", source], check=True)
     ping = of_hex("crates/lanthovur/stdin")
@@ -466,4 +479,5 @@ def main(words):
 
 
 if __name__ == "__main__":
-    sys.exit(main(sys.argv[1:]) != 0)
+    given = sys.argv[1:]
+    sys.exit(main([word for word in given if word != "--unproved"], "--unproved" in given) != 0)

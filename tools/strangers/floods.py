@@ -1,13 +1,16 @@
 #!/usr/bin/env python3
 """Measures how long one honest peer waits for its reads beside 63 peers that send without a pause.
 
-    tools/strangers/floods.py [--seconds S | --hour] [PROGRAM]
+    tools/strangers/floods.py [--seconds S | --hour] [--kind K].. [PROGRAM]
 
 PROGRAM is crates/lanthovur/out/lanthovur if none is named; `./lanthovur </dev/null` builds it. All is done on 127.0.0.1. The
 honest peer has one read of a block outstanding, of blocks that it wrote before, each with its number in it, and looks at each
-byte of its answer. For each kind of flood a row tells its median and its slowest read in ms, the bound that is wanted, and memory
-and descriptors of the service before and behind. A median over its bound is a failure. The last line is 'N passed, M failed'. It
-takes S seconds (4) a kind, or an hour, and some seconds more. A flood that has sent all its commands logs in anew.
+byte of its answer. For each kind of flood a row tells how many reads it had, its median and its slowest read in ms, the bound
+that is wanted, memory and descriptors of the service at the start and at the end, and the most memory. A kind fails if its median
+is over the bound, if an answer is not as it should be, if a peer is cut, or if there are other descriptors at the end. A flood
+that has sent all its commands logs in anew. Last come 32 equal peers, each with one read outstanding: the line tells the least and
+the most commands of one, and fails if the most are twice the least. --kind takes the kinds whose name begins so. The last line is
+'N passed, M failed'. It takes S seconds (4) a kind, or an hour, and some seconds more.
 """
 import argparse
 import functools
@@ -285,9 +288,10 @@ KINDS = [
 
 
 def look(pid):
-    """Resident KiB and descriptors of the service."""
+    """Resident KiB of the service, the most that they were, and its descriptors."""
     status = open(f"/proc/{pid}/status").read()
-    return int(status.split("VmRSS:")[1].split()[0]), len(os.listdir(f"/proc/{pid}/fd"))
+    now, most = (int(status.split(f"{word}:")[1].split()[0]) for word in ("VmRSS", "VmHWM"))
+    return now, most, len(os.listdir(f"/proc/{pid}/fd"))
 
 
 def main():
@@ -295,19 +299,35 @@ def main():
     lasts = parser.add_mutually_exclusive_group()
     lasts.add_argument("--seconds", type=float, default=4, help="how long each flood lasts (4)")
     lasts.add_argument("--hour", dest="seconds", action="store_const", const=3600, help="each flood lasts an hour")
+    parser.add_argument("--kind", action="append", help="the kinds whose name begins so; all if left out")
     parser.add_argument("program", nargs="?", default=f"{TOP}/crates/lanthovur/out/lanthovur")
     asked = parser.parse_args()
-    failed = 0
-    print("| Flood | Median, ms | Slowest, ms | Bound, ms | KiB before, behind | Descriptors before, behind |")
-    print("|---|---|---|---|---|---|")
-    for name, *kind in KINDS:
-        failed += not is_met(os.path.abspath(asked.program), asked.seconds, name, *kind)
-    print(f"{len(KINDS) - failed} passed, {failed} failed")
+    def is_chosen(name):
+        return not asked.kind or any(name.startswith(begin) for begin in asked.kind)
+
+    chosen = [row for row in KINDS if is_chosen(row[0])]
+    if not chosen and not is_chosen(EQUAL):
+        sys.exit("there is no such kind; there are: " + "; ".join([*(row[0] for row in KINDS), EQUAL]))
+    program, failed = os.path.abspath(asked.program), 0
+    print("| Flood | Reads | Median, ms | Slowest, ms | Bound, ms | KiB at the start, the end, the most | Descriptors at the start, the end |")
+    print("|---|---|---|---|---|---|---|", flush=True)
+    for name, *kind in chosen:
+        try:
+            wrong = faults(program, asked.seconds, name, *kind)
+        except OSError as error:
+            wrong = [str(error)]
+        failed += bool(wrong)
+        for fault in wrong:
+            print(f"FAILED {name}: {fault}", flush=True)
+    count = len(chosen)
+    if is_chosen(EQUAL):
+        failed, count = failed + (not are_fair(program, asked.seconds)), count + 1
+    print(f"{count - failed} passed, {failed} failed")
     sys.exit(1 if failed else 0)
 
 
-def is_met(program, seconds, name, kind, bound, single, is_file, peers):
-    """Prints the row of a kind, and says whether its median is within the bound. A flood that ended early was no flood."""
+def faults(program, seconds, name, kind, bound, single, is_file, peers):
+    """Prints the row of a kind, and says what is wrong. A flood that ended early was no flood."""
     with tempfile.TemporaryDirectory() as folder:
         words = ["--file", os.path.join(folder, "disk.img"), "--create"] if is_file else []
         with BASE.Service(program, *words, "--blocks", "65536") as service:
@@ -317,21 +337,80 @@ def is_met(program, seconds, name, kind, bound, single, is_file, peers):
             n = write_own(honest)
             bound = bound or peers * single(service.port) + 10
             _, n = waits(honest, n, 0.5)
-            before = look(service.pid())
-            stop, share = multiprocessing.Event(), peers // PROCESSES
-            floods = [multiprocessing.Process(target=kind, args=(service.port, share, stop)) for _ in range(PROCESSES)]
-            for each in floods:
-                each.start()
-            time.sleep(0.5)
-            found, n = waits(honest, n, seconds)
-            stop.set()
-            for each in floods:
-                each.join()
-            time.sleep(0.5)
-            behind = look(service.pid())
+            start = look(service.pid())
+            found, ended = beside(kind, service.port, peers // PROCESSES, lambda: waits(honest, n, seconds)[0])
+            end = settled(service.pid(), start[2])
     median, slowest = statistics.median(found), max(found)
-    print(f"| {name} | {median:.1f} | {slowest:.0f} | {bound:.0f} | {before[0]}, {behind[0]} | {before[1]}, {behind[1]} |", flush=True)
-    return median <= bound and not any(each.exitcode for each in floods)
+    memory, descriptors = f"{start[0]}, {end[0]}, {end[1]}", f"{start[2]}, {end[2]}"
+    print(f"| {name} | {len(found)} | {median:.1f} | {slowest:.0f} | {bound:.0f} | {memory} | {descriptors} |", flush=True)
+    wrong = [f"the median is over {bound:.0f} ms"] if median > bound else []
+    wrong += [f"{ended} of {PROCESSES} floods ended early"] if ended else []
+    return wrong + (["there are other descriptors at the end"] if start[2] != end[2] else [])
+
+
+EQUAL = "32 equal peers"
+
+
+def answered(port, share, seconds, counts):
+    """Some peers that have one read outstanding each, until their time is over. How many were answered is put into a queue."""
+    watched = selectors.DefaultSelector()
+    for k in range(share):
+        peer = BASE.login(port, f"iqn.2026-01.example:{os.getpid()}-{k}", KEYS)
+        watched.register(peer, selectors.EVENT_READ, [1])
+        peer.sendall(read(1, 1))
+    end = time.monotonic() + seconds
+    while time.monotonic() < end:
+        for key, _ in watched.select(0.1):
+            if receive_pdu(key.fileobj)[0] != 0x25 or receive_pdu(key.fileobj)[0] != 0x21:
+                raise OSError("a peer has other answers")
+            key.data[0] += 1
+            key.fileobj.sendall(read(key.data[0], 1))
+    counts.put([key.data[0] - 1 for key in watched.get_map().values()])
+
+
+def are_fair(program, seconds):
+    """Has 32 equal peers, in four processes, tells the least and the most commands of one, and says whether they are near."""
+    with BASE.Service(program, "--blocks", "65536") as service:
+        for peer in service.peers:
+            peer.close()
+        counts = multiprocessing.Queue()
+        shares = [multiprocessing.Process(target=answered, args=(service.port, 8, seconds, counts)) for _ in range(4)]
+        for each in shares:
+            each.start()
+        for each in shares:
+            each.join()
+        if any(each.exitcode for each in shares):
+            print(f"FAILED {EQUAL}: one was cut")
+            return False
+        found = [count for _ in shares for count in counts.get()]
+    print(f"{EQUAL}: {min(found)} to {max(found)} commands each")
+    return max(found) < 2 * min(found)
+
+
+def settled(pid, descriptors):
+    """A look at the service once it has so many descriptors again, or after two minutes."""
+    for _ in range(240):
+        time.sleep(0.5)
+        found = look(pid)
+        if found[2] == descriptors:
+            break
+    return found
+
+
+def beside(kind, port, share, work):
+    """Does some work beside a flood, and returns what comes of it, and how many processes of the flood ended early."""
+    stop = multiprocessing.Event()
+    floods = [multiprocessing.Process(target=kind, args=(port, share, stop)) for _ in range(PROCESSES)]
+    for each in floods:
+        each.start()
+    time.sleep(0.5)
+    try:
+        found = work()
+    finally:
+        stop.set()
+        for each in floods:
+            each.join()
+    return found, sum(each.exitcode != 0 for each in floods)
 
 
 if __name__ == "__main__":

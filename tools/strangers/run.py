@@ -356,7 +356,8 @@ def has_a_limit_of_memory(program):
 
 
 def has_lone_blocks(program):
-    # Each block that stands alone takes 32 KiB; past 256 MiB a write is refused.
+    # Each block that stands alone takes 32 KiB; past 256 MiB a write is refused. Without that limit these writes take 640,000
+    # KiB. A program that was built without proofs has an allocator of its own, which takes 370,000 for what is allowed.
     with Service(program, "--blocks", str(1 << 40)) as service:
         peer, good = service.peers[0], 0
         for n in range(1, 20001):
@@ -366,7 +367,7 @@ def has_lone_blocks(program):
             good += status == 0
         taken = int(re.search(r"VmRSS:\s+([0-9]+)", open(f"/proc/{service.pid()}/status").read())[1])
         print(f"lone blocks: {good} of 20000 writes, {taken} KiB resident")
-        return good == 8192 and taken < 300_000 and goes_on(service)
+        return good == 8192 and taken < 400_000 and goes_on(service)
 
 
 def has_little_memory(program):

@@ -1,7 +1,10 @@
 //! A capture file, step by step.
 
-ghost use Rattle.std.specs.Prelude.{◌≤◌, ◌<◌, ◌^◌, length, IfOk};
-ghost use Rattle.capture_file.specs.Blocks.{SectionStep, DescribeStep, BlockStep, BeginStep, StepAt};
+ghost use Rattle.std.specs.Prelude.{◌≤◌, ◌<◌, ◌≡◌, ◌≢◌, ◌^◌, length, IfOk, IfErr, IfSome, IfNone, OnErr};
+ghost use Rattle.capture_file.specs.Numbers.{number};
+ghost use Rattle.capture_file.specs.declared.numbers.Order.{Order};
+ghost use Rattle.capture_file.specs.Blocks.{byte_order, SectionStep, SectionFails, DescribeStep, BlockStep, BlockFails, BeginStep, BeginFails, StepAt, FailsAt};
+ghost use Rattle.capture_file.specs.declared.fault.CaptureFault.TheVariants.{NoMemory};
 
 use crate::classic::record;
 use crate::fault::CaptureFault;
@@ -34,9 +37,13 @@ pub struct Capture {
 
 /// The type of a section header block, the same in either order.
 const SECTION: u32 = 0x0a0d_0d0a;
+/// The number that tells the order of a section's bytes.
+const BYTE_ORDER: u32 = 0x1a2b_3c4d;
 
 impl Model for Capture {
-    ghost use Rattle.capture_file.specs.Blocks.{Reading};
+    ghost use Rattle.capture_file.specs.Numbers.{number};
+    ghost use Rattle.capture_file.specs.declared.numbers.Order.{Order};
+    ghost use Rattle.capture_file.specs.Blocks.{byte_order, Reading};
 
     ghost Value = { Reading };
 
@@ -64,6 +71,8 @@ impl Capture {
     /// there is none for an interface more. A fault leaves the file as it was read so far.
     pub fn step<'a>(&mut self, bytes: &'a [u8]) -> Result<Step<'a>, CaptureFault>
         ensures ok { IfOk result (StepAt self.old bytes.now self.new) }
+        ensures err { IfErr result (FailsAt self.old bytes.now) }
+        ensures kept { OnErr result (self.new ≡ self.old) }
     {
         match self.kind {
             Kind::Unknown => self.begin(bytes),
@@ -75,6 +84,8 @@ impl Capture {
     // The first bytes of the file.
     fn begin<'a>(&mut self, bytes: &'a [u8]) -> Result<Step<'a>, CaptureFault>
         ensures ok { IfOk result (BeginStep self.old bytes.now self.new) }
+        ensures err { IfErr result (BeginFails bytes.now) }
+        ensures kept { OnErr result (self.new ≡ self.old) }
     {
         if bytes.len() < 24 {
             return Ok(Step::More(24));
@@ -98,14 +109,14 @@ impl Capture {
     // A section header: the order of what follows, which has interfaces of its own.
     fn section<'a>(&mut self, bytes: &'a [u8]) -> Result<Step<'a>, CaptureFault>
         ensures ok { IfOk result (SectionStep self.old bytes.now self.new) }
+        ensures err { IfErr result (SectionFails bytes.now) }
+        ensures kept { OnErr result (self.new ≡ self.old) }
     {
         if bytes.len() < 12 {
             return Ok(Step::More(12));
         }
-        let order = match u32_at(Order::Big, bytes, 8) {
-            0x1a2b_3c4d => Order::Big,
-            0x4d3c_2b1a => Order::Little,
-            _ => return Err(CaptureFault::Format),
+        let Some(order) = section_order(bytes) else {
+            return Err(CaptureFault::Format);
         };
         let total = u32_at(order, bytes, 4);
         if total < 28 || total % 4 != 0 {
@@ -119,6 +130,8 @@ impl Capture {
     // A block of a pcapng file.
     fn block<'a>(&mut self, order: Order, bytes: &'a [u8]) -> Result<Step<'a>, CaptureFault>
         ensures ok { IfOk result (BlockStep order self.old bytes.now self.new) }
+        ensures err { IfErr result (BlockFails order self.old bytes.now) }
+        ensures kept { OnErr result (self.new ≡ self.old) }
     {
         if bytes.len() < 8 {
             return Ok(Step::More(8));
@@ -160,6 +173,8 @@ impl Capture {
         requires least { 20 ≤ length bytes.now }
         requires most { length bytes.now < 2 ^ 32 }
         ensures ok { IfOk result (DescribeStep order self.old bytes.now self.new) }
+        ensures err { IfErr result (λ fault. fault ≡ NoMemory) }
+        ensures kept { OnErr result (self.new ≡ self.old) }
     {
         let interface = Interface {
             link: u16_at(order, bytes, 8),
@@ -171,4 +186,19 @@ impl Capture {
             Err(_) => Err(CaptureFault::NoMemory),
         }
     }
+}
+
+// The order in which the third number of a section header is the one that tells it.
+fn section_order(bytes: &[u8]) -> Option<Order>
+    requires { 12 ≤ length bytes.now }
+    ensures told { IfSome result (λ order. number order 4 8 bytes.now ≡ byte_order) }
+    ensures none { IfNone result ((order : Order) → number order 4 8 bytes.now ≢ byte_order) }
+{
+    if u32_at(Order::Big, bytes, 8) == BYTE_ORDER {
+        return Some(Order::Big);
+    }
+    if u32_at(Order::Little, bytes, 8) == BYTE_ORDER {
+        return Some(Order::Little);
+    }
+    None
 }

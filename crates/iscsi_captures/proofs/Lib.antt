@@ -1,2 +1,4 @@
 pub mod Places
 pub mod Apart
+pub mod Shown
+pub mod Keeping

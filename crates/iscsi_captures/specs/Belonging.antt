@@ -1,22 +1,11 @@
 -- Which connection of a capture a segment belongs to.
-use Rattle.std.specs.Prelude.{◌≡◌, ℕ, ◌+◌, Bool, true, false, not, ◌&&◌, ◌==◌, cond, if◌then◌else◌, Option, Some, None}
+use Rattle.std.specs.Prelude.{ℕ, Bool, true, false, not, ◌&&◌, ◌==◌, if◌then◌else◌, Option, Some, None}
 use Rattle.iscsi_captures.specs.declared.ends.Side.{Side}
 use Rattle.iscsi_captures.specs.declared.ends.Side.TheVariants.{Lower, Upper}
 use Rattle.iscsi_captures.specs.declared.belonging.Start.{Start}
 use Rattle.iscsi_captures.specs.declared.belonging.Start.TheVariants.{Unknown, Bytes, Syn}
 use Rattle.iscsi_captures.specs.declared.heard.Said.{Said}
 use Rattle.iscsi_captures.specs.declared.belonging.Last.{Last}
-
--- What is known of the connections: how many there were, how ends are compared, and of any two ends
--- the last connection with them.
-pub record Known (K : Type 0) : Type 0 where
-  pub count : ℕ
-  pub eq : K → K → Bool
-  pub last : K → Option Last
-
--- no segment was heard
-abbrev pub nothing_known : {K : Type 0} → (K → K → Bool) → Known K
-nothing_known eq = record { count = 0; eq = eq; last = λ ends. None }
 
 -- whether a direction is known without a SYN
 abbrev pub is_bytes : Start → Bool
@@ -76,28 +65,3 @@ joined last said = joined_at said.side last said
 abbrev pub owner_at : ℕ → Option Last → Said → Last
 owner_at count None said = first_of count said
 owner_at count (Some last) said = if leaves last said then first_of count said else joined last said
-
-abbrev pub owner : {K : Type 0} → Known K → K → Said → Last
-owner known ends said = owner_at known.count (known.last ends) said
-
--- whether the segment is the first one of its connection
-abbrev pub is_first_at : Option Last → Said → Bool
-is_first_at None said = true
-is_first_at (Some last) said = leaves last said
-
-abbrev pub is_first : {K : Type 0} → Known K → K → Said → Bool
-is_first known ends said = is_first_at (known.last ends) said
-
--- what is known after a segment
-abbrev pub known_after : {K : Type 0} → Known K → K → Said → Known K
-known_after known ends said = record {
-  count = if is_first known ends said then known.count + 1 else known.count;
-  eq = known.eq;
-  last = λ q. if known.eq ends q then Some (owner known ends said) else known.last q;
-}
-
--- The same connections are known, of any two ends.
-pub record AreKnown {K : Type 0} (new old : Known K) : Type 0 where
-  pub count : new.count ≡ old.count
-  pub eq : new.eq ≡ old.eq
-  pub last : (ends : K) → new.last ends ≡ old.last ends

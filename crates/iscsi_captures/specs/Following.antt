@@ -1,5 +1,5 @@
 -- What a direction and a connection do with their segments.
-use Rattle.std.specs.Prelude.{◌≡◌, ◌≢◌, ℕ, ◌+◌, max, length, slice_get, List, [], ◌∷◌, Option, Some, None, if◌then◌else◌}
+use Rattle.std.specs.Prelude.{◌≡◌, ◌≢◌, ◌⊎◌, ◌<◌, ℕ, ◌+◌, max, length, slice_get, List, [], ◌∷◌, Option, Some, None, if◌then◌else◌}
 use Rattle.std.specs.Map.{lookup}
 use Rattle.tcp_streams.specs.Placing.{Numbered}
 use Rattle.tcp_streams.specs.Reassembly.{Taking, opening, Takes}
@@ -12,6 +12,7 @@ use Rattle.iscsi_captures.specs.declared.ends.Ends.{Ends}
 use Rattle.iscsi_captures.specs.declared.ends.Side.{Side}
 use Rattle.iscsi_captures.specs.declared.ends.Side.TheVariants.{Lower, Upper}
 use Rattle.iscsi_captures.specs.declared.half.Half.{Half}
+use Rattle.iscsi_captures.specs.declared.half.Stop.TheVariants.{Gap}
 use Rattle.iscsi_captures.specs.Belonging.{owner_at, start_after}
 use Rattle.iscsi_captures.specs.SameEnds.{same_ends}
 
@@ -116,3 +117,34 @@ pub record Hears (old : Table) (heard : Heard) (number : ℕ) (new : Table) (bef
   pub own : (connection : Connection) × (slice_get new.connections number ≡ Some connection)
       × Steps (slice_get old.connections number) heard connection before after
   pub others : (k : ℕ) → k ≢ number → slice_get new.connections k ≡ slice_get old.connections k
+
+-- a direction that is given up for the byte that is missing: nothing is kept but that
+abbrev pub given_up : Half → Half
+given_up half = record half {
+  direction = None;
+  stop = Some (Gap half.known half.waits_from);
+  waiting = 0;
+}
+
+-- A direction is as it was, or bytes waited in it and it is given up.
+abbrev pub MayEnd : Half → Half → Type 0
+MayEnd old new = (new ≡ old) ⊎ ((0 < old.waiting) × (new ≡ given_up old))
+
+-- A connection is as it was, but that directions in which bytes waited may be given up.
+pub record Keeps (old new : Connection) : Type 0 where
+  pub ends : new.ends ≡ old.ends
+  pub first : new.first ≡ old.first
+  pub opener : new.opener ≡ old.opener
+  pub lower : MayEnd old.lower new.lower
+  pub upper : MayEnd old.upper new.upper
+
+-- the same of the connection at a place, if there is one
+abbrev pub KeepsAt : Option Connection → Option Connection → Type 0
+KeepsAt None None = Unit {0}
+KeepsAt None (Some new) = ⊥
+KeepsAt (Some old) None = ⊥
+KeepsAt (Some old) (Some new) = Keeps old new
+
+-- Connections are as they were, but that directions in which bytes waited may be given up.
+abbrev pub KeepsAll : List Connection → List Connection → Type 0
+KeepsAll old new = (k : ℕ) → KeepsAt (slice_get old k) (slice_get new k)

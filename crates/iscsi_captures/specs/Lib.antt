@@ -3,3 +3,4 @@ pub mod Faults
 pub mod SameEnds
 pub mod Following
 pub mod Private
+pub mod Written

@@ -207,8 +207,8 @@ fn at_end(connections: &Connections, wanted: Wanted) -> Result<(), CapturesFault
     }
 }
 
-// The fault of a direction that is not followed further.
-fn stop_fault(connection: usize, stop: Stop) -> CapturesFault {
+/// The fault of a direction that is not followed further.
+pub(crate) fn stop_fault(connection: usize, stop: Stop) -> CapturesFault {
     match stop {
         Stop::Gap(offset, packet) => CapturesFault::Gap {
             connection,

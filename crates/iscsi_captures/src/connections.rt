@@ -1,7 +1,7 @@
 //! The connections of a capture.
 
 ghost use Rattle.std.specs.Prelude.{◌≡◌, ◌≢◌, ◌<◌, ◌+◌, ◌^◌, ℕ, OnOk, IfOk, IfErr, length, max, slice_get, None, Some, [], ◌∷◌, ◌++◌};
-ghost use Rattle.iscsi_captures.specs.Following.{Hears, Steps, no_connections, unheard};
+ghost use Rattle.iscsi_captures.specs.Following.{Hears, Keeps, KeepsAll, Steps, no_connections, unheard};
 ghost use Rattle.iscsi_captures.specs.declared.connections.Connection.{Connection};
 ghost use Rattle.iscsi_captures.specs.declared.fault.CapturesFault.TheVariants.{NoMemory};
 
@@ -85,6 +85,22 @@ impl Connection {
         }
     }
 
+    // Follows the direction no further in which more waits, if any does, and says how much that was.
+    #[tactic(auto, using(crate::proofs::Keeping::may_stay, crate::proofs::Keeping::may_end))]
+    fn give_up(&mut self) -> usize
+        ensures keeps { Keeps self.old self.new }
+    {
+        let before = self.waiting();
+        if self.lower.waiting >= self.upper.waiting {
+            if self.lower.waiting > 0 {
+                self.lower.give_up();
+            }
+        } else {
+            self.upper.give_up();
+        }
+        before.saturating_sub(self.waiting())
+    }
+
     // How much waits in its two directions.
     fn waiting(&self) -> usize {
         self.lower.waiting.saturating_add(self.upper.waiting)
@@ -123,7 +139,7 @@ impl Connection {
 }
 
 /// The port of iSCSI targets (RFC 7143, section 13.1).
-const PORT: u16 = 3260;
+pub(crate) const PORT: u16 = 3260;
 
 // Who began a connection, after one more of its segments.
 fn opener_after(opener: Option<Side>, said: Said) -> Option<Side> {
@@ -230,8 +246,12 @@ impl Connections {
 
     /// Follows directions no further, each that with most, until no more waits in all of them
     /// together than 64 MiB.
-    pub fn keep_within(&mut self) {
-        for _ in 0..MOST_CONNECTIONS {
+    #[tactic(auto, using(crate::proofs::Keeping::keeps_same, crate::proofs::Keeping::keeps_then))]
+    pub fn keep_within(&mut self)
+        ensures last { self.new.last ≡ self.old.last }
+        ensures keeps { KeepsAll self.old.connections self.new.connections }
+    {
+        for turn in 0..MOST_CONNECTIONS {
             if self.waiting <= MOST_WAITING {
                 return;
             }
@@ -264,16 +284,13 @@ fn most_waiting(list: &[Connection]) -> usize {
 }
 
 // Follows the direction no further in which most waits, and says how much that was.
-fn give_up_most(list: &mut Vec<Connection>) -> usize {
+#[tactic(auto, using(crate::proofs::Keeping::keeps_same, crate::proofs::Keeping::keeps_one))]
+fn give_up_most(list: &mut Vec<Connection>) -> usize
+    ensures keeps { KeepsAll list.old.items list.new.items }
+{
     let most = most_waiting(list);
     let Some(connection) = list.get_mut(most) else {
         return 0;
     };
-    let before = connection.waiting();
-    if connection.lower.waiting >= connection.upper.waiting {
-        connection.lower.give_up();
-    } else {
-        connection.upper.give_up();
-    }
-    before.saturating_sub(connection.waiting())
+    connection.give_up()
 }

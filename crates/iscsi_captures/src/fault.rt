@@ -85,6 +85,12 @@ pub enum CapturesFault {
         connection: usize,
         fault: StreamFault,
     },
+    /// The last PDU of the initiator breaks this rule, to the target that answers it.
+    #[error("connection {connection}: protocol: rule {rule}")]
+    Protocol {
+        connection: usize,
+        rule: u8,
+    },
     /// The SYN of the wanted direction is missing, so where a PDU begins is not known.
     #[error("capture: connection {connection} begins before the capture")]
     Begun {

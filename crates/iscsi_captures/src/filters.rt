@@ -1,16 +1,19 @@
 //! What is written for one direction of a connection of a capture: its canonical stream, or a line
 //! for each PDU.
 
-ghost use Rattle.std.specs.Prelude.{ℕ, List, Result, IsOk, MatchResult};
+ghost use Rattle.std.specs.Prelude.{ℕ, List, Result, IsOk, MatchResult, OnOk};
 ghost use Rattle.std.specs.Io.KnownBytes.{Appends};
 ghost use Rattle.iscsi_pdu.specs.Meaning.{AreBytes};
 ghost use Rattle.iscsi_stream.specs.Normalising.{IsCanonical, IsNormalised, Shows, WritesUntil};
+ghost use Rattle.iscsi_stream.specs.Stream.{Message, StreamMeans};
+ghost use Rattle.iscsi_explain.specs.Showing.{AreEntries};
 ghost use Rattle.iscsi_stream.specs.declared.counts.Counts.{Counts};
 ghost use Rattle.iscsi_stream.specs.declared.fault.ToolFault.{ToolFault};
 
 use crate::captured::{Captured, Wanted};
 use crate::fault::CapturesFault;
-use iscsi_stream::{Counts, ToolFault, normalise, show};
+use iscsi_explain::{Form, show_in_form};
+use iscsi_stream::{ToolFault, normalise, show};
 use std::alloc::Global;
 use std::io::{Read, Write};
 
@@ -49,9 +52,25 @@ pub fn show_captured<R: Read, W: Write>(
     told(said, captured.fault(), captured.wanted())
 }
 
+/// Reads a direction to its end and writes each PDU in a form, as `iscsi_explain::show_in_form` does
+/// for the stream of its bytes. Its faults are those of `normalise_captured`.
+pub fn tell_captured<R: Read, W: Write>(
+    alloc: Global,
+    form: Form,
+    captured: &mut Captured<'_, R>,
+    w: &mut W,
+) -> Result<(), CapturesFault>
+    ensures writes { (written : List ℕ) × Appends (W.contents w.old) (W.contents w.new) written
+        × OnOk result ((bytes : List ℕ) × (ms : List Message) × StreamMeans bytes ms
+        × AreEntries form ms written) }
+{
+    let said = show_in_form(alloc, form, captured, w);
+    told(said, captured.fault(), captured.wanted())
+}
+
 // How a job over a direction ended. A read fails where the direction has a fault, and tells it.
-fn told(
-    said: Result<Counts, ToolFault>,
+fn told<T: Drop>(
+    said: Result<T, ToolFault>,
     fault: Option<CapturesFault>,
     wanted: Wanted,
 ) -> Result<(), CapturesFault>

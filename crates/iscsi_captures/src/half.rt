@@ -1,7 +1,7 @@
 //! One direction of a connection, as far as it is followed.
 
 ghost use Rattle.std.specs.Prelude.{◌≡◌, ◌<◌, ◌^◌, OnOk, IfErr, IsSome, length, None, Some};
-ghost use Rattle.iscsi_captures.specs.Following.{HalfTakes, opened, unheard};
+ghost use Rattle.iscsi_captures.specs.Following.{HalfTakes, given_up, opened, unheard};
 ghost use Rattle.iscsi_captures.specs.declared.fault.CapturesFault.TheVariants.{NoMemory};
 
 use crate::belonging::Start;
@@ -152,8 +152,8 @@ impl Half {
 
     // Keeps nothing but why.
     fn stop_at(&mut self, stop: Stop)
-        ensures start { self.new.start ≡ self.old.start }
-        ensures stop { self.new.stop ≡ Some stop }
+        ensures stopped { self.new
+            ≡ record self.old { stop = Some stop; direction = None; waiting = 0 } }
     {
         self.stop = Some(stop);
         self.direction = None;
@@ -166,7 +166,9 @@ impl Half {
     }
 
     /// Follows the direction no further, since too much waits behind a missing byte.
-    pub(crate) fn give_up(&mut self) {
+    pub(crate) fn give_up(&mut self)
+        ensures given_up { self.new ≡ given_up self.old }
+    {
         self.stop_at(Stop::Gap(self.known, self.waits_from));
     }
 

@@ -3,13 +3,13 @@
 ghost use Rattle.std.specs.Prelude.{◌≡◌, ℕ, List, ◌++◌, OnErr};
 ghost use Rattle.std.specs.Io.KnownBytes.{Appends};
 
-use crate::belonging::Start;
 use crate::connections::{Connection, Connections};
 use crate::ends::Side;
 use crate::fault::CapturesFault;
 use crate::file::{CaptureFile, Numbered, Stood};
 use crate::half::{Half, Stop};
 use crate::heard::heard_of;
+use crate::talk::is_begun;
 use iscsi_stream::{ToolFault, write_fully};
 use std::alloc::{AllocError, Global};
 use std::io::{Read, Write};
@@ -118,13 +118,6 @@ fn write_remarks(
     write_conflict(line, "target", answered)?;
     write_cut(line, "initiator", sent)?;
     write_cut(line, "target", answered)
-}
-
-// Whether a SYN of the connection is missing.
-fn is_begun(connection: &Connection) -> bool {
-    connection.opener.is_none()
-        || matches!(connection.lower.start, Start::Bytes(_))
-        || matches!(connection.upper.start, Start::Bytes(_))
 }
 
 // Appends which byte of a direction is missing, unless its capture was cut.

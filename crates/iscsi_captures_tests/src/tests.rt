@@ -2,6 +2,7 @@
 
 mod captures;
 mod failing;
+mod interleaved;
 mod listings;
 mod streams;
 

@@ -1,12 +1,17 @@
 -- What a job over a capture writes.
-use Rattle.std.specs.Prelude.{◌≡◌, ◌⊎◌, ℕ, List, [], Result, IsOk, MatchResult}
+use Rattle.std.specs.Prelude.{◌≡◌, ◌⊎◌, ◌<◌, ◌≤◌, ℕ, List, [], Result, OnOk, IsOk, MatchResult}
+use Rattle.scsi_disk.specs.Disk.{most_blocks}
 use Rattle.iscsi_captures.specs.declared.fault.CapturesFault.{CapturesFault}
 use Rattle.iscsi_pdu.specs.Meaning.{AreBytes}
 use Rattle.iscsi_stream.specs.declared.counts.Counts.{Counts}
 use Rattle.iscsi_stream.specs.declared.fault.ToolFault.{ToolFault}
+use Rattle.iscsi_stream.specs.Stream.{Message, StreamMeans}
 use Rattle.iscsi_stream.specs.Normalising.{IsCanonical, IsNormalised, Shows, WritesUntil}
+use Rattle.iscsi_explain.specs.declared.form.Form.{Form}
+use Rattle.iscsi_explain.specs.Showing.{AreEntries}
+use Rattle.iscsi_tool.specs.Answering.{AnswersBytes}
 use Rattle.iscsi_tool.specs.declared.capture_words.CaptureWork.{CaptureWork}
-use Rattle.iscsi_tool.specs.declared.capture_words.CaptureWork.TheVariants.{List as ListAll, Show, Normalise}
+use Rattle.iscsi_tool.specs.declared.capture_words.CaptureWork.TheVariants.{List as ListAll, ShowAll, Show, Tell, Normalise, Answer}
 
 -- How a job over a capture ends: done, or why not.
 abbrev pub Said : Type 0
@@ -26,8 +31,28 @@ NormalisesCaptured ends written = (written ≡ [])
     (λ fault. WritesUntil IsCanonical fault bytes written)
     × (IsOk ends → IsOk said))
 
--- What a job over a capture writes; the lines of connections are not stated.
+-- Each PDU is written in a form, if all of the stream was read.
+abbrev pub TellsCaptured : Form → Said → List ℕ → Type 0
+TellsCaptured form ends written =
+    OnOk ends ((bytes : List ℕ) × (ms : List Message) × StreamMeans bytes ms × AreEntries form ms written)
+
+-- A target's answers are written as `answer` writes them for the bytes of a stream, or nothing.
+abbrev pub AnswersCaptured : ℕ → Said → List ℕ → Type 0
+AnswersCaptured blocks ends written = (written ≡ [])
+    ⊎ ((said : Result (Unit {0}) ToolFault) × (bytes : List ℕ)
+    × AnswersBytes blocks said bytes written × (IsOk ends → IsOk said))
+
+-- The disk of a target has 1 to 2^40 blocks.
+abbrev pub CanWork : CaptureWork → Type 0
+CanWork (Answer connection blocks) = (0 < blocks) × (blocks ≤ most_blocks)
+CanWork _ = Unit {0}
+
+-- What a job over a capture writes; the lines of connections, and those of all connections together,
+-- are not stated.
 abbrev pub WritesCapture : CaptureWork → Said → List ℕ → Type 0
 WritesCapture ListAll ends written = Unit {0}
+WritesCapture (ShowAll form only) ends written = Unit {0}
 WritesCapture (Show wanted) ends written = ShowsCaptured ends written
+WritesCapture (Tell wanted form) ends written = TellsCaptured form ends written
 WritesCapture (Normalise wanted) ends written = NormalisesCaptured ends written
+WritesCapture (Answer connection blocks) ends written = AnswersCaptured blocks ends written

@@ -20,6 +20,7 @@ use Rattle.iscsi_tool.specs.declared.words.Job.TheVariants as job
 use Rattle.iscsi_tool.specs.declared.words.Service.{Service}
 use Rattle.iscsi_tool.specs.declared.words.Service.TheVariants as service
 use Rattle.iscsi_tool.specs.Answering.{AnswersBytes, AnswersHex, CutAtEnd}
+use Rattle.iscsi_tool.specs.Captures.{CanWork}
 use Rattle.iscsi_tool.specs.Storage.{IsStorage}
 use Rattle.iscsi_tool.specs.HexText.{BytesOf, IsNotHex, IsRead, hex_line}
 
@@ -116,7 +117,9 @@ IsJob (job.Serve storage service) = IsStorage storage × CanServe service
 IsJob (job.Loop blocks piece) =
     (0 < blocks) × (blocks ≤ most_blocks) × (0 < piece) × (piece ≤ 4096)
 IsJob (job.Compare comparison) = Unit {0}
-IsJob (job.Capture capture) = Unit {0}
+IsJob (job.Tell telling) = Unit {0}
+IsJob (job.CompareCaptures comparison) = Unit {0}
+IsJob (job.Capture capture) = CanWork capture.work
 
 -- A work that ended well has read its input to the end; answers to bytes end also where the session
 -- is closed.

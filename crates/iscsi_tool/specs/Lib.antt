@@ -2,7 +2,9 @@ pub mod HexText
 pub mod Answering
 pub mod Spelling
 pub mod Storage
-pub mod Filtering
 pub mod Captures
+pub mod Filtering
+pub mod Telling
 pub mod Comparisons
+pub mod CaptureComparisons
 pub mod Running

@@ -9,20 +9,26 @@ use Rattle.iscsi_service.specs.Looping.{Loops}
 use Rattle.iscsi_captures.specs.declared.fault.CapturesFault.{CapturesFault}
 use Rattle.iscsi_captures.specs.Faults.{fault_status as capture_status}
 use Rattle.iscsi_tool.specs.declared.capture_words.CaptureJob.{CaptureJob}
+use Rattle.iscsi_tool.specs.declared.capture_comparing.CaptureComparison.{CaptureComparison}
+use Rattle.iscsi_tool.specs.declared.capture_comparing.CaptureComparisonFault.{CaptureComparisonFault}
 use Rattle.iscsi_tool.specs.declared.comparing.ComparisonFault.{ComparisonFault}
 use Rattle.iscsi_tool.specs.declared.filter.Filter.{Filter}
 use Rattle.iscsi_tool.specs.declared.filter.Work.TheVariants.{Normalise}
 use Rattle.iscsi_tool.specs.declared.running.Outcome.{Outcome}
 use Rattle.iscsi_tool.specs.declared.running.Outcome.TheVariants as outcome
+use Rattle.iscsi_tool.specs.declared.nbd_storage.NbdFault.{NbdFault}
 use Rattle.iscsi_tool.specs.declared.storage.ImageFault.{ImageFault}
 use Rattle.iscsi_tool.specs.declared.storage.Storage.{Storage}
 use Rattle.iscsi_tool.specs.declared.storage.Storage.TheVariants as storage
+use Rattle.iscsi_tool.specs.declared.telling.Telling.{Telling}
 use Rattle.iscsi_tool.specs.declared.words.Comparison.{Comparison}
 use Rattle.iscsi_tool.specs.declared.words.Job.{Job}
 use Rattle.iscsi_tool.specs.declared.words.Job.TheVariants as job
 use Rattle.iscsi_tool.specs.declared.words.LineFault.{LineFault}
 use Rattle.iscsi_tool.specs.declared.words.LineFault.TheVariants as line
 use Rattle.iscsi_tool.specs.Captures.{WritesCapture}
+use Rattle.iscsi_tool.specs.CaptureComparisons.{ComparesCaptures}
+use Rattle.iscsi_tool.specs.Telling.{Tells}
 use Rattle.iscsi_tool.specs.Comparisons.{fault_status}
 use Rattle.iscsi_tool.specs.Filtering.{exit_status, Filters, IsJob}
 
@@ -40,8 +46,10 @@ outcome_status (outcome.Words fault) = words_status fault
 outcome_status (outcome.Filter fault) = exit_status fault
 outcome_status (outcome.Session fault) = session_status fault
 outcome_status (outcome.Image image fault) = 4
+outcome_status (outcome.Nbd export fault) = 4
 outcome_status (outcome.Comparison comparison fault) = fault_status fault
 outcome_status (outcome.Capture job fault) = capture_status fault
+outcome_status (outcome.CaptureComparison comparison fault) = capture_status fault.fault
 
 -- The outcome of a filter.
 abbrev pub of_filter : Result (Unit {0}) ToolFault → Outcome
@@ -64,10 +72,21 @@ of_comparison comparison (Ok verdict.Same) = outcome.Done
 of_comparison comparison (Ok (verdict.Differ place other)) = outcome.Differ
 of_comparison comparison (Err fault) = outcome.Comparison comparison fault
 
+-- The outcome of a comparison of two captures.
+abbrev pub of_captures : CaptureComparison → Result Verdict CaptureComparisonFault → Outcome
+of_captures comparison (Ok verdict.Same) = outcome.Done
+of_captures comparison (Ok (verdict.Differ place other)) = outcome.Differ
+of_captures comparison (Err fault) = outcome.CaptureComparison comparison fault
+
 -- A filter ran, and that is how it ended.
 abbrev pub EndsFilter : Filter → Outcome → List ℕ → List ℕ → Type 0
 EndsFilter filter ends read written =
     (said : Result (Unit {0}) ToolFault) × Filters filter said read written × (ends ≡ of_filter said)
+
+-- A stream was shown in a form, and that is how it ended.
+abbrev pub EndsTelling : Telling → Outcome → List ℕ → List ℕ → Type 0
+EndsTelling telling ends read written =
+    (said : Result (Unit {0}) ToolFault) × Tells telling said read written × (ends ≡ of_filter said)
 
 -- A loop ran, and that is how it ended.
 abbrev pub EndsLoop : Outcome → List ℕ → List ℕ → Type 0
@@ -79,18 +98,27 @@ abbrev pub EndsCapture : CaptureJob → Outcome → List ℕ → Type 0
 EndsCapture job ends written = (said : Result (Unit {0}) CapturesFault)
     × WritesCapture job.work said written × (ends ≡ of_capture job said)
 
+-- A comparison of two captures ran, and that is how it ended.
+abbrev pub EndsCaptures : CaptureComparison → Outcome → List ℕ → Type 0
+EndsCaptures comparison ends written = (said : Result Verdict CaptureComparisonFault)
+    × ComparesCaptures comparison.sameness said written × (ends ≡ of_captures comparison said)
+
 -- A comparison ended so.
 abbrev pub EndsComparison : Comparison → Outcome → Type 0
 EndsComparison comparison ends =
     (said : Result Verdict ComparisonFault) × (ends ≡ of_comparison comparison said)
 
--- A service ended so: as its sessions did, or since this very image could not be served.
+-- A service ended so: as its sessions did, or since this very image or export could
+-- not be served.
 abbrev pub EndsService : Storage → Outcome → Type 0
 EndsService (storage.Memory blocks) ends =
     (said : Result (Unit {0}) ServeFault) × (ends ≡ of_session said)
 EndsService (storage.Image image) ends =
     ((said : Result (Unit {0}) ServeFault) × (ends ≡ of_session said))
     ⊎ ((fault : ImageFault) × (ends ≡ outcome.Image image fault))
+EndsService (storage.Nbd export) ends =
+    ((said : Result (Unit {0}) ServeFault) × (ends ≡ of_session said))
+    ⊎ ((fault : NbdFault) × (ends ≡ outcome.Nbd export fault))
 
 -- A job ended so, with this read from the standard input and this written to the standard output.
 -- A service touches neither by itself, and a job over a capture reads a file of the process.
@@ -100,6 +128,9 @@ Runs (job.Serve storage service) ends read written =
     EndsService storage ends × (read ≡ []) × (written ≡ [])
 Runs (job.Loop blocks piece) ends read written = EndsLoop ends read written
 Runs (job.Compare comparison) ends read written = EndsComparison comparison ends
+Runs (job.Tell telling) ends read written = EndsTelling telling ends read written
+Runs (job.CompareCaptures comparison) ends read written =
+    EndsCaptures comparison ends written × (read ≡ [])
 Runs (job.Capture capture) ends read written = EndsCapture capture ends written × (read ≡ [])
 
 -- What the words ask for; with no words the hex text of a stream is normalised.

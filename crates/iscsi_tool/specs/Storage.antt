@@ -1,10 +1,12 @@
 -- What a served disk is kept in, and what an image has that was opened.
-use Rattle.std.specs.Prelude.{◌≡◌, ◌≢◌, ◌≤◌, ◌<◌, ℕ, Some, None, IfSome}
+use Rattle.std.specs.Prelude.{◌≡◌, ◌≢◌, ◌≤◌, ◌<◌, ℕ, Option, Some, None, IfSome}
 use Rattle.scsi_disk.specs.Disk.{most_blocks}
 use Rattle.iscsi_tool.specs.declared.storage.Origin.{Origin}
 use Rattle.iscsi_tool.specs.declared.storage.Origin.TheVariants as origin
 use Rattle.iscsi_tool.specs.declared.storage.Storage.{Storage}
 use Rattle.iscsi_tool.specs.declared.storage.Storage.TheVariants as storage
+use Rattle.iscsi_tool.specs.declared.nbd_storage.NbdFault.{NbdFault}
+use Rattle.iscsi_tool.specs.declared.nbd_storage.NbdFault.TheVariants as nbd
 use Rattle.iscsi_tool.specs.declared.storage.ImageFault.{ImageFault}
 use Rattle.iscsi_tool.specs.declared.storage.ImageFault.TheVariants as image
 
@@ -18,10 +20,11 @@ abbrev pub CanBeOpened : Origin → Type 0
 CanBeOpened (origin.Found blocks) = Unit {0}
 CanBeOpened (origin.New blocks) = (0 < blocks) × (blocks ≤ most_blocks)
 
--- A disk in memory and an image have 1 to 2^40 blocks.
+-- A disk in memory, an image and an export have 1 to 2^40 blocks.
 abbrev pub IsStorage : Storage → Type 0
 IsStorage (storage.Memory blocks) = (0 < blocks) × (blocks ≤ most_blocks)
 IsStorage (storage.Image image) = IsOrigin image.origin
+IsStorage (storage.Nbd export) = IfSome export.blocks (λ n. (0 < n) × (n ≤ most_blocks))
 
 -- An image has as many blocks as were asked for, if a number was.
 abbrev pub HasAsked : Origin → ℕ → Type 0
@@ -34,3 +37,15 @@ abbrev pub IsOther : Origin → ImageFault → Type 0
 IsOther (origin.Found (Some blocks)) (image.Size has asked) = (asked ≡ blocks) × (has ≢ asked)
 IsOther _ (image.Size has asked) = ⊥
 IsOther _ (image.Open fault) = Unit {0}
+
+-- An export has as many blocks as were asked for, if a number was.
+abbrev pub IsAsked : Option ℕ → ℕ → Type 0
+IsAsked None count = Unit {0}
+IsAsked (Some asked) count = count ≡ asked
+
+-- A number of blocks is blamed only where the export has another one.
+abbrev pub IsOtherExport : Option ℕ → NbdFault → Type 0
+IsOtherExport (Some blocks) (nbd.Size has asked) = (asked ≡ blocks) × (has ≢ asked)
+IsOtherExport None (nbd.Size has asked) = ⊥
+IsOtherExport _ (nbd.Open fault) = Unit {0}
+IsOtherExport _ nbd.NotSynced = Unit {0}

@@ -1,15 +1,24 @@
 //! The jobs over capture files: their words, and how they run.
 
-ghost use Rattle.std.specs.Prelude.{ℕ, List, IfOk, IfSome};
+ghost use Rattle.std.specs.Prelude.{◌<◌, ◌≤◌, ℕ, List, IfOk, IfSome, IsOk};
 ghost use Rattle.std.specs.Io.KnownBytes.{Appends};
-ghost use Rattle.iscsi_tool.specs.Captures.{NormalisesCaptured, ShowsCaptured, WritesCapture};
+ghost use Rattle.scsi_disk.specs.Disk.{most_blocks};
+ghost use Rattle.iscsi_tool.specs.Captures.{AnswersCaptured, CanWork, NormalisesCaptured, ShowsCaptured, TellsCaptured, WritesCapture};
 ghost use Rattle.iscsi_tool.specs.Filtering.{IsJob};
 
+use crate::answering::answer;
+use crate::capture_comparing::CaptureComparison;
+use crate::comparing::Sameness;
+use crate::disk_size::{bad_size, needed_blocks};
+use crate::telling::form_of;
 use crate::words::{Job, LineFault, bad_number, file, flag, valued, with_word};
 use clap::{ArgMatches, Command};
 use iscsi_captures::{
-    Captured, CapturesFault, End, Wanted, list_connections, normalise_captured, show_captured,
+    Captured, CapturesFault, End, Wanted, list_connections, normalise_captured, show_capture,
+    show_captured, tell_captured,
 };
+use iscsi_explain::Form;
+use iscsi_stream::ToolFault;
 use std::alloc::{AllocError, Global};
 use std::fs;
 use std::io::{Read, Write};
@@ -19,10 +28,27 @@ use std::io::{Read, Write};
 pub enum CaptureWork {
     /// Writes a line for each connection.
     List,
+    /// Writes each PDU of both directions in a form, in the order of the capture: of the connection
+    /// with this number, or of all that begin with a login.
+    ShowAll {
+        /// The form of each PDU.
+        form: Form,
+        /// The number of the only connection that is shown.
+        only: Option<usize>,
+    },
     /// Writes a line for each PDU of one direction.
     Show(Wanted),
+    /// Writes each PDU of one direction in a form.
+    Tell(Wanted, Form),
     /// Writes the canonical stream of one direction.
     Normalise(Wanted),
+    /// Writes a target's answers to the initiator's side of a connection.
+    Answer {
+        /// The number of the connection.
+        connection: usize,
+        /// How many blocks of 512 bytes the target's disk has, 1 to 2^40.
+        blocks: u64,
+    },
 }
 
 /// A job over a capture.
@@ -46,12 +72,9 @@ impl CaptureJob<'_> {
     }
 }
 
-/// The words of a program that may read a capture.
-pub(crate) fn with_capture_words<'a>(
-    alloc: Global,
-    program: Command<'a>,
-) -> Result<Command<'a>, AllocError> {
-    let program = with_word(
+// The word for the capture that is read.
+fn with_capture<'a>(alloc: Global, program: Command<'a>) -> Result<Command<'a>, AllocError> {
+    with_word(
         program,
         Ok(valued(
             alloc,
@@ -59,16 +82,20 @@ pub(crate) fn with_capture_words<'a>(
             "FILE",
             "Read a capture file (pcap or pcapng) instead; - is standard input",
         )),
-    )?;
-    let program = with_word(
-        program,
-        Ok(valued(
-            alloc,
-            "connection",
-            "K",
-            "Connection to read, by its number in the list of 'connections'",
-        )),
-    )?;
+    )
+}
+
+// The word for a connection of it.
+fn with_connection<'a>(
+    alloc: Global,
+    program: Command<'a>,
+    help: &'a str,
+) -> Result<Command<'a>, AllocError> {
+    with_word(program, Ok(valued(alloc, "connection", "K", help)))
+}
+
+// The word for a direction.
+fn with_end<'a>(alloc: Global, program: Command<'a>) -> Result<Command<'a>, AllocError> {
     with_word(
         program,
         Ok(valued(
@@ -78,6 +105,48 @@ pub(crate) fn with_capture_words<'a>(
             "End whose bytes are read: initiator or target",
         )),
     )
+}
+
+const CONNECTION: &str = "Connection to read, by its number in the list of 'connections'";
+
+/// The words of a program that may read a capture.
+pub(crate) fn with_capture_words<'a>(
+    alloc: Global,
+    program: Command<'a>,
+) -> Result<Command<'a>, AllocError> {
+    let program = with_capture(alloc, program)?;
+    let program = with_connection(alloc, program, CONNECTION)?;
+    with_end(alloc, program)
+}
+
+/// The words of a program that may read the initiator's side of a capture.
+pub(crate) fn with_initiator_words<'a>(
+    alloc: Global,
+    program: Command<'a>,
+) -> Result<Command<'a>, AllocError> {
+    let program = with_capture(alloc, program)?;
+    with_connection(alloc, program, CONNECTION)
+}
+
+/// The words of a program that may compare two captures.
+pub(crate) fn with_two_captures<'a>(
+    alloc: Global,
+    program: Command<'a>,
+) -> Result<Command<'a>, AllocError> {
+    let program = with_word(
+        program,
+        Ok(flag(
+            alloc,
+            "capture",
+            "Read both files as captures (pcap or pcapng)",
+        )),
+    )?;
+    let program = with_connection(
+        alloc,
+        program,
+        "Connection of both captures, or K,L: K of the first and L of the second",
+    )?;
+    with_end(alloc, program)
 }
 
 pub(crate) fn connections_program<'a>(alloc: Global) -> Result<Command<'a>, AllocError> {
@@ -105,25 +174,56 @@ pub(crate) fn asks_for_capture(asked: &ArgMatches<'_>) -> bool {
         || asked.get_str("from").is_some()
 }
 
-/// The job over one direction of a capture, of these words of a program.
-pub(crate) fn captured_job<'a>(
+/// The job of showing a capture: all of it, one connection, or one direction.
+pub(crate) fn shown_job<'a>(
     alloc: Global,
     program: Result<Command<'_>, AllocError>,
-    shows: bool,
     asked: &ArgMatches<'a>,
 ) -> Result<Job<'a>, LineFault>
     ensures job { IfOk result IsJob }
 {
-    let bytes_alone = !asked.get_flag("hex") && (shows || !asked.get_flag("text"));
+    match (asked.get_str("capture"), shown_work(asked)) {
+        (Some(file), Some(work)) if !asked.get_flag("hex") => capture_job(file, work),
+        _ => Err(bad_number(alloc, program, BAD_SHOWN)),
+    }
+}
+
+// What is shown of a capture.
+fn shown_work(asked: &ArgMatches<'_>) -> Option<CaptureWork>
+    ensures work { IfSome result CanWork }
+{
+    let form = form_of(asked);
+    if asked.get_str("from").is_some() {
+        let wanted = wanted_of(asked)?;
+        return Some(match form {
+            Form::Line => CaptureWork::Show(wanted),
+            form => CaptureWork::Tell(wanted, form),
+        });
+    }
+    let only = match asked.get_str("connection") {
+        Some(digits) => Some(number_of(digits)?),
+        None => None,
+    };
+    Some(CaptureWork::ShowAll { form, only })
+}
+
+const BAD_SHOWN: &str =
+    "a capture is shown with '--capture <FILE>', '--capture <FILE> --connection \
+    <K>' or '--capture <FILE> --connection <K> --from initiator|target', and without '--hex'";
+
+/// The job of normalising one direction of a capture.
+pub(crate) fn normalised_job<'a>(
+    alloc: Global,
+    program: Result<Command<'_>, AllocError>,
+    asked: &ArgMatches<'a>,
+) -> Result<Job<'a>, LineFault>
+    ensures job { IfOk result IsJob }
+{
+    let bytes_alone = !asked.get_flag("hex") && !asked.get_flag("text");
     match (asked.get_str("capture"), wanted_of(asked)) {
-        (Some(file), Some(wanted)) if bytes_alone => Ok(Job::Capture(CaptureJob {
-            file,
-            work: if shows {
-                CaptureWork::Show(wanted)
-            } else {
-                CaptureWork::Normalise(wanted)
-            },
-        })),
+        (Some(file), Some(wanted)) if bytes_alone => {
+            capture_job(file, CaptureWork::Normalise(wanted))
+        }
         _ => Err(bad_number(alloc, program, BAD_CAPTURE)),
     }
 }
@@ -131,24 +231,109 @@ pub(crate) fn captured_job<'a>(
 const BAD_CAPTURE: &str = "a capture is read with '--capture <FILE> --connection <K> --from \
     initiator|target', and without '--hex' or '--text'";
 
-// The direction that words name.
-fn wanted_of(asked: &ArgMatches<'_>) -> Option<Wanted> {
-    let digits = asked.get_str("connection")?;
-    let end = match asked.get_str("from")? {
-        "initiator" => End::Initiator,
-        "target" => End::Target,
-        _ => return None,
+/// The job of answering the initiator's side of a connection of a capture.
+pub(crate) fn answered_job<'a>(
+    alloc: Global,
+    program: Result<Command<'_>, AllocError>,
+    asked: &ArgMatches<'a>,
+) -> Result<Job<'a>, LineFault>
+    ensures job { IfOk result IsJob }
+{
+    let number = match asked.get_str("connection") {
+        Some(digits) => number_of(digits),
+        None => None,
     };
+    match (asked.get_str("capture"), number, needed_blocks(asked)) {
+        (Some(file), Some(connection), Ok(blocks)) if !asked.get_flag("hex") => {
+            capture_job(file, CaptureWork::Answer { connection, blocks })
+        }
+        (Some(_), Some(_), Err(fault)) => Err(bad_size(alloc, program, fault)),
+        _ => Err(bad_number(alloc, program, BAD_ANSWERED)),
+    }
+}
+
+const BAD_ANSWERED: &str = "a capture is answered with '--capture <FILE> --connection <K>', and \
+    without '--hex'";
+
+/// The job of comparing two captures.
+pub(crate) fn compared_job<'a>(
+    alloc: Global,
+    program: Result<Command<'_>, AllocError>,
+    sameness: Sameness,
+    asked: &ArgMatches<'a>,
+) -> Result<Job<'a>, LineFault>
+    ensures job { IfOk result IsJob }
+{
+    let ends = (end_of(asked), both_numbers(asked));
+    match ends {
+        (Some(end), Some((first, second))) if !asked.get_flag("hex") && asked.get_flag("capture") =>
+            {
+                Ok(Job::CompareCaptures(CaptureComparison {
+                    first: asked.get_str("A").unwrap_or(""),
+                    second: asked.get_str("B"),
+                    sameness,
+                    wanted: Wanted {
+                        connection: first,
+                        end,
+                    },
+                    other: Wanted {
+                        connection: second,
+                        end,
+                    },
+                }))
+            }
+        _ => Err(bad_number(alloc, program, BAD_COMPARED)),
+    }
+}
+
+const BAD_COMPARED: &str = "captures are compared with '--capture <A> [B] --connection <K>[,<L>] \
+    --from initiator|target', and without '--hex'";
+
+// A job over a capture.
+fn capture_job<'a>(file: &'a str, work: CaptureWork) -> Result<Job<'a>, LineFault>
+    requires work { CanWork work }
+    ensures job { IfOk result IsJob }
+{
+    Ok(Job::Capture(CaptureJob { file, work }))
+}
+
+// The numbers of the connections that two captures are compared by.
+fn both_numbers(asked: &ArgMatches<'_>) -> Option<(usize, usize)> {
+    let digits = asked.get_str("connection")?;
+    match digits.split_once(',') {
+        Some((first, second)) => Some((number_of(first)?, number_of(second)?)),
+        None => {
+            let number = number_of(digits)?;
+            Some((number, number))
+        }
+    }
+}
+
+// The number that digits spell.
+fn number_of(digits: &str) -> Option<usize> {
     if !digits.bytes().all(|c| c.is_ascii_digit()) {
         return None;
     }
     match digits.parse::<u32>() {
-        Ok(number) => Some(Wanted {
-            connection: number as usize,
-            end,
-        }),
+        Ok(number) => Some(number as usize),
         Err(_) => None,
     }
+}
+
+// The end that words name.
+fn end_of(asked: &ArgMatches<'_>) -> Option<End> {
+    match asked.get_str("from")? {
+        "initiator" => Some(End::Initiator),
+        "target" => Some(End::Target),
+        _ => None,
+    }
+}
+
+// The direction that words name.
+fn wanted_of(asked: &ArgMatches<'_>) -> Option<Wanted> {
+    let end = end_of(asked)?;
+    let connection = number_of(asked.get_str("connection")?)?;
+    Some(Wanted { connection, end })
 }
 
 /// Runs a job over a capture. A file that cannot be opened is one that cannot be read.
@@ -157,6 +342,7 @@ pub(crate) fn run_capture<W: Write>(
     job: CaptureJob<'_>,
     w: &mut W,
 ) -> Result<(), CapturesFault>
+    requires work { CanWork job.work }
     ensures writes { (written : List ℕ) × Appends (W.contents w.old) (W.contents w.new) written
         × WritesCapture job.entry.work result written }
 {
@@ -177,11 +363,17 @@ fn capture_from<R: Read, W: Write>(
     source: &mut R,
     w: &mut W,
 ) -> Result<(), CapturesFault>
+    requires work { CanWork work }
     ensures writes { (written : List ℕ) × Appends (W.contents w.old) (W.contents w.new) written
         × WritesCapture work result written }
 {
     match work {
         CaptureWork::List => list_connections(alloc, source, w),
+        CaptureWork::ShowAll { form, only } => show_capture(alloc, form, only, source, w),
+        CaptureWork::Tell(wanted, form) => tell_from(alloc, source, wanted, form, w),
+        CaptureWork::Answer { connection, blocks } => answer_from(
+            alloc, source, connection, blocks, w,
+        ),
         CaptureWork::Show(wanted) => show_from(alloc, source, wanted, w),
         CaptureWork::Normalise(wanted) => normalise_from(alloc, source, wanted, w),
     }
@@ -217,4 +409,63 @@ fn normalise_from<R: Read, W: Write>(
         return Err(CapturesFault::NoMemory);
     };
     normalise_captured(alloc, &mut captured, w)
+}
+
+// The PDUs of one direction of a capture, each in a form.
+fn tell_from<R: Read, W: Write>(
+    alloc: Global,
+    source: &mut R,
+    wanted: Wanted,
+    form: Form,
+    w: &mut W,
+) -> Result<(), CapturesFault>
+    ensures writes { (written : List ℕ) × Appends (W.contents w.old) (W.contents w.new) written
+        × TellsCaptured form result written }
+{
+    let Ok(mut captured) = Captured::new(alloc, source, wanted) else {
+        return Err(CapturesFault::NoMemory);
+    };
+    tell_captured(alloc, form, &mut captured, w)
+}
+
+// The answers of a target to the initiator's side of a connection of a capture.
+fn answer_from<R: Read, W: Write>(
+    alloc: Global,
+    source: &mut R,
+    connection: usize,
+    blocks: u64,
+    w: &mut W,
+) -> Result<(), CapturesFault>
+    requires some { 0 < blocks }
+    requires few { blocks ≤ most_blocks }
+    ensures writes { (written : List ℕ) × Appends (W.contents w.old) (W.contents w.new) written
+        × AnswersCaptured blocks result written }
+{
+    let wanted = Wanted {
+        connection,
+        end: End::Initiator,
+    };
+    let Ok(mut captured) = Captured::new(alloc, source, wanted) else {
+        return Err(CapturesFault::NoMemory);
+    };
+    let said = answer(alloc, blocks, &mut captured, w);
+    answered(said, captured.fault(), connection)
+}
+
+// How answering a direction ended. A read fails if the direction has a fault, and tells it.
+fn answered(
+    said: Result<(), ToolFault>,
+    fault: Option<CapturesFault>,
+    connection: usize,
+) -> Result<(), CapturesFault>
+    ensures { IsOk result → IsOk said }
+{
+    match said {
+        Ok(()) => Ok(()),
+        Err(ToolFault::Stream(fault)) => Err(CapturesFault::Stream { connection, fault }),
+        Err(ToolFault::Protocol(rule)) => Err(CapturesFault::Protocol { connection, rule }),
+        Err(ToolFault::NoMemory) => Err(CapturesFault::NoMemory),
+        Err(ToolFault::Write) => Err(CapturesFault::Write),
+        Err(_) => Err(fault.unwrap_or(CapturesFault::Read)),
+    }
 }

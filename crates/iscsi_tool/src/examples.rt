@@ -11,11 +11,13 @@ pub(crate) const PROGRAM: &str =
     ./lanthovur show --hex < docs/session/initiator.hex\n      \
     Print the PDUs of a captured session";
 
-pub(crate) const SHOW: &str = "The stream comes from standard input.\n\
+pub(crate) const SHOW: &str = "The stream comes from standard input, unless a capture is named.\n\
     \n\
     Examples:\n  \
     ./lanthovur show --hex < docs/session/initiator.hex\n  \
-    ./lanthovur show < stream.bin";
+    ./lanthovur show < stream.bin\n  \
+    ./lanthovur show --capture session.pcap --explain\n      \
+    Print both directions of all iSCSI connections of a capture, with notes";
 
 pub(crate) const NORMALISE: &str =
     "The stream comes from standard input. Two streams mean the same exactly if their canonical\n\
@@ -30,10 +32,12 @@ pub(crate) const COMPARE: &str =
     \n\
     Examples:\n  \
     ./lanthovur compare before.bin after.bin\n  \
-    ./lanthovur compare --hex --same-job docs/session/initiator.hex docs/session/second/initiator.hex";
+    ./lanthovur compare --hex --same-job docs/session/initiator.hex docs/session/second/initiator.hex\n  \
+    ./lanthovur compare --same-job --capture a.pcap b.pcap --connection 0 --from target";
 
 pub(crate) const ANSWER: &str =
-    "The stream comes from standard input. The disk is in memory, and is zeros at first.\n\
+    "The stream comes from standard input, unless a capture is named. The disk is in memory,\n\
+    and is zeros at first.\n\
     \n\
     Examples:\n  \
     ./lanthovur answer --size 1M < initiator.bin > target.bin\n  \
@@ -42,7 +46,7 @@ pub(crate) const ANSWER: &str =
 pub(crate) const SERVE: &str =
     "Warning: there is no authentication. Anyone who can reach the port can read and write the disk.\n\
     \n\
-    A disk in memory needs a size, and so does --create. An existing image has its own size.\n\
+    A disk in memory needs a size, and so does --create. An existing image, or an export, has its own.\n\
     'listening' is printed once initiators can connect. The disk is unit 0 (LUN 0) of the target.\n\
     \n\
     Examples:\n  \
@@ -51,7 +55,9 @@ pub(crate) const SERVE: &str =
     ./lanthovur serve --file disk.img --create --size 1G\n      \
     Create the image disk.img of 1 GiB, and serve it\n  \
     ./lanthovur serve --file disk.img --at-once 8 --listen 0.0.0.0\n      \
-    Serve the image again, on all IPv4 addresses, to up to 8 sessions at a time";
+    Serve the image again, on all IPv4 addresses, to up to 8 sessions at a time\n  \
+    ./lanthovur serve --nbd 127.0.0.1:10809/disk\n      \
+    Serve the export 'disk' of an NBD server, such as qemu-nbd";
 
 pub(crate) const LOOP: &str =
     "Each line of the script is a command, such as 'write 0 8 5a' or 'read 0 1'. All commands stand in\n\

@@ -7,12 +7,15 @@ ghost use Rattle.scsi_disk.specs.Disk.{most_blocks};
 ghost use Rattle.iscsi_tool.specs.declared.running.Outcome.{Outcome};
 ghost use Rattle.iscsi_tool.specs.Filtering.{CanServe, IsJob};
 ghost use Rattle.iscsi_tool.specs.Storage.{IsStorage};
-ghost use Rattle.iscsi_tool.specs.Running.{EndsComparison, EndsService, Runs, RunsWords, of_capture, of_comparison, of_filter, of_session, outcome_status, words_status};
+ghost use Rattle.iscsi_tool.specs.Running.{EndsComparison, EndsService, Runs, RunsWords, of_capture, of_captures, of_comparison, of_filter, of_session, outcome_status, words_status};
 
+use crate::capture_comparing::{CaptureComparison, CaptureComparisonFault, run_comparison};
 use crate::capture_words::{CaptureJob, run_capture};
 use crate::comparing::{ComparisonFault, compare_bytes, compare_hex};
 use crate::filter::{run_filter, status};
+use crate::nbd_storage::{NbdExport, NbdFault};
 use crate::storage::{Image, ImageFault, Storage};
+use crate::telling::run_telling;
 use crate::words::{Comparison, Job, LineFault, Service, read_words};
 use iscsi_captures::CapturesFault;
 use iscsi_compare::{Verdict, Which};
@@ -50,10 +53,14 @@ pub enum Outcome<'a> {
     Session(ServeFault),
     /// The image could not be served.
     Image(Image<'a>, ImageFault),
+    /// The export could not be served.
+    Nbd(NbdExport<'a>, NbdFault),
     /// A comparison stopped.
     Comparison(Comparison<'a>, ComparisonFault),
     /// A job over a capture stopped.
     Capture(CaptureJob<'a>, CapturesFault),
+    /// A comparison of two captures stopped.
+    CaptureComparison(CaptureComparison<'a>, CaptureComparisonFault),
 }
 
 impl Outcome<'_> {
@@ -70,8 +77,10 @@ impl Outcome<'_> {
             Outcome::Filter(fault) => status(fault),
             Outcome::Session(fault) => fault.status(),
             Outcome::Image(_, fault) => fault.status(),
+            Outcome::Nbd(_, fault) => fault.status(),
             Outcome::Comparison(_, fault) => fault.status(),
             Outcome::Capture(_, fault) => fault.status(),
+            Outcome::CaptureComparison(_, fault) => fault.status(),
         }
     }
 
@@ -87,8 +96,10 @@ impl Outcome<'_> {
                 let name = image.path;
                 writeln!(w, "{name}: {fault}")
             }
+            Outcome::Nbd(export, fault) => tell_nbd(*export, *fault, w),
             Outcome::Comparison(comparison, fault) => tell_comparison(*comparison, *fault, w),
             Outcome::Capture(job, fault) => tell_capture(*job, *fault, w),
+            Outcome::CaptureComparison(comparison, fault) => tell_captures(*comparison, *fault, w),
         }
     }
 }
@@ -109,6 +120,15 @@ fn tell_words<E: Write>(fault: &LineFault, w: &mut E) -> io::Result<()> {
         LineFault::Usage(text) => write!(w, "{text}"),
         LineFault::NoMemory => writeln!(w, "memory"),
     }
+}
+
+// Writes the line of an export that is not served, if it was not written before.
+fn tell_nbd<E: Write>(export: NbdExport<'_>, fault: NbdFault, w: &mut E) -> io::Result<()> {
+    if fault.is_told() {
+        return Ok(());
+    }
+    let word = export.word;
+    writeln!(w, "{word}: {fault}")
 }
 
 // Writes the line of a comparison that stopped.
@@ -133,6 +153,19 @@ fn tell_comparison<E: Write>(
 // Writes the line of a job over a capture that stopped.
 fn tell_capture<E: Write>(job: CaptureJob<'_>, fault: CapturesFault, w: &mut E) -> io::Result<()> {
     match job.blamed(fault) {
+        Some(name) => writeln!(w, "{name}: {fault}"),
+        None => writeln!(w, "{fault}"),
+    }
+}
+
+// Writes the line of a comparison of two captures that stopped.
+fn tell_captures<E: Write>(
+    comparison: CaptureComparison<'_>,
+    stopped: CaptureComparisonFault,
+    w: &mut E,
+) -> io::Result<()> {
+    let fault = stopped.fault;
+    match comparison.blamed(stopped) {
         Some(name) => writeln!(w, "{name}: {fault}"),
         None => writeln!(w, "{fault}"),
     }
@@ -265,7 +298,11 @@ fn run_job<'a, R: Read, W: Write>(
         Job::Serve { storage, service } => serve_storage(rt, storage, service),
         Job::Loop { blocks, piece } => ended(run_loop(rt, blocks, piece, r, w)),
         Job::Compare(comparison) => compare(rt, comparison, r, w),
+        Job::Tell(telling) => filtered(run_telling(rt.alloc(), telling, r, w)),
         Job::Capture(capture) => captured(capture, run_capture(rt, capture, w)),
+        Job::CompareCaptures(comparison) => {
+            compared_captures(comparison, run_comparison(rt, comparison, w))
+        }
     }
 }
 
@@ -310,6 +347,20 @@ fn compared(comparison: Comparison<'_>, said: Result<Verdict, ComparisonFault>) 
     }
 }
 
+// The outcome of a comparison of two captures.
+fn compared_captures(
+    comparison: CaptureComparison<'_>,
+    said: Result<Verdict, CaptureComparisonFault>,
+) -> Outcome<'_>
+    ensures outcome { result ≡ of_captures comparison.entry said }
+{
+    match said {
+        Ok(Verdict::Same) => Outcome::Done,
+        Ok(Verdict::Differ { .. }) => Outcome::Differ,
+        Err(fault) => Outcome::CaptureComparison(comparison, fault),
+    }
+}
+
 // Serves a disk, over what it is kept in.
 #[tactic(auto, using(crate::proofs::RunningLemmas::can_be_opened))]
 fn serve_storage<'a>(rt: &HostRuntime, storage: Storage<'a>, service: Service<'_>) -> Outcome<'a>
@@ -322,6 +373,10 @@ fn serve_storage<'a>(rt: &HostRuntime, storage: Storage<'a>, service: Service<'_
         Storage::Image(image) => match image.open(rt) {
             Ok(mut store) => ended(serve_store(rt, service, &mut store)),
             Err(fault) => Outcome::Image(image, fault),
+        },
+        Storage::Nbd(export) => match export.open(rt) {
+            Ok(mut store) => ended(serve_store(rt, service, &mut store)),
+            Err(fault) => Outcome::Nbd(export, fault),
         },
     }
 }

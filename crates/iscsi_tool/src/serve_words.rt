@@ -2,6 +2,7 @@
 //! time.
 
 ghost use Rattle.std.specs.Prelude.{◌≡◌, ◌<◌, ◌≤◌, IfOk, IfSome};
+ghost use Rattle.scsi_disk.specs.Disk.{most_blocks};
 ghost use Rattle.iscsi_login.specs.Name.{IsName};
 ghost use Rattle.iscsi_server.specs.Service.{AreOffered, IsMemory, longest_asked};
 ghost use Rattle.iscsi_tool.specs.Filtering.{IsJob};
@@ -9,6 +10,7 @@ ghost use Rattle.iscsi_tool.specs.Storage.{IsStorage};
 
 use crate::disk_size::{SizeFault, bad_size, said_blocks, with_size};
 use crate::examples;
+use crate::nbd_storage::export_of;
 use crate::storage::{Image, Origin, Storage};
 use crate::words::{Job, LineFault, Service, bad_number, bad_value, flag, valued, with_word};
 use clap::{Arg, ArgMatches, Command};
@@ -50,6 +52,14 @@ const BAD_MEMORY: &str =
 
 const MEMORY_OF_IMAGE: &str = "'--memory <BYTES>' cannot be used with '--file <F>'";
 
+const BAD_EXPORT: &str =
+    "is no export: '--nbd <SERVER>' takes HOST:PORT/EXPORT, such as 127.0.0.1:10809/disk; without \
+    :PORT it is port 10809, without /EXPORT the server's default export";
+
+const EXPORT_OF_IMAGE: &str = "'--nbd <SERVER>' cannot be used with '--file <F>'";
+
+const MEMORY_OF_EXPORT: &str = "'--memory <BYTES>' cannot be used with '--nbd <SERVER>'";
+
 const BAD_SEGMENT: &str =
     "is no number of bytes: '--segment <N>' takes a number from 512 to 1048576";
 
@@ -62,9 +72,11 @@ const BAD_FIRST_BURST: &str =
 /// The words of `serve`, with their help.
 pub(crate) fn serve_program<'a>(alloc: Global) -> Result<Command<'a>, AllocError> {
     let program = Command::new(alloc, "serve")
-        .about("Serve a disk to iSCSI initiators, from memory or from an image file")
+        .about("Serve a disk to iSCSI initiators, from memory, an image or an NBD server")
         .after_help(examples::SERVE)
-        .override_usage("lanthovur serve [OPTIONS] (--size <SIZE> | --blocks <N> | --file <F>)")
+        .override_usage(
+            "lanthovur serve [OPTIONS] (--size <SIZE> | --blocks <N> | --file <F> | --nbd <SERVER>)",
+        )
         .disable_version_flag(true)
         .bin_name("lanthovur serve")?;
     let program = with_size(alloc, program)?;
@@ -84,7 +96,7 @@ pub(crate) fn serve_program<'a>(alloc: Global) -> Result<Command<'a>, AllocError
     with_options(alloc, program)
 }
 
-// With the words of an image.
+// With the words of an image and of an export.
 fn with_image<'a>(alloc: Global, program: Command<'a>) -> Result<Command<'a>, AllocError> {
     let program = program.arg(valued(
         alloc,
@@ -92,7 +104,13 @@ fn with_image<'a>(alloc: Global, program: Command<'a>) -> Result<Command<'a>, Al
         "F",
         "Keep the disk in F, a raw image file or a block device (default memory)",
     ))?;
-    with_word(program, create(alloc))
+    let program = with_word(program, create(alloc))?;
+    program.arg(valued(
+        alloc,
+        "nbd",
+        "SERVER",
+        "Keep the disk on an NBD server, HOST:PORT/EXPORT",
+    ))
 }
 
 // `--create`, which wants the name of an image.
@@ -232,7 +250,7 @@ fn sessions_of(alloc: Global, asked: &ArgMatches<'_>) -> Result<Option<u16>, Lin
     }
 }
 
-// What the disk is kept in: the image that is named, or memory.
+// What the disk is kept in: the export or the image that is named, or memory.
 fn storage_of<'a>(alloc: Global, asked: &ArgMatches<'a>) -> Result<Storage<'a>, LineFault>
     ensures disk { IfOk result IsStorage }
 {
@@ -240,6 +258,9 @@ fn storage_of<'a>(alloc: Global, asked: &ArgMatches<'a>) -> Result<Storage<'a>, 
         Ok(said) => said,
         Err(fault) => return Err(bad_size(alloc, serve_program(alloc), fault)),
     };
+    if let Some(word) = asked.get_str("nbd") {
+        return exported(alloc, asked, word, said);
+    }
     match (asked.get_str("file"), asked.get_flag("create"), said) {
         (None, _, Some(blocks)) => Ok(Storage::Memory { blocks }),
         (Some(path), true, Some(blocks)) => Ok(Storage::Image(Image {
@@ -251,6 +272,25 @@ fn storage_of<'a>(alloc: Global, asked: &ArgMatches<'a>) -> Result<Storage<'a>, 
             origin: Origin::Found { blocks },
         })),
         (_, _, None) => Err(bad_size(alloc, serve_program(alloc), SizeFault::Neither)),
+    }
+}
+
+// The export that is named, which is no image too.
+fn exported<'a>(
+    alloc: Global,
+    asked: &ArgMatches<'a>,
+    word: &'a str,
+    blocks: Option<u64>,
+) -> Result<Storage<'a>, LineFault>
+    requires range { IfSome blocks (λ n. (0 < n) × (n ≤ most_blocks)) }
+    ensures disk { IfOk result IsStorage }
+{
+    if asked.get_str("file").is_some() {
+        return Err(refusal(alloc, EXPORT_OF_IMAGE));
+    }
+    match export_of(word, blocks) {
+        Some(export) => Ok(Storage::Nbd(export)),
+        None => Err(refused(alloc, word, BAD_EXPORT)),
     }
 }
 
@@ -311,6 +351,9 @@ fn memory_of(alloc: Global, asked: &ArgMatches<'_>) -> Result<u64, LineFault>
     };
     if asked.get_str("file").is_some() {
         return Err(refusal(alloc, MEMORY_OF_IMAGE));
+    }
+    if asked.get_str("nbd").is_some() {
+        return Err(refusal(alloc, MEMORY_OF_EXPORT));
     }
     match digits.parse::<u64>() {
         Ok(bytes) if is_digits(digits) && LEAST_MEMORY <= bytes && bytes <= MOST_MEMORY => Ok(

@@ -1,10 +1,11 @@
-//! What a served disk is kept in: memory, or an image.
+//! What a served disk is kept in: memory, an image, or an export of an NBD server.
 
 ghost use Rattle.std.specs.Prelude.{◌≡◌, IfOk, IfErr};
 ghost use Rattle.scsi_file.specs.FileStore.{medium_of};
 ghost use Rattle.scsi_file.specs.HostFile.{blocks_of};
 ghost use Rattle.iscsi_tool.specs.Storage.{HasAsked, CanBeOpened, IsOther};
 
+use crate::nbd_storage::NbdExport;
 use scsi_disk::BlockStore;
 use scsi_file::{FileStore, HostFile, OpenFault};
 use std::rt::Files;
@@ -35,6 +36,8 @@ pub enum Storage<'a> {
     Memory { blocks: u64 },
     /// An image. What was written lasts.
     Image(Image<'a>),
+    /// An export of an NBD server. What was written lasts.
+    Nbd(NbdExport<'a>),
 }
 
 /// Why an image is not served.

@@ -6,9 +6,10 @@ ghost use Rattle.iscsi_tool.specs.Filtering.{HasDisk, IsJob};
 ghost use Rattle.iscsi_tool.specs.declared.filter.Work.TheVariants.{Normalise};
 ghost use Rattle.iscsi_tool.specs.declared.words.Job.TheVariants as job;
 
+use crate::capture_comparing::CaptureComparison;
 use crate::capture_words::{
-    CaptureJob, asks_for_capture, captured_job, connections_of, connections_program,
-    with_capture_words,
+    CaptureJob, answered_job, asks_for_capture, compared_job, connections_of, connections_program,
+    normalised_job, shown_job, with_capture_words, with_initiator_words, with_two_captures,
 };
 use crate::comparing::Sameness;
 use crate::disk_size::{bad_size, needed_blocks, with_size};
@@ -16,8 +17,10 @@ use crate::examples;
 use crate::filter::{Filter, Work};
 use crate::serve_words::{serve_program, service_of};
 use crate::storage::Storage;
+use crate::telling::{Telling, form_of, with_form_words};
 use clap::error::ErrorKind;
 use clap::{Arg, ArgAction, ArgMatches, Command, Error};
+use iscsi_explain::Form;
 use iscsi_server::Options;
 use iscsi_service::LONGEST_PIECE;
 use std::alloc::{AllocError, AllocFailed, Global};
@@ -56,6 +59,8 @@ pub enum Service<'a> {
 pub enum Job<'a> {
     /// A filter from the standard input to the standard output.
     Filter(Filter),
+    /// Shows a stream in another form than by plain lines.
+    Tell(Telling),
     /// A target's service of a disk.
     Serve {
         /// What the disk is kept in.
@@ -74,6 +79,8 @@ pub enum Job<'a> {
     Compare(Comparison<'a>),
     /// A job over a capture file.
     Capture(CaptureJob<'a>),
+    /// Whether a direction of each of two captures has the same meaning.
+    CompareCaptures(CaptureComparison<'a>),
 }
 
 /// Why words are refused.
@@ -168,6 +175,7 @@ fn show_program<'a>(alloc: Global) -> Result<Command<'a>, AllocError> {
     let program = program(alloc, "show", "Print one line for each PDU of a stream")?
         .bin_name("lanthovur show")?
         .after_help(examples::SHOW);
+    let program = with_form_words(alloc, program)?;
     with_capture_words(alloc, program)
 }
 
@@ -218,7 +226,8 @@ fn answer_program<'a>(alloc: Global) -> Result<Command<'a>, AllocError> {
     .after_help(examples::ANSWER)
     .override_usage("lanthovur answer [OPTIONS] (--size <SIZE> | --blocks <N>)")
     .bin_name("lanthovur answer")?;
-    with_size(alloc, program)
+    let program = with_size(alloc, program)?;
+    with_initiator_words(alloc, program)
 }
 
 fn loop_program<'a>(alloc: Global) -> Result<Command<'a>, AllocError> {
@@ -238,12 +247,13 @@ fn loop_program<'a>(alloc: Global) -> Result<Command<'a>, AllocError> {
 }
 
 fn compare_program<'a>(alloc: Global) -> Result<Command<'a>, AllocError> {
-    program(
+    let program = program(
         alloc,
         "compare",
         "Print the first two PDUs in which two streams differ in meaning",
     )?
     .after_help(examples::COMPARE)
+    .bin_name("lanthovur compare")?
     .arg(file(alloc, "A", "File of the first stream").required(true))?
     .arg(file(
         alloc,
@@ -254,7 +264,8 @@ fn compare_program<'a>(alloc: Global) -> Result<Command<'a>, AllocError> {
         alloc,
         "same-job",
         "Let tags, session ids and serial numbers differ, as in two runs of one job",
-    ))
+    ))?;
+    with_two_captures(alloc, program)
 }
 
 // The program, without the words of its jobs.
@@ -352,7 +363,7 @@ fn job_of<'a>(alloc: Global, matches: &ArgMatches<'a>) -> Result<Job<'a>, LineFa
     match JobWord::of(word) {
         Some(JobWord::Show) => show_of(alloc, asked),
         Some(JobWord::Normalise) => normalise_of(alloc, asked),
-        Some(JobWord::Compare) => Ok(comparison_of(asked)),
+        Some(JobWord::Compare) => comparison_of(alloc, asked),
         Some(JobWord::Connections) => Ok(connections_of(asked)),
         Some(JobWord::Answer) => answer_of(alloc, asked),
         Some(JobWord::Serve) => service_of(alloc, asked),
@@ -371,9 +382,15 @@ fn show_of<'a>(alloc: Global, asked: &ArgMatches<'a>) -> Result<Job<'a>, LineFau
     ensures disk { IfOk result IsJob }
 {
     if asks_for_capture(asked) {
-        return captured_job(alloc, show_program(alloc), true, asked);
+        return shown_job(alloc, show_program(alloc), asked);
     }
-    Ok(filter_of(Work::Show, asked))
+    match form_of(asked) {
+        Form::Line => Ok(filter_of(Work::Show, asked)),
+        form => Ok(Job::Tell(Telling {
+            form,
+            hex: asked.get_flag("hex"),
+        })),
+    }
 }
 
 // The canonical form of a stream or of a text, or of a direction of a capture.
@@ -381,7 +398,7 @@ fn normalise_of<'a>(alloc: Global, asked: &ArgMatches<'a>) -> Result<Job<'a>, Li
     ensures disk { IfOk result IsJob }
 {
     if asks_for_capture(asked) {
-        return captured_job(alloc, normalise_program(alloc), false, asked);
+        return normalised_job(alloc, normalise_program(alloc), asked);
     }
     Ok(filter_of(normal_work(asked), asked))
 }
@@ -406,29 +423,38 @@ fn normal_work(asked: &ArgMatches<'_>) -> Work
     }
 }
 
-fn answer_of<'a>(alloc: Global, asked: &ArgMatches<'_>) -> Result<Job<'a>, LineFault>
+fn answer_of<'a>(alloc: Global, asked: &ArgMatches<'a>) -> Result<Job<'a>, LineFault>
     ensures disk { IfOk result IsJob }
 {
+    if asked.get_str("capture").is_some() || asked.get_str("connection").is_some() {
+        return answered_job(alloc, answer_program(alloc), asked);
+    }
     match needed_blocks(asked) {
         Ok(blocks) => Ok(filter_of(Work::Answer(blocks), asked)),
         Err(fault) => Err(bad_size(alloc, answer_program(alloc), fault)),
     }
 }
 
-fn comparison_of<'a>(asked: &ArgMatches<'a>) -> Job<'a>
-    ensures disk { IsJob result }
+fn comparison_of<'a>(alloc: Global, asked: &ArgMatches<'a>) -> Result<Job<'a>, LineFault>
+    ensures disk { IfOk result IsJob }
 {
     let sameness = if asked.get_flag("same-job") {
         Sameness::Job
     } else {
         Sameness::Meaning
     };
-    Job::Compare(Comparison {
+    let captured = asked.get_flag("capture")
+        || asked.get_str("connection").is_some()
+        || asked.get_str("from").is_some();
+    if captured {
+        return compared_job(alloc, compare_program(alloc), sameness, asked);
+    }
+    Ok(Job::Compare(Comparison {
         first: asked.get_str("A").unwrap_or(""),
         second: asked.get_str("B"),
         sameness,
         hex: asked.get_flag("hex"),
-    })
+    }))
 }
 
 fn loop_of(alloc: Global, asked: &ArgMatches<'_>) -> Result<Job<'static>, LineFault>

@@ -235,6 +235,10 @@ const UNREAD: &[(&str, &str)] = &[
         "serve --port 0 --sessions 0 --file .",
         ".: is no disk image\n",
     ),
+    (
+        "serve --port 0 --sessions 0 --nbd 127.0.0.1:1/disk",
+        "127.0.0.1:1/disk: connection lost\n",
+    ),
     ("compare run-none run-ping", "run-none: read failed\n"),
     ("compare run-ping run-none", "run-none: read failed\n"),
     ("compare .", ".: read failed\n"),

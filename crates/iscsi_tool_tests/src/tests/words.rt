@@ -116,6 +116,22 @@ const JOBS: &[(&str, &str)] = &[
         "Serve { storage: Image(Image { path: \"d\", origin: New { blocks: 20 } }), service: InTurn { port: 3260, sessions: None } }",
     ),
     (
+        "serve --nbd 127.0.0.1:1/disk --port 0",
+        "Serve { storage: Nbd(NbdExport { word: \"127.0.0.1:1/disk\", host: \"127.0.0.1\", port: 1, name: \"disk\", blocks: None }), service: InTurn { port: 0, sessions: None } }",
+    ),
+    (
+        "serve --nbd=host/a/b:c --blocks 8",
+        "Serve { storage: Nbd(NbdExport { word: \"host/a/b:c\", host: \"host\", port: 10809, name: \"a/b:c\", blocks: Some(8) }), service: InTurn { port: 3260, sessions: None } }",
+    ),
+    (
+        "serve --nbd [::1]:65535 --size 4K",
+        "Serve { storage: Nbd(NbdExport { word: \"[::1]:65535\", host: \"::1\", port: 65535, name: \"\", blocks: Some(8) }), service: InTurn { port: 3260, sessions: None } }",
+    ),
+    (
+        "serve --nbd [::1]/",
+        "Serve { storage: Nbd(NbdExport { word: \"[::1]/\", host: \"::1\", port: 10809, name: \"\", blocks: None }), service: InTurn { port: 3260, sessions: None } }",
+    ),
+    (
         "answer --size 1536",
         "Filter(Filter { work: Answer(3), hex: false })",
     ),
@@ -149,13 +165,55 @@ const JOBS: &[(&str, &str)] = &[
         "Capture(CaptureJob { file: \"a\", work: Show(Wanted { connection: 3, end: Target }) })",
     ),
     (
+        "show --capture a",
+        "Capture(CaptureJob { file: \"a\", work: ShowAll { form: Line, only: None } })",
+    ),
+    (
+        "show --capture - --connection 7 --explain",
+        "Capture(CaptureJob { file: \"-\", work: ShowAll { form: Explained, only: Some(7) } })",
+    ),
+    (
+        "show --capture a --connection 3 --from target --json",
+        "Capture(CaptureJob { file: \"a\", work: Tell(Wanted { connection: 3, end: Target }, Json) })",
+    ),
+    (
+        "show --explain --json",
+        "Tell(Telling { form: ExplainedJson, hex: false })",
+    ),
+    (
+        "show --hex --json",
+        "Tell(Telling { form: Json, hex: true })",
+    ),
+    (
+        "answer --capture a --connection 2 --blocks 9",
+        "Capture(CaptureJob { file: \"a\", work: Answer { connection: 2, blocks: 9 } })",
+    ),
+    (
+        "compare --capture a b --connection 1 --from initiator",
+        "CompareCaptures(CaptureComparison { first: \"a\", second: Some(\"b\"), sameness: Meaning, \
+         wanted: Wanted { connection: 1, end: Initiator }, other: Wanted { connection: 1, end: Initiator } })",
+    ),
+    (
+        "compare --same-job --capture a --connection 1,2 --from target",
+        "CompareCaptures(CaptureComparison { first: \"a\", second: None, sameness: Job, \
+         wanted: Wanted { connection: 1, end: Target }, other: Wanted { connection: 2, end: Target } })",
+    ),
+    (
         "normalise --from=initiator --connection=00 --capture=-",
         "Capture(CaptureJob { file: \"-\", work: Normalise(Wanted { connection: 0, end: Initiator }) })",
     ),
 ];
 
-const SHOW: &str = "error: a capture is read with '--capture <FILE> --connection <K> --from \
-    initiator|target', and without '--hex' or '--text'\n\nUsage: lanthovur show";
+const SHOW: &str =
+    "error: a capture is shown with '--capture <FILE>', '--capture <FILE> --connection \
+    <K>' or '--capture <FILE> --connection <K> --from initiator|target', and without '--hex'\n\n\
+    Usage: lanthovur show";
+
+const COMPARE: &str = "error: captures are compared with '--capture <A> [B] --connection <K>[,<L>] \
+    --from initiator|target', and without '--hex'\n\nUsage: lanthovur compare";
+
+const ANSWER: &str = "error: a capture is answered with '--capture <FILE> --connection <K>', and \
+    without '--hex'\n\nUsage: lanthovur answer";
 
 const NORMALISE: &str = "error: a capture is read with '--capture <FILE> --connection <K> --from \
     initiator|target', and without '--hex' or '--text'\n\nUsage: lanthovur normalise";
@@ -170,7 +228,7 @@ const SIZE: &str =
     multiple of 512, at most 512T\n\nUsage: lanthovur ";
 
 const PORT: &str = "is no port: '--port <P>' takes a number from 0 to 65535 (default 3260)\n\n\
-    Usage: lanthovur serve [OPTIONS] (--size <SIZE> | --blocks <N> | --file <F>)\n\n";
+    Usage: lanthovur serve [OPTIONS] (--size <SIZE> | --blocks <N> | --file <F> | --nbd <SERVER>)\n\n";
 
 const SESSIONS: &str =
     "is no number of sessions: '--sessions <n>' takes a number from 0 to 65535\n\nUsage: ";
@@ -190,6 +248,10 @@ const FIRST_BURST: &str =
 
 const PIECE: &str = "is no number of bytes: '--piece <k>' takes a number from 1 to 4096\n\n\
     Usage: lanthovur loop (--size <SIZE> | --blocks <N>) --piece <k>\n\n";
+
+const EXPORT: &str =
+    "is no export: '--nbd <SERVER>' takes HOST:PORT/EXPORT, such as 127.0.0.1:10809/disk; without \
+    :PORT it is port 10809, without /EXPORT the server's default export\n\nUsage: ";
 
 /// Words with a value that is refused, in which `''` is an empty word; the value; what follows it.
 const BAD_VALUES: &[(&str, &str, &str)] = &[
@@ -306,6 +368,15 @@ const BAD_VALUES: &[(&str, &str, &str)] = &[
     ("loop --size 1.5G --piece 1", "1.5G", SIZE),
     ("serve --size 562949953421824", "562949953421824", SIZE),
     ("serve --file d --size 1", "1", SIZE),
+    ("serve --nbd ''", "", EXPORT),
+    ("serve --nbd /disk", "/disk", EXPORT),
+    ("serve --nbd host:", "host:", EXPORT),
+    ("serve --nbd host:0/disk", "host:0/disk", EXPORT),
+    ("serve --nbd host:65536", "host:65536", EXPORT),
+    ("serve --nbd host:+1", "host:+1", EXPORT),
+    ("serve --nbd ::1/disk", "::1/disk", EXPORT),
+    ("serve --nbd [::1/disk", "[::1/disk", EXPORT),
+    ("serve --nbd [::1]1/disk", "[::1]1/disk", EXPORT),
     (
         "serve --blocks 1 --at-once 65",
         "65",
@@ -379,9 +450,34 @@ const REFUSED: &[(&str, &str)] = &[
         "error: the following required arguments were not provided:\n  <A>\n",
     ),
     ("compare a b c", "error: unexpected argument 'c' found\n"),
-    ("show --capture a", SHOW),
-    ("show --capture a --connection 0", SHOW),
+    ("show --capture a --from target", SHOW),
+    ("show --capture a --connection 0x", SHOW),
+    ("show --connection 0", SHOW),
+    ("show --capture a --json --hex", SHOW),
     ("show --connection 0 --from target", SHOW),
+    ("compare --capture a b", COMPARE),
+    ("compare --capture a b --connection 0", COMPARE),
+    ("compare --connection 0 --from target a b", COMPARE),
+    (
+        "compare --capture a b --connection 0,1,2 --from target",
+        COMPARE,
+    ),
+    (
+        "compare --capture a b --connection 0, --from target",
+        COMPARE,
+    ),
+    (
+        "compare --capture --hex a b --connection 0 --from target",
+        COMPARE,
+    ),
+    ("answer --size 1M --capture a", ANSWER),
+    ("answer --size 1M --connection 0", ANSWER),
+    ("answer --size 1M --hex --capture a --connection 0", ANSWER),
+    ("answer --capture a --connection 0", NO_SIZE),
+    (
+        "normalise --explain",
+        "error: unexpected argument '--explain' found\n",
+    ),
     ("show --capture a --connection +1 --from target", SHOW),
     ("show --capture a --connection 0 --from both", SHOW),
     ("show --hex --capture a --connection 0 --from target", SHOW),
@@ -394,10 +490,6 @@ const REFUSED: &[(&str, &str)] = &[
         "error: the following required arguments were not provided:\n  <FILE>\n",
     ),
     ("connections a b", "error: unexpected argument 'b' found\n"),
-    (
-        "answer --blocks 1 --capture a",
-        "error: unexpected argument '--capture' found\n",
-    ),
     ("--text", "error: unexpected argument '--text' found\n"),
     (
         "normalise --blocks 8",
@@ -445,7 +537,7 @@ const REFUSED: &[(&str, &str)] = &[
     (
         "serve --port 0 --sessions 1 --create",
         "error: the following required arguments were not provided:\n  --file <F>\n\n\
-        Usage: lanthovur serve [OPTIONS] (--size <SIZE> | --blocks <N> | --file <F>)\n",
+        Usage: lanthovur serve [OPTIONS] (--size <SIZE> | --blocks <N> | --file <F> | --nbd <SERVER>)\n",
     ),
     (
         "serve --port 0 --sessions 1 --create --blocks 8",
@@ -483,6 +575,19 @@ const REFUSED: &[(&str, &str)] = &[
     (
         "serve --port 0 --file d --sessions 1 --at-once 1 --memory 32768",
         "error: '--memory <BYTES>' cannot be used with '--file <F>'\n\nUsage: lanthovur serve",
+    ),
+    (
+        "serve --nbd host --at-once 1 --memory 32768",
+        "error: '--memory <BYTES>' cannot be used with '--nbd <SERVER>'\n\nUsage: lanthovur serve",
+    ),
+    (
+        "serve --nbd host --file d",
+        "error: '--nbd <SERVER>' cannot be used with '--file <F>'\n\nUsage: lanthovur serve",
+    ),
+    ("serve --nbd host --size 1M --blocks 2048", TWO_SIZES),
+    (
+        "serve --nbd host --create --size 1M",
+        "error: the following required arguments were not provided:\n  --file <F>\n",
     ),
     (
         "serve --port 0 --blocks 1 --sessions 1 --at-once 1 --no-login-limit --login-within 1",

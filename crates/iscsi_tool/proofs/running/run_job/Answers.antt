@@ -23,3 +23,14 @@ returns-in-Capture g c = record {
     rw c.in-Capture.is ((c.run_capture.result, c.run_capture.ensures.writes.2, c.captured.ensures.outcome), refl),
   );
 }
+
+pub returns-in-CompareCaptures : goal.returns-in-CompareCaptures
+returns-in-CompareCaptures g c = record {
+  runs = (
+    [],
+    c.run_comparison.ensures.compares.0,
+    Consumes-nil (g.R.Read.remaining c.args.r.now),
+    c.run_comparison.ensures.compares.1,
+    rw c.in-CompareCaptures.is ((c.run_comparison.result, c.run_comparison.ensures.compares.2, c.compared_captures.ensures.outcome), refl),
+  );
+}

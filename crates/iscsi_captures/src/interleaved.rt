@@ -1,0 +1,216 @@
+//! Both directions of a capture's connections, in the order of the capture.
+
+ghost use Rattle.iscsi_captures.specs.Written.{Wrote};
+ghost use Rattle.iscsi_explain.specs.Showing.{AppendsSome};
+
+use crate::connections::{Connection, Connections};
+use crate::fault::CapturesFault;
+use crate::file::{CaptureFile, Numbered, Stood};
+use crate::heard::heard_of;
+use crate::moment::nanoseconds_of;
+use crate::talk::{Scene, Standing, Talk, first_of, has_port};
+use iscsi_explain::Form;
+use iscsi_stream::write_fully;
+use std::alloc::{AllocError, Global};
+use std::io::{Read, Write};
+
+/// How many bytes are gathered before they are written.
+const GATHERED: usize = 65_536;
+
+/// Reads a capture to its end and writes each PDU of both directions in a form, in the order in which
+/// they became whole. Without a number these are all connections that begin with a login request.
+///
+/// A fault of a direction ends that direction, and the others go on; the first such fault is returned
+/// at the end. A connection whose SYN is missing has the fault `Begun`, if it is the one asked for or
+/// one of its ends has port 3260. A fault of the file comes after what is due for all packets before
+/// it. `NoConnection` comes if the capture has none with the number.
+pub fn show_capture<R: Read, W: Write>(
+    alloc: Global,
+    form: Form,
+    only: Option<usize>,
+    source: &mut R,
+    w: &mut W,
+) -> Result<(), CapturesFault>
+    ensures moves { Wrote (W.contents w.old) (W.contents w.new) }
+{
+    let mut file = CaptureFile::new(alloc)?;
+    let mut stage = Stage::new(alloc, form, only);
+    let read = stage.read_all(&mut file, source, w);
+    let written = write_gathered(&mut stage.out, w);
+    first_of(first_of(written, read), stage.end())
+}
+
+/// The connections of a capture, as far as they are shown.
+#[derive(Drop)]
+struct Stage {
+    alloc: Global,
+    form: Form,
+    only: Option<usize>,
+    connections: Connections,
+    talks: Vec<Talk>,
+    fault: Option<CapturesFault>,
+    fresh: Vec<u8>,
+    out: Vec<u8>,
+}
+
+impl Stage {
+    fn new(alloc: Global, form: Form, only: Option<usize>) -> Stage {
+        Stage {
+            alloc,
+            form,
+            only,
+            connections: Connections::new(alloc),
+            talks: Vec::new(alloc),
+            fault: None,
+            fresh: Vec::new(alloc),
+            out: Vec::new(alloc),
+        }
+    }
+
+    // Reads to the end of the file. What was gathered is written before more of the file is read.
+    #[tactic(auto, using(crate::proofs::Shown::wrote_none, crate::proofs::Shown::wrote_more))]
+    fn read_all<R: Read, W: Write>(
+        &mut self,
+        file: &mut CaptureFile,
+        source: &mut R,
+        w: &mut W,
+    ) -> Result<(), CapturesFault>
+        ensures moves { Wrote (W.contents w.old) (W.contents w.new) }
+    {
+        for turn in 0..u64::MAX {
+            let more = self.step(file, source, w)?;
+            if !more {
+                return Ok(());
+            }
+        }
+        Ok(())
+    }
+
+    // One step of the file; says whether it goes on.
+    fn step<R: Read, W: Write>(
+        &mut self,
+        file: &mut CaptureFile,
+        source: &mut R,
+        w: &mut W,
+    ) -> Result<bool, CapturesFault>
+        ensures moves { Wrote (W.contents w.old) (W.contents w.new) }
+    {
+        match file.step(source)? {
+            Stood::End => return Ok(false),
+            Stood::Other => {}
+            Stood::Packet(packet) => {
+                self.hear(packet)?;
+                if self.out.len() < GATHERED {
+                    return Ok(true);
+                }
+            }
+        }
+        write_gathered(&mut self.out, w)?;
+        Ok(true)
+    }
+
+    // Takes a packet.
+    fn hear(&mut self, packet: Numbered<'_>) -> Result<(), CapturesFault> {
+        let Some(segment) = packet.segment()? else {
+            return Ok(());
+        };
+        let heard = heard_of(&segment, packet.number);
+        self.fresh.clear();
+        let number = self.connections.take(heard, &mut self.fresh)?;
+        self.connections.keep_within();
+        self.meet(number, &packet)?;
+        let scene = Scene::new(self.form, number, &packet, &heard);
+        let (said, has_port) = match self.connections.list().get(number) {
+            Some(connection) => {
+                let (talks, out) = (&mut self.talks, &mut self.out);
+                let said = heard_by(self.alloc, talks, scene, connection, &self.fresh, out);
+                (said, has_port(connection))
+            }
+            None => (Ok(()), false),
+        };
+        let is_told = self.only.is_some() || has_port;
+        self.note(said, is_told)
+    }
+
+    // Notes the fault of a direction, if it is the first; a beginning that is missing is not always
+    // told.
+    fn note(
+        &mut self,
+        said: Result<(), CapturesFault>,
+        is_told: bool,
+    ) -> Result<(), CapturesFault> {
+        match said {
+            Ok(()) => {}
+            Err(CapturesFault::NoMemory) => return Err(CapturesFault::NoMemory),
+            Err(CapturesFault::Begun { .. }) if !is_told => {}
+            Err(fault) => {
+                self.fault = self.fault.or(Some(fault));
+            }
+        }
+        Ok(())
+    }
+
+    // Has a connection of this number, of which this is the first packet if there was none.
+    fn meet(&mut self, number: usize, packet: &Numbered<'_>) -> Result<(), AllocError> {
+        if number < self.talks.len() {
+            return Ok(());
+        }
+        let standing = match self.only {
+            None => Standing::Undecided,
+            Some(only) if only == number => Standing::Shown,
+            Some(_) => Standing::PassedOver,
+        };
+        Ok(self.talks.push(Talk::new(self.alloc, nanoseconds_of(&packet.packet), standing))?)
+    }
+
+    // What is wrong where the capture ends.
+    fn end(&mut self) -> Result<(), CapturesFault> {
+        let list = self.connections.list();
+        if let Some(connection) = self.only {
+            if connection >= list.len() {
+                return Err(CapturesFault::NoConnection { connection });
+            }
+        }
+        for (number, talk) in self.talks.iter_mut().enumerate() {
+            let Some(connection) = list.get(number) else {
+                continue;
+            };
+            if let Err(fault) = talk.end(number, connection) {
+                self.fault = self.fault.or(Some(fault));
+            }
+        }
+        match self.fault {
+            Some(fault) => Err(fault),
+            None => Ok(()),
+        }
+    }
+}
+
+// Has the connection of a segment take it.
+#[tactic(auto, using(crate::proofs::Shown::some_none))]
+fn heard_by(
+    alloc: Global,
+    talks: &mut Vec<Talk>,
+    scene: Scene,
+    connection: &Connection,
+    fresh: &[u8],
+    out: &mut Vec<u8>,
+) -> Result<(), CapturesFault>
+    ensures appends { AppendsSome scene.form out.old.items out.new.items }
+{
+    match talks.get_mut(scene.number) {
+        Some(talk) => talk.hear(alloc, scene, connection, fresh, out),
+        None => Ok(()),
+    }
+}
+
+// Writes what was gathered.
+fn write_gathered<W: Write>(out: &mut Vec<u8>, w: &mut W) -> Result<(), CapturesFault>
+    ensures moves { Wrote (W.contents w.old) (W.contents w.new) }
+{
+    if write_fully(w, out.as_slice()).is_err() {
+        return Err(CapturesFault::Write);
+    }
+    out.clear();
+    Ok(())
+}

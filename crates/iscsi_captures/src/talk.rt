@@ -1,0 +1,358 @@
+//! What both ends of a connection said, PDU by PDU.
+
+ghost use Rattle.std.specs.Prelude.{◌≡◌, OnOk, OnErr, ℕ, List};
+ghost use Rattle.iscsi_stream.specs.Stream.{Message};
+ghost use Rattle.iscsi_explain.specs.Showing.{AppendsSome};
+
+use crate::belonging::Start;
+use crate::captured::stop_fault;
+use crate::connections::{Connection, PORT};
+use crate::ends::Side;
+use crate::fault::CapturesFault;
+use crate::file::Numbered;
+use crate::half::Stop;
+use crate::heard::{Heard, Said};
+use crate::moment::{is_precise, nanoseconds_of};
+use iscsi_explain::{Form, Manner, Origin, Requests, Stamp, pass_on};
+use iscsi_stream::{Framer, LONGEST_SEGMENT, ToolFault};
+use std::alloc::{AllocError, Global};
+
+/// How many bytes of a target are kept until the initiator's first byte is known.
+const MOST_PENDING: usize = 65_536;
+
+/// Whether a connection is shown.
+#[derive(Clone, Copy, Debug, PartialEq, Eq)]
+pub(crate) enum Standing {
+    /// The initiator's first byte is not known yet.
+    Undecided,
+    /// It is shown.
+    Shown,
+    /// It is not shown: it has no login, or its beginning is missing.
+    PassedOver,
+}
+
+/// What one end said.
+#[derive(Drop)]
+struct Voice {
+    framer: Framer,
+    pending: Vec<u8>,
+    ended: bool,
+}
+
+/// What both ends of a connection said.
+#[derive(Drop)]
+pub(crate) struct Talk {
+    began: u64,
+    standing: Standing,
+    lower: Voice,
+    upper: Voice,
+    requests: Requests,
+}
+
+/// A segment of a connection, and the form in which PDUs are shown.
+#[derive(Clone, Copy)]
+pub(crate) struct Scene {
+    pub(crate) form: Form,
+    pub(crate) number: usize,
+    pub(crate) said: Said,
+    pub(crate) is_cut: bool,
+    pub(crate) packet: u64,
+    pub(crate) at: u64,
+    pub(crate) nanoseconds: u64,
+    pub(crate) precise: bool,
+}
+
+impl Scene {
+    /// The segment of a packet, in a connection of this number.
+    pub(crate) fn new(form: Form, number: usize, packet: &Numbered<'_>, heard: &Heard<'_>) -> Scene
+        ensures form { result.form ≡ form }
+    {
+        Scene {
+            form,
+            number,
+            said: heard.said,
+            is_cut: heard.is_cut,
+            packet: packet.number,
+            at: packet.at,
+            nanoseconds: nanoseconds_of(&packet.packet),
+            precise: is_precise(&packet.packet),
+        }
+    }
+}
+
+impl Voice {
+    fn new(alloc: Global) -> Voice {
+        Voice {
+            framer: Framer::new(alloc, LONGEST_SEGMENT),
+            pending: Vec::new(alloc),
+            ended: false,
+        }
+    }
+
+    // Appends what it says, and whether it is shown at all.
+    #[tactic(auto, using(crate::proofs::Shown::some_none, crate::proofs::Shown::some_passed))]
+    fn say(
+        &mut self,
+        alloc: Global,
+        manner: Manner,
+        requests: &mut Requests,
+        bytes: &[u8],
+        out: &mut Vec<u8>,
+    ) -> Result<bool, ToolFault>
+        ensures appends { AppendsSome manner.form out.old.items out.new.items }
+    {
+        if self.ended {
+            return Ok(false);
+        }
+        pass_on(alloc, manner, requests, &mut self.framer, bytes, out)?;
+        Ok(true)
+    }
+}
+
+impl Talk {
+    /// A connection before its first packet. It takes no memory.
+    pub(crate) fn new(alloc: Global, began: u64, standing: Standing) -> Talk {
+        Talk {
+            began,
+            standing,
+            lower: Voice::new(alloc),
+            upper: Voice::new(alloc),
+            requests: Requests::new(alloc),
+        }
+    }
+
+    /// Takes a segment, and appends each PDU that is whole then. Returns the fault of a direction,
+    /// which ends that direction; after `NoMemory` it is used no more.
+    #[tactic(auto, using(crate::proofs::Shown::some_none))]
+    pub(crate) fn hear(
+        &mut self,
+        alloc: Global,
+        scene: Scene,
+        connection: &Connection,
+        fresh: &[u8],
+        out: &mut Vec<u8>,
+    ) -> Result<(), CapturesFault>
+        ensures appends { AppendsSome scene.form out.old.items out.new.items }
+    {
+        if self.standing == Standing::PassedOver {
+            return Ok(());
+        }
+        if scene.said.some && is_begun(connection) {
+            self.standing = Standing::PassedOver;
+            let connection = scene.number;
+            return Err(CapturesFault::Begun { connection });
+        }
+        let initiator = connection.initiator();
+        let stop = connection.half(scene.said.side).stop;
+        if self.standing == Standing::Shown {
+            let side = scene.said.side;
+            return self.say(alloc, scene, (side, side == initiator), stop, fresh, out);
+        }
+        self.keep(scene.said.side, fresh)?;
+        self.decide(connection);
+        if self.standing != Standing::Shown {
+            return Ok(());
+        }
+        self.catch_up(alloc, scene, initiator, stop, out)
+    }
+
+    // Keeps what an end said until it is known whether the connection is shown.
+    fn keep(&mut self, side: Side, fresh: &[u8]) -> Result<(), AllocError> {
+        match side {
+            Side::Lower => self.lower.pending.extend_from_slice(fresh),
+            Side::Upper => self.upper.pending.extend_from_slice(fresh),
+        }
+    }
+
+    // Decides by the initiator's first byte; too much from its target is no login either.
+    fn decide(&mut self, connection: &Connection) {
+        let side = connection.initiator();
+        let half = connection.half(side);
+        if half.first_byte.is_some() {
+            self.standing = if half.is_login() {
+                Standing::Shown
+            } else {
+                Standing::PassedOver
+            };
+        } else if self.lower.pending.len().max(self.upper.pending.len()) > MOST_PENDING {
+            self.standing = Standing::PassedOver;
+        }
+        if self.standing == Standing::PassedOver {
+            self.lower.pending.clear();
+            self.upper.pending.clear();
+        }
+    }
+
+    // Appends what was kept of both ends, the initiator first.
+    fn catch_up(
+        &mut self,
+        alloc: Global,
+        scene: Scene,
+        initiator: Side,
+        stop: Option<Stop>,
+        out: &mut Vec<u8>,
+    ) -> Result<(), CapturesFault>
+        ensures appends { AppendsSome scene.form out.old.items out.new.items }
+    {
+        let lower = std::mem::replace(&mut self.lower.pending, Vec::new(alloc));
+        let upper = std::mem::replace(&mut self.upper.pending, Vec::new(alloc));
+        let target = initiator.other();
+        let (first, second) = match initiator {
+            Side::Lower => (&lower, &upper),
+            Side::Upper => (&upper, &lower),
+        };
+        let said = self.say(alloc, scene, (initiator, true), stop, first, out);
+        let answered = self.say(alloc, scene, (target, false), stop, second, out);
+        first_of(said, answered)
+    }
+
+    // Appends what an end said, the initiator or not.
+    fn say(
+        &mut self,
+        alloc: Global,
+        scene: Scene,
+        end: (Side, bool),
+        stop: Option<Stop>,
+        bytes: &[u8],
+        out: &mut Vec<u8>,
+    ) -> Result<(), CapturesFault>
+        ensures appends { AppendsSome scene.form out.old.items out.new.items }
+    {
+        let (side, is_initiator) = end;
+        let manner = Manner {
+            form: scene.form,
+            stamp: Some(self.stamp(scene, is_initiator)),
+        };
+        let said = match side {
+            Side::Lower => self
+                .lower
+                .say(alloc, manner, &mut self.requests, bytes, out),
+            Side::Upper => self
+                .upper
+                .say(alloc, manner, &mut self.requests, bytes, out),
+        };
+        let told = told(scene, side, stop, said);
+        if told.is_err() {
+            self.end_voice(side);
+        }
+        told
+    }
+
+    // Shows an end no further.
+    fn end_voice(&mut self, side: Side) {
+        match side {
+            Side::Lower => self.lower.ended = true,
+            Side::Upper => self.upper.ended = true,
+        }
+    }
+
+    // Where and when a segment was seen.
+    fn stamp(&self, scene: Scene, is_initiator: bool) -> Stamp {
+        Stamp {
+            connection: scene.number,
+            origin: if is_initiator {
+                Origin::Initiator
+            } else {
+                Origin::Target
+            },
+            nanoseconds: scene.nanoseconds.saturating_sub(self.began),
+            precise: scene.precise,
+            since_request: None,
+        }
+    }
+
+    /// What is wrong with the connection if the capture ends here: the first fault, that of the
+    /// initiator before that of the target.
+    pub(crate) fn end(
+        &mut self,
+        number: usize,
+        connection: &Connection,
+    ) -> Result<(), CapturesFault> {
+        if self.standing != Standing::Shown {
+            return Ok(());
+        }
+        let side = connection.initiator();
+        let said = self.end_of(number, connection, side);
+        let answered = self.end_of(number, connection, side.other());
+        first_of(said, answered)
+    }
+
+    // What is wrong with a direction if the capture ends here.
+    fn end_of(
+        &mut self,
+        number: usize,
+        connection: &Connection,
+        side: Side,
+    ) -> Result<(), CapturesFault> {
+        let voice = match side {
+            Side::Lower => &mut self.lower,
+            Side::Upper => &mut self.upper,
+        };
+        if voice.ended {
+            return Ok(());
+        }
+        voice.ended = true;
+        if let Some(stop) = connection.half(side).stopped() {
+            return Err(stop_fault(number, stop));
+        }
+        match voice.framer.finish() {
+            Ok(()) => Ok(()),
+            Err(fault) => Err(CapturesFault::Stream {
+                connection: number,
+                fault,
+            }),
+        }
+    }
+}
+
+/// The first fault of two.
+pub(crate) fn first_of(
+    first: Result<(), CapturesFault>,
+    second: Result<(), CapturesFault>,
+) -> Result<(), CapturesFault> {
+    match first {
+        Ok(()) => second,
+        Err(fault) => Err(fault),
+    }
+}
+
+// Why a direction goes no further after a segment: its stream, its bytes, or its capture.
+fn told(
+    scene: Scene,
+    side: Side,
+    stop: Option<Stop>,
+    passed: Result<bool, ToolFault>,
+) -> Result<(), CapturesFault> {
+    let connection = scene.number;
+    match passed {
+        Ok(false) => return Ok(()),
+        Ok(true) => {}
+        Err(ToolFault::Stream(fault)) => {
+            return Err(CapturesFault::Stream { connection, fault });
+        }
+        Err(_) => return Err(CapturesFault::NoMemory),
+    }
+    if side != scene.said.side {
+        return Ok(());
+    }
+    if let Some(stop) = stop {
+        return Err(stop_fault(connection, stop));
+    }
+    if scene.is_cut {
+        let (at, packet) = (scene.at, scene.packet);
+        return Err(CapturesFault::Cut { at, packet });
+    }
+    Ok(())
+}
+
+// Whether a SYN of the connection is missing.
+pub(crate) fn is_begun(connection: &Connection) -> bool {
+    connection.opener.is_none()
+        || matches!(connection.lower.start, Start::Bytes(_))
+        || matches!(connection.upper.start, Start::Bytes(_))
+}
+
+/// Whether one of the ends has the port of iSCSI.
+pub(crate) fn has_port(connection: &Connection) -> bool {
+    connection.ends.lower.port() == PORT || connection.ends.upper.port() == PORT
+}

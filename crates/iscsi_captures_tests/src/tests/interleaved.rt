@@ -1,0 +1,97 @@
+//! Both directions of captures, in the order of the capture.
+
+use super::bytes_of;
+use super::captures::{BEGUN, CUT, FRAGMENT, GAP, LATE, LINK, REUSED, WHOLE};
+use crate::asserts::{same_bytes, same_text};
+use iscsi_captures::show_capture;
+use iscsi_explain::Form;
+use std::alloc::Global;
+use std::process::Abort;
+
+/// The login request, whose line follows the time of the packet that completes it.
+const LOGIN_LINE: &str =
+    "0 Login-Request t=0 c=0 csg=1 vmax=00 vmin=00 isid=400001370000 tsih=0000 \
+    itt=00000001 cid=0000 cmdsn=00000001 expstatsn=00000000 data=0\n";
+
+const PING_LINE: &str =
+    "0 NOP-Out i=1 itt=00000001 ttt=ffffffff cmdsn=00000005 expstatsn=00000002 data=0\n";
+
+/// A capture, the connection that is asked for, the parts of what is written, and the fault.
+const ROWS: &[(&str, Option<usize>, &[&str], &str)] = &[
+    (
+        WHOLE,
+        None,
+        &["0 0.000002 > ", LOGIN_LINE, "0 0.000003 < ", PING_LINE],
+        "",
+    ),
+    (
+        WHOLE,
+        Some(0),
+        &["0 0.000002 > ", LOGIN_LINE, "0 0.000003 < ", PING_LINE],
+        "",
+    ),
+    (WHOLE, Some(1), &[], "no connection 1"),
+    (LATE, None, &["0 0.000002 > ", LOGIN_LINE], ""),
+    (
+        GAP,
+        None,
+        &["0 0.000001 > ", LOGIN_LINE],
+        "connection 0: gap at 48 (packet 3)",
+    ),
+    (REUSED, None, &["0 0.000002 > ", LOGIN_LINE], ""),
+    (REUSED, Some(1), &["1 0.000001 > ", PING_LINE], ""),
+    (
+        BEGUN,
+        None,
+        &[],
+        "capture: connection 0 begins before the capture",
+    ),
+    (CUT, None, &[], "capture: cut at 80 (packet 2)"),
+    (FRAGMENT, None, &[], "capture: fragment at 80 (packet 2)"),
+    (LINK, None, &[], "capture: link type 147 at 24 (packet 1)"),
+];
+
+// What is written of a capture in a form, and why it ends.
+fn is_shown(
+    rt: &impl Abort,
+    alloc: Global,
+    form: Form,
+    capture: &str,
+    only: Option<usize>,
+    due: &[&str],
+    fault: &str,
+) {
+    let file = bytes_of(rt, alloc, capture);
+    let mut source = file.as_slice();
+    let mut out = Vec::new(alloc);
+    let result = show_capture(alloc, form, only, &mut source, &mut out);
+    let mut all = String::new(alloc);
+    for part in due {
+        all.push_str(part).expect(rt, "memory");
+    }
+    same_bytes(rt, &out, all.as_bytes(), &fault);
+    if let Err(said) = result {
+        same_text(rt, alloc, &said, fault, &due);
+    } else {
+        same_bytes(rt, b"", fault.as_bytes(), &due);
+    }
+}
+
+#[test]
+fn both_directions_have_their_lines(rt: HostRuntime) {
+    for (capture, only, due, fault) in ROWS {
+        is_shown(&rt, rt.alloc(), Form::Line, capture, *only, due, fault);
+    }
+}
+
+#[test]
+fn notes_stand_under_the_lines(rt: HostRuntime) {
+    let due = [
+        "0 0.000002 > ",
+        LOGIN_LINE,
+        "    stage operational negotiation\n",
+        "0 0.000003 < ",
+        PING_LINE,
+    ];
+    is_shown(&rt, rt.alloc(), Form::Explained, WHOLE, None, &due, "");
+}

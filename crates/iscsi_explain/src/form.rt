@@ -1,0 +1,141 @@
+//! What is written of a PDU, in each form.
+
+ghost use Rattle.std.specs.Prelude.{◌≡◌, ◌++◌, ◌∷◌, [], IfOk, OnOk, OnErr, map, ℕ, List};
+ghost use Rattle.iscsi_pdu.specs.Meaning.{Fits};
+ghost use Rattle.iscsi_explain.specs.Forms.{IsEntry, IsObject, IsText, printable};
+
+use crate::notes::notes_of;
+use crate::objects::object_of;
+use crate::stamp::Stamp;
+use crate::writing::{printed, write_notes};
+use iscsi_pdu::Pdu;
+use iscsi_stream::show_line;
+use std::alloc::{AllocError, Global};
+
+/// What is written of a PDU.
+#[derive(Clone, Copy, Debug, PartialEq, Eq)]
+pub enum Form {
+    /// Its line, as `show_line` writes it.
+    Line,
+    /// Its line, and its notes under it.
+    Explained,
+    /// One JSON object.
+    Json,
+    /// One JSON object, with its notes.
+    ExplainedJson,
+}
+
+/// Appends what is written of a PDU at this place, in a form. What a capture says of it stands
+/// before the line, or in the object. Returns `AllocError` if memory runs out, and leaves `out` as it
+/// was.
+pub fn write_pdu(
+    alloc: Global,
+    form: Form,
+    stamp: Option<Stamp>,
+    place: u64,
+    pdu: &Pdu<'_>,
+    out: &mut Vec<u8>,
+) -> Result<(), AllocError>
+    requires { Fits pdu.now.head }
+    ensures ok { OnOk result ((entry : List ℕ) × IsEntry form entry
+        × (out.new.items ≡ out.old.items ++ entry)) }
+    ensures err { OnErr result (out.new.items ≡ out.old.items) }
+{
+    let entry = entry_of(alloc, form, stamp, place, pdu)?;
+    out.extend_from_slice(&entry)
+}
+
+// What is written of a PDU.
+fn entry_of(
+    alloc: Global,
+    form: Form,
+    stamp: Option<Stamp>,
+    place: u64,
+    pdu: &Pdu<'_>,
+) -> Result<Vec<u8>, AllocError>
+    requires { Fits pdu.now.head }
+    ensures entry { IfOk result (λ entry. IsEntry form entry.items) }
+{
+    match form {
+        Form::Line => line_of(alloc, stamp, place, pdu),
+        Form::Explained => explained_of(alloc, stamp, place, pdu),
+        Form::Json => object_line(alloc, false, stamp, place, pdu),
+        Form::ExplainedJson => object_line(alloc, true, stamp, place, pdu),
+    }
+}
+
+// What a capture says of a PDU, before its line.
+fn front_of(alloc: Global, stamp: Option<Stamp>) -> Result<Vec<u8>, AllocError>
+    ensures printed { IfOk result (λ front. (text : List ℕ) × (front.items ≡ map printable text)) }
+{
+    match stamp {
+        Some(stamp) => {
+            let text = stamp.front(alloc)?;
+            printed(alloc, text.as_bytes())
+        }
+        None => printed(alloc, &[]),
+    }
+}
+
+// The line of a PDU, and what a capture says of it before.
+fn line_of(
+    alloc: Global,
+    stamp: Option<Stamp>,
+    place: u64,
+    pdu: &Pdu<'_>,
+) -> Result<Vec<u8>, AllocError>
+    requires { Fits pdu.now.head }
+    ensures text { IfOk result (λ line. IsText [] line.items) }
+{
+    let mut entry = front_of(alloc, stamp)?;
+    show_line(place, pdu, &mut entry)?;
+    Ok(entry)
+}
+
+// The line of a PDU with its notes.
+fn explained_of(
+    alloc: Global,
+    stamp: Option<Stamp>,
+    place: u64,
+    pdu: &Pdu<'_>,
+) -> Result<Vec<u8>, AllocError>
+    requires { Fits pdu.now.head }
+    ensures text { IfOk result (λ entry. (texts : List (List ℕ)) × IsText texts entry.items) }
+{
+    let mut entry = line_of(alloc, stamp, place, pdu)?;
+    let notes = all_notes(alloc, stamp, pdu)?;
+    write_notes(alloc, &notes, &mut entry)?;
+    Ok(entry)
+}
+
+// The notes of a PDU, that of the time from its request last.
+fn all_notes(
+    alloc: Global,
+    stamp: Option<Stamp>,
+    pdu: &Pdu<'_>,
+) -> Result<Vec<String>, AllocError> {
+    let mut notes = notes_of(alloc, pdu)?;
+    if let Some(stamp) = stamp {
+        if let Some(note) = stamp.elapsed_note(alloc)? {
+            notes.push(note)?;
+        }
+    }
+    Ok(notes)
+}
+
+// The object of a PDU, as a line.
+fn object_line(
+    alloc: Global,
+    explained: bool,
+    stamp: Option<Stamp>,
+    place: u64,
+    pdu: &Pdu<'_>,
+) -> Result<Vec<u8>, AllocError>
+    requires { Fits pdu.now.head }
+    ensures line { IfOk result (λ line. (text : List ℕ) × IsObject text
+        × (line.items ≡ text ++ 10 ∷ [])) }
+{
+    let mut line = object_of(alloc, explained, stamp, place, pdu)?;
+    line.push(b'\n')?;
+    Ok(line)
+}

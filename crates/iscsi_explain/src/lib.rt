@@ -1,0 +1,19 @@
+//! What the PDUs of a stream say in words, and as JSON: the forms of `show` beside its plain lines.
+#![tactic(auto)]
+
+mod commands;
+mod form;
+mod iscsi_words;
+mod notes;
+mod objects;
+mod requests;
+mod sense;
+mod stamp;
+mod stream;
+mod writing;
+
+pub use form::{Form, write_pdu};
+pub use notes::notes_of;
+pub use requests::Requests;
+pub use stamp::{Origin, Stamp};
+pub use stream::{Manner, pass_on, show_in_form};

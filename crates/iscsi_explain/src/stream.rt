@@ -1,0 +1,110 @@
+//! The PDUs of a stream, each in a form.
+
+ghost use Rattle.std.specs.Prelude.{◌≡◌, ◌<◌, ◌^◌, ◌++◌, [], false, length, ℕ, List, OnOk, OnErr, IfOk};
+ghost use Rattle.std.specs.Io.KnownBytes.{Appends, Consumes};
+ghost use Rattle.iscsi_pdu.specs.Meaning.{Fits};
+ghost use Rattle.iscsi_stream.specs.Stream.{Message, StreamMeans, longest_segment};
+ghost use Rattle.iscsi_stream.specs.Framing.{is_ready};
+ghost use Rattle.iscsi_explain.specs.Showing.{AreEntries, PassesOn, AppendsSome};
+
+use crate::form::{Form, write_pdu};
+use crate::requests::Requests;
+use crate::stamp::Stamp;
+use iscsi_stream::{Framer, LONGEST_SEGMENT, PIECE, Reads, ToolFault, write_fully};
+use std::alloc::{AllocError, Global};
+use std::io::{Read, Write};
+
+/// How PDUs are written.
+#[derive(Clone, Copy, Debug, PartialEq, Eq)]
+pub struct Manner {
+    /// The form of each.
+    pub form: Form,
+    /// What a capture says of those that are whole now; none for a stream.
+    pub stamp: Option<Stamp>,
+}
+
+/// Reads a stream to its end, and writes each PDU in a form; what the PDUs of one read give goes out
+/// in one write.
+///
+/// Its faults are those of `iscsi_stream::show`, and what is written before them stands for the same
+/// PDUs.
+pub fn show_in_form<R: Read, W: Write>(
+    alloc: Global,
+    form: Form,
+    r: &mut R,
+    w: &mut W,
+) -> Result<(), ToolFault>
+    ensures writes { (read : List ℕ) × (written : List ℕ)
+        × Consumes (R.remaining r.old) (R.remaining r.new) read
+        × Appends (W.contents w.old) (W.contents w.new) written
+        × OnOk result ((ms : List Message) × StreamMeans read ms × AreEntries form ms written) }
+{
+    let mut framer = Framer::new(alloc, LONGEST_SEGMENT);
+    let mut requests = Requests::new(alloc);
+    let mut out = Vec::new(alloc);
+    let mut buffer = [0u8; PIECE];
+    let mut reads = Reads::new();
+    let manner = Manner { form, stamp: None };
+    while let Some(n) = reads.next(r, &mut buffer)? {
+        out.clear();
+        let passed = pass_on(
+            alloc,
+            manner,
+            &mut requests,
+            &mut framer,
+            &buffer[..n],
+            &mut out,
+        );
+        write_fully(w, &out)?;
+        passed?;
+    }
+    framer.finish()?;
+    Ok(())
+}
+
+/// Takes a piece of a stream, and appends the PDUs that it makes whole, each in its form.
+///
+/// Returns `Stream` if the stream leaves the profile, and `NoMemory` if memory runs out; what was
+/// appended before stands.
+pub fn pass_on(
+    alloc: Global,
+    manner: Manner,
+    requests: &mut Requests,
+    framer: &mut Framer,
+    piece: &[u8],
+    out: &mut Vec<u8>,
+) -> Result<(), ToolFault>
+    ensures ok { OnOk result ((more : List Message) × PassesOn manner.form framer.old framer.new
+        out.old.items out.new.items piece.now more) }
+    ensures err { OnErr result (AppendsSome manner.form out.old.items out.new.items) }
+{
+    append_ready(alloc, manner, requests, framer, out)?;
+    let mut rest = piece;
+    while !rest.is_empty() {
+        let taken = framer.feed(rest)?;
+        rest = &rest[taken..];
+        append_ready(alloc, manner, requests, framer, out)?;
+    }
+    Ok(())
+}
+
+// Appends the PDU that is ready, if one is, and gives it up.
+fn append_ready(
+    alloc: Global,
+    manner: Manner,
+    requests: &mut Requests,
+    framer: &mut Framer,
+    out: &mut Vec<u8>,
+) -> Result<(), AllocError>
+    ensures ok { OnOk result ((more : List Message) × PassesOn manner.form framer.old framer.new
+        out.old.items out.new.items [] more) }
+    ensures err { OnErr result (out.new.items ≡ out.old.items) }
+{
+    let Some(pdu) = framer.pdu() else {
+        return Ok(());
+    };
+    let stamp = requests.stamped(manner.stamp, &pdu.head);
+    write_pdu(alloc, manner.form, stamp, framer.place(), &pdu, out)?;
+    framer.take();
+    Ok(())
+}

@@ -1,0 +1,210 @@
+//! Streams in each form. Their words are those of RFC 7143, SPC-4 and SBC-3, read by hand.
+
+use crate::asserts::{same_bytes, same_text};
+use crate::uses::explain_stream;
+use iscsi_explain::{Form, show_in_form};
+use std::alloc::Global;
+use std::process::Abort;
+
+/// The name of a row, a stream in hex, and its notes; a line stands before them, which is not
+/// compared.
+const NOTES: &[(&str, &str, &str)] = &[
+    (
+        "READ(10)",
+        "01c00000 00000000 0001000000000000 00000002 00001000 00000003 00000004 \
+         2800000004d2000008 00 000000000000",
+        "    READ(10) lba=1234 blocks=8\n",
+    ),
+    (
+        "WRITE(16)",
+        "01a00000 00000000 0001000000000000 00000002 00001000 00000003 00000004 \
+         8a000000000100000000000000100000",
+        "    WRITE(16) lba=4294967296 blocks=16\n",
+    ),
+    (
+        "READ(6) of 256 blocks",
+        "01c00000 00000000 0000000000000000 00000002 00001000 00000003 00000004 \
+         08010203000000000000000000000000",
+        "    READ(6) lba=66051 blocks=256\n",
+    ),
+    (
+        "a page of vital product data",
+        "01c00000 00000000 0000000000000000 00000002 000000ff 00000003 00000004 \
+         12018300ff0000000000000000000000",
+        "    INQUIRY page=83\n",
+    ),
+    (
+        "an unknown command",
+        "01800000 00000000 0000000000000000 00000002 00000000 00000003 00000004 \
+         c1000000000000000000000000000000",
+        "    operation code c1\n",
+    ),
+    (
+        "sense data",
+        "21800002 00000014 0000000000000000 00000002 00000000 00000005 00000006 00000007 \
+         00000000 00000000 00000000 0012 700005000000000a00000000 2100 00000000",
+        "    status CHECK CONDITION\n    sense ILLEGAL REQUEST 21/00, LOGICAL BLOCK ADDRESS OUT OF RANGE\n",
+    ),
+    (
+        "sense data by descriptors",
+        "21800002 0000000a 0000000000000000 00000002 00000000 00000005 00000006 00000007 \
+         00000000 00000000 00000000 0008 72062900 00000000 0000",
+        "    status CHECK CONDITION\n    sense UNIT ATTENTION 29/00, POWER ON, RESET, OR BUS DEVICE RESET OCCURRED\n",
+    ),
+    (
+        "a status with data",
+        "25810000 00000000 0000000000000000 00000002 ffffffff 00000005 00000006 00000007 \
+         00000000 00000000 00000000",
+        "    status GOOD\n",
+    ),
+    (
+        "keys of a login",
+        "43870000 00000016 800000000001 0000 00000000 00000000 00000000 00000001 \
+         0000000000000000 0000000000000000 413d31 00 423d790a5c 00 433d 00 000000 443d22 00 20 00 0000",
+        "    stage operational negotiation, next full feature phase\n    A=1\n    B=y\\x0a\\x5c\n    C=\n    D=\"\n     \n",
+    ),
+    (
+        "a login that is refused",
+        "23040000 00000000 800000000001 0000 00000000 00000000 00000000 00000001 00000001 \
+         0203 0000 00000000 00000000",
+        "    status target not found\n    stage operational negotiation\n",
+    ),
+    (
+        "a task is aborted",
+        "02810000 00000000 0000000000000000 00000002 00000001 00000003 00000004 00000002 00000000 \
+         0000000000000000",
+        "    function ABORT TASK\n",
+    ),
+    (
+        "an answer to that",
+        "22800100 00000000 0000000000000000 00000002 00000000 00000003 00000004 00000002 00000000 \
+         0000000000000000",
+        "    response task does not exist\n",
+    ),
+    (
+        "a logout",
+        "46810000 00000000 0000000000000000 00000002 00010000 00000003 00000004 0000000000000000 \
+         0000000000000000",
+        "    reason close the connection\n",
+    ),
+    (
+        "an answer to that",
+        "26800000 00000000 0000000000000000 00000002 00000000 00000003 00000004 00000002 00000000 \
+         00020000 00000000",
+        "    response connection or session closed\n",
+    ),
+    (
+        "an event",
+        "32800000 00000000 0000000000000000 ffffffff 00000000 00000003 00000004 00000002 01000000 \
+         0003 0000 00000000",
+        "    event target requests logout\n",
+    ),
+    (
+        "a reject",
+        "3f800400 00000000 0000000000000000 ffffffff 00000000 00000003 00000004 00000002 00000000 \
+         0000000000000000",
+        "    reason protocol error\n",
+    ),
+    (
+        "a ping has no notes",
+        "40800000 00000000 0000000000000000 00000001 ffffffff 00000005 00000002 0000000000000000 \
+         0000000000000000",
+        "",
+    ),
+];
+
+/// A stream in hex, and its objects.
+const OBJECTS: &[(&str, bool, &str)] = &[
+    (
+        "40800000 00000003 0000000000000000 00000001 ffffffff 00000005 00000012 0000000000000000 \
+         0000000000000000 61626300",
+        false,
+        "{\"cmdsn\":5,\"data\":3,\"expstatsn\":18,\"i\":1,\"itt\":1,\"kind\":\"NOP-Out\",\"place\":0,\
+         \"ttt\":4294967295}\n",
+    ),
+    (
+        "01c00000 00000000 0001000000000000 00000002 00001000 00000003 00000004 \
+         2800000004d200000800000000000000",
+        true,
+        "{\"attr\":0,\"cdb\":\"2800000004d200000800000000000000\",\"cmdsn\":3,\"data\":0,\"edtl\":4096,\
+         \"explain\":[\"READ(10) lba=1234 blocks=8\"],\"expstatsn\":4,\"f\":1,\"i\":0,\"itt\":2,\
+         \"kind\":\"SCSI-Command\",\"lun\":\"0001000000000000\",\"place\":0,\"r\":1,\"w\":0}\n",
+    ),
+];
+
+// The value of a hex digit.
+fn digit_of(letter: u8) -> u8 {
+    match letter {
+        b'0'..=b'9' => letter - b'0',
+        b'a'..=b'f' => letter - b'a' + 10,
+        _ => 0,
+    }
+}
+
+// The bytes of hex text, whose spaces are passed over.
+fn bytes_of(rt: &impl Abort, alloc: Global, text: &str) -> Vec<u8> {
+    let mut out = Vec::with_capacity(alloc, text.len()).expect(rt, "memory");
+    let mut high: Option<u8> = None;
+    for letter in text.bytes() {
+        if letter == b' ' {
+            continue;
+        }
+        match high.take() {
+            Some(first) => {
+                let byte = first.wrapping_mul(16).wrapping_add(digit_of(letter));
+                out.extend_from_slice(&[byte]).expect(rt, "memory");
+            }
+            None => high = Some(digit_of(letter)),
+        }
+    }
+    out
+}
+
+#[test]
+fn notes_stand_under_lines(rt: HostRuntime) {
+    for (name, stream, notes) in NOTES {
+        let bytes = bytes_of(&rt, rt.alloc(), stream);
+        let mut source = bytes.as_slice();
+        let mut out = Vec::new(rt.alloc());
+        let result = explain_stream(rt.alloc(), &mut source, &mut out);
+        assert!(rt; result.is_ok(), "{name}");
+        let line = out
+            .iter()
+            .position(|byte| *byte == b'\n')
+            .expect(&rt, "a line");
+        same_bytes(
+            &rt,
+            out.get(line.saturating_add(1)..).unwrap_or(b"?"),
+            notes.as_bytes(),
+            name,
+        );
+    }
+}
+
+#[test]
+fn objects_have_the_fields_of_lines(rt: HostRuntime) {
+    for (stream, explained, due) in OBJECTS {
+        let form = if *explained {
+            Form::ExplainedJson
+        } else {
+            Form::Json
+        };
+        let bytes = bytes_of(&rt, rt.alloc(), stream);
+        let mut source = bytes.as_slice();
+        let mut out = Vec::new(rt.alloc());
+        let result = show_in_form(rt.alloc(), form, &mut source, &mut out);
+        assert!(rt; result.is_ok(), "{due}");
+        same_bytes(&rt, &out, due.as_bytes(), due);
+    }
+}
+
+#[test]
+fn a_stream_that_is_cut_is_told(rt: HostRuntime) {
+    let mut source: &[u8] = b"\x40\x80";
+    let mut out = Vec::new(rt.alloc());
+    match explain_stream(rt.alloc(), &mut source, &mut out) {
+        Ok(()) => same_bytes(&rt, b"", b"a fault", &"cut"),
+        Err(fault) => same_text(&rt, rt.alloc(), &fault, "stream: truncated at 0", &"cut"),
+    }
+    same_bytes(&rt, &out, b"", &"cut");
+}

@@ -1,0 +1,153 @@
+//! Two captures compared: one direction of a connection of each.
+
+ghost use Rattle.std.specs.Prelude.{◌≡◌, ℕ, List, Result};
+ghost use Rattle.std.specs.Io.KnownBytes.{Appends};
+ghost use Rattle.iscsi_captures.specs.Faults.{fault_status};
+ghost use Rattle.iscsi_tool.specs.CaptureComparisons.{ComparesCaptures};
+ghost use Rattle.iscsi_tool.specs.declared.comparing.ComparisonFault.{ComparisonFault};
+ghost use Rattle.iscsi_compare.specs.declared.verdict.Verdict.{Verdict};
+
+use crate::comparing::{ComparisonFault, Sameness, compare_bytes};
+use iscsi_captures::{Captured, CapturesFault, Wanted};
+use iscsi_compare::{Verdict, Which};
+use iscsi_stream::ToolFault;
+use std::alloc::Global;
+use std::fs;
+use std::io::{Read, Write};
+
+/// Two captures to compare.
+#[derive(Clone, Copy, Debug, PartialEq, Eq)]
+pub struct CaptureComparison<'a> {
+    /// The file of the first capture.
+    pub first: &'a str,
+    /// The file of the second capture, or the standard input of the process.
+    pub second: Option<&'a str>,
+    /// What makes the two directions the same.
+    pub sameness: Sameness,
+    /// The direction of the first capture.
+    pub wanted: Wanted,
+    /// The direction of the second one.
+    pub other: Wanted,
+}
+
+/// Why a comparison of two captures stops: a fault, and of which capture it is; none for memory and
+/// a write that failed.
+#[derive(Clone, Copy, Debug, PartialEq, Eq)]
+pub struct CaptureComparisonFault {
+    /// The capture.
+    pub which: Option<Which>,
+    /// The fault.
+    pub fault: CapturesFault,
+}
+
+impl CaptureComparisonFault {
+    /// The exit status that says the fault.
+    pub fn status(&self) -> u8
+        ensures { result ≡ fault_status self.now.fault }
+    {
+        self.fault.status()
+    }
+}
+
+impl CaptureComparison<'_> {
+    /// The name of the input in the line of a fault; none if the fault is of no input.
+    pub fn blamed(&self, fault: CaptureComparisonFault) -> Option<&str> {
+        match fault.which {
+            Some(Which::First) => Some(self.first),
+            Some(Which::Second) => Some(self.second.unwrap_or("standard input")),
+            None => None,
+        }
+    }
+}
+
+/// Runs a comparison of two captures. A file that cannot be opened is one that cannot be read.
+pub(crate) fn run_comparison<W: Write>(
+    rt: &HostRuntime,
+    comparison: CaptureComparison<'_>,
+    w: &mut W,
+) -> Result<Verdict, CaptureComparisonFault>
+    ensures compares { (written : List ℕ) × Appends (W.contents w.old) (W.contents w.new) written
+        × ComparesCaptures comparison.entry.sameness result written }
+{
+    let Ok(mut first) = fs::open(rt, comparison.first) else {
+        return Err(unread(Which::First));
+    };
+    let Some(name) = comparison.second else {
+        let mut second = rt.stdin();
+        return compare_from(rt.alloc(), comparison, &mut first, &mut second, w);
+    };
+    let Ok(mut second) = fs::open(rt, name) else {
+        return Err(unread(Which::Second));
+    };
+    compare_from(rt.alloc(), comparison, &mut first, &mut second, w)
+}
+
+// The fault of a file that cannot be opened.
+fn unread(which: Which) -> CaptureComparisonFault {
+    CaptureComparisonFault {
+        which: Some(which),
+        fault: CapturesFault::Read,
+    }
+}
+
+// Compares a direction of each of two captures that readers give.
+fn compare_from<R: Read, Q: Read, W: Write>(
+    alloc: Global,
+    comparison: CaptureComparison<'_>,
+    first: &mut R,
+    second: &mut Q,
+    w: &mut W,
+) -> Result<Verdict, CaptureComparisonFault>
+    ensures compares { (written : List ℕ) × Appends (W.contents w.old) (W.contents w.new) written
+        × ComparesCaptures comparison.entry.sameness result written }
+{
+    let (Ok(mut mine), Ok(mut other)) = (
+        Captured::new(alloc, first, comparison.wanted),
+        Captured::new(alloc, second, comparison.other),
+    ) else {
+        return Err(NO_MEMORY);
+    };
+    match compare_bytes(alloc, comparison.sameness, &mut mine, &mut other, w) {
+        Ok(verdict) => Ok(verdict),
+        Err(ComparisonFault::Own(ToolFault::Write)) => Err(NO_WRITE),
+        Err(ComparisonFault::Own(_)) => Err(NO_MEMORY),
+        Err(ComparisonFault::Input(Which::First, fault)) => {
+            let number = comparison.wanted.connection;
+            Err(told(Which::First, number, fault, mine.fault()))
+        }
+        Err(ComparisonFault::Input(Which::Second, fault)) => {
+            let number = comparison.other.connection;
+            Err(told(Which::Second, number, fault, other.fault()))
+        }
+    }
+}
+
+const NO_MEMORY: CaptureComparisonFault = CaptureComparisonFault {
+    which: None,
+    fault: CapturesFault::NoMemory,
+};
+
+const NO_WRITE: CaptureComparisonFault = CaptureComparisonFault {
+    which: None,
+    fault: CapturesFault::Write,
+};
+
+// The fault of a capture that a comparison stopped at. A read fails if the direction has a fault.
+fn told(
+    which: Which,
+    connection: usize,
+    fault: ToolFault,
+    cause: Option<CapturesFault>,
+) -> CaptureComparisonFault {
+    let fault = match fault {
+        ToolFault::Stream(fault) => CapturesFault::Stream { connection, fault },
+        _ => cause.unwrap_or(CapturesFault::Read),
+    };
+    match fault {
+        CapturesFault::NoMemory => NO_MEMORY,
+        _ => CaptureComparisonFault {
+            which: Some(which),
+            fault,
+        },
+    }
+}

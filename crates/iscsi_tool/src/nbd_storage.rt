@@ -1,0 +1,176 @@
+//! A served disk whose blocks an NBD server keeps.
+
+ghost use Rattle.std.specs.Prelude.{◌≡◌, IfErr, IfOk, IfSome};
+ghost use Rattle.scsi_file.specs.FileStore.{medium_of};
+ghost use Rattle.nbd_client.specs.Ended.{line_of};
+ghost use Rattle.nbd_client.specs.Tcp.{blocks_of};
+ghost use Rattle.iscsi_tool.specs.Storage.{IsAsked, IsOtherExport};
+
+use libc::net::{POLLOUT, poll};
+use libc::types::pollfd;
+use nbd_client::{HandshakeFault, Line, MediumFault, NbdMedium, Report, TcpLine};
+use nbd_wire::LONGEST_NAME;
+use scsi_file::FileStore;
+use std::alloc::Global;
+use std::io::Write;
+use std::rt::Stderr;
+use thiserror::Error;
+
+/// The port of a server, if none is said: that of NBD.
+const PORT: u16 = 10809;
+
+/// How many seconds one waits for a byte of a server (own rule).
+const SECONDS: u32 = 30;
+
+/// An export of an NBD server.
+#[derive(Clone, Copy, Debug, PartialEq, Eq)]
+pub struct NbdExport<'a> {
+    /// The word that names it, with which its fault lines begin.
+    pub word: &'a str,
+    /// The host of the server: a name or an IP address.
+    pub host: &'a str,
+    /// The TCP port of the server.
+    pub port: u16,
+    /// The name of the export, at most 4,096 bytes; the empty one is that of the default export.
+    pub name: &'a str,
+    /// How many blocks it has, if that is said.
+    pub blocks: Option<u64>,
+}
+
+/// Why an export is not served.
+#[derive(Clone, Copy, Debug, PartialEq, Eq, Error)]
+pub enum NbdFault {
+    /// It is not opened.
+    #[error("{0}")]
+    Open(HandshakeFault),
+    /// It has another number of blocks than was asked for.
+    #[error("has {has} blocks, not {asked}")]
+    Size { has: u64, asked: u64 },
+    /// What it has cannot be made to last. Its medium has told why.
+    #[error("cannot be synced")]
+    NotSynced,
+}
+
+impl NbdFault {
+    /// The exit status of the fault: 4, as for an image.
+    pub fn status(&self) -> u8
+        ensures { result ≡ 4 }
+    {
+        4
+    }
+
+    /// Whether its line was written when it came.
+    pub fn is_told(&self) -> bool {
+        matches!(self, NbdFault::NotSynced)
+    }
+}
+
+/// The export that a word names, `HOST:PORT/NAME`: without a port it is that of NBD, without a name
+/// the default export; an IPv6 address stands in brackets.
+pub(crate) fn export_of<'a>(word: &'a str, blocks: Option<u64>) -> Option<NbdExport<'a>>
+    ensures blocks { IfSome result (λ export. export.blocks ≡ blocks) }
+{
+    let (server, name) = word.split_once('/').unwrap_or((word, ""));
+    let (host, port) = server_of(server)?;
+    if host.is_empty() || name.len() > LONGEST_NAME {
+        return None;
+    }
+    Some(NbdExport {
+        word,
+        host,
+        port,
+        name,
+        blocks,
+    })
+}
+
+// The host and the port of a server.
+fn server_of(server: &str) -> Option<(&str, u16)> {
+    if let Some(rest) = server.strip_prefix('[') {
+        let (host, behind) = rest.split_once(']')?;
+        if behind.is_empty() {
+            return Some((host, PORT));
+        }
+        return Some((host, port_of(behind.strip_prefix(':')?)?));
+    }
+    match server.split_once(':') {
+        Some((host, digits)) => Some((host, port_of(digits)?)),
+        None => Some((server, PORT)),
+    }
+}
+
+// The port that digits spell, 1 to 65535.
+fn port_of(digits: &str) -> Option<u16> {
+    if !digits.bytes().all(|c| c.is_ascii_digit()) {
+        return None;
+    }
+    match digits.parse::<u16>() {
+        Ok(port) if port > 0 => Some(port),
+        _ => None,
+    }
+}
+
+impl<'a> NbdExport<'a> {
+    /// The export as a store: all that was written to it lasts then, and it has as many blocks as were
+    /// asked for. Why it ends later is told on standard error, once.
+    pub fn open(
+        &self,
+        rt: &HostRuntime,
+    ) -> Result<FileStore<NbdMedium<TcpLine, FaultLine<'a>>>, NbdFault>
+        ensures blocks { IfOk result (λ store.
+            IsAsked self.now.blocks (blocks_of (line_of (medium_of store)))) }
+        ensures other { IfErr result (IsOtherExport self.now.blocks) }
+    {
+        let name = self.name.as_bytes();
+        let line = match TcpLine::open(rt, self.host, self.port, name, SECONDS) {
+            Ok(line) => line,
+            Err(fault) => return Err(NbdFault::Open(fault)),
+        };
+        let has = line.blocks();
+        if let Some(asked) = self.blocks {
+            if has != asked {
+                return Err(NbdFault::Size { has, asked });
+            }
+        }
+        let report = FaultLine {
+            alloc: rt.alloc(),
+            errors: rt.stderr(),
+            word: self.word,
+        };
+        match FileStore::new(NbdMedium::new(line, report)) {
+            Ok(store) => Ok(store),
+            Err(_) => Err(NbdFault::NotSynced),
+        }
+    }
+}
+
+/// Tells on standard error why the disk of an export has ended. It waits for no reader: a line for
+/// which there is no room is lost.
+#[derive(Drop)]
+pub struct FaultLine<'a> {
+    alloc: Global,
+    errors: Stderr,
+    word: &'a str,
+}
+
+impl Report for FaultLine<'_> {
+    fn report(&mut self, fault: MediumFault) {
+        let word = self.word;
+        let Ok(line) = format!(in self.alloc; "{word}: {fault}\n") else {
+            return;
+        };
+        if is_ready() {
+            let _ = self.errors.write(line.as_bytes());
+        }
+    }
+}
+
+// Whether a write to standard error is answered at once.
+fn is_ready() -> bool {
+    let mut asked = [pollfd {
+        fd: libc::STDERR_FILENO,
+        events: POLLOUT,
+        revents: 0,
+    }];
+    poll(&mut asked, 0) == 1
+}

@@ -1,0 +1,6 @@
+pub mod Ended
+pub mod Handshaking
+pub mod Judging
+pub mod Served
+pub mod Serving
+pub mod Tcp

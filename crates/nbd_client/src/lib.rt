@@ -1,0 +1,19 @@
+//! A medium whose blocks an NBD server keeps.
+#![tactic(auto)]
+
+mod exchange;
+mod export;
+mod fault;
+mod handshake;
+mod line;
+mod medium;
+mod served;
+mod tcp;
+
+pub use export::{ExportFault, judge};
+pub use fault::{Lost, MediumFault, Report, Silent};
+pub use handshake::{HandshakeFault, negotiate};
+pub use line::Line;
+pub use medium::NbdMedium;
+pub use served::Served;
+pub use tcp::TcpLine;

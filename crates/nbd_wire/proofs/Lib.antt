@@ -1,0 +1,2 @@
+pub mod HandshakeLemmas
+pub mod TransmissionLemmas
