@@ -73,7 +73,7 @@ PARTS = [
     Part("canonical form", "iscsi_target", "canonical_form"),
     Part("login", "iscsi_pair", "login_agreement"),
     Part("one disk", "iscsi_pair", "one_local_disk"),
-    Part("loop", "iscsi_service", "run_over", "on_disk"),
+    Part("loop", "iscsi_loop", "run_over", "on_disk"),
     Part("filters", "iscsi_tool", "run_filter", "filters"),
 ]
 

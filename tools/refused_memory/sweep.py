@@ -175,7 +175,7 @@ def constants(path):
 
 def scripts():
     """The name, the number of blocks and the script of each loop of the tests."""
-    path = "iscsi_service_tests/src/tests/loops.rt"
+    path = "iscsi_loop_tests/src/tests/loops.rt"
     for name, script, word in rows_of(path, "SCRIPTS", rf"{STRING},\s*(?:{STRING}|(\w+))"):
         yield name, "2048", unquoted(constants(path)[word] if word else script).encode()
     for name, blocks, script in rows_of(path, "DISKS", rf"{STRING},\s*([\d_]+),\s*{STRING}"):

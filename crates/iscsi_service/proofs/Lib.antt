@@ -2,9 +2,3 @@ pub mod ExecutedLemmas
 pub mod SessionEndLemmas
 pub mod SessionReadInvariant
 pub mod SessionCrashLemmas
-pub mod ScriptLemmas
-pub mod ReportLemmas
-pub mod HistoryLemmas
-pub mod PairStepLemmas
-pub mod RequestLemmas
-pub mod OnDiskLaw

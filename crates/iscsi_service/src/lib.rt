@@ -1,19 +1,10 @@
-//! Sessions over a stream and over sockets: a target's service, and both ends run from a script
-//! (RFC 7143).
+//! A target's sessions over a stream, and its service on a socket (RFC 7143).
 #![tactic(auto)]
 
-mod carrier;
-mod command;
 mod fault;
-mod loop_script;
-mod report;
-mod script;
 mod serving;
 mod session;
-mod socket_pair;
 
-pub use carrier::{Carrier, Channel};
 pub use fault::ServeFault;
-pub use loop_script::{LONGEST_PIECE, run_loop, run_over};
 pub use serving::{serve, serve_connections, serve_one};
-pub use session::{SessionFault, configuration, serve_stream};
+pub use session::{FIRST_STAT_SN, SessionFault, TARGET_NAME, configuration, serve_stream};

@@ -22,14 +22,14 @@ use std::alloc::{AllocError, Global};
 use std::io::{Read, Write};
 use thiserror::Error;
 
-/// The name of the target.
-pub(crate) const TARGET_NAME: &[u8] = b"iqn.2026-01.example:disk";
+/// The name of the target of the programs.
+pub const TARGET_NAME: &[u8] = b"iqn.2026-01.example:disk";
 /// The tag of its portal group.
 const GROUP: u16 = 1;
 /// The TSIH of a session that has logged in.
 const TSIH: u16 = 1;
 /// The StatSN of the first answer.
-pub(crate) const FIRST_STAT_SN: u32 = 1;
+pub const FIRST_STAT_SN: u32 = 1;
 /// How many bytes of answers may wait while the PDUs of a read are answered.
 const MOST_WAITING: usize = 65_536;
 

@@ -1,4 +1,4 @@
-//! Tests of `iscsi_service`: sessions over a stream and over sockets, scripts and lines.
+//! Tests of `iscsi_service`: sessions over a stream and over sockets.
 #![tactic(auto)]
 
 #[cfg(test)]

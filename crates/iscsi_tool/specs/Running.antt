@@ -5,7 +5,7 @@ use Rattle.iscsi_compare.specs.declared.verdict.Verdict.{Verdict}
 use Rattle.iscsi_compare.specs.declared.verdict.Verdict.TheVariants as verdict
 use Rattle.iscsi_service.specs.declared.fault.ServeFault.{ServeFault}
 use Rattle.iscsi_service.specs.Serving.{exit_status as session_status}
-use Rattle.iscsi_service.specs.Looping.{Loops}
+use Rattle.iscsi_loop.specs.Looping.{Loops}
 use Rattle.iscsi_captures.specs.declared.fault.CapturesFault.{CapturesFault}
 use Rattle.iscsi_captures.specs.Faults.{fault_status as capture_status}
 use Rattle.iscsi_tool.specs.declared.capture_words.CaptureJob.{CaptureJob}

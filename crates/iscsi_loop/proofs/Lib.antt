@@ -1,0 +1,6 @@
+pub mod ScriptLemmas
+pub mod ReportLemmas
+pub mod HistoryLemmas
+pub mod PairStepLemmas
+pub mod RequestLemmas
+pub mod OnDiskLaw

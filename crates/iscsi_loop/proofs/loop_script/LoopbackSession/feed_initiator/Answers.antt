@@ -1,0 +1,21 @@
+use Rattle.std.proofs.Common.{◌<◌, [], length, arith}
+use Rattle.std.proofs.lemmas.Bool.Decides.{nat_tests}
+use Rattle.scsi_disk.specs.Sparse.{disk_in}
+use Rattle.iscsi_loop.proofs.HistoryLemmas.{fed, then_continues}
+use Rattle.iscsi_loop.proofs.PairStepLemmas.{receives_more, on_and_on}
+use Rattle.iscsi_loop.proofs.loop_script.LoopbackSession.feed_initiator.Goals as goal
+
+pub loop-rest-preserved : goal.loop-rest-preserved
+loop-rest-preserved g c =
+    let at = c.loop-rest in
+    let n = c.min-len.result in
+    let least = c.min-len.ensures in
+    let moves = at.self.moves in
+    let some : 0 < length at.rest.now = grind (arith, nat_tests, c.is_empty.ensures, c.loop-rest-test.true) in (
+      then_continues _ at.self.initiator.machine _ [] [] [] [] at.invariant.0 (fed c.in_ok-feed.field-0 at.self.initiator c.feed.new.self _ _ _
+          c.in_ok-feed.ensures.feeds),
+      λ faithful. on_and_on _ _ _ (at.invariant.1 faithful)
+          (receives_more at.self.initiator c.feed.new.self at.self.target (disk_in at.self.store) at.requests.items at.rest.now c.feed.new.out.items
+          c.to_initiator.new.read n c.in_ok-feed.field-0 c.in_ok-feed.ensures.feeds (faithful _ _ c.in_ok-to_initiator.ensures.carried) (omega (arith, least))
+          (omega (arith, least, some, moves))),
+    )

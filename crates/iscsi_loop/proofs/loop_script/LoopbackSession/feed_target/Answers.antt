@@ -1,0 +1,21 @@
+use Rattle.std.proofs.Common.{◌<◌, length, refl, arith}
+use Rattle.std.proofs.lemmas.Bool.Decides.{nat_tests}
+use Rattle.scsi_disk.specs.Sparse.{disk_in}
+use Rattle.iscsi_loop.proofs.PairStepLemmas.{asks_more, on_and_on}
+use Rattle.iscsi_loop.proofs.loop_script.LoopbackSession.feed_target.Goals as goal
+
+pub loop-rest-preserved : goal.loop-rest-preserved
+loop-rest-preserved g c =
+    let at = c.loop-rest in
+    let n = c.min-len.result in
+    let least = c.min-len.ensures in
+    let moves = at.self.moves in
+    let some : 0 < length at.rest.now = grind (arith, nat_tests, c.is_empty.ensures, c.loop-rest-test.true) in (
+      at.invariant.0,
+      λ faithful. on_and_on _ _ _ (at.invariant.1 faithful)
+          (asks_more at.self.initiator at.self.target c.feed.new.self (disk_in at.self.store)
+          (disk_in c.feed.new.store) at.rest.now at.answers.items c.feed.new.out.items
+          c.to_target.new.read n c.in_ok-feed.field-0 c.in_ok-feed.ensures.fed c.blocks-blocks.ensures.disk refl
+          (faithful _ _ c.in_ok-to_target.ensures.carried)
+          (omega (arith, least)) (omega (arith, least, some, moves))),
+    )

@@ -1,0 +1,39 @@
+use Rattle.std.proofs.Common.{[], ◌∷◌, subst, sym}
+use Rattle.scsi_disk.specs.Sparse.{disk_in}
+use Rattle.iscsi_initiator.specs.declared.request.Request.{Request}
+use Rattle.iscsi_initiator.specs.Calls.{Connection}
+use Rattle.iscsi_pair.specs.Served.{IsServed}
+use Rattle.iscsi_loop.specs.Commands.{request_of}
+use Rattle.iscsi_loop.specs.LoopPairs.{Performs, ends_of}
+use Rattle.iscsi_loop.specs.LoopSteps.{Continues}
+use Rattle.iscsi_loop.proofs.HistoryLemmas.{submits, takes, then_continues}
+use Rattle.iscsi_loop.proofs.PairStepLemmas.{performs}
+use Rattle.iscsi_loop.proofs.RequestLemmas.{request_served}
+use Rattle.iscsi_loop.proofs.loop_script.LoopbackSession.perform.Goals as goal
+
+pub returns-in-Some : goal.returns-in-Some
+returns-in-Some g c =
+    let before = c.args.self.now.initiator in
+    let after = c.settle.new.self.initiator in
+    let done = c.in-Some.done in
+    let handed : Continues before.machine (c.in_ok-request.request ∷ []) [] c.submit.new.self.machine =
+    submits before c.submit.new.self c.in_ok-request.request _ _ c.in-Ok.ensures.submits in
+    let asked = subst (λ (r : Request). Continues before.machine (r ∷ []) [] c.submit.new.self.machine) c.in_ok-request.ensures.request handed in
+    let settled = then_continues before.machine c.submit.new.self.machine after.machine _ [] [] [] asked c.in_ok-settle.ensures.continues in
+    let given = subst (λ (i : Connection). Continues after.machine [] (done ∷ []) i.machine) (sym c.in-Some.ensures.taken)
+    (takes after done (sym c.in-Some.ensures.outcome)) in
+    let served : IsServed (request_of c.args.command) = request_served c.args.command c.into_request.ensures.numbers in
+    record {
+      continues = then_continues before.machine after.machine _ _ [] [] _ settled given;
+      served = λ faithful.
+          let done_on = performs before c.submit.new.self after c.args.self.now.target c.settle.new.self.target (disk_in c.args.self.now.store)
+          (disk_in c.settle.new.self.store)
+          c.submit.new.out.items c.in_ok-request.request done (rw c.new-out.ensures.items at c.in-Ok.ensures.submits)
+          (subst IsServed (sym c.in_ok-request.ensures.request) served)
+          (c.in_ok-settle.ensures.served faithful) (sym c.in-Some.ensures.outcome) in
+          subst (λ (r : Request). Performs (ends_of before c.args.self.now.target (disk_in c.args.self.now.store) [] []) r done
+          (ends_of c.outcome.new.self c.settle.new.self.target (disk_in c.settle.new.self.store) [] [])) c.in_ok-request.ensures.request
+          (subst (λ (i : Connection). Performs (ends_of before c.args.self.now.target (disk_in c.args.self.now.store) [] []) c.in_ok-request.request done
+          (ends_of i c.settle.new.self.target (disk_in c.settle.new.self.store) [] [])) (sym c.in-Some.ensures.taken) done_on);
+      err = tt;
+    }

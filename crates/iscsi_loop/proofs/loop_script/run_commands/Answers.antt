@@ -1,0 +1,113 @@
+use Rattle.std.proofs.Common.{◌≡◌, [], ◌∷◌, List, length, refl, sym, ap, subst, ◌∙◌, arith}
+use Rattle.std.proofs.lemmas.Result.{err_from_is_err_and}
+use Rattle.std.specs.Vec.Iter.{into_iter_items}
+use Rattle.iscsi_loop.specs.declared.command.Command.{Command}
+use Rattle.iscsi_loop.specs.Looping.{up_to_logout}
+use Rattle.iscsi_loop.proofs.HistoryLemmas.{DoneSoFar, done_none, done_more, done_all, done_stops, goes_on, ends_at}
+use Rattle.scsi_disk.specs.Sparse.{disk_in}
+use Rattle.iscsi_loop.specs.LoopPairs.{ends_of}
+use Rattle.iscsi_loop.proofs.OnDiskLaw.{OnDiskSoFar, on_none, on_more, on_stops, on_all}
+use Rattle.iscsi_loop.proofs.loop_script.run_commands.Goals as goal
+
+nothing_left : (commands : List Command) → length commands ≡ 0 → up_to_logout commands ≡ []
+nothing_left [] none = refl
+nothing_left (command ∷ commands) none = absurd (omega arith)
+
+pub loop-command-init : goal.loop-command-init
+loop-command-init g c =
+    let gives = c.into_iter-command-iterator.ensures.into_iter_gives in (
+      subst (λ (cs : List Command). DoneSoFar c.args.commands.items cs c.args.ends.now.initiator.machine (g.W.Write.contents c.args.w.now)
+          (g.W.Write.contents c.args.w.now)) (sym gives.0)
+          (done_none c.args.commands.items c.args.ends.now.initiator.machine (g.W.Write.contents c.args.w.now) c.requires.begins),
+      omega (arith, gives.1, ap length gives.0, c.args.commands.ok.0),
+      λ faithful blocks one. subst
+          (λ (cs : List Command). OnDiskSoFar blocks c.args.commands.items cs (ends_of c.args.ends.now.initiator c.args.ends.now.target
+          (disk_in c.args.ends.now.store) [] [])
+          (g.W.Write.contents c.args.w.now) (g.W.Write.contents c.args.w.now)) (sym gives.0)
+          (on_none blocks c.args.commands.items (ends_of c.args.ends.now.initiator c.args.ends.now.target (disk_in c.args.ends.now.store) [] [])
+          (g.W.Write.contents c.args.w.now) one),
+    )
+
+pub returns-in_err-run_command-clause-err : goal.returns-in_err-run_command-clause-err
+returns-in_err-run_command-clause-err g c =
+    let p = err_from_is_err_and c.from_residual.result c.from_residual.ensures.1 in
+    let at = c.loop-command in
+    rw (p.1, p.2) (done_stops _ c.args.commands.items (into_iter_items at.command-iterator)
+    (into_iter_items c.next.new.self) c.in-Some.command at.ends.initiator.machine c.run_command.new.ends.initiator.machine (g.W.Write.contents c.args.w.now)
+    (g.W.Write.contents at.w) (g.W.Write.contents c.run_command.new.w) at.invariant.0 c.in-Some.ensures.steps.0 c.in_err-run_command.ensures.err)
+
+pub returns-in_err-run_command-clause-served : goal.returns-in_err-run_command-clause-served
+returns-in_err-run_command-clause-served g c = λ faithful blocks one.
+    let p = err_from_is_err_and c.from_residual.result c.from_residual.ensures.1 in
+    let at = c.loop-command in
+    let after = c.run_command.new.ends in
+    rw p.1 (on_stops p.0 blocks c.args.commands.items (into_iter_items at.command-iterator) (into_iter_items c.next.new.self) c.in-Some.command
+    (ends_of at.ends.initiator at.ends.target (disk_in at.ends.store) [] []) (ends_of after.initiator after.target (disk_in after.store) [] [])
+    (g.W.Write.contents c.args.w.now) (g.W.Write.contents at.w) (g.W.Write.contents c.run_command.new.w)
+    (at.invariant.2 faithful blocks one) c.in-Some.ensures.steps.0
+    (λ past before. c.in_err-run_command.ensures.served faithful blocks past before))
+
+pub returns-then-is_logout-clause-served : goal.returns-then-is_logout-clause-served
+returns-then-is_logout-clause-served g c = λ faithful blocks one.
+    let at = c.loop-command in
+    let x = c.in-Some.command in
+    let more = into_iter_items c.next.new.self in
+    let after = c.run_command.new.ends in
+    let here = ends_of after.initiator after.target (disk_in after.store) [] [] in
+    on_all blocks c.args.commands.items [] here (g.W.Write.contents c.args.w.now) (g.W.Write.contents c.run_command.new.w)
+    (on_more blocks c.args.commands.items (into_iter_items at.command-iterator) more x (ends_of at.ends.initiator at.ends.target (disk_in at.ends.store) [] [])
+    here
+    (g.W.Write.contents c.args.w.now) (g.W.Write.contents at.w) (g.W.Write.contents c.run_command.new.w)
+    (at.invariant.2 faithful blocks one) c.in-Some.ensures.steps.0
+    (λ past before. c.in_ok-run_command.ensures.served faithful blocks past before) []
+    (ends_at x more (sym c.is_logout-is_logout.ensures ∙ c.if-is_logout.true))) refl
+
+pub returns-then-is_logout-clause-runs : goal.returns-then-is_logout-clause-runs
+returns-then-is_logout-clause-runs g c =
+    let at = c.loop-command in
+    let x = c.in-Some.command in
+    let more = into_iter_items c.next.new.self in
+    let ok = c.in_ok-run_command.ensures.ok in
+    done_all c.args.commands.items [] c.run_command.new.ends.initiator.machine (g.W.Write.contents c.args.w.now) (g.W.Write.contents c.run_command.new.w)
+    (done_more c.args.commands.items (into_iter_items at.command-iterator) more x at.ends.initiator.machine c.run_command.new.ends.initiator.machine ok.0
+    (g.W.Write.contents c.args.w.now) (g.W.Write.contents at.w) (g.W.Write.contents c.run_command.new.w) at.invariant.0
+    c.in-Some.ensures.steps.0 ok.1 ok.2 [] (ends_at x more (sym c.is_logout-is_logout.ensures ∙ c.if-is_logout.true))) refl
+
+pub loop-command-preserved : goal.loop-command-preserved
+loop-command-preserved g c =
+    let at = c.loop-command in
+    let x = c.in-Some.command in
+    let more = into_iter_items c.next.new.self in
+    let steps : into_iter_items at.command-iterator ≡ x ∷ more = c.in-Some.ensures.steps.0 in
+    let ok = c.in_ok-run_command.ensures.ok in (
+      done_more c.args.commands.items (into_iter_items at.command-iterator) more x at.ends.initiator.machine c.run_command.new.ends.initiator.machine ok.0
+          (g.W.Write.contents c.args.w.now) (g.W.Write.contents at.w) (g.W.Write.contents c.run_command.new.w) at.invariant.0
+          steps ok.1 ok.2 more (goes_on x more (sym c.is_logout-is_logout.ensures ∙ c.if-is_logout.false)),
+      let was = at.invariant.1 in
+          let gone = c.in-Some.ensures.steps.1 in
+          let short = ap length steps in
+          omega arith,
+      λ faithful blocks one.
+          let after = c.run_command.new.ends in
+          on_more blocks c.args.commands.items (into_iter_items at.command-iterator) more x
+          (ends_of at.ends.initiator at.ends.target (disk_in at.ends.store) [] [])
+          (ends_of after.initiator after.target (disk_in after.store) [] []) (g.W.Write.contents c.args.w.now) (g.W.Write.contents at.w)
+          (g.W.Write.contents c.run_command.new.w)
+          (at.invariant.2 faithful blocks one) steps (λ past before. c.in_ok-run_command.ensures.served faithful blocks past before) more
+          (goes_on x more (sym c.is_logout-is_logout.ensures ∙ c.if-is_logout.false)),
+    )
+
+pub returns-clause-runs : goal.returns-clause-runs
+returns-clause-runs g c =
+    let at = c.loop-command in
+    let none = c.in-None.ensures.steps in
+    done_all c.args.commands.items (into_iter_items at.command-iterator) at.ends.initiator.machine (g.W.Write.contents c.args.w.now)
+    (g.W.Write.contents at.w) at.invariant.0 (nothing_left (into_iter_items at.command-iterator) (sym at.invariant.1 ∙ none.0))
+
+pub returns-clause-served : goal.returns-clause-served
+returns-clause-served g c = λ faithful blocks one.
+    let at = c.loop-command in
+    let none = c.in-None.ensures.steps in
+    on_all blocks c.args.commands.items (into_iter_items at.command-iterator) (ends_of at.ends.initiator at.ends.target (disk_in at.ends.store) [] [])
+    (g.W.Write.contents c.args.w.now) (g.W.Write.contents at.w) (at.invariant.2 faithful blocks one)
+    (nothing_left (into_iter_items at.command-iterator) (sym at.invariant.1 ∙ none.0))

@@ -1,0 +1,114 @@
+-- The requests that the commands of a script are (SPC-4 and SBC-3; which there are is own rule).
+use Rattle.std.specs.Prelude.{ℕ, ◌*◌, ◌^◌, ◌<◌, Bool, true, false, nat_lt, if◌then◌else◌, replicate}
+use Rattle.scsi_cdb.specs.declared.cdb.Cdb.{Cdb}
+use Rattle.scsi_cdb.specs.declared.cdb.Cdb.TheVariants as cdb
+use Rattle.scsi_cdb.specs.declared.cdb.Transfer10.{Transfer10}
+use Rattle.scsi_cdb.specs.declared.cdb.Transfer16.{Transfer16}
+use Rattle.scsi_cdb.specs.Blocks.{canonical}
+use Rattle.iscsi_initiator.specs.declared.request.Request.{Request}
+use Rattle.iscsi_initiator.specs.declared.request.Request.TheVariants as requests
+use Rattle.iscsi_loop.specs.declared.command.Command.{Command}
+use Rattle.iscsi_loop.specs.declared.command.Command.TheVariants.{TestUnitReady, Inquiry, Capacity, Capacity16, Luns, Read, Write, Sync, Ping, Logout}
+
+-- A transfer of n blocks from this one on, with each other field 0 (SBC-3, READ(10)).
+abbrev pub transfer : ℕ → ℕ → Transfer10
+transfer logical_block_address blocks = record {
+  options = 0;
+  logical_block_address = logical_block_address;
+  group_number = 0;
+  blocks = blocks;
+  control = 0;
+}
+
+-- The same with room for more (SBC-3, READ(16)).
+abbrev pub long_transfer : ℕ → ℕ → Transfer16
+long_transfer logical_block_address blocks = record {
+  options = 0;
+  logical_block_address = logical_block_address;
+  blocks = blocks;
+  group_number = 0;
+  control = 0;
+}
+
+-- READ(10), or READ(16) where that has no room for the first block (SBC-3).
+abbrev pub reading : ℕ → ℕ → Cdb
+reading logical_block_address blocks =
+    if nat_lt logical_block_address (2 ^ 32)
+    then cdb.Read10 (transfer logical_block_address blocks)
+    else cdb.Read16 (long_transfer logical_block_address blocks)
+
+-- WRITE(10), or WRITE(16) where that has no room for the first block (SBC-3).
+abbrev pub writing : ℕ → ℕ → Cdb
+writing logical_block_address blocks =
+    if nat_lt logical_block_address (2 ^ 32)
+    then cdb.Write10 (transfer logical_block_address blocks)
+    else cdb.Write16 (long_transfer logical_block_address blocks)
+
+-- A flush of n blocks from this one on, with each other field 0 (SBC-3, SYNCHRONIZE CACHE
+-- (10)).
+abbrev pub flush : ℕ → ℕ → Cdb
+flush logical_block_address blocks = cdb.SyncCache10 (record {
+  options = 0;
+  logical_block_address = logical_block_address;
+  group_number = 0;
+  blocks = blocks;
+  control = 0;
+})
+
+-- A command to a unit that may return n bytes; the unit's number is byte 1 of the LUN, the
+-- second from above (SAM-5, section 4.7).
+abbrev pub data_in_request : ℕ → Cdb → ℕ → Request
+data_in_request unit block expected = requests.In (unit * 2 ^ 48) (canonical block) expected
+
+-- A WRITE of n blocks of 512 bytes, all of them this byte (SBC-3).
+abbrev pub written : ℕ → ℕ → ℕ → Request
+written logical_block_address blocks byte =
+    requests.Out 0 (canonical (writing logical_block_address blocks))
+    (replicate (512 * blocks) byte)
+
+-- What a command asks for: TEST UNIT READY, INQUIRY and REPORT LUNS are SPC-4's, READ CAPACITY,
+-- READ, WRITE and SYNCHRONIZE CACHE(10) SBC-3's, a ping and a logout those of RFC 7143, sections
+-- 11.18 and 11.14 (what stands in their other fields is own rule).
+abbrev pub request_of : Command → Request
+request_of (TestUnitReady unit) = data_in_request unit (cdb.TestUnitReady 0) 0
+request_of (Inquiry unit allocation_length) =
+    data_in_request unit (cdb.Inquiry false 0 allocation_length 0) allocation_length
+request_of Capacity = data_in_request 0 (cdb.Capacity10 0) 8
+request_of Capacity16 = data_in_request 0 (cdb.Capacity16 32 0) 32
+request_of Luns = data_in_request 0 (cdb.ReportLuns 0 16 0) 16
+request_of (Read logical_block_address blocks) =
+    data_in_request 0 (reading logical_block_address blocks) (512 * blocks)
+request_of (Write logical_block_address blocks byte) = written logical_block_address blocks byte
+request_of (Sync logical_block_address blocks) =
+    data_in_request 0 (flush logical_block_address blocks) 0
+request_of (Ping bytes) = requests.Ping bytes
+request_of Logout = requests.Logout
+
+-- The numbers of a command are those of their fields.
+abbrev pub HasNumbers : Command → Type 0
+HasNumbers (TestUnitReady unit) = unit < 256
+HasNumbers (Inquiry unit allocation_length) = (unit < 256) × (allocation_length < 2 ^ 16)
+HasNumbers Capacity = Unit {0}
+HasNumbers Capacity16 = Unit {0}
+HasNumbers Luns = Unit {0}
+HasNumbers (Read logical_block_address blocks) =
+    (logical_block_address < 2 ^ 64) × (blocks < 2 ^ 16)
+HasNumbers (Write logical_block_address blocks byte) =
+    (logical_block_address < 2 ^ 64) × (blocks < 2 ^ 16)
+HasNumbers (Sync logical_block_address blocks) =
+    (logical_block_address < 2 ^ 32) × (blocks < 2 ^ 16)
+HasNumbers (Ping bytes) = Unit {0}
+HasNumbers Logout = Unit {0}
+
+-- The command ends the session (RFC 7143, section 11.14).
+abbrev pub is_logout : Command → Bool
+is_logout (TestUnitReady unit) = false
+is_logout (Inquiry unit allocation_length) = false
+is_logout Capacity = false
+is_logout Capacity16 = false
+is_logout Luns = false
+is_logout (Read logical_block_address blocks) = false
+is_logout (Write logical_block_address blocks byte) = false
+is_logout (Sync logical_block_address blocks) = false
+is_logout (Ping bytes) = false
+is_logout Logout = true

@@ -1,0 +1,6 @@
+pub mod Commands
+pub mod Script
+pub mod Reports
+pub mod Looping
+pub mod LoopSteps
+pub mod LoopPairs

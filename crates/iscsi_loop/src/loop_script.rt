@@ -1,0 +1,406 @@
+//! A session of an initiator and a target over a socket, as a script says. One file: both ends, and
+//! the commands that drive them; more than half of it are the contracts.
+
+ghost use Rattle.std.specs.Prelude.{◌≡◌, ◌<◌, ◌≤◌, ◌∷◌, [], ℕ, List, Option, IfOk, IfErr, OnOk};
+ghost use Rattle.scsi_disk.specs.Disk.{most_blocks};
+ghost use Rattle.std.specs.Io.KnownBytes.{Appends, Consumes, IsAtEnd};
+ghost use Rattle.iscsi_initiator.specs.State.{opening};
+ghost use Rattle.iscsi_initiator.specs.Calls.{opening_connection};
+ghost use Rattle.iscsi_initiator.specs.declared.fault.InitiatorFault.TheVariants as faults;
+ghost use Rattle.iscsi_initiator.specs.declared.request.Done.{Done};
+ghost use Rattle.iscsi_initiator.specs.declared.request.Request.{Request};
+ghost use Rattle.iscsi_service.specs.declared.fault.ServeFault.TheVariants as serve;
+ghost use Rattle.iscsi_loop.specs.Reports.{report};
+ghost use Rattle.iscsi_loop.specs.Commands.{request_of};
+ghost use Rattle.iscsi_loop.specs.Script.{IsScript};
+ghost use Rattle.iscsi_stream.specs.Normalising.{WroteFront};
+ghost use Rattle.iscsi_loop.specs.Looping.{initiator_settings, Loops, ReadsFirst};
+ghost use Rattle.scsi_disk.specs.Sparse.{disk_in};
+ghost use Rattle.iscsi_loop.specs.LoopPairs.{AreOneDisk, GoOn, IsFaithful, LoopsOnDisk, Performs, WritesLine, WritesOnDisk, asked, ends_of, new_ends};
+ghost use Rattle.iscsi_loop.specs.LoopSteps.{Continues, Fails, IsOfSession, Runs, Stops, refusal_fault};
+
+use crate::carrier::Carrier;
+use crate::command::Command;
+use crate::report::report;
+use crate::script::read_script;
+use crate::socket_pair::Wire;
+use iscsi_initiator::{Config, Done, Initiator, InitiatorFault, SubmitFault};
+use iscsi_login::{Auth, Offers, Phase, Preferences, Session, Stage};
+use iscsi_pdu::LOGIN_SEGMENT;
+use iscsi_service::{FIRST_STAT_SN, ServeFault, TARGET_NAME, configuration};
+use iscsi_stream::write_fully;
+use iscsi_target::Target;
+use scsi_disk::{BlockStore, SparseStore};
+use std::alloc::{AllocError, Global};
+use std::io::{Read, Write};
+
+/// The most bytes of a piece, which one end writes before the other reads them.
+pub const LONGEST_PIECE: u32 = 4096;
+
+/// The name of the initiator.
+const INITIATOR_NAME: &[u8] = b"iqn.2026-01.example:host";
+/// The initiator's part of the session's identifier (RFC 7143, section 11.12.5).
+const ISID: [u8; 6] = [0x40, 0, 0, 1, 0, 0];
+/// The CmdSN of the login and of the first request.
+const FIRST_CMD_SN: u32 = 1;
+/// How often one end answers the other before the connection counts as failed.
+const TURNS: u32 = 16_777_216;
+
+/// Logs an initiator in to a target with a disk of `n` blocks of 00, over a socket of this
+/// machine, and does what a script says. What an end sends goes in pieces of at most `n` bytes,
+/// each read as it is written. Writes a line for the login and one for what came of each command,
+/// up to the first logout; without one the connection is closed at the end of the script.
+///
+/// Before any output `Script` is returned with the first line that is no command, and with that of
+/// the first byte too many where the script has more than 1,048,576 bytes; `Read` where a read
+/// fails or 16,777,216 of them did not reach the end. `NoMemory` comes where memory runs out, then
+/// or later. `Target` and `Initiator` are the first fault of an end. A refused request and one
+/// without an outcome are `Initiator` with `Closed`: these ends have no cause for it. `Network`
+/// comes where a socket fails, or the ends answered each other 16,777,216 times, and `Write` where
+/// a line can't be written.
+///
+/// The sessions are those of RFC 7143, sections 4 to 11; the lines of a script and those that are
+/// written are own rule.
+pub fn run_loop<R: Read, W: Write>(
+    rt: &HostRuntime,
+    blocks: u64,
+    piece: u32,
+    r: &mut R,
+    w: &mut W,
+) -> Result<(), ServeFault>
+    requires some { 0 < blocks }
+    requires few { blocks ≤ most_blocks }
+    requires moves { 0 < piece }
+    requires short { piece ≤ 4096 }
+    ensures loops { (script : List ℕ) × (written : List ℕ)
+        × Consumes (R.remaining r.old) (R.remaining r.new) script
+        × Appends (W.contents w.old) (W.contents w.new) written
+        × Loops result script written × ReadsFirst result written (R.remaining r.new) }
+{
+    run_over::<Wire, R, W>(rt, blocks, piece, r, w)
+}
+
+/// `run_loop` over any connection of this kind: the engine of both ends. It opens the connection
+/// once the script is read, and closes it at the end.
+pub fn run_over<C: Carrier, R: Read, W: Write>(
+    rt: &HostRuntime,
+    blocks: u64,
+    piece: u32,
+    r: &mut R,
+    w: &mut W,
+) -> Result<(), ServeFault>
+    requires some { 0 < blocks }
+    requires few { blocks ≤ most_blocks }
+    requires moves { 0 < piece }
+    requires short { piece ≤ 4096 }
+    ensures loops { (script : List ℕ) × (written : List ℕ)
+        × Consumes (R.remaining r.old) (R.remaining r.new) script
+        × Appends (W.contents w.old) (W.contents w.new) written
+        × Loops result script written × ReadsFirst result written (R.remaining r.new) }
+    // Over a connection that returns what was written to it, the lines are those of one local disk.
+    ensures on_disk { IsFaithful C.carries → (script : List ℕ) × (written : List ℕ)
+        × Consumes (R.remaining r.old) (R.remaining r.new) script
+        × Appends (W.contents w.old) (W.contents w.new) written
+        × LoopsOnDisk blocks result script written }
+{
+    let commands = read_script(rt.alloc(), r)?;
+    let mut ends = LoopbackSession::open(rt.alloc(), blocks, piece as usize)?;
+    run_session::<C, W>(rt, &mut ends, commands, w)
+}
+
+// Runs a session that is not started, over a connection of its own.
+fn run_session<C: Carrier, W: Write>(
+    rt: &HostRuntime,
+    ends: &mut LoopbackSession,
+    commands: Vec<Command>,
+    w: &mut W,
+) -> Result<(), ServeFault>
+    requires begins { ends.old.initiator ≡ opening_connection initiator_settings }
+    ensures loops { (script : List ℕ) (left : Option (List ℕ)) → IsScript script commands.items
+        → IsAtEnd left → (written : List ℕ) × Appends (W.contents w.old) (W.contents w.new) written
+        × Loops result script written × ReadsFirst result written left }
+    ensures on_disk { IsFaithful C.carries → (blocks : ℕ) (script : List ℕ)
+        → ends_of ends.old.initiator ends.old.target (disk_in ends.old.store) [] []
+        ≡ new_ends blocks → IsScript script commands.items → (written : List ℕ)
+        × Appends (W.contents w.old) (W.contents w.new) written
+        × LoopsOnDisk blocks result script written }
+{
+    let mut carrier = C::open(rt)?;
+    ends.log_in(&mut carrier)?;
+    write_line(w, b"login\n")?;
+    run_commands(ends, &mut carrier, commands, w)?;
+    carrier.close()?;
+    ends.finish()
+}
+
+// Does the commands up to the first logout, with a line for each.
+fn run_commands<C: Carrier, W: Write>(
+    ends: &mut LoopbackSession,
+    carrier: &mut C,
+    commands: Vec<Command>,
+    w: &mut W,
+) -> Result<(), ServeFault>
+    requires begins { Continues (opening initiator_settings) [] [] ends.old.initiator.machine }
+    ensures runs { OnOk result (Runs commands.items (W.contents w.old) (W.contents w.new)) }
+    ensures err { IfErr result (λ fault.
+        Stops fault commands.items (W.contents w.old) (W.contents w.new)) }
+    ensures served { IsFaithful C.carries → (blocks : ℕ) → AreOneDisk blocks []
+        (ends_of ends.old.initiator ends.old.target (disk_in ends.old.store) [] [])
+        → WritesOnDisk blocks commands.items result (W.contents w.old) (W.contents w.new) }
+{
+    for command in commands {
+        let is_logout = command.is_logout();
+        run_command(ends, carrier, command, w)?;
+        if is_logout {
+            return Ok(());
+        }
+    }
+    Ok(())
+}
+
+// Does a command, and writes the line of its outcome.
+fn run_command<C: Carrier, W: Write>(
+    ends: &mut LoopbackSession,
+    carrier: &mut C,
+    command: Command,
+    w: &mut W,
+) -> Result<(), ServeFault>
+    ensures ok { OnOk result ((done : Done)
+        × Continues ends.old.initiator.machine (request_of command ∷ []) (done ∷ [])
+        ends.new.initiator.machine
+        × Appends (W.contents w.old) (W.contents w.new) (report done)) }
+    ensures err { IfErr result (λ fault. Fails fault ends.old.initiator.machine command
+        ends.new.initiator.machine (W.contents w.old) (W.contents w.new)) }
+    ensures served { IsFaithful C.carries → (blocks : ℕ) (past : List Request)
+        → AreOneDisk blocks past
+        (ends_of ends.old.initiator ends.old.target (disk_in ends.old.store) [] [])
+        → WritesLine result (asked blocks past (request_of command))
+        (ends_of ends.new.initiator ends.new.target (disk_in ends.new.store) [] [])
+        (W.contents w.old) (W.contents w.new) }
+{
+    let alloc = ends.alloc;
+    let done = ends.perform(carrier, command)?;
+    write_line(w, report(alloc, &done)?.as_bytes())
+}
+
+// Writes a line.
+fn write_line<W: Write>(w: &mut W, line: &[u8]) -> Result<(), ServeFault>
+    ensures ok { OnOk result (Appends (W.contents w.old) (W.contents w.new) line.now) }
+    ensures err { IfErr result (λ fault. (fault ≡ serve.Write)
+        × WroteFront (W.contents w.old) (W.contents w.new) line.now) }
+{
+    match write_fully(w, line) {
+        Ok(()) => Ok(()),
+        Err(_) => Err(ServeFault::Write),
+    }
+}
+
+/// Both ends of a session.
+#[derive(Drop)]
+struct LoopbackSession {
+    alloc: Global,
+    initiator: Initiator,
+    target: Target,
+    store: SparseStore,
+    /// The most bytes of a piece, 1 to 4096.
+    piece: usize,
+    ghost moves: { 0 < piece },
+    ghost short: { piece ≤ 4096 },
+}
+
+impl LoopbackSession {
+    // Both ends of a session that is not started.
+    fn open(alloc: Global, blocks: u64, piece: usize) -> Result<LoopbackSession, ServeFault>
+        requires some { 0 < blocks }
+        requires few { blocks ≤ most_blocks }
+        requires moves { 0 < piece }
+        requires short { piece ≤ 4096 }
+        ensures opening { IfOk result (λ ends.
+            ends.initiator ≡ opening_connection initiator_settings) }
+        ensures new { IfOk result (λ ends.
+            ends_of ends.initiator ends.target (disk_in ends.store) [] [] ≡ new_ends blocks) }
+        ensures err { IfErr result IsOfSession }
+    {
+        // What may fail comes first, so that no end has to be let go.
+        let initiator = initiator_configuration(alloc)?;
+        let target = configuration(alloc)?;
+        Ok(LoopbackSession {
+            alloc,
+            initiator: Initiator::new(alloc, initiator),
+            target: Target::new(alloc, target, FIRST_STAT_SN),
+            store: SparseStore::new(alloc, blocks),
+            piece,
+        })
+    }
+
+    // Logs in.
+    fn log_in<C: Carrier>(&mut self, carrier: &mut C) -> Result<(), ServeFault>
+        ensures continues { OnOk result
+            (Continues self.old.initiator.machine [] [] self.new.initiator.machine) }
+        ensures served { IsFaithful C.carries → (blocks : ℕ)
+            → ends_of self.old.initiator self.old.target (disk_in self.old.store) [] []
+            ≡ new_ends blocks → OnOk result (AreOneDisk blocks []
+            (ends_of self.new.initiator self.new.target (disk_in self.new.store) [] [])) }
+        ensures err { IfErr result IsOfSession }
+    {
+        let mut out = Vec::new(self.alloc);
+        self.initiator.start(&mut out)?;
+        self.settle(carrier, out)?;
+        match self.initiator.phase() {
+            Phase::Full => Ok(()),
+            Phase::Login | Phase::Closed => Err(no_outcome()),
+        }
+    }
+
+    // Hands in a command, and returns what came of it.
+    fn perform<C: Carrier>(&mut self, carrier: &mut C, command: Command) -> Result<Done, ServeFault>
+        ensures continues { IfOk result (λ done. Continues self.old.initiator.machine
+            (request_of command ∷ []) (done ∷ []) self.new.initiator.machine) }
+        ensures served { IsFaithful C.carries → IfOk result (λ done. Performs
+            (ends_of self.old.initiator self.old.target (disk_in self.old.store) [] [])
+            (request_of command) done
+            (ends_of self.new.initiator self.new.target (disk_in self.new.store) [] [])) }
+        ensures err { IfErr result IsOfSession }
+    {
+        let request = command.into_request(self.alloc)?;
+        let mut out = Vec::new(self.alloc);
+        match self.initiator.submit(request, &mut out) {
+            Ok(()) => {}
+            Err(refused) => return Err(refusal(refused.fault)),
+        }
+        self.settle(carrier, out)?;
+        match self.initiator.outcome() {
+            Some(done) => Ok(done),
+            None => Err(no_outcome()),
+        }
+    }
+
+    // Moves what the initiator sends to the target, and its answers back, until neither sends more.
+    fn settle<C: Carrier>(&mut self, carrier: &mut C, requests: Vec<u8>) -> Result<(), ServeFault>
+        ensures continues { OnOk result
+            (Continues self.old.initiator.machine [] [] self.new.initiator.machine) }
+        ensures served { IsFaithful C.carries → OnOk result (GoOn
+            (ends_of self.old.initiator self.old.target (disk_in self.old.store) requests.items [])
+            (ends_of self.new.initiator self.new.target (disk_in self.new.store) [] [])) }
+        ensures err { IfErr result IsOfSession }
+    {
+        let mut requests = requests;
+        for _ in 0..TURNS {
+            if requests.is_empty() {
+                return Ok(());
+            }
+            let answers = self.feed_target(carrier, &requests)?;
+            requests = self.feed_initiator(carrier, &answers)?;
+        }
+        Err(ServeFault::Network)
+    }
+
+    // Moves requests to the target, and returns its answers.
+    fn feed_target<C: Carrier>(
+        &mut self,
+        carrier: &mut C,
+        requests: &[u8],
+    ) -> Result<Vec<u8>, ServeFault>
+        ensures kept { self.new.initiator ≡ self.old.initiator }
+        ensures served { IsFaithful C.carries → IfOk result (λ answers. GoOn
+            (ends_of self.old.initiator self.old.target (disk_in self.old.store) requests.now [])
+            (ends_of self.new.initiator self.new.target (disk_in self.new.store) []
+            answers.items)) }
+        ensures err { IfErr result IsOfSession }
+    {
+        let mut answers = Vec::new(self.alloc);
+        let mut buffer = [0u8; LONGEST_PIECE as usize];
+        let mut rest = requests;
+        while !rest.is_empty() {
+            let len = rest.len().min(self.piece);
+            let read = &mut buffer[..len];
+            carrier.to_target(&rest[..len], read)?;
+            self.target.feed(read, &mut self.store, &mut answers)?;
+            // Its contract says that these are the blocks of a disk, whatever was written.
+            let _blocks = self.store.blocks();
+            rest = &rest[len..];
+        }
+        Ok(answers)
+    }
+
+    // Moves answers to the initiator, and returns what it sends then.
+    fn feed_initiator<C: Carrier>(
+        &mut self,
+        carrier: &mut C,
+        answers: &[u8],
+    ) -> Result<Vec<u8>, ServeFault>
+        ensures continues { OnOk result
+            (Continues self.old.initiator.machine [] [] self.new.initiator.machine) }
+        ensures served { IsFaithful C.carries → IfOk result (λ requests. GoOn
+            (ends_of self.old.initiator self.old.target (disk_in self.old.store) [] answers.now)
+            (ends_of self.new.initiator self.new.target (disk_in self.new.store)
+            requests.items [])) }
+        ensures err { IfErr result IsOfSession }
+    {
+        let mut requests = Vec::new(self.alloc);
+        let mut buffer = [0u8; LONGEST_PIECE as usize];
+        let mut rest = answers;
+        while !rest.is_empty() {
+            let len = rest.len().min(self.piece);
+            let read = &mut buffer[..len];
+            carrier.to_initiator(&rest[..len], read)?;
+            self.initiator.feed(read, &mut requests)?;
+            rest = &rest[len..];
+        }
+        Ok(requests)
+    }
+
+    // Ends the target's stream, unless the session was closed before.
+    fn finish(&mut self) -> Result<(), ServeFault>
+        ensures err { IfErr result IsOfSession }
+    {
+        if self.target.phase() != Phase::Closed {
+            self.target.finish()?;
+        }
+        Ok(())
+    }
+}
+
+// The fault of a request that is refused.
+fn refusal(fault: SubmitFault) -> ServeFault
+    ensures { result ≡ refusal_fault fault }
+{
+    match fault {
+        SubmitFault::NoMemory => ServeFault::NoMemory,
+        SubmitFault::Closed
+        | SubmitFault::NotReady
+        | SubmitFault::Busy
+        | SubmitFault::Shut
+        | SubmitFault::TooLong => no_outcome(),
+    }
+}
+
+// The fault of a session that takes no request, or ends without an outcome.
+fn no_outcome() -> ServeFault
+    ensures { result ≡ serve.Initiator faults.Closed }
+{
+    ServeFault::Initiator(InitiatorFault::Closed)
+}
+
+// What the initiator is configured with. The only error is that memory ran out.
+fn initiator_configuration(alloc: Global) -> Result<Config, AllocError>
+    ensures settings { IfOk result (λ config. config ≡ initiator_settings) }
+{
+    let offers = Offers {
+        initiator: INITIATOR_NAME,
+        target: TARGET_NAME,
+        session: Session::Normal,
+        auth: Auth::None,
+        prefs: Preferences::standard(),
+    };
+    // Names and numbers are in range, so only memory can run out.
+    Config::new(
+        alloc,
+        offers,
+        Stage::Security,
+        ISID,
+        FIRST_CMD_SN,
+        LOGIN_SEGMENT,
+    )
+    .map_err(|_| AllocError)
+}

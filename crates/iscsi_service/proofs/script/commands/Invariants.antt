@@ -1,9 +1,0 @@
-use Rattle.std.proofs.Common.{◌≡◌, ◌++◌, length, map, Some}
-use Rattle.iscsi_service.specs.Script.{meanings, AreInRange}
-use Rattle.iscsi_service.proofs.script.commands.Given as goal
-
-abbrev pub invariant-loop-rest : goal.invariant-loop-rest
-invariant-loop-rest l = (meanings l.script ≡ map Some l.commands.items ++ meanings l.rest) × AreInRange l.commands.items
-
-abbrev pub decreases-loop-rest : goal.decreases-loop-rest
-decreases-loop-rest l = length l.rest
