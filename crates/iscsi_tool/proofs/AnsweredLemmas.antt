@@ -13,7 +13,7 @@ use Rattle.iscsi_service.specs.declared.session.SessionFault.TheVariants as sess
 use Rattle.iscsi_service.specs.Session.{target_settings, ServesAll, Serves, EndsBy, EndsWell}
 use Rattle.iscsi_tool.specs.Answering.{filter_fault, AnswersAll, AnswersFirst, AnswersBytes, AnswersHex, SpellsAnswers, line_end}
 use Rattle.iscsi_tool.specs.Spelling.{Finishes}
-use Rattle.iscsi_tool.specs.HexText.{BytesOf, HexTextFails}
+use Rattle.iscsi_filters.specs.HexText.{BytesOf, HexTextFails}
 use Rattle.iscsi_tool.proofs.SpellingLemmas.{lent_took}
 
 all_answered : (blocks : ℕ) (read : List ℕ) (disk_now : Disk) (written : List ℕ) → ServesAll target_settings (zeros blocks) read disk_now written →

@@ -1,32 +1,13 @@
--- What is refused for what it lacks was read to its end.
-use Rattle.std.proofs.Common.{inr, ℕ, List, Option, Result, Ok, Err}
-use Rattle.std.specs.Io.KnownBytes.{Consumes, IsAtEnd}
+-- A session whose stream is called cut has read it to its end.
+use Rattle.std.proofs.Common.{ℕ, List, Option, Err}
+use Rattle.std.specs.Io.KnownBytes.{IsAtEnd}
 use Rattle.iscsi_stream.specs.declared.fault.StreamFault.TheVariants as stream
-use Rattle.iscsi_stream.specs.declared.fault.ToolFault.{ToolFault}
-use Rattle.iscsi_stream.specs.declared.fault.ToolFault.TheVariants as tool
-use Rattle.iscsi_stream.specs.declared.counts.Counts.{Counts}
-use Rattle.iscsi_stream.specs.Normalising.{AtEnd}
 use Rattle.iscsi_target.specs.declared.fault.TargetFault.TheVariants as faults
 use Rattle.iscsi_service.specs.declared.session.SessionFault.{SessionFault}
 use Rattle.iscsi_service.specs.declared.session.SessionFault.TheVariants as session
 use Rattle.iscsi_service.specs.Session.{EndsCut}
-use Rattle.iscsi_tool.specs.Answering.{CutAtEnd, filter_fault}
-use Rattle.iscsi_tool.specs.Filtering.{HexAtEnd, Outcome}
-use Rattle.iscsi_tool.specs.HexText.{HexTextFails, IsRead}
-
-pub stream_at_end : (fault : ToolFault) (Ended : Type 0) → (let r : Result Counts ToolFault = Err fault in AtEnd r Ended) → CutAtEnd (Err fault) Ended
-stream_at_end tool.NoMemory Ended h = tt
-stream_at_end (tool.Stream (stream.Head f p)) Ended h = tt
-stream_at_end (tool.Stream (stream.OverLimit p)) Ended h = tt
-stream_at_end (tool.Stream (stream.Truncated p)) Ended h = h
-stream_at_end (tool.Stream stream.NoMemory) Ended h = tt
-stream_at_end (tool.Stream stream.Failed) Ended h = tt
-stream_at_end (tool.Text f) Ended h = tt
-stream_at_end tool.TextTooLong Ended h = tt
-stream_at_end tool.Read Ended h = tt
-stream_at_end tool.Write Ended h = tt
-stream_at_end tool.NotHex Ended h = tt
-stream_at_end (tool.Protocol rule) Ended h = tt
+use Rattle.iscsi_filters.specs.Filters.{CutAtEnd}
+use Rattle.iscsi_tool.specs.Answering.{filter_fault}
 
 pub session_at_end : (fault : SessionFault) (left : Option (List ℕ)) → EndsCut (Err fault) left → CutAtEnd (Err (filter_fault fault)) (IsAtEnd left)
 session_at_end session.NoMemory left h = tt
@@ -41,28 +22,3 @@ session_at_end (session.Target faults.Closed) left h = tt
 session_at_end session.Read left h = tt
 session_at_end session.Sync left h = tt
 session_at_end session.Write left h = tt
-
--- hex text that was not taken
-pub hex_refused : (fault : ToolFault) (read : List ℕ) (before after : Option (List ℕ)) → Consumes before after read → HexTextFails fault read
-    → IsRead fault read after → HexAtEnd (Err fault) before after
-hex_refused tool.NoMemory read before after c h is = tt
-hex_refused (tool.Stream f) read before after c h is = absurd h
-hex_refused (tool.Text f) read before after c h is = absurd h
-hex_refused tool.TextTooLong read before after c h is = absurd h
-hex_refused tool.Read read before after c h is = tt
-hex_refused tool.Write read before after c h is = absurd h
-hex_refused tool.NotHex read before after c h is = (read, c, is)
-hex_refused (tool.Protocol rule) read before after c h is = absurd h
-
--- hex text that was read to its end
-pub hex_read : (outcome : Outcome) (read : List ℕ) (before after : Option (List ℕ)) → Consumes before after read → IsAtEnd after
-    → HexAtEnd outcome before after
-hex_read (Ok done) read before after c end = tt
-hex_read (Err tool.NoMemory) read before after c end = tt
-hex_read (Err (tool.Stream f)) read before after c end = end
-hex_read (Err (tool.Text f)) read before after c end = end
-hex_read (Err tool.TextTooLong) read before after c end = end
-hex_read (Err tool.Read) read before after c end = tt
-hex_read (Err tool.Write) read before after c end = tt
-hex_read (Err tool.NotHex) read before after c end = (read, c, inr end)
-hex_read (Err (tool.Protocol rule)) read before after c end = end

@@ -4,7 +4,6 @@ use Rattle.hex.specs.Hex.{encode_lower}
 use Rattle.scsi_disk.specs.Disk.{Disk, zeros}
 use Rattle.iscsi_stream.specs.declared.fault.ToolFault.{ToolFault}
 use Rattle.iscsi_stream.specs.declared.fault.ToolFault.TheVariants as tool
-use Rattle.iscsi_stream.specs.declared.fault.StreamFault.TheVariants as stream
 use Rattle.iscsi_stream.specs.Stream.{Message, Splits, longest_segment}
 use Rattle.iscsi_stream.specs.Canonical.{canon}
 use Rattle.iscsi_target.specs.declared.fault.TargetFault.TheVariants as faults
@@ -13,7 +12,7 @@ use Rattle.iscsi_target.specs.Machine.{answers}
 use Rattle.iscsi_service.specs.declared.session.SessionFault.{SessionFault}
 use Rattle.iscsi_service.specs.declared.session.SessionFault.TheVariants as session
 use Rattle.iscsi_service.specs.Session.{target_settings, ServesFirst, ServesFront, EndsBy, EndsWell}
-use Rattle.iscsi_tool.specs.HexText.{BytesOf, IsNotHex}
+use Rattle.iscsi_filters.specs.HexText.{BytesOf, IsNotHex}
 
 -- The fault of a filter for that of its session.
 abbrev pub filter_fault : SessionFault → ToolFault
@@ -25,11 +24,6 @@ filter_fault (session.Target faults.Closed) = tool.Read
 filter_fault session.Read = tool.Read
 filter_fault session.Sync = tool.Write
 filter_fault session.Write = tool.Write
-
--- A stream of bytes is called cut within a PDU once its reader has told its end, and not before.
-abbrev pub CutAtEnd : Result (Unit {0}) ToolFault → Type 0 → Type 0
-CutAtEnd (Err (tool.Stream (stream.Truncated place))) Ended = Ended
-CutAtEnd _ Ended = Unit {0}
 
 -- The answers of the target to all PDUs of what was read are written, of its longest prefix in the
 -- profile.

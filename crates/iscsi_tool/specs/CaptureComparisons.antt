@@ -3,10 +3,10 @@ use Rattle.std.specs.Prelude.{◌≡◌, ◌⊎◌, ℕ, List, [], Result, Ok, E
 use Rattle.iscsi_compare.specs.declared.fault.CompareFault.{CompareFault}
 use Rattle.iscsi_compare.specs.declared.verdict.Verdict.{Verdict}
 use Rattle.iscsi_compare.specs.Comparing.{Input, Tells}
-use Rattle.iscsi_tool.specs.declared.comparing.Sameness.{Sameness}
-use Rattle.iscsi_tool.specs.declared.comparing.ComparisonFault.{ComparisonFault}
+use Rattle.iscsi_comparison.specs.declared.comparing.Sameness.{Sameness}
+use Rattle.iscsi_comparison.specs.declared.comparing.ComparisonFault.{ComparisonFault}
 use Rattle.iscsi_tool.specs.declared.capture_comparing.CaptureComparisonFault.{CaptureComparisonFault}
-use Rattle.iscsi_tool.specs.Comparisons.{ComparesBytes}
+use Rattle.iscsi_comparison.specs.Comparisons.{ComparesBytes}
 
 -- The verdict is that of a comparison of two streams, whose bytes the two directions gave, and so is
 -- what is written. A fault stands for one of that comparison, or nothing was compared.

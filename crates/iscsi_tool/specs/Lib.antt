@@ -1,10 +1,8 @@
-pub mod HexText
 pub mod Answering
 pub mod Spelling
 pub mod Storage
 pub mod Captures
 pub mod Filtering
 pub mod Telling
-pub mod Comparisons
 pub mod CaptureComparisons
 pub mod Running

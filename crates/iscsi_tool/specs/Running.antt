@@ -11,7 +11,7 @@ use Rattle.iscsi_captures.specs.Faults.{fault_status as capture_status}
 use Rattle.iscsi_tool.specs.declared.capture_words.CaptureJob.{CaptureJob}
 use Rattle.iscsi_tool.specs.declared.capture_comparing.CaptureComparison.{CaptureComparison}
 use Rattle.iscsi_tool.specs.declared.capture_comparing.CaptureComparisonFault.{CaptureComparisonFault}
-use Rattle.iscsi_tool.specs.declared.comparing.ComparisonFault.{ComparisonFault}
+use Rattle.iscsi_comparison.specs.declared.comparing.ComparisonFault.{ComparisonFault}
 use Rattle.iscsi_tool.specs.declared.filter.Filter.{Filter}
 use Rattle.iscsi_tool.specs.declared.filter.Work.TheVariants.{Normalise}
 use Rattle.iscsi_tool.specs.declared.running.Outcome.{Outcome}
@@ -21,7 +21,7 @@ use Rattle.iscsi_tool.specs.declared.storage.ImageFault.{ImageFault}
 use Rattle.iscsi_tool.specs.declared.storage.Storage.{Storage}
 use Rattle.iscsi_tool.specs.declared.storage.Storage.TheVariants as storage
 use Rattle.iscsi_tool.specs.declared.telling.Telling.{Telling}
-use Rattle.iscsi_tool.specs.declared.words.Comparison.{Comparison}
+use Rattle.iscsi_comparison.specs.declared.files.Comparison.{Comparison}
 use Rattle.iscsi_tool.specs.declared.words.Job.{Job}
 use Rattle.iscsi_tool.specs.declared.words.Job.TheVariants as job
 use Rattle.iscsi_tool.specs.declared.words.LineFault.{LineFault}
@@ -29,8 +29,9 @@ use Rattle.iscsi_tool.specs.declared.words.LineFault.TheVariants as line
 use Rattle.iscsi_tool.specs.Captures.{WritesCapture}
 use Rattle.iscsi_tool.specs.CaptureComparisons.{ComparesCaptures}
 use Rattle.iscsi_tool.specs.Telling.{Tells}
-use Rattle.iscsi_tool.specs.Comparisons.{fault_status}
-use Rattle.iscsi_tool.specs.Filtering.{exit_status, Filters, IsJob}
+use Rattle.iscsi_comparison.specs.Comparisons.{fault_status}
+use Rattle.iscsi_filters.specs.Filters.{exit_status}
+use Rattle.iscsi_tool.specs.Filtering.{Filters, IsJob}
 
 -- The exit status of words that ask for no job: 2, and 3 for memory.
 abbrev pub words_status : LineFault → ℕ

@@ -6,12 +6,12 @@ ghost use Rattle.hex.specs.Hex.{IsBytes};
 ghost use Rattle.scsi_disk.specs.Disk.{zeros, most_blocks};
 ghost use Rattle.iscsi_stream.specs.declared.fault.ToolFault.TheVariants as tool;
 ghost use Rattle.iscsi_service.specs.Session.{target_settings, EndsWell};
-ghost use Rattle.iscsi_tool.specs.Answering.{filter_fault, AnswersBytes, AnswersHex, CutAtEnd, SpellsAnswers};
-ghost use Rattle.iscsi_tool.specs.Filtering.{HexAtEnd};
+ghost use Rattle.iscsi_filters.specs.Filters.{CutAtEnd, HexAtEnd};
+ghost use Rattle.iscsi_tool.specs.Answering.{filter_fault, AnswersBytes, AnswersHex, SpellsAnswers};
 ghost use Rattle.iscsi_tool.specs.Spelling.{Finishes};
 
-use crate::hex_text::read_bytes;
 use crate::hex_writer::{HexWriter, LentWriter};
+use iscsi_filters::read_bytes;
 use iscsi_service::{SessionFault, configuration, serve_stream};
 use iscsi_stream::{ToolFault, write_fully};
 use iscsi_target::TargetFault;
@@ -61,7 +61,7 @@ pub fn answer<R: Read, W: Write>(
 /// memory or the reader was wanting before the text was whole, nothing is written; when out of
 /// memory later the digits of those answers that `answer` writes then. Of a failed write nothing is
 /// said.
-#[tactic(auto, using(crate::proofs::AtEndLemmas::hex_refused, crate::proofs::AtEndLemmas::hex_read))]
+#[tactic(auto, using(iscsi_filters::proofs::AtEndLemmas::hex_refused, iscsi_filters::proofs::AtEndLemmas::hex_read))]
 pub fn answer_hex<R: Read, W: Write>(
     alloc: Global,
     blocks: u64,

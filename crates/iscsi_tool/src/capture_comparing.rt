@@ -4,12 +4,12 @@ ghost use Rattle.std.specs.Prelude.{◌≡◌, ℕ, List, Result};
 ghost use Rattle.std.specs.Io.KnownBytes.{Appends};
 ghost use Rattle.iscsi_captures.specs.Faults.{fault_status};
 ghost use Rattle.iscsi_tool.specs.CaptureComparisons.{ComparesCaptures};
-ghost use Rattle.iscsi_tool.specs.declared.comparing.ComparisonFault.{ComparisonFault};
+ghost use Rattle.iscsi_comparison.specs.declared.comparing.ComparisonFault.{ComparisonFault};
 ghost use Rattle.iscsi_compare.specs.declared.verdict.Verdict.{Verdict};
 
-use crate::comparing::{ComparisonFault, Sameness, compare_bytes};
 use iscsi_captures::{Captured, CapturesFault, Wanted};
 use iscsi_compare::{Verdict, Which};
+use iscsi_comparison::{ComparisonFault, Sameness, compare_bytes};
 use iscsi_stream::ToolFault;
 use std::alloc::Global;
 use std::fs;

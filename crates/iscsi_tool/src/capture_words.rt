@@ -8,7 +8,6 @@ ghost use Rattle.iscsi_tool.specs.Filtering.{IsJob};
 
 use crate::answering::answer;
 use crate::capture_comparing::CaptureComparison;
-use crate::comparing::Sameness;
 use crate::disk_size::{bad_size, needed_blocks};
 use crate::telling::form_of;
 use crate::words::{Job, LineFault, bad_number, file, flag, valued, with_word};
@@ -17,6 +16,7 @@ use iscsi_captures::{
     Captured, CapturesFault, End, Wanted, list_connections, normalise_captured, show_capture,
     show_captured, tell_captured,
 };
+use iscsi_comparison::Sameness;
 use iscsi_explain::Form;
 use iscsi_stream::ToolFault;
 use std::alloc::{AllocError, Global};

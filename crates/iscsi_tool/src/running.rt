@@ -11,14 +11,15 @@ ghost use Rattle.iscsi_tool.specs.Running.{EndsComparison, EndsService, Runs, Ru
 
 use crate::capture_comparing::{CaptureComparison, CaptureComparisonFault, run_comparison};
 use crate::capture_words::{CaptureJob, run_capture};
-use crate::comparing::{ComparisonFault, compare_bytes, compare_hex};
-use crate::filter::{run_filter, status};
+use crate::filter::run_filter;
 use crate::nbd_storage::{NbdExport, NbdFault};
 use crate::storage::{Image, ImageFault, Storage};
 use crate::telling::run_telling;
-use crate::words::{Comparison, Job, LineFault, Service, read_words};
+use crate::words::{Job, LineFault, Service, read_words};
 use iscsi_captures::CapturesFault;
-use iscsi_compare::{Verdict, Which};
+use iscsi_compare::Verdict;
+use iscsi_comparison::{Comparison, ComparisonFault};
+use iscsi_filters::status;
 use iscsi_loop::run_loop;
 use iscsi_server::{serve_at_once, serve_memory_at_once};
 use iscsi_service::{ServeFault, serve};
@@ -26,18 +27,13 @@ use iscsi_stream::ToolFault;
 use scsi_disk::{BlockStore, SparseStore};
 use std::alloc::Global;
 use std::convert::AsStr;
+use std::io;
 use std::io::{ErrorKind, Read, Write};
 use std::process::ExitCode;
-use std::{fs, io};
 
 /// The line for words that are not UTF-8.
 const NOT_UTF8: &str =
     "error: the words are not all UTF-8\n\nFor more information, try '--help'.\n";
-
-/// The faults of a file that cannot be opened.
-const UNREAD_FIRST: ComparisonFault = ComparisonFault::Input(Which::First, ToolFault::Read);
-
-const UNREAD_SECOND: ComparisonFault = ComparisonFault::Input(Which::Second, ToolFault::Read);
 
 /// How a run of the program ends.
 #[derive(Debug, Drop)]
@@ -98,7 +94,7 @@ impl Outcome<'_> {
                 writeln!(w, "{name}: {fault}")
             }
             Outcome::Nbd(export, fault) => tell_nbd(*export, *fault, w),
-            Outcome::Comparison(comparison, fault) => tell_comparison(*comparison, *fault, w),
+            Outcome::Comparison(comparison, fault) => comparison.tell(*fault, w),
             Outcome::Capture(job, fault) => tell_capture(*job, *fault, w),
             Outcome::CaptureComparison(comparison, fault) => tell_captures(*comparison, *fault, w),
         }
@@ -130,25 +126,6 @@ fn tell_nbd<E: Write>(export: NbdExport<'_>, fault: NbdFault, w: &mut E) -> io::
     }
     let word = export.word;
     writeln!(w, "{word}: {fault}")
-}
-
-// Writes the line of a comparison that stopped.
-fn tell_comparison<E: Write>(
-    comparison: Comparison<'_>,
-    fault: ComparisonFault,
-    w: &mut E,
-) -> io::Result<()> {
-    match fault {
-        ComparisonFault::Input(Which::First, reason) => {
-            let name = comparison.first;
-            writeln!(w, "{name}: {reason}")
-        }
-        ComparisonFault::Input(Which::Second, reason) => {
-            let name = comparison.second.unwrap_or("standard input");
-            writeln!(w, "{name}: {reason}")
-        }
-        ComparisonFault::Own(reason) => writeln!(w, "{reason}"),
-    }
 }
 
 // Writes the line of a job over a capture that stopped.
@@ -417,7 +394,6 @@ fn count_of(sessions: Option<u16>) -> u64 {
 }
 
 // Compares a file with another one, or with what a reader gives.
-#[tactic(auto, using(crate::proofs::RunningLemmas::reads_nothing, crate::proofs::RunningLemmas::writes_nothing))]
 fn compare<'a, R: Read, W: Write>(
     rt: &HostRuntime,
     comparison: Comparison<'a>,
@@ -429,36 +405,5 @@ fn compare<'a, R: Read, W: Write>(
         × Appends (W.contents w.old) (W.contents w.new) written
         × EndsComparison comparison.entry result }
 {
-    let alloc = rt.alloc();
-    let Ok(mut first) = fs::open(rt, comparison.first) else {
-        return compared(comparison, Err(UNREAD_FIRST));
-    };
-    let Some(name) = comparison.second else {
-        return compare_with(alloc, comparison, &mut first, r, w);
-    };
-    let Ok(mut second) = fs::open(rt, name) else {
-        return compared(comparison, Err(UNREAD_SECOND));
-    };
-    compare_with(alloc, comparison, &mut first, &mut second, w)
-}
-
-// Compares two readers, as is asked.
-fn compare_with<'a, R: Read, Q: Read, W: Write>(
-    alloc: Global,
-    comparison: Comparison<'a>,
-    first: &mut R,
-    second: &mut Q,
-    w: &mut W,
-) -> Outcome<'a>
-    ensures ends { (read : List ℕ) × (written : List ℕ)
-        × Consumes (Q.remaining second.old) (Q.remaining second.new) read
-        × Appends (W.contents w.old) (W.contents w.new) written
-        × EndsComparison comparison.entry result }
-{
-    let sameness = comparison.sameness;
-    if comparison.hex {
-        compared(comparison, compare_hex(alloc, sameness, first, second, w))
-    } else {
-        compared(comparison, compare_bytes(alloc, sameness, first, second, w))
-    }
+    compared(comparison, comparison.run(rt, r, w))
 }

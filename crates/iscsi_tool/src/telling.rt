@@ -4,10 +4,10 @@ ghost use Rattle.std.specs.Prelude.{◌≡◌, ℕ, List, OnOk, IsOk};
 ghost use Rattle.std.specs.Io.KnownBytes.{Appends, Consumes};
 ghost use Rattle.iscsi_tool.specs.Telling.{Tells};
 
-use crate::hex_text::read_bytes;
 use crate::words::{flag, with_word};
 use clap::{ArgMatches, Command};
 use iscsi_explain::{Form, show_in_form};
+use iscsi_filters::read_bytes;
 use iscsi_stream::ToolFault;
 use std::alloc::{AllocError, Global};
 use std::io::{Read, Write};

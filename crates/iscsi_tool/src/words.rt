@@ -11,7 +11,6 @@ use crate::capture_words::{
     CaptureJob, answered_job, asks_for_capture, compared_job, connections_of, connections_program,
     normalised_job, shown_job, with_capture_words, with_initiator_words, with_two_captures,
 };
-use crate::comparing::Sameness;
 use crate::disk_size::{bad_size, needed_blocks, with_size};
 use crate::examples;
 use crate::filter::{Filter, Work};
@@ -20,25 +19,13 @@ use crate::storage::Storage;
 use crate::telling::{Telling, form_of, with_form_words};
 use clap::error::ErrorKind;
 use clap::{Arg, ArgAction, ArgMatches, Command, Error};
+use iscsi_comparison::{Comparison, Sameness};
 use iscsi_explain::Form;
 use iscsi_loop::LONGEST_PIECE;
 use iscsi_server::Options;
 use std::alloc::{AllocError, AllocFailed, Global};
 use std::convert::AsStr;
 use thiserror::Error;
-
-/// Two inputs to compare.
-#[derive(Clone, Copy, Debug, PartialEq, Eq)]
-pub struct Comparison<'a> {
-    /// The file of the first stream.
-    pub first: &'a str,
-    /// The file of the second stream, or the standard input.
-    pub second: Option<&'a str>,
-    /// What makes them the same.
-    pub sameness: Sameness,
-    /// Whether both are hex text.
-    pub hex: bool,
-}
 
 /// How a disk is served.
 #[derive(Clone, Copy, Debug, PartialEq, Eq)]

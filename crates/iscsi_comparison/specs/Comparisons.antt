@@ -1,0 +1,107 @@
+-- What a comparison of two inputs answers and writes.
+use Rattle.std.specs.Prelude.{◌≡◌, ◌⊎◌, ℕ, List, [], take, Option, Some, Result, Ok, Err}
+use Rattle.std.specs.Io.KnownBytes.{Consumes, IsAtEnd}
+use Rattle.iscsi_stream.specs.declared.fault.ToolFault.{ToolFault}
+use Rattle.iscsi_stream.specs.declared.fault.ToolFault.TheVariants as tool
+use Rattle.iscsi_compare.specs.declared.fault.Which.{Which}
+use Rattle.iscsi_compare.specs.declared.fault.Which.TheVariants.{First, Second}
+use Rattle.iscsi_compare.specs.declared.fault.CompareFault.{CompareFault}
+use Rattle.iscsi_compare.specs.declared.fault.CompareFault.TheVariants as compare
+use Rattle.iscsi_compare.specs.declared.verdict.Verdict.{Verdict}
+use Rattle.iscsi_compare.specs.SameJobVerdict.{ComparesJobs}
+use Rattle.iscsi_compare.specs.Comparing.{Input, Gave, Compares, Tells}
+use Rattle.iscsi_comparison.specs.declared.comparing.Sameness.{Sameness}
+use Rattle.iscsi_comparison.specs.declared.comparing.Sameness.TheVariants as same
+use Rattle.iscsi_comparison.specs.declared.comparing.ComparisonFault.{ComparisonFault}
+use Rattle.iscsi_comparison.specs.declared.comparing.ComparisonFault.TheVariants as fault
+use Rattle.iscsi_filters.specs.Filters.{exit_status}
+use Rattle.iscsi_filters.specs.HexText.{BytesOf, HexTextFails, IsRead}
+
+-- a fault of an input, or of none
+abbrev pub input_fault : Which → ToolFault → ComparisonFault
+input_fault which tool.NoMemory = fault.Own tool.NoMemory
+input_fault which (tool.Stream f) = fault.Input which (tool.Stream f)
+input_fault which (tool.Text f) = fault.Input which (tool.Text f)
+input_fault which tool.TextTooLong = fault.Input which tool.TextTooLong
+input_fault which tool.Read = fault.Input which tool.Read
+input_fault which tool.Write = fault.Input which tool.Write
+input_fault which tool.NotHex = fault.Input which tool.NotHex
+input_fault which (tool.Protocol rule) = fault.Input which (tool.Protocol rule)
+
+-- the fault that a comparison's is
+abbrev pub comparison_fault : CompareFault → ComparisonFault
+comparison_fault compare.NoMemory = fault.Own tool.NoMemory
+comparison_fault (compare.Stream which f) = fault.Input which (tool.Stream f)
+comparison_fault (compare.Read which) = fault.Input which tool.Read
+
+-- the exit status of a fault
+abbrev pub fault_status : ComparisonFault → ℕ
+fault_status (fault.Input which f) = exit_status f
+fault_status (fault.Own f) = exit_status f
+
+-- how a comparison of two inputs ends
+abbrev pub Outcome : Type 0
+Outcome = Result Verdict ComparisonFault
+
+-- What is answered and written where a comparison says this: its verdict, and the lines of the
+-- difference, of which a write that fails leaves a front; or its fault, and nothing.
+abbrev pub Ends : Result Verdict CompareFault → Outcome → List ℕ → Type 0
+Ends (Ok verdict) (Ok said) written = (said ≡ verdict) × Tells (Ok verdict) [] written
+Ends (Ok verdict) (Err f) written =
+    (f ≡ fault.Own tool.Write)
+    × ((lines : List ℕ) × (n : ℕ) × Tells (Ok verdict) [] lines × (written ≡ take n lines))
+Ends (Err f) (Ok said) written = ⊥
+Ends (Err f) (Err e) written = (e ≡ comparison_fault f) × (written ≡ [])
+
+-- what a comparison says of two streams, as it was asked
+abbrev pub Judges : Sameness → Result Verdict CompareFault → Input → Input → Type 0
+Judges same.Meaning said first second = Compares said first second
+Judges same.Job said first second = ComparesJobs said first second
+
+-- Two streams of bytes were compared.
+abbrev pub ComparesBytes : Sameness → Outcome → Input → Input → List ℕ → Type 0
+ComparesBytes sameness outcome first second written =
+    (said : Result Verdict CompareFault) × Judges sameness said first second
+    × Ends said outcome written
+
+-- Two streams that are there as a whole were compared, as far as that was needed.
+pub record ComparesWhole (sameness : Sameness) (outcome : Outcome)
+    (stream other_stream written : List ℕ) : Type 0 where
+  pub first : Input
+  pub second : Input
+  pub left : Option (List ℕ)
+  pub other_left : Option (List ℕ)
+  pub gave : Gave (Some stream) left first
+  pub other_gave : Gave (Some other_stream) other_left second
+  pub compares : ComparesBytes sameness outcome first second written
+
+-- Both texts were read to their ends, and the bytes that they mean were compared.
+pub record ComparesTexts (sameness : Sameness) (outcome : Outcome) (first second : Input)
+    (written : List ℕ) : Type 0 where
+  pub ended : IsAtEnd first.left
+  pub other_ended : IsAtEnd second.left
+  pub bytes : List ℕ
+  pub other_bytes : List ℕ
+  pub bytes_of : BytesOf first.read bytes
+  pub other_bytes_of : BytesOf second.read other_bytes
+  pub compares : ComparesWhole sameness outcome bytes other_bytes written
+
+-- A text was refused or can't be read, and nothing was written.
+pub record RefusesText (which : Which) (outcome : Outcome) (input : Input) (written : List ℕ)
+    : Type 0 where
+  pub reason : ToolFault
+  pub fails : HexTextFails reason input.read
+  pub is_read : IsRead reason input.read input.left
+  pub outcome_is : outcome ≡ Err (input_fault which reason)
+  pub none : written ≡ []
+
+-- Two streams that come as hex text were compared; both texts are read first.
+abbrev pub ComparesHex : Sameness → Outcome → Input → Input → List ℕ → Type 0
+ComparesHex sameness outcome first second written =
+    RefusesText First outcome first written
+    ⊎ (RefusesText Second outcome second written
+    ⊎ ComparesTexts sameness outcome first second written)
+
+-- A reader gave this text.
+abbrev pub GaveText : Option (List ℕ) → Option (List ℕ) → Input → Type 0
+GaveText old new input = Consumes old new input.read × (input.left ≡ new)

@@ -1,0 +1,3 @@
+pub mod AtEndLemmas
+pub mod HexLineLemmas
+pub mod Untouched

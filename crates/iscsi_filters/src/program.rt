@@ -1,0 +1,119 @@
+//! A program of these filters alone: the words that it takes, and its run.
+
+ghost use Rattle.std.specs.Prelude.{◌≡◌, [], ℕ, List, Option, Some, true};
+ghost use Rattle.std.specs.Io.KnownBytes.{Appends, Consumes};
+ghost use Rattle.iscsi_filters.specs.declared.program.StreamFilter.{StreamFilter};
+ghost use Rattle.iscsi_filters.specs.declared.work.StreamWork.TheVariants.{Normalise};
+ghost use Rattle.iscsi_filters.specs.Program.{AsksForFilter, RunsFilter};
+
+use crate::work::{StreamWork, run_work, status};
+use std::alloc::Global;
+use std::convert::AsStr;
+use std::io::{ErrorKind, Read, Write};
+use std::process::ExitCode;
+
+/// The line for words that ask for no filter.
+const USAGE: &str = "usage: show [--hex] | normalise [--hex] [--text], or no words\n";
+
+/// A filter of a stream: a work, and whether its input is hex text.
+#[derive(Clone, Copy, Debug, PartialEq, Eq)]
+pub struct StreamFilter {
+    /// What it does.
+    pub work: StreamWork,
+    /// Whether the input is hex text; then bytes are written as a line of hex.
+    pub hex: bool,
+}
+
+impl StreamFilter {
+    // The filter that words ask for: `show` or `normalise`, and behind it `--hex` and, to normalise, `--text`,
+    // each at most once. No words ask for the canonical form of hex text.
+    fn of<S: AsStr>(words: &[S]) -> Option<StreamFilter>
+        ensures unasked { words.now ≡ [] → result ≡ Some (record { work = Normalise; hex = true }) }
+    {
+        let Some((first, options)) = words.split_first() else {
+            return Some(StreamFilter {
+                work: StreamWork::Normalise,
+                hex: true,
+            });
+        };
+        let work = match first.as_str() {
+            "show" => StreamWork::Show,
+            "normalise" => StreamWork::Normalise,
+            _ => return None,
+        };
+        let mut filter = StreamFilter { work, hex: false };
+        for option in options {
+            filter = filter.with(option.as_str())?;
+        }
+        Some(filter)
+    }
+
+    // The filter with one more option.
+    fn with(self, option: &str) -> Option<StreamFilter> {
+        match (option, self.work, self.hex) {
+            ("--hex", work, false) => Some(StreamFilter { work, hex: true }),
+            ("--text", StreamWork::Normalise, hex) => Some(StreamFilter {
+                work: StreamWork::Text,
+                hex,
+            }),
+            _ => None,
+        }
+    }
+}
+
+/// Runs the filter that words ask for, from a reader to a writer, and returns the exit status: 0 if it is
+/// done, 1 if the input is refused, 2 for words that ask for none, 3 for memory, and 4 for reading and
+/// writing. The line of a fault goes to the third stream; a write there that fails changes nothing.
+#[tactic(auto, using(crate::proofs::Untouched::reads_nothing, crate::proofs::Untouched::writes_nothing))]
+pub fn run_filter_words<S: AsStr, R: Read, W: Write, E: Write>(
+    alloc: Global,
+    words: &[S],
+    r: &mut R,
+    w: &mut W,
+    errors: &mut E,
+) -> u8
+    ensures runs { (asked : Option StreamFilter) × (read : List ℕ) × (written : List ℕ)
+        × Consumes (R.remaining r.old) (R.remaining r.new) read
+        × Appends (W.contents w.old) (W.contents w.new) written
+        × AsksForFilter words.now asked × RunsFilter asked result read written }
+{
+    let Some(filter) = StreamFilter::of(words) else {
+        let _ = errors.write_all(USAGE.as_bytes());
+        return 2;
+    };
+    match run_work(alloc, filter.work, filter.hex, r, w) {
+        Ok(()) => 0,
+        Err(fault) => {
+            let _ = writeln!(errors, "{fault}");
+            status(&fault)
+        }
+    }
+}
+
+/// Runs the words of the command line over the standard streams, as `run_filter_words` does. Words that are
+/// not UTF-8 ask for no filter.
+pub fn run_filter_program(rt: &HostRuntime) -> ExitCode {
+    let alloc = rt.alloc();
+    let mut errors = rt.stderr();
+    let words: Vec<String> = match std::env::args(rt) {
+        Ok(words) => match words.skip(1).collect(alloc) {
+            Ok(words) => words,
+            Err(_) => return ExitCode::from(3),
+        },
+        Err(error) if matches!(error.kind(), ErrorKind::OutOfMemory) => return ExitCode::from(3),
+        Err(_) => {
+            let _ = errors.write_all(USAGE.as_bytes());
+            return ExitCode::from(2);
+        }
+    };
+    let mut input = rt.stdin();
+    let mut output = rt.stdout();
+    let status = run_filter_words(
+        alloc,
+        words.as_slice(),
+        &mut input,
+        &mut output,
+        &mut errors,
+    );
+    ExitCode::from(status)
+}
