@@ -323,8 +323,7 @@ SENTENCE, CELL = 30, 25
 OPENING = re.compile(r"(Proved|Seen|Tried|Wanted|Trusted|Measured|Kept|Taken|Given|Held|Asked|Written|Chosen) (is|are|was|were)\b")
 # Pages that keep to all of that.
 PLAIN = [
-    "README.md", "CONTRIBUTING.md", "docs/RECIPES.md", "docs/SPEED.md", "docs/STYLE.md", "docs/TESTS.md", "docs/TRUST.md",
-    "docs/GATE.md", "docs/session/README.md", "crates/*/README.md",
+    "README.md", "CONTRIBUTING.md", "docs/*.md", "docs/session/README.md", "crates/*/README.md",
 ]
 
 

@@ -1,14 +1,20 @@
 #!/usr/bin/env python3
 """Runs the commands of the pages, and compares what they print with what the pages say.
 
-    tools/pages/run.py [--proved] [PAGE]..
+    tools/pages/run.py [--proved] [--texts] [PAGE]..
 
-PAGE is such as README.md or docs/RECIPES.md; each one that has commands if none is named. Each section of a page is run in a folder of its own, by one shell.
+PAGE is such as README.md or docs/RECIPES.md; each one that has commands if none is named. Each section of a page is run in a
+folder of its own, by one shell, and so is each part of a section that begins with a name in bold, such as `**Two services.**`.
 A line `$ command` of a block marked `console` has to print the lines behind it, and nothing else; each command of a block
 marked `sh` has to end well. Files that a section takes as given are made first. `./lanthovur` is run with `--unproved`, whose
-one line on standard error is left out; with --proved it is run as the page says. Blocks that this machine cannot run have a
-reason in SKIPPED, and a line 'skipped'. It wants QEMU, libiscsi, tshark and xxd, and port 3260. The last line is 'N passed, M
-failed, K skipped'.
+one line on standard error is left out; with --proved it is run as the page says. Blocks and commands that no script can run
+have a reason in SKIPPED, those that want a program which is not installed are in WANTED, and each has a line 'skipped'.
+
+Commands that stand in the text of any page, between backquotes, are not run here. Each has to be of a form in ELSEWHERE, which
+says why, and the script, the word or the flag that it names has to be there. --texts lists them, and runs nothing.
+
+It wants QEMU, libiscsi, nbdkit, xxd, and ports 3260, 3261 and 10809. `unshare -n` gives it ports of its own, once `ip link set
+lo up` was said there. The last line is 'N passed, M failed, K skipped'.
 """
 import argparse
 import os
@@ -19,30 +25,41 @@ import subprocess
 import sys
 import tempfile
 from dataclasses import dataclass
+from pathlib import Path
 
 TOP = os.path.dirname(os.path.dirname(os.path.dirname(os.path.abspath(__file__))))
 PAGES = [
-    "README.md", "docs/RECIPES.md", "crates/lanthovur/README.md", "crates/capture_vectors/README.md", "crates/format_tables/README.md",
-    "docs/session/README.md",
+    "README.md", "docs/RECIPES.md", "docs/FORMATS.md", "crates/lanthovur/README.md", "crates/capture_vectors/README.md",
+    "crates/format_tables/README.md", "docs/session/README.md",
 ]
+# Pages whose commands in the text are looked at.
+TEXTS = ["*.md", "docs/**/*.md", "crates/*/README.md", "crates/*/proofs/README.md", "tools/**/*.md"]
 # A section that takes longer hangs.
 SECONDS = 900
 # Lines that no page has: of the launcher, of `rt try`, and of the shell.
 OTHERS = re.compile(r"lanthovur: nothing is proved of this run|(interpreter|checked): .*|run=ended .*|\[[0-9]+\].*")
 # What stands before the output of the command with this number, and its status behind it.
 MARK = "\x01"
-# Why a section is not run, or a page.
+# Why a section is not run, or a page, or a command of a section.
 SKIPPED = {
     ("docs/RECIPES.md", "A service that a supervisor starts"): "it is the script of a supervisor",
+    ("docs/RECIPES.md", "A capture, from recording to comparison", "tcpdump"): "it records until it is ended",
     ("crates/format_tables/README.md", ""): "it changes the tree",
     "docs/session/README.md": "it captures a session of tgt, which wants root, and makes other numbers each time",
+}
+# The programs without which a section is skipped.
+WANTED = {
+    ("docs/RECIPES.md", "A disk on an NBD server, A qcow2 image, with a snapshot taken while it is served"): ["qemu-storage-daemon", "socat"],
+    ("docs/RECIPES.md", "A disk on an NBD server, A plugin and a filter of nbdkit"): ["nbdkit", "qemu-io"],
+    ("docs/RECIPES.md", "A disk on an NBD server, Two services"): ["qemu-nbd"],
 }
 # The files that a section takes as given, each with its size in MiB, or with the file of the tree that it is a copy of.
 GIVEN = {
     ("README.md", "A served disk"): {"source.img": 8},
     ("docs/RECIPES.md", "A disk for other initiators"): {"disk.img": 4},
     ("docs/RECIPES.md", "A disk that lasts"): {"source.img": 32},
-    ("docs/RECIPES.md", "A stream out of a capture"): {"session.pcap": "crates/capture_vectors/data/inq-lo.pcap"},
+    ("docs/RECIPES.md", "A disk on an NBD server, A plugin and a filter of nbdkit"): {"base.img": 4},
+    ("docs/RECIPES.md", "A disk on an NBD server, Two services"): {"disk.img": 4},
     ("docs/RECIPES.md", "Two streams compared"): {
         "initiator.bin": "crates/capture_vectors/data/inq-lo.0.initiator",
         "stream.bin": "crates/capture_vectors/data/inq-lo.0.target",
@@ -55,7 +72,26 @@ BEFORE = {
     ("crates/capture_vectors/README.md", ""): "cd crates/capture_vectors",
     ("docs/RECIPES.md", "Hosts with multipath"): "./lanthovur serve --size 1M --sessions 9 & sleep 2; "
     "disk=iscsi://127.0.0.1:3260/iqn.2026-01.example:disk/0",
+    ("docs/RECIPES.md", "A disk on an NBD server, A plugin and a filter of nbdkit"):
+    "disk=iscsi://127.0.0.1:3260/iqn.2026-01.example:disk/0",
 }
+# Why the commands of the text are not run here, by what they begin with. The first form that fits is taken.
+ELSEWHERE = {
+    r"tools/(pages|all)/run\.py": "it would run itself",
+    r"tools/gate_changed/": "it proves",
+    r"tools/gate_times/": "it reads a run of the gate, or the work that proofs keep",
+    r"tools/(captures/mangle|refused_memory/(calls|sweep))\.py": "the run.py beside it runs it",
+    r"tools/reach/": "tools/check_docs/check_docs.py runs it",
+    r"tools/[a-z_]+/[a-z_]+(\.py)?( |$)": "tools/all/run.py runs it",
+    r"tools/[a-z_]+": "it is a folder",
+    r"rt (ci|check|must-fail|plant|tidy|run)\b": "it proves",
+    r"rt (doc|version|lemma|fmt|try)\b": "it is the toolchain's",
+    r"\./lanthovur": "tools/door/run.py runs the launcher",
+    r"(show|normalise|compare|connections|answer|serve|loop)\b": "tools/process/run.py runs the words of the program",
+    r"qemu-(img|io)\b": "the blocks of RECIPES run it",
+}
+# A command between backquotes, or one that stands apart.
+IN_TEXT = re.compile(r"`((?:tools/\w|rt |\./lanthovur|(?:show|normalise|compare|connections|answer|serve|loop) |qemu-(?:img|io)\b)[^`]*)`|^    (tools/\w.*|rt .*)$", re.M)
 
 
 @dataclass
@@ -70,11 +106,13 @@ class Command:
 
 def blocks_of(page):
     """The section, the mark and the lines of each block of a page."""
-    section, mark, lines = "", None, []
+    section, heading, mark, lines = "", "", None, []
     for line in open(f"{TOP}/{page}", encoding="utf-8"):
         line = line.rstrip("\n")
         if mark is None and line.startswith("## "):
-            section = line[3:]
+            section = heading = line[3:]
+        elif mark is None and (part := re.match(r"\*\*([^*]+)\.\*\* ", line)):
+            section = f"{heading}, {part[1]}"
         elif mark is None and line.startswith("```"):
             mark, lines = line[3:], []
         elif line == "```":
@@ -95,8 +133,78 @@ def commands_of(page):
                 else:
                     found[section][-1].due.append(line)
         elif mark == "sh":
-            found.setdefault(section, []).extend(Command(page, section, line) for line in lines)
+            found.setdefault(section, []).extend(Command(page, section, text) for text in whole_commands(lines))
     return found
+
+
+def whole_commands(lines):
+    """The commands of a block, each with the lines in which it goes on."""
+    command = []
+    for line in lines:
+        command.append(line)
+        if not line.endswith(("\\", "|")):
+            yield "\n".join(command)
+            command = []
+
+
+def reason_of(command):
+    """Why a command of a section is not run, or nothing."""
+    return SKIPPED.get((command.page, command.section, command.text.split()[0]))
+
+
+# ---- commands in the text
+
+
+def commands_in_text(page):
+    """The commands that stand in the text of a page, without those of its blocks."""
+    text = re.sub(r"^```.*?^```$", "", page.read_text(encoding="utf-8"), flags=re.M | re.S)
+    return sorted({one or other for one, other in IN_TEXT.findall(text)})
+
+
+def missing_in(command, words_of_program):
+    """The script or the flag of a command of the text that is not there, or nothing."""
+    script = command.split()[0].rstrip("/")
+    is_script = script.startswith("tools/")
+    if is_script and not os.path.exists(f"{TOP}/{script.replace('/NAME', '').split('/*')[0]}"):
+        return script
+    flags = re.findall(r"(?<![\w-])--[a-z-]+", command)
+    if is_script and os.path.isfile(f"{TOP}/{script}"):
+        known = open(f"{TOP}/{script}", encoding="utf-8").read()
+    elif command.startswith("rt "):
+        return None
+    else:
+        known = words_of_program
+    return next((flag for flag in flags if not re.search(rf"\b{flag[2:]}\b", known)), None)
+
+
+def look_at_texts(is_told):
+    """Looks at the commands in the text of all pages, and returns how many have no reason or name what is not there."""
+    sources = ["lanthovur", *(str(path.relative_to(TOP)) for path in Path(TOP).glob("crates/iscsi_tool/src/*.rt"))]
+    words_of_program = "\n".join(open(f"{TOP}/{path}", encoding="utf-8").read().replace("_", "-") for path in sources)
+    failed, count = 0, 0
+    for page in sorted({path for pattern in TEXTS for path in Path(TOP).glob(pattern)}):
+        for command in commands_in_text(page):
+            reason = next((why for form, why in ELSEWHERE.items() if re.match(form, command)), None)
+            fault = "no form of ELSEWHERE fits" if reason is None else None
+            if missing := missing_in(command, words_of_program):
+                fault = f"there is no {missing}"
+            failed, count = failed + bool(fault), count + 1
+            if fault:
+                print(f"FAILED {page.relative_to(TOP)}, its text: {command}\n    {fault}", flush=True)
+            elif is_told:
+                print(f"{page.relative_to(TOP)}: {command}: {reason}", flush=True)
+    print(f"{count} commands in texts: {count - failed} are run elsewhere, or have a reason", flush=True)
+    return failed
+
+
+def stale_names():
+    """The sections that a table names and no page has."""
+    tables = {key for table in (SKIPPED, WANTED, GIVEN, BEFORE) for key in table if isinstance(key, tuple)}
+    known = {page: commands_of(page) for page in PAGES}
+    for key in sorted(tables):
+        commands = known[key[0]].get(key[1])
+        if commands is None or len(key) > 2 and not any(reason_of(command) for command in commands):
+            yield " | ".join(key)
 
 
 def shell_text(before, commands, program):
@@ -150,9 +258,16 @@ def fault_of(command, seen):
 
 def run_section(page, section, commands, program):
     """Runs a section, and returns how many commands were well, not well, and not run."""
-    if reason := SKIPPED.get((page, section), SKIPPED.get(page)):
+    reason = SKIPPED.get((page, section), SKIPPED.get(page))
+    if lacking := [name for name in WANTED.get((page, section), []) if not shutil.which(name)]:
+        reason = f"not installed: {', '.join(lacking)}"
+    if reason:
         print(f"skipped {page}, {section or 'its commands'}: {reason}", flush=True)
         return 0, 0, len(commands)
+    left = [command for command in commands if reason_of(command)]
+    for command in left:
+        print(f"skipped {page}, {section}: {command.text}: {reason_of(command)}", flush=True)
+    commands = [command for command in commands if command not in left]
     with tempfile.TemporaryDirectory(prefix="pages-") as folder:
         make_given(folder, GIVEN.get((page, section), {}))
         seen = outputs_of(shell_text(BEFORE.get((page, section), ""), commands, program), folder)
@@ -162,17 +277,23 @@ def run_section(page, section, commands, program):
             failed += 1
             print(f"FAILED {page}, {section}: {command.text}\n    {fault}", flush=True)
     print(f"{page}, {section or 'its commands'}: {len(commands) - failed} of {len(commands)} commands as the page says", flush=True)
-    return len(commands) - failed, failed, 0
+    return len(commands) - failed, failed, len(left)
 
 
 def main():
     parser = argparse.ArgumentParser(description=__doc__, formatter_class=argparse.RawDescriptionHelpFormatter)
     parser.add_argument("--proved", action="store_true", help="run the proved program")
+    parser.add_argument("--texts", action="store_true", help="list the commands in the text of pages, and run nothing")
     parser.add_argument("page", nargs="*", help="such as README.md")
     asked = parser.parse_args()
+    stale = list(stale_names())
+    for name in stale:
+        print(f"FAILED no page has this section: {name}", flush=True)
     program = "./lanthovur" if asked.proved else "./lanthovur --unproved"
-    passed = failed = skipped = 0
-    for page in asked.page or PAGES:
+    passed, failed, skipped = 0, len(stale), 0
+    if asked.texts or not asked.page:
+        failed += look_at_texts(asked.texts)
+    for page in [] if asked.texts else asked.page or PAGES:
         for section, commands in commands_of(page).items():
             well, not_well, left = run_section(page, section, commands, program)
             passed, failed, skipped = passed + well, failed + not_well, skipped + left
