@@ -1,7 +1,7 @@
 #!/usr/bin/env python3
 """Serves exports of real NBD servers by `serve --nbd` to real initiators, and looks at what is left of them.
 
-    tools/nbd/run.py [--kills N] [--only WORD] [--costs] [PROGRAM]
+    tools/nbd/run.py [--kills N] [--only WORD] [--costs [--slow-sync N]] [PROGRAM]
 
 PROGRAM is crates/lanthovur/out/lanthovur if none is named; `./lanthovur </dev/null` builds it. All is done on 127.0.0.1 and
 in a folder of its own below TMPDIR. It wants qemu-img, qemu-io and qemu-nbd (Debian: qemu-utils, qemu-block-extra), nbdkit
@@ -10,8 +10,9 @@ not said) in the middle of writes, and a server half as often. --only runs the c
 is 'N passed, M failed', and how many were skipped.
 
 With --costs it measures instead, on an idle machine, in one run, with tools/speed/speed.c (libiscsi-dev, cc): reads and
-writes of 4 KiB with 1 outstanding, of `serve --file`, and of `serve --nbd` over nbdkit's memory and over qemu-nbd, beside
-qemu-io at the same servers.
+writes of 4 and 64 KiB with 1 and 8 outstanding, of `serve --file`, of `serve --nbd` over nbdkit's memory and over qemu-nbd, and
+of tgt over the same image, beside qemu-io at the same servers. --slow-sync N has each sync of a file take N microseconds more,
+as on a disk that is slower than this one's.
 """
 import argparse
 import contextlib
@@ -663,48 +664,84 @@ def by_qemu_io(word, what, count):
     return count / max(1e-6, with_start - (time.monotonic() - began))
 
 
-def costs(program, room, rounds, seconds):
-    """Reads and writes of 4 KiB, one outstanding, over a file and over NBD servers; medians of the rounds."""
+# A sync that takes so much longer, in microseconds, as on a slower disk.
+SLOW_SYNC = """
+#define _GNU_SOURCE
+#include <dlfcn.h>
+#include <unistd.h>
+static int slow(const char *name, int fd) {
+    usleep(%d);
+    return ((int (*)(int))dlsym(RTLD_NEXT, name))(fd);
+}
+int fsync(int fd) { return slow("fsync", fd); }
+int fdatasync(int fd) { return slow("fdatasync", fd); }
+"""
+
+
+def slow_syncs(room, microseconds):
+    """Has what is started from now on take so much longer for a sync."""
+    with open(f"{room}/slow.c", "w") as it:
+        it.write(SLOW_SYNC % microseconds)
+    subprocess.run(["cc", "-shared", "-fPIC", "-O2", "-o", f"{room}/slow.so", f"{room}/slow.c", "-ldl"], check=True)
+    os.environ["LD_PRELOAD"] = f"{room}/slow.so"
+
+
+def costs(program, room, rounds, seconds, sync):
+    """Commands a second over a file, over NBD servers and of tgt over the same image; medians of the rounds."""
     speed = module_of("speed")
     speed.DISK = BLOCK * BLOCKS
     client = f"{room}/speed"
-    want("cc")
+    want("cc", "tgtd", "tgtadm")
     subprocess.run(["cc", "-O2", "-o", client, f"{TOP}/tools/speed/speed.c", "-liscsi"], check=True)
+    if sync:
+        slow_syncs(room, sync)
     image = noise(f"{room}/image", BLOCK * BLOCKS)
     memory, raw = nbdkit("memory", f"{BLOCK * BLOCKS}"), qemu_nbd(noise(f"{room}/raw", BLOCK * BLOCKS))
-    of = {"`serve --file`": lasting.Service(program, image), "`serve --nbd`, nbdkit memory": Service(program, memory.word),
-          "`serve --nbd`, qemu-nbd raw": Service(program, f"{raw.word}/disk")}
 
     class Ours(speed.Lanthovur):
-        """One of these services."""
+        """One of our services."""
 
         def __init__(self, service):
             self.process, self.url, self.pid = service.process, service.url, service.process.pid
 
-    targets = {name: Ours(service) for name, service in of.items()}
-    rates = {name: {"reads": [], "writes": []} for name in of}
+    class Theirs(speed.Tgt):
+        """tgtd over the image that qemu-nbd serves, opened with O_SYNC. Both take turns."""
+
+        def backing(self):
+            self.disk = open(f"{room}/raw", "rb")
+            return ["-b", self.disk.name, "--bsoflags", "sync"]
+
+    targets = {"`serve --file`": Ours(lasting.Service(program, image)), "`serve --nbd`, nbdkit memory": Ours(Service(program, memory.word)),
+               "`serve --nbd`, qemu-nbd raw": Ours(Service(program, f"{raw.word}/disk")), "tgt, the same image": Theirs(room, 1000)}
+    kinds, medians, lines = ("reads", "writes"), {}, []
     try:
-        for _ in range(rounds):
-            for name, target in targets.items():
-                for what, value in zip(("reads", "writes"), speed.serve_once(client, target, 4096, 1, seconds)):
-                    rates[name][what].append(value)
+        for size in (4096, 65536):
+            for depth in (1, 8):
+                rows = {name: [speed.Row(what) for what in kinds] for name in targets}
+                for _ in range(rounds):
+                    for name, target in targets.items():
+                        for cell, value in zip(rows[name], speed.serve_once(client, target, size, depth, seconds)):
+                            cell.values.append(value)
+                for at, what in enumerate(kinds):
+                    lines.append([f"{what} of {size // 1024} KiB, {depth} outstanding", *(rows[name][at].text() for name in targets)])
+                    medians[what, size, depth] = {name: rows[name][at].median for name in targets}
     finally:
         for target in targets.values():
             target.end()
-    median = {name: {what: statistics.median(values) for what, values in kinds.items()} for name, kinds in rates.items()}
-    for name, kinds in median.items():
-        print(f"{name}: {kinds['reads']:.0f} reads and {kinds['writes']:.0f} writes of 4 KiB a second")
+    speed.table("Commands a second over NBD servers", ["", *targets], lines)
+    print()
     for name, server in (("nbdkit memory", memory.word), ("qemu-nbd raw", f"{raw.word}/disk")):
-        values = {what: statistics.median(by_qemu_io(server, what, 1000) for _ in range(rounds)) for what in ("reads", "writes")}
+        values = {what: statistics.median(by_qemu_io(server, what, 1000) for _ in range(rounds)) for what in kinds}
         print(f"qemu-io at {name}: {values['reads']:.0f} reads and {values['writes']:.0f} synced writes of 4 KiB a second")
     memory.end(signal.SIGTERM)
     raw.end(signal.SIGTERM)
-    file, far, near = (median[name] for name in of)
-    more = 1e6 / far["reads"] - 1e6 / file["reads"]
-    ratio = near["writes"] / file["writes"]
-    load = os.getloadavg()[0]
-    print(f"a read over nbdkit's memory takes {more:.0f} us more than with --file (60 wanted), a write over qemu-nbd has {ratio:.2f} of its rate (0.70 wanted); load {load:.1f}")
-    return 0 if more <= 60 and ratio >= 0.7 else 1
+    file, far, near, _ = targets
+    more = 1e6 / medians["reads", 4096, 1][far] - 1e6 / medians["reads", 4096, 1][file]
+    ratios = {(size, depth): cell[near] / cell[file] for (what, size, depth), cell in medians.items() if what == "writes"}
+    print(f"a read of 4 KiB over nbdkit's memory takes {more:.0f} us more than with --file (60 wanted)")
+    print("writes over qemu-nbd, of the rate of --file (0.70 wanted): " + ", ".join(f"{ratio:.2f} ({size // 1024} KiB, {depth})" for (size, depth), ratio in ratios.items()))
+    print(f"a sync takes {sync} us more than this disk's; load {os.getloadavg()[0]:.1f}")
+    return 0 if more <= 60 and min(ratios.values()) >= 0.7 else 1
 
 
 def main():
@@ -712,6 +749,7 @@ def main():
     parser.add_argument("--kills", type=int, default=100)
     parser.add_argument("--only", default="")
     parser.add_argument("--costs", action="store_true")
+    parser.add_argument("--slow-sync", type=int, default=0)
     parser.add_argument("--rounds", type=int, default=5)
     parser.add_argument("--seconds", type=float, default=1)
     parser.add_argument("program", nargs="?", default=f"{TOP}/crates/lanthovur/out/lanthovur")
@@ -723,7 +761,7 @@ def main():
         sys.exit("qemu-img and qemu-io are not installed")
     if asked.costs:
         with tempfile.TemporaryDirectory() as room:
-            return costs(program, room, asked.rounds, asked.seconds)
+            return costs(program, room, asked.rounds, asked.seconds, asked.slow_sync)
     counts = {"passed": 0, "failed": 0, "skipped": 0}
     for case in [case for case in CASES if asked.only in case.__name__]:
         began = time.monotonic()
