@@ -67,6 +67,8 @@ GIVEN = {
         "second.bin": "crates/capture_vectors/data/inq-lo.0.initiator",
     },
 }
+# Folders of the tree in which a section writes: it gets a copy.
+COPIED = {("docs/RECIPES.md", "A capture, from recording to comparison"): "crates/capture_vectors/data"}
 # Commands that a section needs first, as the page says in words.
 BEFORE = {
     ("crates/capture_vectors/README.md", ""): "cd crates/capture_vectors",
@@ -75,6 +77,7 @@ BEFORE = {
     ("docs/RECIPES.md", "A disk on an NBD server, A plugin and a filter of nbdkit"):
     "disk=iscsi://127.0.0.1:3260/iqn.2026-01.example:disk/0",
 }
+ALL = "tools/all/run.py runs it"
 # Why the commands of the text are not run here, by what they begin with. The first form that fits is taken.
 ELSEWHERE = {
     r"tools/(pages|all)/run\.py": "it would run itself",
@@ -82,7 +85,7 @@ ELSEWHERE = {
     r"tools/gate_times/": "it reads a run of the gate, or the work that proofs keep",
     r"tools/(captures/mangle|refused_memory/(calls|sweep))\.py": "the run.py beside it runs it",
     r"tools/reach/": "tools/check_docs/check_docs.py runs it",
-    r"tools/[a-z_]+/[a-z_]+(\.py)?( |$)": "tools/all/run.py runs it",
+    r"tools/[a-z_]+/[a-z_]+(\.py)?( |$)": ALL,
     r"tools/[a-z_]+": "it is a folder",
     r"rt (ci|check|must-fail|plant|tidy|run)\b": "it proves",
     r"rt (doc|version|lemma|fmt|try)\b": "it is the toolchain's",
@@ -161,12 +164,14 @@ def commands_in_text(page):
     return sorted({one or other for one, other in IN_TEXT.findall(text)})
 
 
-def missing_in(command, words_of_program):
+def missing_in(command, reason, words_of_program):
     """The script or the flag of a command of the text that is not there, or nothing."""
     script = command.split()[0].rstrip("/")
     is_script = script.startswith("tools/")
     if is_script and not os.path.exists(f"{TOP}/{script.replace('/NAME', '').split('/*')[0]}"):
         return script
+    if reason is ALL and f'"{script.removeprefix("tools/")}"' not in open(f"{TOP}/tools/all/run.py", encoding="utf-8").read():
+        return f"{script} among those of tools/all/run.py"
     flags = re.findall(r"(?<![\w-])--[a-z-]+", command)
     if is_script and os.path.isfile(f"{TOP}/{script}"):
         known = open(f"{TOP}/{script}", encoding="utf-8").read()
@@ -186,7 +191,7 @@ def look_at_texts(is_told):
         for command in commands_in_text(page):
             reason = next((why for form, why in ELSEWHERE.items() if re.match(form, command)), None)
             fault = "no form of ELSEWHERE fits" if reason is None else None
-            if missing := missing_in(command, words_of_program):
+            if missing := missing_in(command, reason, words_of_program):
                 fault = f"there is no {missing}"
             failed, count = failed + bool(fault), count + 1
             if fault:
@@ -198,13 +203,15 @@ def look_at_texts(is_told):
 
 
 def stale_names():
-    """The sections that a table names and no page has."""
-    tables = {key for table in (SKIPPED, WANTED, GIVEN, BEFORE) for key in table if isinstance(key, tuple)}
+    """The sections that a table names and no page has, and the pages with commands that PAGES lacks."""
+    pages = {str(path.relative_to(TOP)) for pattern in TEXTS for path in Path(TOP).glob(pattern)}
+    yield from (f"{page}, which has commands, in PAGES" for page in sorted(pages - set(PAGES)) if commands_of(page))
+    tables = {key for table in (SKIPPED, WANTED, GIVEN, COPIED, BEFORE) for key in table if isinstance(key, tuple)}
     known = {page: commands_of(page) for page in PAGES}
     for key in sorted(tables):
         commands = known[key[0]].get(key[1])
         if commands is None or len(key) > 2 and not any(reason_of(command) for command in commands):
-            yield " | ".join(key)
+            yield f"section {' | '.join(key)}"
 
 
 def shell_text(before, commands, program):
@@ -217,10 +224,13 @@ def shell_text(before, commands, program):
     return re.sub(r"\./lanthovur( --unproved)?(?=\s)", program, "\n".join(lines) + "\n")
 
 
-def make_given(folder, given):
-    """Makes a folder in which a section runs as at the top of the tree."""
+def make_given(folder, given, copied):
+    """Makes a folder in which a section runs as at the top of the tree, with a copy of one folder in place of crates/."""
+    if copied:
+        shutil.copytree(f"{TOP}/{copied}", f"{folder}/{copied}")
     for name in ("lanthovur", "docs", "crates", "tools"):
-        os.symlink(f"{TOP}/{name}", f"{folder}/{name}")
+        if not os.path.exists(f"{folder}/{name}"):
+            os.symlink(f"{TOP}/{name}", f"{folder}/{name}")
     for name, what in given.items():
         if isinstance(what, str):
             shutil.copy(f"{TOP}/{what}", f"{folder}/{name}")
@@ -269,7 +279,7 @@ def run_section(page, section, commands, program):
         print(f"skipped {page}, {section}: {command.text}: {reason_of(command)}", flush=True)
     commands = [command for command in commands if command not in left]
     with tempfile.TemporaryDirectory(prefix="pages-") as folder:
-        make_given(folder, GIVEN.get((page, section), {}))
+        make_given(folder, GIVEN.get((page, section), {}), COPIED.get((page, section)))
         seen = outputs_of(shell_text(BEFORE.get((page, section), ""), commands, program), folder)
     failed = 0
     for number, command in enumerate(commands):
@@ -288,7 +298,7 @@ def main():
     asked = parser.parse_args()
     stale = list(stale_names())
     for name in stale:
-        print(f"FAILED no page has this section: {name}", flush=True)
+        print(f"FAILED there is no {name}", flush=True)
     program = "./lanthovur" if asked.proved else "./lanthovur --unproved"
     passed, failed, skipped = 0, len(stale), 0
     if asked.texts or not asked.page:
