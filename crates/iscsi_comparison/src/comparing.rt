@@ -100,7 +100,7 @@ pub fn compare_hex<R: Read, Q: Read, W: Write>(
     compare_bytes(alloc, sameness, &mut source, &mut other_source, w)
 }
 
-// Compares two streams, as is asked.
+// Compares two streams in the way that was asked for.
 fn judged<R: Read, Q: Read>(
     alloc: Global,
     sameness: Sameness,

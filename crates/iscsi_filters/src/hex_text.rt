@@ -24,9 +24,9 @@ fn digits(alloc: Global, text: &[u8]) -> Result<Vec<u8>, AllocError>
 
 /// Reads hex text to its end and returns the bytes that it means.
 ///
-/// Returns `NotHex` where the text, its blanks, line ends and carriage returns aside, is not whole
-/// pairs of hex digits, or where it has more than 1,048,576 bytes; `Read` where a read fails or
-/// 16,777,216 of them did not reach the end; and `NoMemory` where memory runs out.
+/// Returns `NotHex` if the text, without its blanks, line ends and carriage returns, is not whole
+/// pairs of hex digits, or if it has more than 1,048,576 bytes. Returns `Read` if a read fails, or
+/// if 16,777,216 reads did not reach the end. Returns `NoMemory` if memory runs out.
 pub fn read_bytes<R: Read>(alloc: Global, r: &mut R) -> Result<Vec<u8>, ToolFault>
     ensures ok { IfOk result (λ bytes. (read : List ℕ)
         × Consumes (R.remaining r.old) (R.remaining r.new) read × IsAtEnd (R.remaining r.new)

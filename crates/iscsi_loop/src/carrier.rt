@@ -62,7 +62,7 @@ impl Carrier for Channel {
     }
 }
 
-// Gives a piece as it is.
+// Passes a piece on unchanged.
 fn give(piece: &[u8], read: &mut [u8])
     requires whole { length read.old ≡ length piece.now }
     ensures same { read.new ≡ piece.now }

@@ -1,5 +1,5 @@
-//! A session of an initiator and a target over a socket, as a script says. One file: both ends, and
-//! the commands that drive them; more than half of it are the contracts.
+//! A session of an initiator and a target over a socket, driven by a script. One file: both ends,
+//! and the commands that drive them; more than half of it are the contracts.
 
 ghost use Rattle.std.specs.Prelude.{◌≡◌, ◌<◌, ◌≤◌, ◌∷◌, [], ℕ, List, Option, IfOk, IfErr, OnOk};
 ghost use Rattle.scsi_disk.specs.Disk.{most_blocks};
@@ -46,18 +46,18 @@ const FIRST_CMD_SN: u32 = 1;
 /// How often one end answers the other before the connection counts as failed.
 const TURNS: u32 = 16_777_216;
 
-/// Logs an initiator in to a target with a disk of `n` blocks of 00, over a socket of this
-/// machine, and does what a script says. What an end sends goes in pieces of at most `n` bytes,
-/// each read as it is written. Writes a line for the login and one for what came of each command,
-/// up to the first logout; without one the connection is closed at the end of the script.
+/// Logs an initiator in to a target with a disk of `n` blocks of 00, over a socket of this machine,
+/// and does what a script says. What an end sends goes in pieces of at most `n` bytes, each read as
+/// it is written. Writes a line for the login, and one for the outcome of each command, up to the
+/// first logout. Without a logout the connection is closed at the end of the script.
 ///
-/// Before any output `Script` is returned with the first line that is no command, and with that of
-/// the first byte too many where the script has more than 1,048,576 bytes; `Read` where a read
-/// fails or 16,777,216 of them did not reach the end. `NoMemory` comes where memory runs out, then
-/// or later. `Target` and `Initiator` are the first fault of an end. A refused request and one
-/// without an outcome are `Initiator` with `Closed`: these ends have no cause for it. `Network`
-/// comes where a socket fails, or the ends answered each other 16,777,216 times, and `Write` where
-/// a line can't be written.
+/// Before any output it returns `Script` with the first line that is no command. If the script has
+/// more than 1,048,576 bytes, the line is that of the first byte too many. It returns `Read` if a
+/// read fails, or if 16,777,216 reads did not reach the end. `NoMemory` comes where memory runs
+/// out, then or later. `Target` and `Initiator` are the first fault of an end. A refused request
+/// and one without an outcome are `Initiator` with `Closed`: these ends have no cause for it.
+/// `Network` comes where a socket fails, or the ends answered each other 16,777,216 times, and
+/// `Write` where a line can't be written.
 ///
 /// The sessions are those of RFC 7143, sections 4 to 11; the lines of a script and those that are
 /// written are own rule.
@@ -252,7 +252,7 @@ impl LoopbackSession {
         }
     }
 
-    // Hands in a command, and returns what came of it.
+    // Hands in a command, and returns its outcome.
     fn perform<C: Carrier>(&mut self, carrier: &mut C, command: Command) -> Result<Done, ServeFault>
         ensures continues { IfOk result (λ done. Continues self.old.initiator.machine
             (request_of command ∷ []) (done ∷ []) self.new.initiator.machine) }

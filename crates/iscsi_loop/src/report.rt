@@ -1,4 +1,4 @@
-//! What came of a request, as a line.
+//! The line for the outcome of a request.
 
 ghost use Rattle.std.specs.Prelude.{◌≡◌, false, IfOk, slice_index_or};
 ghost use Rattle.std.specs.Fmt.{digits};
@@ -12,11 +12,11 @@ use std::alloc::{AllocError, Global};
 /// How many bytes of a command's data a line shows.
 const SHOWN: usize = 16;
 
-/// What came of a request, as a line with its end.
+/// The line for the outcome of a request, with its line end.
 ///
-/// A command that ended well is `good LEN`, with its first 16 bytes in hex behind a blank where it
-/// gave some; another is `check K/AA/QQ`: sense key, additional sense code and its qualifier in
-/// hex, each 0 where the sense data lack it (SPC-4, section 4.5.3). Behind it stands ` under R` or
+/// A command that ended well is `good LEN`, with its first 16 bytes in hex behind a blank if it
+/// gave some. Another one is `check K/AA/QQ`: sense key, additional sense code and its qualifier in
+/// hex. Each is 0 if the sense data lack it (SPC-4, section 4.5.3). Behind it stands ` under R` or
 /// ` over R`, where the command has R bytes less or more than were expected. A ping is `ping HEX`,
 /// a text `text HEX`, and the end of the session `logout`.
 pub fn report(alloc: Global, done: &Done) -> Result<String, AllocError>

@@ -47,12 +47,14 @@ const LOGOUT: &[u8] = b"logout";
 /// Reads a script to its end and returns its commands.
 ///
 /// A line is `tur U`, `inquiry U A`, `capacity`, `capacity16`, `luns`, `read LBA N`, `write LBA N
-/// BB`, `sync LBA N`, `ping HEX` or `logout`, its words parted by one blank: decimal numbers, of
-/// which U is below 256, A below 65536, LBA below 2^64 and N, in blocks, at most 8192, but in a
-/// `sync` LBA is below 2^32 and N below 65536; two hex digits BB; and 1 to 8192 bytes HEX. Returns
-/// `Script` with the first line, counted from 1, that is none of these; where the script has more
-/// than 1,048,576 bytes, with the line of the first byte too many. `Read` comes where a read fails
-/// or 16,777,216 of them did not reach the end, and `NoMemory` where memory runs out.
+/// BB`, `sync LBA N`, `ping HEX` or `logout`. Its words are parted by one blank.
+/// - U, A, LBA and N are decimal numbers: U is below 256, A below 65536, LBA below 2^64, and N, in
+///   blocks, at most 8192.
+/// - In a `sync` LBA is below 2^32 and N below 65536.
+/// - BB is two hex digits, and HEX is 1 to 8192 bytes of hex. Returns `Script` with the first line,
+///   counted from 1, that is none of these. If the script has more than 1,048,576 bytes, the line
+///   is that of the first byte too many. `Read` comes where a read fails or 16,777,216 of them did
+///   not reach the end, and `NoMemory` where memory runs out.
 pub fn read_script<R: Read>(alloc: Global, r: &mut R) -> Result<Vec<Command>, ServeFault>
     ensures ok { IfOk result (λ commands. (script : List ℕ)
         × Consumes (R.remaining r.old) (R.remaining r.new) script × IsAtEnd (R.remaining r.new)

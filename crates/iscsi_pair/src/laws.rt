@@ -39,9 +39,9 @@ pub fn queues()
         → t.moved_to_initiator ++ w.to_initiator ≡ t.queued_for_initiator }
 {}
 
-/// While an end hasn't failed, it is where its machine goes with the PDUs that were moved to it,
-/// for the initiator with the requests handed in and the outcomes taken too, in the order of the
-/// events, and what its machine sends is what was queued for the other end.
+/// While an end hasn't failed, it is where its machine goes with the PDUs that were moved to it.
+/// The machine of the initiator also gets the requests handed in and the outcomes taken, in the
+/// order of the events. What its machine sends is what was queued for the other end.
 pub fn ends()
     ensures target { (c : Opening) (events : List Event) (w : World) (t : Traffic)
         → Traces (first_traffic c) (new_pair c) events w t → w.target_fault ≡ None
@@ -76,8 +76,8 @@ pub fn login_agreement()
         → w.target.machine.session.held ≡ w.initiator.machine.held }
 {}
 
-/// An idle pair has completed its login: where nothing is on its way and neither end has failed,
-/// both are in full feature phase, or were until they parted (RFC 7143, section 6.3).
+/// An idle pair has completed its login. If nothing is on its way and neither end has failed, both
+/// are in full feature phase, or were until they parted (RFC 7143, section 6.3).
 pub fn idle_pair()
     ensures initiator { (c : Opening) (events : List Event) (w : World) → IsOpening c
         → Reached c events w → w.to_target ≡ [] → w.to_initiator ≡ []
@@ -89,9 +89,9 @@ pub fn idle_pair()
         → w.target.machine.session.stage ≡ stages.Full }
 {}
 
-/// No failure before login: where the names suit each other and authentication isn't demanded, no
-/// growth was refused and no request came too early, an end that keeps a fault had completed its
-/// login (RFC 7143, sections 6.3, 12.1 and 13.4).
+/// No failure before login. Premises: the names suit each other, authentication isn't demanded, no
+/// growth was refused, and no request came too early. Then an end that keeps a fault had completed
+/// its login (RFC 7143, sections 6.3, 12.1 and 13.4).
 pub fn no_early_failure()
     ensures target { (c : Opening) (events : List Event) (w : World) → IsOpening c → Suits c
         → RunsInTime (new_pair c) events w → keeps_no_memory w ≡ false
@@ -101,9 +101,9 @@ pub fn no_early_failure()
         → (w.initiator_fault ≡ None) ⊎ (w.initiator.machine.stage ≡ stages.Full) }
 {}
 
-/// A request is that of a local disk: where both ends are in step, a command, a ping or a logout
-/// that is accepted has the outcome that it has on the target's disk, leaves the disk that it
-/// leaves there, and both ends in step, or parted, after some answers (RFC 7143, sections 11.3,
+/// A request is that of a local disk. Between ends in step, a command, a ping or a logout that is
+/// accepted has, after some answers, the outcome that it has on the target's disk. It leaves the
+/// disk that it leaves there. Both ends are in step then, or have parted (RFC 7143, sections 11.3,
 /// 11.4, 11.7, 11.8, 11.14 and 11.18).
 pub fn one_request()
     ensures ends { (m : initiator.Machine) (t : target.Machine) (disk : Disk) (request : Request)
@@ -115,7 +115,7 @@ pub fn one_request()
         → AreInStep m t → is_too_long m request ≡ false → (submitted m request).refusal ≡ None }
 {}
 
-/// The end of a run shows that it was served: where no end keeps that memory ran out, and the
+/// The end of a run shows that it was served. If no end keeps that memory ran out, and the
 /// initiator keeps no fault, no growth was refused in it, and each request was accepted. They are
 /// to be commands, pings and logouts.
 pub fn served_runs()
@@ -125,9 +125,9 @@ pub fn served_runs()
         → (outcomes : List Done) × RunsServed (new_pair c) events w outcomes }
 {}
 
-/// One local disk: where the names suit each other and authentication isn't demanded, in a normal
-/// session, in which no growth is refused and each request is a command, a ping or a logout and is
-/// accepted (RFC 7143, section 4.2).
+/// One local disk. Premises: the names suit each other, authentication isn't demanded, and the
+/// session is a normal one in which no growth is refused. Each request is a command, a ping or a
+/// logout, and is accepted (RFC 7143, section 4.2).
 pub fn one_local_disk()
     // No end fails.
     ensures well { (c : Opening) (events : List Event) (w : World) (outcomes : List Done)
@@ -155,10 +155,10 @@ pub fn one_local_disk()
         → AreAtEnd (requests_of events) (taken w.initiator.machine) w.target.machine }
 {}
 
-/// Every list of commands and pings can be served: where each is one that any target takes, there
-/// are events that hand in these, one after another, such that the run is served and has taken all
-/// their outcomes on one local disk, with nothing on its way then. So the premises of
-/// `one_local_disk` are met (RFC 7143, section 4.2).
+/// Every list of commands and pings can be served, if each is one that any target takes. Some
+/// events hand them in, one after another, such that the run is served. It has then taken all their
+/// outcomes on one local disk, with nothing on its way. So the premises of `one_local_disk` are met
+/// (RFC 7143, section 4.2).
 pub fn lists_are_served()
     ensures served { (c : Opening) (all : List Request) → IsNormal c
         → AllByRecursion IsAlwaysTaken all → SomeRunServes c all (disk_outcomes c all) }
@@ -168,9 +168,9 @@ pub fn lists_are_served()
         SomeRunServes c all (disk_outcomes c all) }
 {}
 
-/// What is written is read: some run is served in which a WRITE(10) and a READ(10) of the same
-/// blocks are handed in, and whose outcomes are GOOD for both, for the read with the bytes that
-/// were written (SBC-3).
+/// What is written is read. In some run that is served, a WRITE(10) and a READ(10) of the same
+/// blocks are handed in. Both outcomes are GOOD, and the read has the bytes that were written
+/// (SBC-3).
 pub fn what_is_written_is_read()
     ensures read { (c : Opening) (write_cdb read_cdb bytes : List ℕ) → IsNormal c
         → NameSame c write_cdb read_cdb bytes → SomeRunServes c

@@ -23,9 +23,9 @@ use std::alloc::Global;
 const TURNS: u32 = 16_777_216;
 
 /// Hands these requests to a new pair, each once nothing is on its way, and moves what it leads to
-/// until nothing is. Returns the outcomes and what the target's store has then; `NotServed` where
-/// an end failed, a request was refused, or bytes were on their way still after 16,777,216 turns,
-/// to which no served run comes.
+/// until nothing is. Returns the outcomes, and what the target's store has then. Returns
+/// `NotServed` if an end failed, if a request was refused, or if bytes were still on their way
+/// after 16,777,216 turns. No served run comes to that many.
 ///
 /// Where memory holds, requests that any target takes are served (RFC 7143, section 4.2).
 pub fn serve_requests(

@@ -22,16 +22,19 @@ const LONGEST_READ: usize = 1_048_576;
 /// Accepts one connection and runs a target's session over it, with first StatSN 1. The session's
 /// memory goes with it; the store stays. A connection that is gone before it is accepted is passed over.
 ///
-/// What comes is read in pieces of at most 1,048,576 bytes, and the answers to a piece leave
-/// together, as soon as more than 65,536 bytes of them wait and at its end: the store is synced
-/// once for all of them, before they leave.
+/// It reads the connection in pieces of at most 1,048,576 bytes. The answers to a piece leave as
+/// soon as more than 65,536 bytes of them wait, and at the end of the piece. The store is synced
+/// once for all answers that leave together, before they leave.
 ///
 /// A session that is closed, by a logout or a refused login, and a connection that ends between two
-/// PDUs are no fault. `Network` is returned where no connection is accepted; `Target` where the
-/// target refuses what its initiator sent or the connection ends within a PDU, after the answers
-/// that were due; `Read` where a read from the connection fails or 16,777,216 of them did not reach
-/// its end; `Sync` where a sync of the store fails, and the answers that waited for it are not
-/// sent; `Write` where a write to the connection fails; and `NoMemory` where memory runs out.
+/// PDUs are no fault. Returns:
+/// - `Network` if no connection is accepted;
+/// - `Target` if the target refuses what its initiator sent, or if the connection ends within a
+///   PDU, after the answers that were due;
+/// - `Read` if a read from the connection fails, or 16,777,216 of them did not reach its end;
+/// - `Sync` if a sync of the store fails: the answers that waited for it are not sent;
+/// - `Write` if a write to the connection fails;
+/// - `NoMemory` if memory runs out.
 ///
 /// The session is that of RFC 7143, sections 6 and 11; that it has a connection of its own is own
 /// rule.
@@ -55,8 +58,7 @@ pub fn serve_one<S: BlockStore>(
     let Some(stream) = accepted(listener) else {
         return Err(ServeFault::Network);
     };
-    // Answers are not to wait for those before them to be acknowledged. Where that can't be had they
-    // do, and all else is as it is.
+    // Disable Nagle's algorithm. If this fails, answers are only slower.
     let _ = stream.set_nodelay(true);
     let mut buffer = read_buffer(alloc, LONGEST_READ)?;
     let mut answers = Answers { stream: &stream };

@@ -90,22 +90,25 @@ impl From<ReadFault> for SessionFault {
     }
 }
 
-/// Runs the session of a target with a store over a stream: takes what a reader returns, in reads
-/// of at most 4,096 bytes, and writes the answers, as soon as more than 65,536 bytes of them wait
-/// and at the end of each read. Before answers are written the store is synced, once for all of
-/// them. It stops where the session is closed, by a logout or a refused login, and where the stream
-/// ends.
+/// Runs the session of a target with a store over a stream. It takes what a reader returns, in
+/// reads of at most 4,096 bytes. It writes the answers as soon as more than 65,536 bytes of them
+/// wait, and at the end of each read. Before answers are written the store is synced, once for all
+/// of them. It stops where the session is closed, by a logout or a refused login, and where the
+/// stream ends.
 ///
-/// Where the store counted no failure, what is written are the answers to all PDUs of what was
-/// read, and the store has the blocks that they leave; when out of memory those of some first PDUs,
-/// whole, and of some first tasks of the next one. Behind a failed sync or write it is a front of
-/// these, and behind a failed sync no answer that waited for it. Returns `Ok` where the stream
-/// ends behind a PDU or the session was closed and no rule broken; `Target` with the rule that the
-/// last PDU broke, or with the fault and the place of what follows the PDUs where that is refused,
-/// or begun and not whole at the end of the stream, after the answers that were due; `Read` where a
-/// read fails or 16,777,216 of them did not reach the end, and none of these faults came before;
-/// `Sync` where a sync of the store fails; `Write` where a write fails or takes no byte; `NoMemory`
-/// where memory runs out.
+/// If the store counted no failure, it has written the answers to all PDUs of what was read, and
+/// the store has the blocks that they leave. If memory ran out, these are the answers to some first
+/// PDUs, whole, and to some first tasks of the next one. Behind a failed sync or write it is a
+/// front of these, and behind a failed sync no answer that waited for it. Returns:
+/// - `Ok` if the stream ends behind a PDU, or the session was closed and no rule broken;
+/// - `Target` with the rule that the last PDU broke, after the answers that were due;
+/// - `Target` with a fault and its place, if what follows the PDUs is refused, or is a PDU that is
+///   not whole at the end of the stream;
+/// - `Read` if a read fails or 16,777,216 of them did not reach the end, and none of these faults
+///   came before;
+/// - `Sync` if a sync of the store fails;
+/// - `Write` if a write fails or takes no byte;
+/// - `NoMemory` if memory runs out.
 ///
 /// The session is that of RFC 7143, sections 6 and 11; how it is read and written is own rule.
 pub fn serve_stream<S: BlockStore, R: Read, W: Write>(

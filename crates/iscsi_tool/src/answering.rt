@@ -20,14 +20,16 @@ use std::alloc::Global;
 use std::io::{Read, Write};
 
 /// Writes the answers of a target, with a disk of `n` blocks of 00, to the stream that a reader
-/// gives; what one read leads to goes out in one write. It stops where the session is closed.
+/// gives. What one read leads to goes out in one write. It stops where the session is closed.
 ///
-/// What is written are the answers to all PDUs of what was read, and when out of memory those to
-/// some first PDUs and to some first tasks of the next one; of a failed write nothing is said.
-/// Returns `Stream` where the stream ends within a PDU or has what the target's framer refuses, with
-/// the place of that; `Protocol` with the rule that the last PDU broke; `Ok` where no rule was broken
-/// and the stream ends behind a PDU, or the session was closed: a refused login is no fault. `Read`,
-/// `Write` and `NoMemory` are as in `normalise`.
+/// It writes the answers to all PDUs of what was read. If memory runs out, it has written those to
+/// some first PDUs, and to some first tasks of the next one. Nothing is said about a failed write.
+/// Returns:
+/// - `Stream`, with its place, if the stream ends within a PDU or has what the framer of the target
+///   refuses;
+/// - `Protocol` with the rule that the last PDU broke;
+/// - `Ok` if no rule was broken and the stream ends behind a PDU, or if the session was closed. A
+///   refused login is no fault. `Read`, `Write` and `NoMemory` are as in `normalise`.
 #[tactic(auto, using(crate::proofs::AtEndLemmas::session_at_end))]
 pub fn answer<R: Read, W: Write>(
     alloc: Global,
@@ -57,10 +59,9 @@ pub fn answer<R: Read, W: Write>(
 /// come. The text is read to its end first.
 ///
 /// Returns what `answer` does for the bytes that the text means, and `NotHex` as `read_bytes`. A
-/// line end follows the answers behind `Ok`, `Stream` and `Protocol`. After `NotHex`, and where
-/// memory or the reader was wanting before the text was whole, nothing is written; when out of
-/// memory later the digits of those answers that `answer` writes then. Of a failed write nothing is
-/// said.
+/// line end follows the answers behind `Ok`, `Stream` and `Protocol`. After `NotHex`, and if memory
+/// or the reader failed before the text was whole, nothing is written. If memory runs out later,
+/// the digits stand of the answers that `answer` writes then. Of a failed write nothing is said.
 #[tactic(auto, using(iscsi_filters::proofs::AtEndLemmas::hex_refused, iscsi_filters::proofs::AtEndLemmas::hex_read))]
 pub fn answer_hex<R: Read, W: Write>(
     alloc: Global,

@@ -35,10 +35,10 @@ pub struct Filter {
 /// Runs a filter from a reader to a writer.
 ///
 /// Without hex its faults are those of `normalise`, `normalise_text` and `show`. With hex the whole
-/// input is read first; `NotHex` comes before any output, and so do `Read` and `NoMemory` of
-/// `Normalise` and `Text`, whose line is written where the input is in the profile and also where
-/// its stream or text has a fault. Answers are written as they come; `answer_hex` says where their
-/// line ends.
+/// input is read first. `NotHex` comes before any output, and so do `Read` and `NoMemory` of
+/// `Normalise` and `Text`. Their line is written if the input is in the profile, and also if its
+/// stream or text has a fault. Answers are written as they come; `answer_hex` says where their line
+/// ends.
 pub fn run_filter<R: Read, W: Write>(
     alloc: Global,
     filter: Filter,

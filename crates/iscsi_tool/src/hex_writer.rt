@@ -107,7 +107,7 @@ fn write_digit<W: Write>(w: &mut W, digit: u8) -> bool
     }
 }
 
-/// A writer that is lent. What it holds begins, for proofs, with the name of the loan: so what is
+/// A writer that is lent. For proofs, what it holds begins with the name of the loan. So what is
 /// written to a writer in front of it has gone to this one and to no other.
 #[derive(Drop)]
 pub struct LentWriter<'a, W> {

@@ -61,9 +61,9 @@ pub enum Outcome<'a> {
 }
 
 impl Outcome<'_> {
-    /// The exit status: 0 if the job is done, 1 if input is refused or two streams differ, 2 for
-    /// words that ask for no job or for help, 3 for memory, and 4 for reading, writing, files and
-    /// the network.
+    /// The exit status is 0 if the job is done, and 1 if input is refused or two streams differ. It
+    /// is 2 for words that ask for no job or for help, 3 for memory, and 4 for reading, writing,
+    /// files and the network.
     pub fn status(&self) -> u8
         ensures status { result ≡ outcome_status self.now }
     {
@@ -159,8 +159,8 @@ pub fn run_program(rt: &HostRuntime) -> ExitCode {
     ExitCode::from(run_read(rt, &words, &mut input, &mut output, &mut errors))
 }
 
-/// Runs the job of a command line as `run_words` does, or tells why its words could not be read, such
-/// as that they are not UTF-8: these ask for no job. Returns the exit status.
+/// Runs the job of a command line as `run_words` does. Or tells why its words could not be read,
+/// for example because they are not UTF-8: such words ask for no job. Returns the exit status.
 pub fn run_read<R: Read, W: Write, E: Write>(
     rt: &HostRuntime,
     words: &Result<Vec<String>, LineFault>,

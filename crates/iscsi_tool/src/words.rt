@@ -55,7 +55,7 @@ pub enum Job<'a> {
         /// How it is served.
         service: Service<'a>,
     },
-    /// Both ends of a session over a socket, as a script on the standard input says.
+    /// Both ends of a session over a socket, driven by a script on the standard input.
     Loop {
         /// How many blocks of 512 bytes the target's disk has, 1 to 2^40.
         blocks: u64,
