@@ -7,8 +7,8 @@ PAGE is such as README.md or docs/RECIPES.md; each one that has commands if none
 A line `$ command` of a block marked `console` has to print the lines behind it, and nothing else; each command of a block
 marked `sh` has to end well. Files that a section takes as given are made first. `./lanthovur` is run with `--unproved`, whose
 one line on standard error is left out; with --proved it is run as the page says. Blocks that this machine cannot run have a
-reason in SKIPPED, and a line 'skipped'. It wants QEMU, libiscsi, tshark and xxd, and port 3260. The last line is 'N passed, M
-failed, K skipped'.
+reason in SKIPPED, and a line 'skipped'. It wants QEMU, libiscsi, xxd, jq and port 3260, and as root tcpdump. The last line is
+'N passed, M failed, K skipped'.
 """
 import argparse
 import os
@@ -42,7 +42,6 @@ GIVEN = {
     ("README.md", "A served disk"): {"source.img": 8},
     ("docs/RECIPES.md", "A disk for other initiators"): {"disk.img": 4},
     ("docs/RECIPES.md", "A disk that lasts"): {"source.img": 32},
-    ("docs/RECIPES.md", "A stream out of a capture"): {"session.pcap": "crates/capture_vectors/data/inq-lo.pcap"},
     ("docs/RECIPES.md", "Two streams compared"): {
         "initiator.bin": "crates/capture_vectors/data/inq-lo.0.initiator",
         "stream.bin": "crates/capture_vectors/data/inq-lo.0.target",
