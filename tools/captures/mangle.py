@@ -85,10 +85,10 @@ def packed(packet, six, fragment=False):
 
 def wrapped(packets):
     """Sequence numbers that wrap behind some 300 bytes."""
-    base = {(p.source, p.source_port): p.sequence for p in packets if p.flags & SYN}
+    base = {(p.source, p.source_port, p.destination, p.destination_port): p.sequence for p in packets if p.flags & SYN}
     for packet in packets:
-        mine = base[packet.source, packet.source_port]
-        yours = base.get((packet.destination, packet.destination_port), 0)
+        mine = base[packet.source, packet.source_port, packet.destination, packet.destination_port]
+        yours = base.get((packet.destination, packet.destination_port, packet.source, packet.source_port), 0)
         packet.sequence = (packet.sequence - mine + 2**32 - 300) % 2**32
         if packet.flags & ACK:
             packet.acknowledged = (packet.acknowledged - yours + 2**32 - 300) % 2**32

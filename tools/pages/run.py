@@ -13,7 +13,7 @@ have a reason in SKIPPED, those that want a program which is not installed are i
 Commands that stand in the text of any page, between backquotes, are not run here. Each has to be of a form in ELSEWHERE, which
 says why, and the script, the word or the flag that it names has to be there. --texts lists them, and runs nothing.
 
-It wants QEMU, libiscsi, nbdkit, xxd, and ports 3260, 3261 and 10809. `unshare -n` gives it ports of its own, once `ip link set
+It wants QEMU, libiscsi, nbdkit, xxd, jq, as root tcpdump, and ports 3260, 3261 and 10809. `unshare -n` gives it ports of its own, once `ip link set
 lo up` was said there. The last line is 'N passed, M failed, K skipped'.
 """
 import argparse

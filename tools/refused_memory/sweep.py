@@ -140,10 +140,10 @@ def ends(stream):
 
 def places(words, whole):
     """The lengths at which this output may stop where memory runs out: before its last PDU or line."""
-    if "show" in words or "loop" in words:
+    if {"show", "loop", "connections"} & set(words):
         found = {0} | {at + 1 for at, byte in enumerate(whole) if byte == 10}
     else:
-        found = ends(whole) if words == ["normalise"] else {0}
+        found = ends(whole) if "normalise" in words and not {"--hex", "--text"} & set(words) else {0}
     return found - {len(whole)} | {0}
 
 
@@ -170,7 +170,7 @@ def rows_of(path, name, row):
 
 def constants(path):
     """The text of each constant of a test that is one string, by its name."""
-    return dict(re.findall(rf"^(?:pub\(crate\) )?const (\w+): &[^=]*=\s*b?{STRING};", open(f"{TOP}/crates/{path}").read(), re.M | re.S))
+    return dict(re.findall(rf"^(?:pub(?:\(crate\))? )?const (\w+): &[^=]*=\s*b?{STRING};", open(f"{TOP}/crates/{path}").read(), re.M | re.S))
 
 
 def scripts():
@@ -274,6 +274,13 @@ def is_well(ended, ample, was_refused, stops):
     return was_refused and status == 3 and err == b"memory\n" and ample[1].startswith(out) and len(out) in stops
 
 
+def is_listing(ended, ample):
+    """Whether `connections` may end so for want of memory: each line has what was known of its connection by then."""
+    rows, due = ([line.split(b" ") for line in out.splitlines()] for out in (ended[1], ample[1]))
+    known = all(row[:3] == other[:3] and int(row[3]) <= int(other[3]) and int(row[4]) <= int(other[4]) for row, other in zip(rows, due))
+    return ended[0] == 3 and ended[2] == b"memory\n" and ended[1][-1:] in (b"", b"\n") and len(rows) <= len(due) and known
+
+
 def sweep(name, words, data, stops=None, run=run):
     """Refuses each allocation of a run in turn, and answers how many runs ended wrongly."""
     ample, count, _ = run(words, data)
@@ -284,7 +291,8 @@ def sweep(name, words, data, stops=None, run=run):
         print(f"{name}: want of memory where none was refused")
     for at in range(1, MOST):
         ended, _, was_refused = run(words, data, at)
-        if not is_well(ended, ample, was_refused, stops):
+        is_list = words[:1] == ["connections"] and was_refused and is_listing(ended, ample)
+        if not is_list and not is_well(ended, ample, was_refused, stops):
             failed += 1
             print(f"{name} at {at}: status {ended[0]}, {ended[1][:40]!r}, {ended[2][:60]!r}")
         if not was_refused:
@@ -428,6 +436,31 @@ def comparisons(session):
     return failed
 
 
+def captures():
+    """How many runs over captures ended wrongly. They read small ones of iscsi_captures_tests, from a file and from standard
+    input, and one of libiscsi and tgt whose packets are out of order."""
+    small = constants("iscsi_captures_tests/src/tests/captures.rt")
+    files = {name: bytes.fromhex(unquoted(small[name])) for name in ("WHOLE", "LATE", "GAP", "REUSED")}
+    files["all-2"] = open(f"{TOP}/crates/capture_vectors/data/all-2.pcap", "rb").read()
+    for name, data in files.items():
+        with open(f"{ROOM}/{name}", "wb") as file:
+            file.write(data)
+    failed = 0
+    for name, data in files.items():
+        one = ["--connection", "0", "--from", "initiator"]
+        cases = [["connections", "FILE"], ["show", "--capture", "FILE"], ["normalise", "--capture", "FILE", *one]]
+        if name in ("WHOLE", "all-2"):
+            cases += [["show", "--capture", "FILE", *more] for more in (["--explain"], ["--json"], ["--explain", "--json"], one)]
+            cases += [["answer", "--blocks", "8", "--capture", "FILE", "--connection", "0"]]
+            cases += [["compare", "--capture", "FILE", f"{ROOM}/WHOLE", *one, *more] for more in ([], ["--same-job"])]
+        for words in cases:
+            failed += sweep(f"{' '.join(words).replace(ROOM, '..')} of {name}", [f"{ROOM}/{name}" if word == "FILE" else word for word in words], b"")
+        if name == "WHOLE":
+            failed += sweep("connections - of WHOLE", ["connections", "-"], data)
+            failed += sweep("show --capture - of WHOLE", ["show", "--capture", "-"], data)
+    return failed
+
+
 def main(words, is_unproved=False):
     """Sweeps the program that is named, or else the proved one or the one without proofs."""
     global PROGRAM
@@ -445,7 +478,8 @@ def main(words, is_unproved=False):
     text = b"MaxBurstLength=0X0040000\0\0InitialR2T=Yes\0TargetAddress=b\0TargetAddress=a\0"
     cases = [
         ([], ping.hex().encode()), (["normalise"], ping), (["normalise"], session), (["normalise", "--hex"], session.hex().encode()),
-        (["show"], session), (["show", "--hex"], session.hex().encode()), (["normalise", "--text"], text),
+        (["show"], session), (["show", "--hex"], session.hex().encode()), (["show", "--explain"], session), (["show", "--json"], session),
+        (["show", "--explain", "--json"], session), (["normalise", "--text"], text),
         (["normalise", "--text", "--hex"], text.hex().encode()), (["normalise"], ping + ping[:47]), (["normalise", "--hex"], b"4g"),
         (["normalise", "--text"], b"A=1"), (["serve"], b""), (["loop", "--blocks", "2048", "--piece", "4096"], SCRIPT),
         (["loop", "--blocks", "8", "--piece", "48"], b"tur 0\nread 0\n"),
@@ -457,6 +491,7 @@ def main(words, is_unproved=False):
     for name, text in texts():
         failed += sweep(f"normalise --text, {name}", ["normalise", "--text"], text)
     failed += comparisons(session)
+    failed += captures()
     answer = ["answer", "--blocks", "2048"]
     for name, came, stops, due, status in dialogues():
         if run(answer, came)[0][:2] != (status, due):
