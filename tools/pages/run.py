@@ -43,7 +43,6 @@ MARK = "\x01"
 # Why a section is not run, or a page, or a command of a section.
 SKIPPED = {
     ("docs/RECIPES.md", "A service that a supervisor starts"): "it is the script of a supervisor",
-    ("docs/RECIPES.md", "A capture, from recording to comparison", "tcpdump"): "it records until it is ended",
     ("crates/format_tables/README.md", ""): "it changes the tree",
     "docs/session/README.md": "it captures a session of tgt, which wants root, and makes other numbers each time",
 }
