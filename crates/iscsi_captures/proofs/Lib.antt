@@ -1,4 +1,6 @@
 pub mod Places
 pub mod Apart
+pub mod Determined
+pub mod Hearing
 pub mod Shown
 pub mod Keeping

@@ -1,6 +1,6 @@
 //! The connections of a capture.
 
-ghost use Rattle.std.specs.Prelude.{◌≡◌, ◌≢◌, ◌<◌, ◌+◌, ◌^◌, ℕ, OnOk, IfOk, IfErr, length, max, slice_get, None, Some, [], ◌∷◌, ◌++◌};
+ghost use Rattle.std.specs.Prelude.{◌≡◌, ◌≢◌, ◌<◌, ◌+◌, ◌^◌, ℕ, OnOk, IfOk, IfErr, IfSome, length, max, slice_get, None, Some, [], ◌∷◌, ◌++◌};
 ghost use Rattle.iscsi_captures.specs.Following.{Hears, Keeps, KeepsAll, Steps, no_connections, unheard};
 ghost use Rattle.iscsi_captures.specs.declared.connections.Connection.{Connection};
 ghost use Rattle.iscsi_captures.specs.declared.fault.CapturesFault.TheVariants.{NoMemory};
@@ -108,7 +108,9 @@ impl Connection {
 
     /// Who began it: the sender of the SYN; without one the end that begins with a login request;
     /// else the end whose peer has port 3260; else the sender of the first segment.
-    pub fn initiator(&self) -> Side {
+    pub fn initiator(&self) -> Side
+        ensures opener { IfSome self.now.opener (λ side. result ≡ side) }
+    {
         if let Some(side) = self.opener {
             return side;
         }

@@ -1,5 +1,8 @@
 //! The two ends of a connection.
 
+ghost use Rattle.std.specs.Prelude.{◌≡◌};
+ghost use Rattle.iscsi_captures.specs.Directions.{other_side};
+
 use capture_file::{Address, Endpoint};
 use std::net::{IpAddr, Ipv4Addr, Ipv6Addr, SocketAddr};
 
@@ -23,7 +26,9 @@ pub enum Side {
 
 impl Side {
     /// The end that is not this one.
-    pub fn other(self) -> Side {
+    pub fn other(self) -> Side
+        ensures { result ≡ other_side self }
+    {
         match self {
             Side::Lower => Side::Upper,
             Side::Upper => Side::Lower,
