@@ -4,4 +4,5 @@ pub mod SameEnds
 pub mod Following
 pub mod Private
 pub mod Directions
+pub mod Listing
 pub mod Written

@@ -2,6 +2,7 @@
 
 ghost use Rattle.std.specs.Prelude.{◌≡◌, ◌≢◌, ◌<◌, ◌+◌, ◌^◌, ℕ, OnOk, IfOk, IfErr, IfSome, length, max, slice_get, None, Some, [], ◌∷◌, ◌++◌};
 ghost use Rattle.iscsi_captures.specs.Following.{Hears, Keeps, KeepsAll, Steps, no_connections, unheard};
+ghost use Rattle.iscsi_captures.specs.Listing.{sent_at};
 ghost use Rattle.iscsi_captures.specs.declared.connections.Connection.{Connection};
 ghost use Rattle.iscsi_captures.specs.declared.fault.CapturesFault.TheVariants.{NoMemory};
 
@@ -132,7 +133,9 @@ impl Connection {
     }
 
     /// What an end sent.
-    pub fn half(&self, side: Side) -> &Half {
+    pub fn half(&self, side: Side) -> &Half
+        ensures { result.now ≡ sent_at side self.now }
+    {
         match side {
             Side::Lower => &self.lower,
             Side::Upper => &self.upper,

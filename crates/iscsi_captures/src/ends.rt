@@ -2,6 +2,7 @@
 
 ghost use Rattle.std.specs.Prelude.{◌≡◌};
 ghost use Rattle.iscsi_captures.specs.Directions.{other_side};
+ghost use Rattle.iscsi_captures.specs.Listing.{address_at};
 
 use capture_file::{Address, Endpoint};
 use std::net::{IpAddr, Ipv4Addr, Ipv6Addr, SocketAddr};
@@ -22,6 +23,18 @@ pub enum Side {
     Lower,
     /// The upper end.
     Upper,
+}
+
+impl Ends {
+    /// The address of an end.
+    pub fn at(&self, side: Side) -> SocketAddr
+        ensures { result ≡ address_at side self.now }
+    {
+        match side {
+            Side::Lower => self.lower,
+            Side::Upper => self.upper,
+        }
+    }
 }
 
 impl Side {
