@@ -78,7 +78,8 @@ PacketStep order kind interfaces block step = ((kind ≡ 3) × SimpleStep order 
 -- what an interface description tells: an interface more, with its link type and snap length
 abbrev pub DescribeStep : Order → Reading → List ℕ → Reading → Step → Type 0
 DescribeStep order old block new (steps.Packet p n) = ⊥
-DescribeStep order old block new (steps.Skip n) = (n ≡ length block) × (interface : Interface)
+DescribeStep order old block new (steps.Skip n) = (n ≡ length block) × (20 ≤ length block)
+    × (interface : Interface)
     × (interface.link ≡ number order 2 8 block) × (interface.snap ≡ number order 4 12 block)
     × (new ≡ record { kind = old.kind; interfaces = old.interfaces ++ interface ∷ [] })
 DescribeStep order old block new (steps.More n) = ⊥
@@ -96,7 +97,8 @@ least_of kind = if kind == 1 then 20 else (if kind == 3 then 16 else 32)
 abbrev pub IsPartBlock : Order → List ℕ → ℕ → Type 0
 IsPartBlock order bytes n = (length bytes < n) × (((length bytes < 8) × (n ≡ 8))
     ⊎ ((8 ≤ length bytes) × (((number order 4 0 bytes ≡ section) × (n ≡ 12))
-    ⊎ (IsRead (number order 4 0 bytes) × (n ≡ number order 4 4 bytes) × (n ≤ longest)))))
+    ⊎ (IsRead (number order 4 0 bytes) × (n ≡ number order 4 4 bytes) × IsLength 12 n
+    × (n ≤ longest)))))
 
 -- why a whole block of a type with a packet tells none
 abbrev pub PacketFails : Order → ℕ → List Interface → List ℕ → CaptureFault → Type 0
@@ -114,6 +116,7 @@ IsBadHead order bytes = (8 ≤ length bytes) × (number order 4 0 bytes ≢ sect
 pub record IsHere (order : Order) (bytes : List ℕ) (n : ℕ) : Type 0 where
   pub reads : IsRead (number order 4 0 bytes)
   pub length_is : number order 4 4 bytes ≡ n
+  pub fits : IsLength 12 n
   pub whole : n ≤ length bytes
 
 -- A block is there as a whole, and its second length is another one, or it is too short for its type.
@@ -176,11 +179,15 @@ IsUnknown bytes = (24 ≤ length bytes)
     ⊎ ((order : Order) × (precise : Bool) × (number Big 4 0 bytes ≡ magic order precise)
     × (number order 2 4 bytes ≢ 2)))
 
+-- The bytes begin with a section header that tells nothing.
+abbrev pub IsBrokenSection : List ℕ → CaptureFault → Type 0
+IsBrokenSection bytes fault = (24 ≤ length bytes) × (number Big 4 0 bytes ≡ section)
+    × SectionFails bytes fault
+
 -- why nothing is told at the beginning of a file
 abbrev pub BeginFails : List ℕ → CaptureFault → Type 0
-BeginFails bytes faults.Format =
-    IsUnknown bytes ⊎ ((number Big 4 0 bytes ≡ section) × SectionFails bytes faults.Format)
-BeginFails bytes fault = (number Big 4 0 bytes ≡ section) × SectionFails bytes fault
+BeginFails bytes faults.Format = IsUnknown bytes ⊎ IsBrokenSection bytes faults.Format
+BeginFails bytes fault = IsBrokenSection bytes fault
 
 -- what stands at a place of a file of this kind
 abbrev pub StepOf : Kind → Reading → List ℕ → Reading → Step → Type 0
@@ -203,3 +210,7 @@ FailsOf (kinds.Blocks order) old bytes fault = BlockFails order old bytes fault
 -- why nothing is told at a place of a file that is read so far
 abbrev pub FailsAt : Reading → List ℕ → CaptureFault → Type 0
 FailsAt old bytes fault = FailsOf old.kind old bytes fault
+
+-- the most bytes that a step asks for: the head of a record, and the longest packet
+abbrev pub most_asked : ℕ
+most_asked = 1048592

@@ -15,26 +15,28 @@ abbrev pub second_of : Bool → ℕ
 second_of true = 1000000000
 second_of false = 1000000
 
+-- the longest record or block with a packet that is read
+abbrev pub longest : ℕ
+longest = 1048576
+
 -- The bytes begin with a record of a classic file, of n bytes, which has this packet: its seconds and
 -- units, how many bytes were captured, how many it had on the link, and the bytes.
 pub record IsRecord (order : Order) (precise : Bool) (link : ℕ) (bytes : List ℕ) (n : ℕ)
     (p : Packet) : Type 0 where
   pub whole : n ≤ length bytes
   pub captured : n ≡ 16 + number order 4 8 bytes
+  pub short : number order 4 8 bytes ≤ longest
   pub time : p.time ≡ number order 4 0 bytes * second_of precise + number order 4 4 bytes
   pub original : p.original ≡ number order 4 12 bytes
   pub content : p.bytes.now ≡ slice_range bytes 16 n
   pub second : p.second ≡ second_of precise
   pub link_type : p.link ≡ link
 
--- the longest record or block with a packet that is read
-abbrev pub longest : ℕ
-longest = 1048576
-
 -- The record that begins these bytes is told only by n of them: by its head, or by what its head says.
 abbrev pub IsPartRecord : Order → List ℕ → ℕ → Type 0
 IsPartRecord order bytes n = (length bytes < n) × (((length bytes < 16) × (n ≡ 16))
-    ⊎ ((16 ≤ length bytes) × (n ≡ 16 + number order 4 8 bytes)))
+    ⊎ ((16 ≤ length bytes) × (n ≡ 16 + number order 4 8 bytes)
+    × (number order 4 8 bytes ≤ longest)))
 
 -- what stands at a place of a classic file after its header
 abbrev pub RecordStep : Order → Bool → ℕ → List ℕ → Step → Type 0
@@ -85,6 +87,7 @@ pub record IsSimple (order : Order) (interfaces : List Interface) (block : List 
     : Type 0 where
   pub interface : Interface
   pub described : slice_get interfaces 0 ≡ Some interface
+  pub fits : 16 ≤ length block
   pub time : p.time ≡ 0
   pub original : p.original ≡ number order 4 8 block
   pub content : p.bytes.now ≡ slice_range block 12 (12 + min (if interface.snap == 0

@@ -4,6 +4,7 @@
 mod capture;
 mod classic;
 mod fault;
+mod laws;
 mod link;
 mod network;
 mod numbers;
@@ -14,6 +15,7 @@ mod time_units;
 
 pub use capture::Capture;
 pub use fault::{CaptureFault, PacketFault};
+pub use laws::{a_broken_file_stays_broken, a_step_asks_for_no_more_than_a_record};
 pub use network::{Address, Endpoint};
 pub use packet::{LONGEST, Packet, Step};
 pub use segment::{Segment, segment_of};

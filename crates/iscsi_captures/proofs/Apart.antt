@@ -1,13 +1,13 @@
 -- A connection takes its own segments, and the others leave it as it is.
 use mathlib.Core.Path.{fun_ext}
-use Rattle.std.proofs.Common.{◌≡◌, ◌≢◌, ℕ, ◌+◌, Bool, true, false, List, [], ◌∷◌, length, refl, sym, ap, ◌∙◌, subst, max}
+use Rattle.std.proofs.Common.{◌≡◌, ℕ, ◌+◌, Bool, true, false, List, [], ◌∷◌, length, refl, sym, ap, ◌∙◌, subst, max}
 use Rattle.std.proofs.lemmas.Bool.{eqb-true, eqb-false}
-use Rattle.std.specs.Prelude.{slice_get, Some, Option, ◌==◌, if◌then◌else◌}
+use Rattle.std.specs.Prelude.{slice_get, Option, ◌==◌, if◌then◌else◌}
 use Rattle.iscsi_captures.specs.declared.belonging.Last.{Last}
 use Rattle.iscsi_captures.specs.declared.connections.Connection.{Connection}
 use Rattle.iscsi_captures.specs.declared.ends.Ends.{Ends}
 use Rattle.iscsi_captures.specs.declared.heard.Heard.{Heard}
-use Rattle.iscsi_captures.specs.Following.{Hears, Steps, Table, last_with}
+use Rattle.iscsi_captures.specs.Following.{Hears, Table, last_with}
 use Rattle.iscsi_captures.specs.Private.{Follows, Known, Runs, known_after, known_of, own, owner_among}
 
 -- what the next table knows is what is known after the segment

@@ -1,6 +1,6 @@
 -- Connections of which directions were given up.
-use Rattle.std.proofs.Common.{◌≡◌, ◌<◌, unwrap_or, ℕ, zero, suc, List, [], ◌∷◌, set, length, refl, sym, ap, subst, ◌∙◌, arith, inl, inr}
-use Rattle.std.specs.Prelude.{◌⊎◌, slice_get, Option, Some, None}
+use Rattle.std.proofs.Common.{◌≡◌, ◌<◌, unwrap_or, ℕ, zero, suc, List, [], ◌∷◌, set, refl, sym, ap, subst, ◌∙◌, arith, inl, inr}
+use Rattle.std.specs.Prelude.{slice_get, Option, Some, None}
 use Rattle.iscsi_captures.specs.declared.connections.Connection.{Connection}
 use Rattle.iscsi_captures.specs.declared.half.Half.{Half}
 use Rattle.iscsi_captures.specs.Following.{Keeps, KeepsAll, KeepsAt, MayEnd, given_up}

@@ -1,5 +1,5 @@
 -- What stands at a place of a list that was changed at one place, or got one more at its end.
-use Rattle.std.proofs.Common.{◌≡◌, ◌≢◌, ℕ, zero, suc, ◌<◌, List, [], ◌∷◌, ◌++◌, length, set, refl, ap, arith}
+use Rattle.std.proofs.Common.{◌≡◌, ◌≢◌, ℕ, zero, suc, ◌<◌, ◌≤◌, List, [], ◌∷◌, ◌++◌, length, set, refl, ap, arith}
 use Rattle.std.specs.Prelude.{slice_get, Some, None}
 
 pub get_set_same : {X : Type 0} (xs : List X) (k : ℕ) (x : X) → k < length xs
@@ -31,3 +31,8 @@ get_push_other (y ∷ ys) (suc k) x h = get_push_other ys k x (λ e. h (ap suc e
 pub get_past : {X : Type 0} (xs : List X) → slice_get xs (length xs) ≡ None
 get_past [] = refl
 get_past (y ∷ ys) = get_past ys
+
+pub get_behind : {X : Type 0} (xs : List X) (k : ℕ) → length xs ≤ k → slice_get xs k ≡ None
+get_behind [] k l = refl
+get_behind (x ∷ xs) zero l = absurd (omega (arith, l))
+get_behind (x ∷ xs) (suc k) l = get_behind xs k (omega (arith, l))

@@ -1,5 +1,5 @@
 -- Entries that were appended, one call after another.
-use Rattle.std.proofs.Common.{◌≡◌, ℕ, List, Option, [], ◌++◌, refl, sym, ap, ◌∙◌, append-nil, append_assoc}
+use Rattle.std.proofs.Common.{ℕ, List, Option, [], ◌++◌, refl, sym, ap, ◌∙◌, append-nil, append_assoc}
 use Rattle.iscsi_captures.specs.Written.{Wrote}
 use Rattle.std.proofs.KnownBytes.{Appends-trans, Appends-nil}
 use Rattle.iscsi_stream.specs.Stream.{Message}

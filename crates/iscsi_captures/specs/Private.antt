@@ -1,5 +1,5 @@
 -- The segments of one connection, among all of a capture, and what they alone lead to.
-use Rattle.std.specs.Prelude.{◌≡◌, ℕ, ◌+◌, max, ◌==◌, length, slice_get, List, [], ◌∷◌, Option, Some, None, if◌then◌else◌}
+use Rattle.std.specs.Prelude.{◌≡◌, ℕ, ◌+◌, max, ◌==◌, length, List, [], ◌∷◌, Option, Some, if◌then◌else◌}
 use Rattle.iscsi_captures.specs.declared.belonging.Last.{Last}
 use Rattle.iscsi_captures.specs.declared.connections.Connection.{Connection}
 use Rattle.iscsi_captures.specs.declared.ends.Ends.{Ends}

@@ -3,7 +3,9 @@
 //! A reader is what `normalise` and `show` take, so their contracts hold of a captured direction as
 //! they stand: what they write is the canonical stream, or the lines, of the bytes that they read.
 
-ghost use Rattle.std.specs.Prelude.{◌≤◌, length};
+ghost use Rattle.std.specs.Prelude.{◌≡◌, ◌≤◌, ◌<◌, ◌^◌, length, IfOk, OnOk, IfSome};
+ghost use Rattle.iscsi_captures.specs.Directions.{HearsWanted, IsFor, IsMeant, is_side};
+ghost use Rattle.iscsi_captures.specs.declared.ends.Side.{Side};
 
 use crate::belonging::Start;
 use crate::connections::{Connection, Connections};
@@ -131,30 +133,70 @@ impl<R: Read> Read for Captured<'_, R> {
     }
 }
 
-// Takes a packet, and appends what it adds to the direction that is wanted.
+// Takes a packet, and leaves what it adds to the direction that is wanted.
 fn hear(
     connections: &mut Connections,
     packet: Numbered<'_>,
     wanted: Wanted,
     out: &mut Vec<u8>,
 ) -> Result<(), CapturesFault> {
+    out.clear();
     let Some(segment) = packet.segment()? else {
         return Ok(());
     };
     let heard = heard_of(&segment, packet.number);
-    let number = connections.take(heard, out)?;
+    hear_segment(connections, &heard, packet.at, wanted, out)
+}
+
+// Takes a segment, and leaves in `out` what it adds to the direction that is wanted; nothing else
+// stays there. After `Cut` that is left, too.
+#[tactic(auto, using(crate::proofs::Hearing::heard_wanted, crate::proofs::Hearing::heard_other))]
+fn hear_segment(
+    connections: &mut Connections,
+    heard: &Heard<'_>,
+    at: u64,
+    wanted: Wanted,
+    out: &mut Vec<u8>,
+) -> Result<(), CapturesFault>
+    requires { length heard.now.bytes.now < 2 ^ 32 }
+    ensures hears { OnOk result (HearsWanted connections.old heard.now wanted connections.new
+        out.new.items) }
+{
+    out.clear();
+    let number = connections.take(*heard, out)?;
     connections.keep_within();
-    let result = match connections.list().get(number) {
-        Some(connection) if number == wanted.connection => {
-            heard_of_wanted(connection, &heard, packet.at, wanted)
+    match is_wanted(connections.list(), number, heard, at, wanted) {
+        Ok(true) => Ok(()),
+        Ok(false) => {
+            out.clear();
+            Ok(())
         }
-        _ => Ok(false),
-    };
-    if result != Ok(true) && !matches!(result, Err(CapturesFault::Cut { .. })) {
-        out.clear();
+        Err(CapturesFault::Cut { at, packet }) => Err(CapturesFault::Cut { at, packet }),
+        Err(fault) => {
+            out.clear();
+            Err(fault)
+        }
     }
-    result?;
-    Ok(())
+}
+
+// Whether the segment of the connection with this number is of the direction that is wanted, or why
+// that is not followed further.
+fn is_wanted(
+    list: &[Connection],
+    number: usize,
+    heard: &Heard<'_>,
+    at: u64,
+    wanted: Wanted,
+) -> Result<bool, CapturesFault>
+    ensures { IfOk result (λ is. IsFor list.now number heard.now wanted is) }
+{
+    let Some(connection) = list.get(number) else {
+        return Ok(false);
+    };
+    if number != wanted.connection {
+        return Ok(false);
+    }
+    heard_of_wanted(connection, heard, at, wanted)
 }
 
 // Whether the segment is of the direction that is wanted, or why that is not followed further.
@@ -163,7 +205,10 @@ fn heard_of_wanted(
     heard: &Heard<'_>,
     at: u64,
     wanted: Wanted,
-) -> Result<bool, CapturesFault> {
+) -> Result<bool, CapturesFault>
+    ensures { IfOk result (λ is. (side : Side) × IsMeant connection.now wanted.end side
+        × (is ≡ is_side side heard.now.said.side)) }
+{
     let number = wanted.connection;
     if connection.opener.is_none() && heard.said.some {
         return Err(CapturesFault::Begun { connection: number });
@@ -187,7 +232,9 @@ fn heard_of_wanted(
 }
 
 // The side of an end.
-fn side_of(connection: &Connection, end: End) -> Side {
+fn side_of(connection: &Connection, end: End) -> Side
+    ensures { IsMeant connection.now end result }
+{
     let initiator = connection.initiator();
     match end {
         End::Initiator => initiator,

@@ -1,7 +1,8 @@
 //! The connections of a capture.
 
-ghost use Rattle.std.specs.Prelude.{◌≡◌, ◌≢◌, ◌<◌, ◌+◌, ◌^◌, ℕ, OnOk, IfOk, IfErr, length, max, slice_get, None, Some, [], ◌∷◌, ◌++◌};
+ghost use Rattle.std.specs.Prelude.{◌≡◌, ◌≢◌, ◌<◌, ◌+◌, ◌^◌, ℕ, OnOk, IfOk, IfErr, IfSome, length, max, slice_get, None, Some, [], ◌∷◌, ◌++◌};
 ghost use Rattle.iscsi_captures.specs.Following.{Hears, Keeps, KeepsAll, Steps, no_connections, unheard};
+ghost use Rattle.iscsi_captures.specs.Listing.{sent_at};
 ghost use Rattle.iscsi_captures.specs.declared.connections.Connection.{Connection};
 ghost use Rattle.iscsi_captures.specs.declared.fault.CapturesFault.TheVariants.{NoMemory};
 
@@ -108,7 +109,9 @@ impl Connection {
 
     /// Who began it: the sender of the SYN; without one the end that begins with a login request;
     /// else the end whose peer has port 3260; else the sender of the first segment.
-    pub fn initiator(&self) -> Side {
+    pub fn initiator(&self) -> Side
+        ensures opener { IfSome self.now.opener (λ side. result ≡ side) }
+    {
         if let Some(side) = self.opener {
             return side;
         }
@@ -130,7 +133,9 @@ impl Connection {
     }
 
     /// What an end sent.
-    pub fn half(&self, side: Side) -> &Half {
+    pub fn half(&self, side: Side) -> &Half
+        ensures { result.now ≡ sent_at side self.now }
+    {
         match side {
             Side::Lower => &self.lower,
             Side::Upper => &self.upper,

@@ -1,5 +1,9 @@
 //! The two ends of a connection.
 
+ghost use Rattle.std.specs.Prelude.{◌≡◌};
+ghost use Rattle.iscsi_captures.specs.Directions.{other_side};
+ghost use Rattle.iscsi_captures.specs.Listing.{address_at};
+
 use capture_file::{Address, Endpoint};
 use std::net::{IpAddr, Ipv4Addr, Ipv6Addr, SocketAddr};
 
@@ -21,9 +25,23 @@ pub enum Side {
     Upper,
 }
 
+impl Ends {
+    /// The address of an end.
+    pub fn at(&self, side: Side) -> SocketAddr
+        ensures { result ≡ address_at side self.now }
+    {
+        match side {
+            Side::Lower => self.lower,
+            Side::Upper => self.upper,
+        }
+    }
+}
+
 impl Side {
     /// The end that is not this one.
-    pub fn other(self) -> Side {
+    pub fn other(self) -> Side
+        ensures { result ≡ other_side self }
+    {
         match self {
             Side::Lower => Side::Upper,
             Side::Upper => Side::Lower,

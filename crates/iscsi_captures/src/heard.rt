@@ -1,6 +1,7 @@
 //! What a segment says to its connection.
 
 ghost use Rattle.std.specs.Prelude.{◌≡◌, ◌<◌, ◌≤◌, ◌+◌, ◌^◌, ◌%◌, [], length, take, if◌then◌else◌};
+ghost use Rattle.iscsi_captures.specs.Directions.{has_some};
 
 use crate::ends::{Ends, Side, ends_of};
 use capture_file::{LONGEST, Segment};
@@ -39,6 +40,7 @@ pub struct Heard<'a> {
 /// the connection the bytes are left out: they are a reason as text, and no part of the stream.
 pub fn heard_of<'a>(segment: &Segment<'a>, packet: u64) -> Heard<'a>
     ensures short { length result.bytes.now < 2 ^ 32 }
+    ensures some { result.said.some ≡ has_some result.bytes.now }
     ensures first { result.said.first ≡ (if segment.now.syn
         then (segment.now.sequence + 1) % 2 ^ 32 else segment.now.sequence) }
     ensures flags { (result.said.syn ≡ segment.now.syn) × (result.said.ack ≡ segment.now.ack) }

@@ -22,7 +22,8 @@ const GATHERED: usize = 65_536;
 ///
 /// A fault of a direction ends that direction, and the others go on; the first such fault is returned
 /// at the end. A connection whose SYN is missing has the fault `Begun`, if it is the one asked for or
-/// one of its ends has port 3260. A fault of the file comes after what is due for all packets before
+/// one of its ends has port 3260. One with that port whose initiator's first byte is missing has the
+/// fault of the initiator's direction: `Cut`, `Gap` or `Conflict`. A fault of the file comes after what is due for all packets before
 /// it. `NoConnection` comes if the capture has none with the number.
 pub fn show_capture<R: Read, W: Write>(
     alloc: Global,

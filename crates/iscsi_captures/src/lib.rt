@@ -27,5 +27,5 @@ pub use filters::{normalise_captured, show_captured, tell_captured};
 pub use half::{Half, Stop, WAITING};
 pub use heard::{Heard, Said, heard_of};
 pub use interleaved::show_capture;
-pub use laws::connections_are_private;
+pub use laws::{connections_are_private, directions_are_determined};
 pub use listing::list_connections;

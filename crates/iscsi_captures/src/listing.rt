@@ -1,10 +1,10 @@
 //! A line for each connection of a capture.
 
-ghost use Rattle.std.specs.Prelude.{◌≡◌, ℕ, List, ◌++◌, OnErr};
+ghost use Rattle.std.specs.Prelude.{◌≡◌, ℕ, List, ◌++◌, IfOk, OnOk, string_bytes};
 ghost use Rattle.std.specs.Io.KnownBytes.{Appends};
+ghost use Rattle.iscsi_captures.specs.Listing.{AreLinesFrom, GoesOn, IsLineOf, Lists};
 
 use crate::connections::{Connection, Connections};
-use crate::ends::Side;
 use crate::fault::CapturesFault;
 use crate::file::{CaptureFile, Numbered, Stood};
 use crate::half::{Half, Stop};
@@ -19,7 +19,7 @@ use std::io::{Read, Write};
 ///
 /// Packets that are fragments or lack headers are passed over: they show as gaps. If the file has a
 /// fault, the lines of the connections before it are written, and then the fault returned.
-/// `NoMemory` comes before any line or after some.
+/// `NoMemory` comes before any line or after all of those, and `Write` if a write fails, after a part.
 pub fn list_connections<R: Read, W: Write>(
     alloc: Global,
     source: &mut R,
@@ -27,10 +27,13 @@ pub fn list_connections<R: Read, W: Write>(
 ) -> Result<(), CapturesFault>
     ensures moves { (written : List ℕ)
         × Appends (W.contents w.old) (W.contents w.new) written }
+    ensures lists { Lists result (W.contents w.old) (W.contents w.new) }
 {
     let mut connections = Connections::new(alloc);
     let read = read_all(alloc, source, &mut connections);
-    let lines = lines_of(alloc, connections.list())?;
+    let Ok(lines) = lines_of(alloc, connections.list()) else {
+        return Err(CapturesFault::NoMemory);
+    };
     match write_fully(w, lines.as_bytes()) {
         Ok(()) => read,
         Err(_) => Err(CapturesFault::Write),
@@ -74,25 +77,30 @@ fn hear(
 }
 
 // The lines of all connections.
-fn lines_of(alloc: Global, list: &[Connection]) -> Result<String, AllocError> {
+fn lines_of(alloc: Global, list: &[Connection]) -> Result<String, AllocError>
+    ensures { IfOk result (λ lines. AreLinesFrom 0 list.now (string_bytes lines)) }
+{
     let mut lines = String::new(alloc);
-    for (k, connection) in list.iter().enumerate() {
-        write_line(&mut lines, k, connection)?;
+    for k in 0..list.len() {
+        write_line(&mut lines, k, &list[k])?;
     }
     Ok(lines)
 }
 
 // Appends the line of a connection: its number, the ends, how many bytes of each are known, and
 // remarks.
-fn write_line(line: &mut String, k: usize, connection: &Connection) -> Result<(), AllocError> {
+#[tactic(auto, using(crate::proofs::Listed::line_made))]
+fn write_line(line: &mut String, k: usize, connection: &Connection) -> Result<(), AllocError>
+    ensures { OnOk result ((more : List ℕ) × IsLineOf k connection.now more
+        × (string_bytes line.new ≡ string_bytes line.old ++ more)) }
+{
     let side = connection.initiator();
-    let (initiator, target) = match side {
-        Side::Lower => (connection.ends.lower, connection.ends.upper),
-        Side::Upper => (connection.ends.upper, connection.ends.lower),
-    };
+    let initiator = connection.ends.at(side);
+    let target = connection.ends.at(side.other());
     let sent = connection.half(side);
     let answered = connection.half(side.other());
-    let (first, second) = (sent.known, answered.known);
+    let first = sent.known;
+    let second = answered.known;
     write!(line, "{k} {initiator} {target} {first} {second}")?;
     write_remarks(line, connection, sent, answered)?;
     writeln!(line)
@@ -105,13 +113,11 @@ fn write_remarks(
     connection: &Connection,
     sent: &Half,
     answered: &Half,
-) -> Result<(), AllocError> {
-    if sent.is_login() {
-        write!(line, " login")?;
-    }
-    if is_begun(connection) {
-        write!(line, " begun")?;
-    }
+) -> Result<(), AllocError>
+    ensures { OnOk result (GoesOn (string_bytes line.old) (string_bytes line.new)) }
+{
+    write_word(line, "login", sent.is_login())?;
+    write_word(line, "begun", is_begun(connection))?;
     write_gap(line, "initiator", sent)?;
     write_gap(line, "target", answered)?;
     write_conflict(line, "initiator", sent)?;
@@ -120,8 +126,21 @@ fn write_remarks(
     write_cut(line, "target", answered)
 }
 
+// Appends a word, if it is to be said.
+fn write_word(line: &mut String, word: &str, is_said: bool) -> Result<(), AllocError>
+    ensures { OnOk result (GoesOn (string_bytes line.old) (string_bytes line.new)) }
+{
+    if is_said {
+        write!(line, " {word}")
+    } else {
+        Ok(())
+    }
+}
+
 // Appends which byte of a direction is missing, unless its capture was cut.
-fn write_gap(line: &mut String, end: &str, half: &Half) -> Result<(), AllocError> {
+fn write_gap(line: &mut String, end: &str, half: &Half) -> Result<(), AllocError>
+    ensures { OnOk result (GoesOn (string_bytes line.old) (string_bytes line.new)) }
+{
     match half.stopped() {
         Some(Stop::Gap(at, _)) if half.cut_in == 0 => write!(line, " gap {end} {at}"),
         _ => Ok(()),
@@ -129,7 +148,9 @@ fn write_gap(line: &mut String, end: &str, half: &Half) -> Result<(), AllocError
 }
 
 // Appends for which byte of a direction there are two values.
-fn write_conflict(line: &mut String, end: &str, half: &Half) -> Result<(), AllocError> {
+fn write_conflict(line: &mut String, end: &str, half: &Half) -> Result<(), AllocError>
+    ensures { OnOk result (GoesOn (string_bytes line.old) (string_bytes line.new)) }
+{
     match half.stopped() {
         Some(Stop::Conflict(at, _)) => write!(line, " conflict {end} {at}"),
         _ => Ok(()),
@@ -137,7 +158,9 @@ fn write_conflict(line: &mut String, end: &str, half: &Half) -> Result<(), Alloc
 }
 
 // Appends how much of a direction is known, if not all of its bytes were captured.
-fn write_cut(line: &mut String, end: &str, half: &Half) -> Result<(), AllocError> {
+fn write_cut(line: &mut String, end: &str, half: &Half) -> Result<(), AllocError>
+    ensures { OnOk result (GoesOn (string_bytes line.old) (string_bytes line.new)) }
+{
     if half.cut_in == 0 {
         return Ok(());
     }

@@ -47,6 +47,29 @@ pub(crate) struct Talk {
     lower: Voice,
     upper: Voice,
     requests: Requests,
+    unheard: Unheard,
+}
+
+/// What came of a connection while the initiator's first byte was missing.
+#[derive(Clone, Copy)]
+struct Unheard {
+    // The first packet with bytes of either end that were kept; 0: there was none.
+    kept_from: u64,
+    // The first segment of the initiator of which bytes were not captured.
+    cut: Option<CapturesFault>,
+}
+
+impl Unheard {
+    // Notes a segment of the initiator, or of its target, after which bytes are kept or not.
+    fn note(&mut self, scene: Scene, is_initiator: bool, keeps: bool) {
+        if keeps && self.kept_from == 0 {
+            self.kept_from = scene.packet;
+        }
+        if is_initiator && scene.is_cut && self.cut.is_none() {
+            let (at, packet) = (scene.at, scene.packet);
+            self.cut = Some(CapturesFault::Cut { at, packet });
+        }
+    }
 }
 
 /// A segment of a connection, and the form in which PDUs are shown.
@@ -118,6 +141,10 @@ impl Talk {
             lower: Voice::new(alloc),
             upper: Voice::new(alloc),
             requests: Requests::new(alloc),
+            unheard: Unheard {
+                kept_from: 0,
+                cut: None,
+            },
         }
     }
 
@@ -149,11 +176,33 @@ impl Talk {
             return self.say(alloc, scene, (side, side == initiator), stop, fresh, out);
         }
         self.keep(scene.said.side, fresh)?;
+        let is_initiator = scene.said.side == initiator;
+        self.unheard.note(scene, is_initiator, !fresh.is_empty());
         self.decide(connection);
-        if self.standing != Standing::Shown {
+        match self.standing {
+            Standing::Undecided => Ok(()),
+            Standing::Shown => self.catch_up(alloc, scene, initiator, stop, out),
+            Standing::PassedOver => self.missed(scene.number, connection),
+        }
+    }
+
+    // Why the first byte of the initiator is missing, if it is and one of the ends has the port of
+    // iSCSI: its direction stopped or waits, it was not captured, or its target alone was heard.
+    fn missed(&self, number: usize, connection: &Connection) -> Result<(), CapturesFault> {
+        let half = connection.half(connection.initiator());
+        if half.first_byte.is_some() || !has_port(connection) {
             return Ok(());
         }
-        self.catch_up(alloc, scene, initiator, stop, out)
+        if let Some(cut) = self.unheard.cut {
+            return Err(cut);
+        }
+        if let Some(stop) = half.stopped() {
+            return Err(stop_fault(number, stop));
+        }
+        match self.unheard.kept_from {
+            0 => Ok(()),
+            packet => Err(stop_fault(number, Stop::Gap(0, packet))),
+        }
     }
 
     // Keeps what an end said until it is known whether the connection is shown.
@@ -262,14 +311,17 @@ impl Talk {
     }
 
     /// What is wrong with the connection if the capture ends here: the first fault, that of the
-    /// initiator before that of the target.
+    /// initiator before that of the target. Of one that is not decided this is why the initiator's
+    /// first byte is missing.
     pub(crate) fn end(
         &mut self,
         number: usize,
         connection: &Connection,
     ) -> Result<(), CapturesFault> {
-        if self.standing != Standing::Shown {
-            return Ok(());
+        match self.standing {
+            Standing::Undecided => return self.missed(number, connection),
+            Standing::PassedOver => return Ok(()),
+            Standing::Shown => {}
         }
         let side = connection.initiator();
         let said = self.end_of(number, connection, side);

@@ -1,7 +1,9 @@
 //! Both directions of captures, in the order of the capture.
 
 use super::bytes_of;
-use super::captures::{BEGUN, CUT, FRAGMENT, GAP, LATE, LINK, REUSED, WHOLE};
+use super::captures::{
+    BARE, BEGUN, CONFLICT, CUT, ELSEWHERE, FRAGMENT, GAP, LATE, LINK, LOST, REUSED, SILENT, WHOLE,
+};
 use crate::asserts::{same_bytes, same_text};
 use iscsi_captures::show_capture;
 use iscsi_explain::Form;
@@ -46,6 +48,18 @@ const ROWS: &[(&str, Option<usize>, &[&str], &str)] = &[
         &[],
         "capture: connection 0 begins before the capture",
     ),
+    (LOST, None, &[], "connection 0: gap at 0 (packet 2)"),
+    (LOST, Some(0), &[], "connection 0: gap at 0 (packet 2)"),
+    (ELSEWHERE, None, &[], ""),
+    (SILENT, None, &[], "connection 0: gap at 0 (packet 3)"),
+    (
+        CONFLICT,
+        None,
+        &[],
+        "connection 0: conflict at 12 (packet 3)",
+    ),
+    (BARE, None, &[], "capture: cut at 80 (packet 2)"),
+    (BARE, Some(0), &[], "capture: cut at 80 (packet 2)"),
     (CUT, None, &[], "capture: cut at 80 (packet 2)"),
     (FRAGMENT, None, &[], "capture: fragment at 80 (packet 2)"),
     (LINK, None, &[], "capture: link type 147 at 24 (packet 1)"),

@@ -1,5 +1,5 @@
 -- The connection at the place is the one that took the segment.
-use Rattle.std.proofs.Common.{rules, ◌≡◌, ◌<◌, ℕ, length, slice_get, None, Some, List, Option, arith, refl, sym, subst}
+use Rattle.std.proofs.Common.{◌≡◌, ◌<◌, length, slice_get, Some, Option, refl, sym, subst}
 use Rattle.std.proofs.lemmas.Option.{slice_get_read}
 use Rattle.iscsi_captures.specs.Following.{Steps}
 use Rattle.iscsi_captures.specs.declared.connections.Connection.{Connection}

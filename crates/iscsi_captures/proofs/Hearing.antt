@@ -1,0 +1,117 @@
+-- What a segment adds to the direction that is wanted.
+use Rattle.std.proofs.Common.{◌≡◌, ℕ, Bool, true, false, List, [], refl, sym, ap, ◌∙◌, subst}
+use Rattle.std.proofs.lemmas.Bool.{eqb-true, eqb-false}
+use Rattle.std.specs.Prelude.{◌≢◌, ◌==◌, ◌&&◌, if◌then◌else◌, slice_get, IfSome, IfOk, Some, None, Option, Result, Ok, Err}
+use Rattle.iscsi_captures.specs.declared.connections.Connection.{Connection}
+use Rattle.iscsi_captures.specs.declared.ends.Side.TheVariants.{Lower, Upper}
+use Rattle.iscsi_captures.specs.declared.captured.Wanted.{Wanted}
+use Rattle.iscsi_captures.specs.declared.ends.Side.{Side}
+use Rattle.iscsi_captures.specs.declared.heard.Heard.{Heard}
+use Rattle.iscsi_captures.specs.Directions.{HearsWanted, IsFor, IsMeant, is_side, other_side}
+use Rattle.iscsi_captures.specs.Following.{Hears, KeepsAll, Table}
+
+-- a segment, and what is given up after it
+heard_so : (old : Table) (heard : Heard) (wanted : Wanted) (number : ℕ) (taken new : Table)
+    (more : List ℕ) (is : Bool) → Hears old heard number taken [] more → new.last ≡ taken.last
+    → KeepsAll taken.connections new.connections → IsFor new.connections number heard wanted is
+    → HearsWanted old heard wanted new (if is then more else [])
+heard_so old heard wanted number taken new more is hears last keeps for = record {
+  number = number;
+  side = for.side;
+  more = more;
+  advances = record { taken = taken; before = []; hears = hears; last = last; keeps = keeps };
+  meant = for.meant;
+  given_is = ap (λ (b : Bool). if b then more else []) for.is_it;
+}
+
+-- of the direction that is wanted
+pub heard_wanted : (old : Table) (heard : Heard) (wanted : Wanted) (number : ℕ) (taken new : Table)
+    (more : List ℕ) → Hears old heard number taken [] more → new.last ≡ taken.last
+    → KeepsAll taken.connections new.connections → IsFor new.connections number heard wanted true
+    → HearsWanted old heard wanted new more
+heard_wanted old heard wanted number taken new more hears last keeps for =
+    heard_so old heard wanted number taken new more true hears last keeps for
+
+-- of another one
+pub heard_other : (old : Table) (heard : Heard) (wanted : Wanted) (number : ℕ) (taken new : Table)
+    (more : List ℕ) → Hears old heard number taken [] more → new.last ≡ taken.last
+    → KeepsAll taken.connections new.connections → IsFor new.connections number heard wanted false
+    → HearsWanted old heard wanted new []
+heard_other old heard wanted number taken new more hears last keeps for =
+    heard_so old heard wanted number taken new more false hears last keeps for
+
+-- the same, where nothing was kept before and nothing is kept
+pub heard_none : (old : Table) (heard : Heard) (wanted : Wanted) (number : ℕ) (taken new : Table)
+    (before more given : List ℕ) (is : Bool) (list : List Connection) → before ≡ [] → given ≡ []
+    → is ≡ false → list ≡ new.connections → Hears old heard number taken before more
+    → new.last ≡ taken.last → KeepsAll taken.connections new.connections
+    → IsFor list number heard wanted is → HearsWanted old heard wanted new given
+heard_none old heard wanted number taken new before more given is list b g f l hears last keeps for =
+    let P : List ℕ → Type 0 = λ x. Hears old heard number taken x more in
+    let Q : List Connection → Type 0 = λ x. IsFor x number heard wanted false in
+    let R : Bool → Type 0 = λ x. IsFor list number heard wanted x in
+    subst (λ (x : List ℕ). HearsWanted old heard wanted new x) (sym g)
+    (heard_other old heard wanted number taken new more (subst P b hears) last keeps
+    (subst Q l (subst R f for)))
+
+-- ---- whether a segment is of the direction that is wanted
+
+not_other : (b : Bool) (side : Side) → false ≡ (b && is_side (other_side side) side)
+not_other false side = refl
+not_other true Lower = refl
+not_other true Upper = refl
+
+-- there is no such connection
+pub none_there : (list : List Connection) (number : ℕ) (heard : Heard) (wanted : Wanted)
+    → slice_get list number ≡ None → IsFor list number heard wanted false
+none_there list number heard wanted none =
+    let side : Side = other_side heard.said.side in
+    let P : Option Connection → Type 0 = λ found. IfSome found (λ c. IsMeant c wanted.end side) in
+    record {
+      side = side;
+      meant = λ same. subst P (sym none) tt;
+      is_it = not_other (number == wanted.connection) heard.said.side;
+    }
+
+not_same : (b : Bool) (number wanted : ℕ) (is : Bool) → (number == wanted) ≡ b → number ≢ wanted
+    → false ≡ ((number == wanted) && is)
+not_same true number wanted is e other = absurd (other (eqb-true number wanted e))
+not_same false number wanted is e other = ap (λ (b : Bool). b && is) (sym e)
+
+-- it belongs to another connection
+pub other_there : (list : List Connection) (number : ℕ) (heard : Heard) (wanted : Wanted)
+    → number ≢ wanted.connection → IsFor list number heard wanted false
+other_there list number heard wanted other = record {
+  side = Lower;
+  meant = λ same. absurd (other same);
+  is_it = not_same (number == wanted.connection) number wanted.connection
+      (is_side Lower heard.said.side) refl other;
+}
+
+same_number : (b : Bool) (number wanted : ℕ) (is : Bool) → (number == wanted) ≡ b → number ≡ wanted
+    → is ≡ ((number == wanted) && is)
+same_number true number wanted is e same = ap (λ (b : Bool). b && is) (sym e)
+same_number false number wanted is e same = absurd (eqb-false number wanted e same)
+
+-- it belongs to the connection that is wanted
+pub one_there : (list : List Connection) (number : ℕ) (heard : Heard) (wanted : Wanted)
+    (connection : Connection) (is : Bool) (side : Side) → slice_get list number ≡ Some connection
+    → number ≡ wanted.connection → IsMeant connection wanted.end side
+    → is ≡ is_side side heard.said.side → IsFor list number heard wanted is
+one_there list number heard wanted connection is side found same meant e =
+    let P : Option Connection → Type 0 = λ found. IfSome found (λ c. IsMeant c wanted.end side) in
+    record {
+      side = side;
+      meant = λ same. subst P (sym found) meant;
+      is_it = e ∙ same_number (number == wanted.connection) number wanted.connection
+          (is_side side heard.said.side) refl same;
+    }
+
+pub one_result : {E : Type 0} (list : List Connection) (number : ℕ) (heard : Heard) (wanted : Wanted)
+    (connection : Connection) (result : Result Bool E) → slice_get list number ≡ Some connection
+    → number ≡ wanted.connection
+    → IfOk result (λ is. (side : Side) × IsMeant connection wanted.end side
+    × (is ≡ is_side side heard.said.side)) → IfOk result (λ is. IsFor list number heard wanted is)
+one_result list number heard wanted connection (Ok is) found same h =
+    one_there list number heard wanted connection is h.0 found same h.1 h.2
+one_result list number heard wanted connection (Err e) found same h = tt

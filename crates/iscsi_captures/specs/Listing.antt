@@ -1,0 +1,62 @@
+-- The lines of a capture's connections.
+use Rattle.std.specs.Prelude.{◌≡◌, ◌⊎◌, ℕ, suc, List, [], ◌∷◌, ◌++◌, Option, Result, Err, codes, decimal}
+use Rattle.std.specs.Io.KnownBytes.{Appends, Keeps}
+use Rattle.std.specs.Net.Text.{socket_text}
+use Rattle.std.specs.declared.net.socket_addr.SocketAddr.{SocketAddr}
+use Rattle.iscsi_captures.specs.declared.captured.End.TheVariants.{Initiator}
+use Rattle.iscsi_captures.specs.declared.connections.Connection.{Connection}
+use Rattle.iscsi_captures.specs.declared.ends.Ends.{Ends}
+use Rattle.iscsi_captures.specs.declared.ends.Side.{Side}
+use Rattle.iscsi_captures.specs.declared.ends.Side.TheVariants.{Lower, Upper}
+use Rattle.iscsi_captures.specs.declared.half.Half.{Half}
+use Rattle.iscsi_captures.specs.declared.fault.CapturesFault.{CapturesFault}
+use Rattle.iscsi_captures.specs.declared.fault.CapturesFault.TheVariants as faults
+use Rattle.iscsi_stream.specs.Normalising.{WroteFront}
+use Rattle.iscsi_captures.specs.Directions.{IsMeant, other_side}
+
+-- the text goes on
+abbrev pub GoesOn : List ℕ → List ℕ → Type 0
+GoesOn old new = (more : List ℕ) × (new ≡ old ++ more)
+
+-- the address of an end
+abbrev pub address_at : Side → Ends → SocketAddr
+address_at Lower ends = ends.lower
+address_at Upper ends = ends.upper
+
+-- what an end of a connection sent
+abbrev pub sent_at : Side → Connection → Half
+sent_at Lower connection = connection.lower
+sent_at Upper connection = connection.upper
+
+-- a line before its remarks: the number of a connection, its ends, and how many bytes of each of
+-- them are known, with this end first
+abbrev pub line_front : ℕ → Connection → Side → List ℕ
+line_front k connection side = decimal k
+    ++ (codes " " ++ (socket_text (address_at side connection.ends)
+    ++ (codes " " ++ (socket_text (address_at (other_side side) connection.ends)
+    ++ (codes " " ++ (decimal (sent_at side connection).known
+    ++ (codes " " ++ decimal (sent_at (other_side side) connection).known)))))))
+
+-- The line of the connection with this number: who began it comes first, and remarks come last.
+abbrev pub IsLineOf : ℕ → Connection → List ℕ → Type 0
+IsLineOf k connection line = (side : Side) × IsMeant connection Initiator side × (remarks : List ℕ)
+    × (line ≡ line_front k connection side ++ (remarks ++ 10 ∷ []))
+
+-- a line for each connection, in their order, which count from this number
+abbrev pub AreLinesFrom : ℕ → List Connection → List ℕ → Type 0
+AreLinesFrom k [] lines = lines ≡ []
+AreLinesFrom k (connection ∷ connections) lines = (line : List ℕ) × (rest : List ℕ)
+    × IsLineOf k connection line × AreLinesFrom (suc k) connections rest × (lines ≡ line ++ rest)
+
+-- Of the lines of some connections all were written.
+abbrev pub WroteLines : Option (List ℕ) → Option (List ℕ) → Type 0
+WroteLines old new = (connections : List Connection) × (lines : List ℕ)
+    × AreLinesFrom 0 connections lines × Appends old new lines
+
+-- What is written of a capture, by how that ends: the lines of its connections. Where memory ran out
+-- this is nothing or all of them, and where a write failed a part.
+abbrev pub Lists : Result (Unit {0}) CapturesFault → Option (List ℕ) → Option (List ℕ) → Type 0
+Lists (Err faults.NoMemory) old new = Keeps old new ⊎ WroteLines old new
+Lists (Err faults.Write) old new = (connections : List Connection) × (lines : List ℕ)
+    × AreLinesFrom 0 connections lines × WroteFront old new lines
+Lists _ old new = WroteLines old new
