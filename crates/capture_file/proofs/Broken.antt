@@ -14,7 +14,7 @@ use Rattle.capture_file.specs.declared.capture.Kind.TheVariants as kinds
 use Rattle.capture_file.specs.declared.fault.CaptureFault.{CaptureFault}
 use Rattle.capture_file.specs.declared.fault.CaptureFault.TheVariants as faults
 use Rattle.capture_file.specs.Numbers.{number}
-use Rattle.capture_file.specs.Records.{EnhancedFails, EnhancedStep, IsEnhanced, IsPartRecord, IsSimple, IsTooLong, RecordStep, SimpleStep, longest, width_of}
+use Rattle.capture_file.specs.Records.{EnhancedFails, EnhancedStep, IsEnhanced, IsPartRecord, IsSimple, IsTooLong, IsWholeRecord, RecordStep, SimpleStep, longest, width_of}
 use Rattle.capture_file.specs.Blocks.{BeginFails, BeginStep, BlockFails, BlockStep, FailsAt, FailsOf, IsBadBlock, IsBadHead, IsBadLength, IsBlock, IsBrokenSection, IsHeader, IsHere, IsLength, IsPartBlock, IsRead, IsUnknown, PacketFails, PacketStep, Reading, SectionFails, SectionStep, StepAt, StepOf, byte_order, least_of, magic, most_asked, section}
 
 -- ---- numbers in bytes that go on
@@ -534,3 +534,27 @@ asks_of (kinds.Blocks order) old new bytes n s = (s.0.0, asks_block order bytes 
 pub asks : (old new : Reading) (bytes : List ℕ) (n : ℕ) → StepAt old bytes new (steps.More n)
     → Asks bytes n old new
 asks old new bytes n s = asks_of old.kind old new bytes n s
+
+-- ---- a record that is begun
+
+abbrev pub zeros : ℕ → List ℕ
+zeros zero = []
+zeros (suc n) = 0 ∷ zeros n
+
+enough_zeros : (n : ℕ) → n ≤ length (zeros n)
+enough_zeros zero = omega arith
+enough_zeros (suc n) = omega (arith, enough_zeros n)
+
+enough : (n : ℕ) (bytes : List ℕ) → n ≤ length (bytes ++ zeros n)
+enough n [] = enough_zeros n
+enough n (b ∷ bytes) = omega (arith, enough n bytes)
+
+pub can_be_whole : (order : Order) (bytes : List ℕ) (n : ℕ) → IsPartRecord order bytes n
+    → 16 ≤ length bytes → (more : List ℕ) × IsWholeRecord order (bytes ++ more) n
+can_be_whole order bytes n (l, inl s) head = absurd (omega (arith, s.0, head))
+can_be_whole order bytes n (l, inr s) head =
+    let e : number order 4 8 bytes ≡ number order 4 8 (bytes ++ zeros n) =
+    number_append order 4 8 bytes (zeros n) (omega (arith, head)) in (
+      zeros n,
+      (enough n bytes, s.1 ∙ ap (λ (k : ℕ). 16 + k) e, omega (arith, s.2, e)),
+    )

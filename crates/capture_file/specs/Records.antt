@@ -32,6 +32,11 @@ pub record IsRecord (order : Order) (precise : Bool) (link : ℕ) (bytes : List 
   pub second : p.second ≡ second_of precise
   pub link_type : p.link ≡ link
 
+-- The bytes begin with the n bytes of a record that is read.
+abbrev pub IsWholeRecord : Order → List ℕ → ℕ → Type 0
+IsWholeRecord order bytes n = (n ≤ length bytes) × (n ≡ 16 + number order 4 8 bytes)
+    × (number order 4 8 bytes ≤ longest)
+
 -- The record that begins these bytes is told only by n of them: by its head, or by what its head says.
 abbrev pub IsPartRecord : Order → List ℕ → ℕ → Type 0
 IsPartRecord order bytes n = (length bytes < n) × (((length bytes < 16) × (n ≡ 16))

@@ -2,6 +2,8 @@
 //! the definitions in `specs`, which the contract of `Capture::step` cites too.
 
 ghost use Rattle.std.specs.Prelude.{◌≡◌, ◌≢◌, ◌<◌, ◌≤◌, ◌++◌, ℕ, List, length};
+ghost use Rattle.capture_file.specs.Records.{IsPartRecord, IsWholeRecord};
+ghost use Rattle.capture_file.specs.declared.numbers.Order.{Order};
 ghost use Rattle.capture_file.specs.Blocks.{FailsAt, Reading, StepAt, most_asked};
 ghost use Rattle.capture_file.specs.declared.fault.CaptureFault.{CaptureFault};
 ghost use Rattle.capture_file.specs.declared.fault.CaptureFault.TheVariants.{NoMemory};
@@ -22,4 +24,11 @@ pub fn a_broken_file_stays_broken()
 pub fn a_step_asks_for_no_more_than_a_record()
     ensures { (old new : Reading) (bytes : List ℕ) (n : ℕ) → StepAt old bytes new (More n)
         → (length bytes < n) × (n ≤ most_asked) × (new ≡ old) }
+{}
+
+/// A record of a classic file whose head is at hand is asked for only where it can be whole: some
+/// continuation has all of its bytes, and then it is read.
+pub fn a_record_that_is_begun_can_be_whole()
+    ensures { (order : Order) (bytes : List ℕ) (n : ℕ) → IsPartRecord order bytes n
+        → 16 ≤ length bytes → (more : List ℕ) × IsWholeRecord order (bytes ++ more) n }
 {}
