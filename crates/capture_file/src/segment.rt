@@ -37,8 +37,8 @@ pub struct Segment<'a> {
 /// The TCP segment of a packet; `None` where it has none that a receiver takes: another protocol,
 /// or lengths that cannot be. Checksums are not looked at, since a card may fill them in later.
 ///
-/// `Link` comes for a link type that is not read, `Cut` where the capture does not have all headers
-/// up to that of TCP, and `Fragment` for a fragment of an IP packet with TCP.
+/// `Link` comes for a link type that is not read, and `Cut` if the capture does not have all
+/// headers up to that of TCP. `Fragment` comes for a fragment of an IP packet with TCP.
 pub fn segment_of<'a>(packet: Packet<'a>) -> Result<Option<Segment<'a>>, PacketFault> {
     let Some(before) = before_network(packet.link, packet.bytes)? else {
         return Ok(None);

@@ -104,7 +104,7 @@ fn direction_is_so(
     )
 }
 
-// What is said of a direction.
+// The remark on a direction: its fault, a gap, or `-`.
 fn remark_of(alloc: Global, half: &Half) -> io::Result<String> {
     let remark = match half.fault {
         Some(SegmentFault::Conflict(at)) => format!(in alloc; "conflict:{at}")?,

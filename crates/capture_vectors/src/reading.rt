@@ -55,7 +55,7 @@ pub fn read(alloc: Global, file: &[u8], sparing: bool) -> Contents {
     read
 }
 
-// The first bytes, up to so many.
+// The first bytes, at most `count`.
 fn first(bytes: &[u8], count: usize) -> &[u8] {
     &bytes[..count.min(bytes.len())]
 }

@@ -1,6 +1,6 @@
 //! Rows of the list of what captures determine.
 
-/// What is due of a file or of one direction of a connection, as words.
+/// What a file, or one direction of a connection, has to give, as text.
 #[derive(Clone, Copy)]
 pub struct Row<'a> {
     /// The capture.
@@ -13,7 +13,7 @@ pub struct Row<'a> {
     pub count: &'a str,
     /// The file that begins with these bytes; of a whole file its first packet without a segment.
     pub stream: &'a str,
-    /// What is said of the direction.
+    /// The remark on the direction.
     pub remark: &'a str,
 }
 

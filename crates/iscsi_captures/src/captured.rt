@@ -1,7 +1,7 @@
 //! One direction of a connection of a capture, as a reader of its bytes.
 //!
-//! A reader is what `normalise` and `show` take, so their contracts hold of a captured direction as
-//! they stand: what they write is the canonical stream, or the lines, of the bytes that they read.
+//! `normalise` and `show` take a reader, so their contracts hold of a captured direction. They
+//! write the canonical stream, or the lines, of the bytes that they read.
 
 ghost use Rattle.std.specs.Prelude.{◌≡◌, ◌≤◌, ◌<◌, ◌^◌, length, IfOk, OnOk, IfSome};
 ghost use Rattle.iscsi_captures.specs.Directions.{HearsWanted, IsFor, IsMeant, is_side};

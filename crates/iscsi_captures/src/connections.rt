@@ -107,8 +107,9 @@ impl Connection {
         self.lower.waiting.saturating_add(self.upper.waiting)
     }
 
-    /// Who began it: the sender of the SYN; without one the end that begins with a login request;
-    /// else the end whose peer has port 3260; else the sender of the first segment.
+    /// Who began it: the sender of the SYN, or the receiver of a SYN with ACK. Without a SYN it is
+    /// the end that begins with a login request, else the end whose peer has port 3260, else the
+    /// sender of the first segment.
     pub fn initiator(&self) -> Side
         ensures opener { IfSome self.now.opener (λ side. result ≡ side) }
     {
@@ -233,7 +234,7 @@ impl Connections {
     /// `out` the bytes of its sender's stream that are known now and were not before.
     ///
     /// Returns `NoMemory` alone, if memory runs out or there are more than 65,536 connections.
-    /// After that nothing is said of the connections.
+    /// After that do not use the connections: no clause says what they are.
     pub fn take(&mut self, heard: Heard<'_>, out: &mut Vec<u8>) -> Result<usize, CapturesFault>
         requires { length heard.bytes.now < 2 ^ 32 }
         ensures hears { IfOk result (λ number. Hears self.old heard.entry number self.new

@@ -63,7 +63,7 @@ impl Half {
     }
 
     /// Takes a segment of this direction. Appends the bytes of the stream that are known now and
-    /// were not before. Returns `NoMemory` alone, after which nothing is said of it.
+    /// were not before. Returns `NoMemory` alone. After that do not use the direction.
     pub(crate) fn take(
         &mut self,
         alloc: Global,

@@ -7,9 +7,9 @@ use std::time::{Duration, Instant};
 /// free.
 const REST: u64 = 1;
 
-/// Errors of a connection that waited to be accepted, by their numbers on Linux: EPERM of a filter,
-/// ENONET, EPROTO, ENOPROTOOPT, EOPNOTSUPP, ENETDOWN, ENETUNREACH, ECONNABORTED, EHOSTDOWN and
-/// EHOSTUNREACH. accept(2) says that the next connection is to be tried then.
+/// Errors of a connection that waited to be accepted, by their numbers on Linux. They are EPERM of
+/// a filter, ENONET, EPROTO, ENOPROTOOPT, EOPNOTSUPP, ENETDOWN, ENETUNREACH, ECONNABORTED,
+/// EHOSTDOWN and EHOSTUNREACH.
 const OF_A_CONNECTION: [i32; 10] = [1, 64, 71, 92, 95, 100, 101, 103, 112, 113];
 
 /// What an error of accept means.

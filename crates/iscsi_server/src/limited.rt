@@ -25,7 +25,8 @@ const EXTENT_BLOCKS: u64 = 64;
 /// How many bytes those have.
 const EXTENT_BYTES: u64 = 32_768;
 
-/// A store in memory of 1 to 2^40 blocks, which keeps those that were written, up to so many bytes.
+/// A store in memory of 1 to 2^40 blocks. It keeps the blocks that were written, up to a limit in
+/// bytes.
 ///
 /// It is a sparse store, whose blocks are kept 64 together: so a block that stands alone counts 32,768
 /// bytes. A write for which there is no room is refused as one where a device fails, and changes no
@@ -48,7 +49,8 @@ impl Model for LimitedStore {
 }
 
 impl LimitedStore {
-    /// A store of `n` blocks of 00, from 1 to 2^40, of which so many bytes are kept. It takes no memory.
+    /// A store of this many blocks of 00, from 1 to 2^40, which keeps at most `memory` bytes of
+    /// blocks. It takes no memory.
     pub fn new(alloc: Global, blocks: u64, memory: u64) -> LimitedStore
         requires some { 0 < blocks }
         requires few { blocks ≤ most_blocks }
@@ -129,7 +131,7 @@ struct Room {
 }
 
 impl Room {
-    // Room for so many bytes of a disk of `n` blocks.
+    // Room for `memory` bytes of a disk of this many blocks.
     fn new(alloc: Global, blocks: u64, memory: u64) -> Room {
         let most = memory / EXTENT_BYTES;
         Room {

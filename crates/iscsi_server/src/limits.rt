@@ -24,8 +24,8 @@ pub struct Limits {
 }
 
 impl Limits {
-    /// Why a session in this phase is ended, whose connection was accepted and had its last byte so
-    /// many whole seconds ago; none where it goes on. A late login is told before a silence; a
+    /// Why a session in this phase is ended, by the whole seconds since its connection was accepted
+    /// and since its last byte. `None` if it goes on. A late login is told before a silence; a
     /// closed session whose last answers aren't taken is ended after 30 seconds in any case (own
     /// rule).
     pub fn broken(&self, phase: Phase, accepted: u64, silent: u64) -> Option<SessionEnd>

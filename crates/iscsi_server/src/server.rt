@@ -132,9 +132,10 @@ impl<'a> Server<'a> {
         }
     }
 
-    /// Waits until there is something to do, accepts who came, as long as a seat is free or makes
-    /// room and not all logins were completed, and gives each seat a turn. With the last login that is to be
-    /// completed the listener closes, and connections that have not logged in are ended.
+    /// Waits until there is something to do. Then it accepts connections, as long as a seat is free
+    /// or makes room and not all logins were completed. It gives each seat a turn. With the last
+    /// login that is to be completed the listener closes, and connections that have not logged in
+    /// are ended.
     ///
     /// The line of a session that ends with a fault goes to the standard error, and the others go
     /// on. A connection that the system does not watch, or for which there is no memory, is closed.

@@ -14,8 +14,8 @@ use crate::system::{OTHER_DESCRIPTORS, most_descriptors};
 use iscsi_service::ServeFault;
 use scsi_disk::BlockStore;
 
-/// Listens, prints `listening` and, if that is asked, the port on a line of its own, and serves so
-/// many connections, some at a time, over one store.
+/// Listens, and prints `listening` and, if asked, the port on a line of its own. Serves connections
+/// over one store, at most `at_once` at a time, until the wanted number of logins is completed.
 ///
 /// A session that ends with a fault has the fault's line on standard error, and the others go on.
 /// Only being out of memory outside of sessions and a fault of the network end the service; `Write`
@@ -41,8 +41,9 @@ pub fn serve_at_once<S: BlockStore>(
     serve_all(rt, &mut server, store)
 }
 
-/// Serves so, over a disk in memory of `n` blocks of 00, from 1 to 2^40, of which so many bytes are kept
-/// as the options say. A write for which there is no room is answered by CHECK CONDITION.
+/// Serves in the same way over a disk in memory of `n` blocks of 00, from 1 to 2^40. The options
+/// say how many bytes of blocks are kept. A write for which there is no room is answered by CHECK
+/// CONDITION.
 pub fn serve_memory_at_once(
     rt: &HostRuntime,
     options: Options<'_>,

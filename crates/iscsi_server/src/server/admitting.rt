@@ -21,7 +21,7 @@ use std::time::Instant;
 /// What is told if the system has no room for a connection.
 const NO_ROOM: &str = "accept failed: nobody is accepted until a seat is free or a second is over";
 
-// What came of accepting a connection.
+// The result of accepting a connection.
 #[derive(Clone, Copy, Debug, PartialEq, Eq)]
 enum Accepted {
     // One was accepted, and another one may be.
