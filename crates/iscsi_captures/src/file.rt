@@ -37,6 +37,8 @@ pub struct CaptureFile {
     packets: u64,
     taken: usize,
     skip: u64,
+    // where the block begins that is passed over
+    skipped: u64,
     needed: usize,
 }
 
@@ -52,6 +54,7 @@ impl CaptureFile {
             packets: 0,
             taken: 0,
             skip: 0,
+            skipped: 0,
             needed: 1,
         })
     }
@@ -64,7 +67,8 @@ impl CaptureFile {
     /// Reads on to the next packet, or passes over something else.
     ///
     /// `Format`, `Length`, `Interface` and `NoMemory` come as in `Capture::step`. `Truncated` comes
-    /// where the file ends within a record or block, and `Read` where a read fails. After a fault
+    /// if the file ends within a record or block, with the place where that begins, and `Read` if a
+    /// read fails. After a fault
     /// the same call may be made again, and nothing is said of what it returns.
     pub fn step<R: Read>(&mut self, file: &mut R) -> Result<Stood<'_>, CapturesFault> {
         self.window.give_up(self.taken);
@@ -83,12 +87,15 @@ impl CaptureFile {
 
     // The file has no more bytes.
     fn ended(&self) -> Result<Stood<'_>, CapturesFault> {
-        if self.skip > 0 || !self.window.bytes().is_empty() {
-            return Err(CapturesFault::Truncated {
-                at: self.window.at(),
-            });
+        if self.skip > 0 {
+            return Err(CapturesFault::Truncated { at: self.skipped });
         }
-        Ok(Stood::End)
+        if self.window.bytes().is_empty() {
+            return Ok(Stood::End);
+        }
+        Err(CapturesFault::Truncated {
+            at: self.window.at(),
+        })
     }
 
     // Passes over bytes without a packet, as far as they are at hand.
@@ -110,6 +117,7 @@ impl CaptureFile {
             }
             Ok(Step::Skip(count)) => {
                 self.skip = count as u64;
+                self.skipped = at;
                 Ok(Stood::Other)
             }
             Ok(Step::Packet(packet, count)) => {

@@ -46,7 +46,6 @@ impl Comparison<'_> {
 
     /// Compares a file of the process with another one, or with what a reader gives. Its faults are
     /// those of `compare_bytes` and `compare_hex`, and `Read` of an input that can't be opened.
-    #[tactic(auto, using(iscsi_filters::proofs::Untouched::reads_nothing, iscsi_filters::proofs::Untouched::writes_nothing))]
     pub fn run<R: Read, W: Write>(
         &self,
         rt: &HostRuntime,

@@ -20,9 +20,19 @@ fn is_cut_off(rt: &impl Abort, alloc: Global, file: &[u8], login: &[u8]) {
     let mut out = Vec::new(alloc);
     let result = normalise(alloc, &mut source, WANTED, &mut out);
     // Records end behind 24, 80, 136, 240 and 344 bytes.
-    let whole = matches!(file.len(), 0 | 24 | 80 | 136 | 240 | 344);
-    let truncated = matches!(result, Err(CapturesFault::Truncated { .. }));
-    same(rt, &truncated, &!whole, &file.len());
+    let at = match file.len() {
+        0 | 24 | 80 | 136 | 240 | 344 => None,
+        1..24 => Some(0),
+        24..80 => Some(24),
+        80..136 => Some(80),
+        136..240 => Some(136),
+        _ => Some(240),
+    };
+    let place = match result {
+        Err(CapturesFault::Truncated { at }) => Some(at),
+        _ => None,
+    };
+    same(rt, &place, &at, &file.len());
     let due = if file.len() < 240 { &login[..0] } else { login };
     same_bytes(rt, &out, due, &file.len());
 }
@@ -33,6 +43,22 @@ fn a_capture_that_is_cut_off_says_so(rt: HostRuntime) {
     let login = bytes_of(&rt, rt.alloc(), LOGIN);
     for length in 0..=file.len() {
         is_cut_off(&rt, rt.alloc(), &file[..length], &login);
+    }
+}
+
+// A section of pcapng, and a block of a type that is passed over, with 12 bytes of its own.
+const PASSED: &str = "0a0d0d0a1c0000004d3c2b1a01000000ffffffffffffffff1c000000\
+    ad0b00001800000000112233445566778899aabb18000000";
+
+#[test]
+fn a_block_that_is_passed_over_may_be_cut_off(rt: HostRuntime) {
+    let file = bytes_of(&rt, rt.alloc(), PASSED);
+    for length in 29..file.len() {
+        let mut source = &file[..length];
+        let mut out = Vec::new(rt.alloc());
+        let result = list_connections(rt.alloc(), &mut source, &mut out);
+        let due = Err(CapturesFault::Truncated { at: 28 });
+        same(&rt, &result, &due, &length);
     }
 }
 
