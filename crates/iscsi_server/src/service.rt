@@ -35,7 +35,7 @@ pub fn serve_at_once<S: BlockStore>(
     requires service { IsService options }
     // Whatever comes of it, it was a run of a hall from free seats on, of which the laws of
     // `iscsi_hall` speak.
-    ensures served { Served options.at_once
+    ensures served { Served options.entry.at_once
         (store_of (S.disk store.old) (S.failures store.old))
         (store_of (S.disk store.new) (S.failures store.new)) }
     // The blocks are those that commands left.
