@@ -1,2 +1,2 @@
-pub mod ExecutedLemmas
 pub mod RoomLemmas
+pub mod RunningLemmas

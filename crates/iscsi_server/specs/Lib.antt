@@ -3,5 +3,6 @@ pub mod Limited
 pub mod Limits
 pub mod Moving
 pub mod Room
+pub mod Running
 pub mod Service
 pub mod Serving

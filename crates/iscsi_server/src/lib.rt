@@ -6,6 +6,7 @@ mod budget;
 mod configuration;
 mod connection;
 mod end_line;
+pub mod laws;
 mod limited;
 mod limits;
 mod lines;

@@ -1,8 +1,9 @@
 //! The peer of a seat: its connection is read, its PDUs are taken, its answers are written.
 
 ghost use Rattle.std.specs.Prelude.{◌≡◌, ◌<◌, length, is_some, true};
-ghost use Rattle.iscsi_service.specs.Session.{HasExecuted};
+ghost use Rattle.iscsi_target.specs.Inside.{store_of};
 ghost use Rattle.iscsi_hall.specs.Seats.{may_read_at, may_take_at, seat_at, waiting_at};
+ghost use Rattle.iscsi_server.specs.Running.{RunsAt, RunsIdleAt};
 
 use crate::budget::Budget;
 use crate::connection::{Connection, Moved};
@@ -62,7 +63,7 @@ impl Peer {
     /// A turn of its session: at most 64 reads, PDUs and writes, and no more once the budget is spent.
     /// What is read goes through `buffer`. Says whether the session is over; where that is for a
     /// fault, it is kept as its end.
-    #[tactic(auto, using(crate::proofs::ExecutedLemmas::none_executed))]
+    #[tactic(auto, using(crate::proofs::RunningLemmas::none_at, crate::proofs::RunningLemmas::then_at))]
     pub fn turn<S: BlockStore>(
         &mut self,
         hall: &mut Hall,
@@ -72,7 +73,8 @@ impl Peer {
         buffer: &mut [u8; MOST_READ],
         budget: Budget,
     ) -> bool
-        ensures blocks { HasExecuted (S.disk store.old) (S.disk store.new) }
+        ensures runs { RunsAt seat hall.old (store_of (S.disk store.old) (S.failures store.old))
+            hall.new (store_of (S.disk store.new) (S.failures store.new)) }
         ensures seats { length hall.new.seats ≡ length hall.old.seats }
     {
         let mut left = budget;
@@ -110,7 +112,7 @@ impl Peer {
     // Takes a PDU, if one is there and its answers may be gathered; else writes what waits; if
     // nothing does, reads. A session in which none of these may be done is closed, and its answers
     // are written.
-    #[tactic(auto, using(crate::proofs::ExecutedLemmas::none_executed))]
+    #[tactic(auto, using(crate::proofs::RunningLemmas::none_at, crate::proofs::RunningLemmas::idle_at))]
     fn step<S: BlockStore>(
         &mut self,
         hall: &mut Hall,
@@ -120,7 +122,8 @@ impl Peer {
         buffer: &mut [u8; MOST_READ],
         left: &mut Budget,
     ) -> Step
-        ensures blocks { HasExecuted (S.disk store.old) (S.disk store.new) }
+        ensures runs { RunsAt seat hall.old (store_of (S.disk store.old) (S.failures store.old))
+            hall.new (store_of (S.disk store.new) (S.failures store.new)) }
         ensures seats { length hall.new.seats ≡ length hall.old.seats }
     {
         if hall.may_take(seat) {
@@ -135,7 +138,6 @@ impl Peer {
     }
 
     // Writes what the connection takes, once the store is synced.
-    #[tactic(auto, using(crate::proofs::ExecutedLemmas::unchanged_executed))]
     fn write<S: BlockStore>(
         &mut self,
         hall: &mut Hall,
@@ -145,7 +147,8 @@ impl Peer {
         left: &mut Budget,
     ) -> Step
         requires some { 0 < length (waiting_at (seat_at hall.old seat)) }
-        ensures blocks { HasExecuted (S.disk store.old) (S.disk store.new) }
+        ensures runs { RunsAt seat hall.old (store_of (S.disk store.old) (S.failures store.old))
+            hall.new (store_of (S.disk store.new) (S.failures store.new)) }
         ensures seats { length hall.new.seats ≡ length hall.old.seats }
     {
         if !self.connection.is_writable() {
@@ -179,7 +182,8 @@ impl Peer {
         left: &mut Budget,
     ) -> Step
         requires may { may_take_at (seat_at hall.old seat) ≡ true }
-        ensures blocks { HasExecuted (S.disk store.old) (S.disk store.new) }
+        ensures runs { RunsAt seat hall.old (store_of (S.disk store.old) (S.failures store.old))
+            hall.new (store_of (S.disk store.new) (S.failures store.new)) }
         ensures seats { length hall.new.seats ≡ length hall.old.seats }
     {
         let was = hall.phase(seat);
@@ -192,7 +196,6 @@ impl Peer {
     }
 
     // Takes a PDU. A fault closes the session, and its last answers are still written.
-    #[tactic(auto, using(crate::proofs::ExecutedLemmas::turn_executed))]
     fn take_pdu<S: BlockStore>(
         &mut self,
         hall: &mut Hall,
@@ -201,7 +204,8 @@ impl Peer {
         left: &mut Budget,
     )
         requires may { may_take_at (seat_at hall.old seat) ≡ true }
-        ensures blocks { HasExecuted (S.disk store.old) (S.disk store.new) }
+        ensures runs { RunsAt seat hall.old (store_of (S.disk store.old) (S.failures store.old))
+            hall.new (store_of (S.disk store.new) (S.failures store.new)) }
         ensures seats { length hall.new.seats ≡ length hall.old.seats }
     {
         match hall.take(seat, store) {
@@ -211,6 +215,7 @@ impl Peer {
     }
 
     // Reads what came.
+    #[tactic(auto, using(crate::proofs::RunningLemmas::none_idle_at, crate::proofs::RunningLemmas::same_at))]
     fn read(
         &mut self,
         hall: &mut Hall,
@@ -219,6 +224,7 @@ impl Peer {
         buffer: &mut [u8; MOST_READ],
     ) -> Step
         requires may { may_read_at (seat_at hall.old seat) ≡ true }
+        ensures runs { RunsIdleAt seat hall.old hall.new }
         ensures seats { length hall.new.seats ≡ length hall.old.seats }
     {
         if !self.connection.is_readable() {
@@ -238,6 +244,7 @@ impl Peer {
     // The peer sends no more.
     fn finish(&mut self, hall: &mut Hall, seat: usize) -> Step
         requires taken { is_some (seat_at hall.old seat) ≡ true }
+        ensures runs { RunsIdleAt seat hall.old hall.new }
         ensures seats { length hall.new.seats ≡ length hall.old.seats }
     {
         match hall.finish(seat) {

@@ -1,9 +1,11 @@
 //! A listening socket, and the sessions of those who came there.
 
-ghost use Rattle.std.specs.Prelude.{◌≡◌, ◌≤◌, ◌↔◌, length, IsTrue, IfSome, IfOk, IfErr};
+ghost use Rattle.std.specs.Prelude.{◌≡◌, ◌≤◌, ◌↔◌, length, replicate, None, IsTrue, IfSome, IfOk, IfErr};
+ghost use Rattle.iscsi_target.specs.Inside.{store_of};
 ghost use Rattle.iscsi_service.specs.Session.{HasExecuted};
 ghost use Rattle.iscsi_service.specs.Serving.{EndsService};
 ghost use Rattle.iscsi_service.specs.declared.fault.ServeFault.TheVariants as serve;
+ghost use Rattle.iscsi_server.specs.Running.{RunsWithin};
 ghost use Rattle.iscsi_server.specs.Serving.{has_all, IsDone, IsEmpty};
 
 mod admitting;
@@ -70,6 +72,8 @@ impl<'a> Server<'a> {
     /// memory runs out.
     pub fn open(rt: &HostRuntime, options: Options<'a>) -> Result<Server<'a>, ServeFault>
         ensures seats { IfOk result (λ server. length server.hall.seats ≡ options.entry.at_once) }
+        ensures free { IfOk result (λ server.
+            server.hall ≡ record { seats = replicate options.entry.at_once None }) }
         ensures logins { IfOk result (λ server. server.logins ≡ 0) }
         ensures sessions { IfOk result (λ server. server.sessions ≡ options.entry.sessions) }
         ensures ends { IfErr result EndsService }
@@ -141,9 +145,13 @@ impl<'a> Server<'a> {
     /// on. A connection that the system does not watch, or for which there is no memory, is closed.
     /// If the system has no room for connections, nobody is accepted until a seat gets free or a
     /// second is over. Only the system's refusing to wait or to tell the time (`Network`) is returned.
-    #[tactic(auto, using(crate::proofs::ExecutedLemmas::none_executed))]
+    #[tactic(auto, using(crate::proofs::RunningLemmas::none_runs, crate::proofs::RunningLemmas::idle_then, crate::proofs::RunningLemmas::none_executed, crate::proofs::RunningLemmas::runs_executed))]
     pub fn turn<S: BlockStore>(&mut self, rt: &HostRuntime, store: &mut S) -> Result<(), ServeFault>
-        // Whatever comes of it, the blocks are those that commands left.
+        // Whatever comes of it, it is a run of the hall, of which the laws of `iscsi_hall` speak.
+        ensures runs { RunsWithin
+            self.old.hall (store_of (S.disk store.old) (S.failures store.old))
+            self.new.hall (store_of (S.disk store.new) (S.failures store.new)) }
+        // The blocks are those that commands left.
         ensures blocks { HasExecuted (S.disk store.old) (S.disk store.new) }
         ensures seats { length self.new.hall.seats ≡ length self.old.hall.seats }
         ensures sessions { self.new.sessions ≡ self.old.sessions }

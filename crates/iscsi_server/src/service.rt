@@ -2,9 +2,11 @@
 
 ghost use Rattle.std.specs.Prelude.{◌≡◌, ◌⊎◌, ◌<◌, ◌≤◌, IfErr};
 ghost use Rattle.scsi_disk.specs.Disk.{most_blocks};
+ghost use Rattle.iscsi_target.specs.Inside.{store_of};
 ghost use Rattle.iscsi_service.specs.Session.{HasExecuted};
 ghost use Rattle.iscsi_service.specs.Serving.{EndsService};
 ghost use Rattle.iscsi_service.specs.declared.fault.ServeFault.TheVariants as serve;
+ghost use Rattle.iscsi_server.specs.Running.{RunsWithin, Served};
 ghost use Rattle.iscsi_server.specs.Service.{IsService};
 
 use crate::limited::LimitedStore;
@@ -24,14 +26,19 @@ use scsi_disk::BlockStore;
 ///
 /// Each session is one of RFC 7143, sections 6 and 11; that they take turns in one thread, a PDU at a
 /// time, is own rule.
-#[tactic(auto, using(crate::proofs::ExecutedLemmas::none_executed))]
+#[tactic(auto, using(crate::proofs::RunningLemmas::none_served, crate::proofs::RunningLemmas::all_served, crate::proofs::RunningLemmas::none_executed, crate::proofs::RunningLemmas::runs_executed))]
 pub fn serve_at_once<S: BlockStore>(
     rt: &HostRuntime,
     options: Options<'_>,
     store: &mut S,
 ) -> Result<(), ServeFault>
     requires service { IsService options }
-    // Whatever comes of it, the blocks are those that commands left.
+    // Whatever comes of it, it was a run of a hall from free seats on, of which the laws of
+    // `iscsi_hall` speak.
+    ensures served { Served options.entry.at_once
+        (store_of (S.disk store.old) (S.failures store.old))
+        (store_of (S.disk store.new) (S.failures store.new)) }
+    // The blocks are those that commands left.
     ensures blocks { HasExecuted (S.disk store.old) (S.disk store.new) }
     ensures ends { IfErr result (λ fault. EndsService fault ⊎ (fault ≡ serve.Write)) }
 {
@@ -92,13 +99,15 @@ fn announce(rt: &HostRuntime, server: &Server<'_>, print_port: bool) -> Result<(
 }
 
 // Turn after turn, until all sessions were served.
-#[tactic(auto, using(crate::proofs::ExecutedLemmas::none_executed))]
+#[tactic(auto, using(crate::proofs::RunningLemmas::none_runs, crate::proofs::RunningLemmas::then_runs))]
 fn serve_all<S: BlockStore>(
     rt: &HostRuntime,
     server: &mut Server<'_>,
     store: &mut S,
 ) -> Result<(), ServeFault>
-    ensures blocks { HasExecuted (S.disk store.old) (S.disk store.new) }
+    ensures runs { RunsWithin
+        server.old.hall (store_of (S.disk store.old) (S.failures store.old))
+        server.new.hall (store_of (S.disk store.new) (S.failures store.new)) }
     ensures ends { IfErr result EndsService }
 {
     for _ in 0..u64::MAX {

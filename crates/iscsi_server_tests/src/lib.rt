@@ -5,3 +5,5 @@
 mod asserts;
 #[cfg(test)]
 mod tests;
+#[cfg(test)]
+mod uses;

@@ -1,6 +1,7 @@
 //! Who is accepted, and gets which seat.
 
 ghost use Rattle.std.specs.Prelude.{◌≡◌, false, length, true};
+ghost use Rattle.iscsi_server.specs.Running.{RunsIdle};
 ghost use Rattle.iscsi_server.specs.Serving.{has_all};
 
 use super::Server;
@@ -12,6 +13,7 @@ use crate::peer::Peer;
 use crate::room::makes_room;
 use crate::session_end::SessionEnd;
 use crate::system::watch;
+use iscsi_target::Config;
 use mio::net::TcpStream;
 use std::alloc::Global;
 use std::io;
@@ -54,7 +56,9 @@ impl<'a> Server<'a> {
 
     // Accepts those who wait, as far as there are seats. If as many as there are seats, and one more,
     // are gone one after another, the error is one that lasts, and counts as a want of room.
+    #[tactic(auto, using(crate::proofs::RunningLemmas::none_idle, crate::proofs::RunningLemmas::then_idle))]
     pub(super) fn admit(&mut self, rt: &HostRuntime, now: Instant)
+        ensures runs { RunsIdle self.old.hall self.new.hall }
         ensures seats { length self.new.hall.seats ≡ length self.old.hall.seats }
         ensures sessions { self.new.sessions ≡ self.old.sessions }
         ensures logins { self.new.logins ≡ self.old.logins }
@@ -74,7 +78,9 @@ impl<'a> Server<'a> {
 
     // Accepts one who waits, if there is a seat. Once all are taken nobody else is accepted in this
     // turn: so whoever came has a turn, to log in, before it may have to make room.
+    #[tactic(auto, using(crate::proofs::RunningLemmas::none_idle, crate::proofs::RunningLemmas::then_idle))]
     fn accept(&mut self, rt: &HostRuntime, now: Instant) -> Accepted
+        ensures runs { RunsIdle self.old.hall self.new.hall }
         ensures seats { length self.new.hall.seats ≡ length self.old.hall.seats }
         ensures sessions { self.new.sessions ≡ self.old.sessions }
         ensures logins { self.new.logins ≡ self.old.logins }
@@ -100,7 +106,9 @@ impl<'a> Server<'a> {
     }
 
     // Frees the seat that makes room, if there is one.
+    #[tactic(auto, using(crate::proofs::RunningLemmas::none_idle))]
     fn make_room(&mut self, rt: &HostRuntime)
+        ensures runs { RunsIdle self.old.hall self.new.hall }
         ensures seats { length self.new.hall.seats ≡ length self.old.hall.seats }
         ensures sessions { self.new.sessions ≡ self.old.sessions }
         ensures logins { self.new.logins ≡ self.old.logins }
@@ -138,7 +146,9 @@ impl<'a> Server<'a> {
 
     // Gives a connection a seat, and a number that no other one has, which is the TSIH of its session.
     // One for which there is no memory, or that the system does not watch, is closed.
+    #[tactic(auto, using(crate::proofs::RunningLemmas::none_idle, crate::proofs::RunningLemmas::then_idle))]
     fn welcome(&mut self, alloc: Global, mut stream: TcpStream, address: SocketAddr, now: Instant)
+        ensures runs { RunsIdle self.old.hall self.new.hall }
         ensures seats { length self.new.hall.seats ≡ length self.old.hall.seats }
         ensures sessions { self.new.sessions ≡ self.old.sessions }
         ensures logins { self.new.logins ≡ self.old.logins }
@@ -153,15 +163,36 @@ impl<'a> Server<'a> {
         let Ok(config) = configuration(alloc, options.name, number, options.preferences) else {
             return;
         };
-        let Some(seat) = self.hall.seat(config) else {
+        let Some(seat) = self.seat(config) else {
             return;
         };
         if !watch(&self.poll, &mut stream, seat) {
-            self.hall.leave(seat);
+            self.free(seat);
             return;
         }
+        self.note(
+            seat,
+            number,
+            Peer::new(Connection::new(stream, address, now)),
+        );
+    }
+
+    // Gives a new session the first free seat of the hall.
+    fn seat(&mut self, config: Config) -> Option<usize>
+        ensures runs { RunsIdle self.old.hall self.new.hall }
+        ensures seats { length self.new.hall.seats ≡ length self.old.hall.seats }
+        ensures sessions { self.new.sessions ≡ self.old.sessions }
+        ensures logins { self.new.logins ≡ self.old.logins }
+    {
+        self.hall.seat(config)
+    }
+
+    // Notes the peer of a seat, with its number.
+    fn note(&mut self, seat: usize, number: u16, peer: Peer)
+        ensures same { self.new ≡ self.old }
+    {
         if let Some(place) = self.peers.get_mut(seat) {
-            *place = Some(Peer::new(Connection::new(stream, address, now)));
+            *place = Some(peer);
         }
         if let Some(place) = self.numbers.get_mut(seat) {
             *place = number;

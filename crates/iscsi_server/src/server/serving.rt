@@ -1,7 +1,8 @@
 //! A turn of each seat, and what follows of it.
 
 ghost use Rattle.std.specs.Prelude.{◌≡◌, ◌≤◌, length};
-ghost use Rattle.iscsi_service.specs.Session.{HasExecuted};
+ghost use Rattle.iscsi_target.specs.Inside.{store_of};
+ghost use Rattle.iscsi_server.specs.Running.{RunsIdle, RunsWithin};
 
 use super::Server;
 use crate::budget::Budget;
@@ -12,14 +13,16 @@ use std::time::Instant;
 
 impl<'a> Server<'a> {
     // A turn for each peer.
-    #[tactic(auto, using(crate::proofs::ExecutedLemmas::none_executed))]
+    #[tactic(auto, using(crate::proofs::RunningLemmas::none_runs, crate::proofs::RunningLemmas::then_runs))]
     pub(super) fn serve_peers<S: BlockStore>(
         &mut self,
         rt: &HostRuntime,
         store: &mut S,
         now: Instant,
     )
-        ensures blocks { HasExecuted (S.disk store.old) (S.disk store.new) }
+        ensures runs { RunsWithin
+            self.old.hall (store_of (S.disk store.old) (S.failures store.old))
+            self.new.hall (store_of (S.disk store.new) (S.failures store.new)) }
         ensures seats { length self.new.hall.seats ≡ length self.old.hall.seats }
         ensures sessions { self.new.sessions ≡ self.old.sessions }
         ensures logins { self.old.logins ≤ self.new.logins }
@@ -32,7 +35,7 @@ impl<'a> Server<'a> {
     }
 
     // A turn for the peer of a seat, if there is one.
-    #[tactic(auto, using(crate::proofs::ExecutedLemmas::none_executed))]
+    #[tactic(auto, using(crate::proofs::RunningLemmas::none_runs, crate::proofs::RunningLemmas::at_idle))]
     fn serve_peer<S: BlockStore>(
         &mut self,
         rt: &HostRuntime,
@@ -41,7 +44,9 @@ impl<'a> Server<'a> {
         now: Instant,
         budget: Budget,
     )
-        ensures blocks { HasExecuted (S.disk store.old) (S.disk store.new) }
+        ensures runs { RunsWithin
+            self.old.hall (store_of (S.disk store.old) (S.failures store.old))
+            self.new.hall (store_of (S.disk store.new) (S.failures store.new)) }
         ensures seats { length self.new.hall.seats ≡ length self.old.hall.seats }
         ensures sessions { self.new.sessions ≡ self.old.sessions }
         ensures logins { self.old.logins ≤ self.new.logins }
@@ -65,6 +70,7 @@ impl<'a> Server<'a> {
 
     // What follows of a seat's turn: a login that was completed is counted, and a session that is over
     // leaves.
+    #[tactic(auto, using(crate::proofs::RunningLemmas::none_idle, crate::proofs::RunningLemmas::then_idle))]
     fn settle(
         &mut self,
         rt: &HostRuntime,
@@ -73,6 +79,7 @@ impl<'a> Server<'a> {
         is_over: bool,
         end: Option<SessionEnd>,
     )
+        ensures runs { RunsIdle self.old.hall self.new.hall }
         ensures seats { length self.new.hall.seats ≡ length self.old.hall.seats }
         ensures sessions { self.new.sessions ≡ self.old.sessions }
         ensures logins { self.old.logins ≤ self.new.logins }
@@ -88,7 +95,9 @@ impl<'a> Server<'a> {
 
     // A login was completed. With the last one that is to be, nobody is accepted any more, and
     // connections that have not logged in are ended.
+    #[tactic(auto, using(crate::proofs::RunningLemmas::none_idle))]
     fn count_login(&mut self, rt: &HostRuntime)
+        ensures runs { RunsIdle self.old.hall self.new.hall }
         ensures seats { length self.new.hall.seats ≡ length self.old.hall.seats }
         ensures sessions { self.new.sessions ≡ self.old.sessions }
         ensures logins { self.old.logins ≤ self.new.logins }

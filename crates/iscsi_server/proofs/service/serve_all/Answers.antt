@@ -1,10 +1,17 @@
-use Rattle.iscsi_service.proofs.ExecutedLemmas.{executed_then}
+use Rattle.iscsi_target.specs.Inside.{store_of}
+use Rattle.iscsi_server.proofs.RunningLemmas.{then_runs}
 use Rattle.iscsi_server.proofs.service.serve_all.Goals as goal
 
-pub returns-in_err-turn-clause-blocks : goal.returns-in_err-turn-clause-blocks
-returns-in_err-turn-clause-blocks g c = executed_then (g.S.BlockStore.disk c.args.store.now) (g.S.BlockStore.disk c.loop.store)
-    (g.S.BlockStore.disk c.turn.new.store) c.loop.invariant c.turn.ensures.blocks
+pub returns-in_err-turn-clause-runs : goal.returns-in_err-turn-clause-runs
+returns-in_err-turn-clause-runs g c = then_runs c.args.server.now.hall c.loop.server.hall c.turn.new.self.hall
+    (store_of (g.S.BlockStore.disk c.args.store.now) (g.S.BlockStore.failures c.args.store.now))
+    (store_of (g.S.BlockStore.disk c.loop.store) (g.S.BlockStore.failures c.loop.store))
+    (store_of (g.S.BlockStore.disk c.turn.new.store) (g.S.BlockStore.failures c.turn.new.store))
+    c.loop.invariant c.turn.ensures.runs
 
 pub loop-preserved : goal.loop-preserved
-loop-preserved g c = executed_then (g.S.BlockStore.disk c.args.store.now) (g.S.BlockStore.disk c.loop.store)
-    (g.S.BlockStore.disk c.turn.new.store) c.loop.invariant c.turn.ensures.blocks
+loop-preserved g c = then_runs c.args.server.now.hall c.loop.server.hall c.turn.new.self.hall
+    (store_of (g.S.BlockStore.disk c.args.store.now) (g.S.BlockStore.failures c.args.store.now))
+    (store_of (g.S.BlockStore.disk c.loop.store) (g.S.BlockStore.failures c.loop.store))
+    (store_of (g.S.BlockStore.disk c.turn.new.store) (g.S.BlockStore.failures c.turn.new.store))
+    c.loop.invariant c.turn.ensures.runs

@@ -1,18 +1,28 @@
 use Rattle.std.proofs.Common.{◌∙◌}
-use Rattle.iscsi_service.proofs.ExecutedLemmas.{executed_then}
+use Rattle.iscsi_target.specs.Inside.{store_of}
+use Rattle.iscsi_server.proofs.RunningLemmas.{then_at}
 use Rattle.iscsi_server.proofs.peer.Peer.turn.Goals as goal
 
-pub returns-in-Rests-clause-blocks : goal.returns-in-Rests-clause-blocks
-returns-in-Rests-clause-blocks g c = executed_then (g.S.BlockStore.disk c.args.store.now) (g.S.BlockStore.disk c.loop.store)
-    (g.S.BlockStore.disk c.step.new.store) c.loop.invariant.0 c.in-Rests.ensures.blocks
+pub returns-in-Rests-clause-runs : goal.returns-in-Rests-clause-runs
+returns-in-Rests-clause-runs g c = then_at c.args.seat c.args.hall.now c.loop.hall c.step.new.hall
+    (store_of (g.S.BlockStore.disk c.args.store.now) (g.S.BlockStore.failures c.args.store.now))
+    (store_of (g.S.BlockStore.disk c.loop.store) (g.S.BlockStore.failures c.loop.store))
+    (store_of (g.S.BlockStore.disk c.step.new.store) (g.S.BlockStore.failures c.step.new.store))
+    c.loop.invariant.0 c.in-Rests.ensures.runs
 
-pub returns-in-Over-clause-blocks : goal.returns-in-Over-clause-blocks
-returns-in-Over-clause-blocks g c = executed_then (g.S.BlockStore.disk c.args.store.now) (g.S.BlockStore.disk c.loop.store)
-    (g.S.BlockStore.disk c.step.new.store) c.loop.invariant.0 c.in-Over.ensures.blocks
+pub returns-in-Over-clause-runs : goal.returns-in-Over-clause-runs
+returns-in-Over-clause-runs g c = then_at c.args.seat c.args.hall.now c.loop.hall c.step.new.hall
+    (store_of (g.S.BlockStore.disk c.args.store.now) (g.S.BlockStore.failures c.args.store.now))
+    (store_of (g.S.BlockStore.disk c.loop.store) (g.S.BlockStore.failures c.loop.store))
+    (store_of (g.S.BlockStore.disk c.step.new.store) (g.S.BlockStore.failures c.step.new.store))
+    c.loop.invariant.0 c.in-Over.ensures.runs
 
 pub loop-preserved : goal.loop-preserved
 loop-preserved g c = (
-  executed_then (g.S.BlockStore.disk c.args.store.now) (g.S.BlockStore.disk c.loop.store)
-      (g.S.BlockStore.disk c.step.new.store) c.loop.invariant.0 c.in-Went.ensures.blocks,
+  then_at c.args.seat c.args.hall.now c.loop.hall c.step.new.hall
+      (store_of (g.S.BlockStore.disk c.args.store.now) (g.S.BlockStore.failures c.args.store.now))
+      (store_of (g.S.BlockStore.disk c.loop.store) (g.S.BlockStore.failures c.loop.store))
+      (store_of (g.S.BlockStore.disk c.step.new.store) (g.S.BlockStore.failures c.step.new.store))
+      c.loop.invariant.0 c.in-Went.ensures.runs,
   c.in-Went.ensures.seats ∙ c.loop.invariant.1,
 )

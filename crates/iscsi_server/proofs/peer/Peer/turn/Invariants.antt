@@ -1,7 +1,10 @@
 use Rattle.std.proofs.Common.{◌≡◌, length}
-use Rattle.iscsi_service.specs.Session.{HasExecuted}
+use Rattle.iscsi_target.specs.Inside.{store_of}
+use Rattle.iscsi_server.specs.Running.{RunsAt}
 use Rattle.iscsi_server.proofs.peer.Peer.turn.Given as goal
 
 abbrev pub invariant-loop : goal.invariant-loop
-invariant-loop g l = HasExecuted (g.S.BlockStore.disk l.fn.store) (g.S.BlockStore.disk l.store)
+invariant-loop g l = RunsAt l.fn.seat
+    l.fn.hall (store_of (g.S.BlockStore.disk l.fn.store) (g.S.BlockStore.failures l.fn.store))
+    l.hall (store_of (g.S.BlockStore.disk l.store) (g.S.BlockStore.failures l.store))
     × (length l.hall.seats ≡ length l.fn.hall.seats)

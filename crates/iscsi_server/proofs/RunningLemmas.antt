@@ -1,0 +1,256 @@
+-- What happens in the hall of a service, one thing behind the other.
+use Rattle.std.proofs.Common.{◌≡◌, ◌<◌, ◌≤◌, ℕ, zero, suc, Bool, true, false, ◌==◌, List, [], ◌∷◌, ◌++◌, length, Option, None, Some, refl, sym, ap, subst, ◌∙◌, arith}
+use Rattle.std.proofs.Common.{get_or, replicate, set}
+use Rattle.std.proofs.lemmas.Bool.{ltb-true, ltb-false}
+use Rattle.std.proofs.lemmas.List.{get_or_past, length-set, set-get_or}
+use Rattle.std.proofs.lemmas.List.Quantifiers.{position-Some}
+use mathlib.Core.Path.{fun_ext}
+use Rattle.std.specs.Prelude.{Result, IfNone, IfSome, is_none, is_some, nat_lt}
+use Rattle.std.specs.List.{AllByRecursion, position}
+use Rattle.scsi_disk.specs.Disk.{Disk}
+use Rattle.iscsi_target_session.specs.Configured.{Settings}
+use Rattle.iscsi_target.specs.declared.fault.TargetFault.{TargetFault}
+use Rattle.iscsi_target.specs.State.{Machine, opening}
+use Rattle.iscsi_target.specs.Feed.{Store}
+use Rattle.iscsi_target.specs.Inside.{store_of}
+use Rattle.iscsi_service.specs.Session.{HasExecuted}
+use Rattle.iscsi_hall.specs.Seats.{Hall, Seat, opening_seat, seat_at, waiting_at, with_seat, Changes}
+use Rattle.iscsi_hall.specs.Seats.{Takes as TakesAtSeat}
+use Rattle.iscsi_hall.specs.Turns.{Event, Comes, Ends, Goes, Syncs, Takes, Happens, HappensIn, Runs, Seats, SameMachines, TakesTurn}
+use Rattle.iscsi_hall.specs.Turns.{Session, Stays, events_of, executed_in, machine_in, machines}
+use Rattle.iscsi_hall.proofs.SeatLemmas.{changed_other, some_within, taken_within}
+use Rattle.iscsi_hall.proofs.RunLemmas.{own_session, runs_append, runs_lead, runs_none, runs_one}
+pub use Rattle.iscsi_service.proofs.SessionReadInvariant.{none_executed}
+use Rattle.iscsi_server.specs.Running.{IsAmong, IsOfSession, OthersAreKept, RunsAt, RunsIdle, RunsIdleAt, RunsWithin, Served, no_sessions}
+
+all_append : (P : Event → Type 0) (es fs : List Event) → AllByRecursion P es → AllByRecursion P fs → AllByRecursion P (es ++ fs)
+all_append P [] fs p q = q
+all_append P (e ∷ es) fs p q = (p.0, all_append P es fs p.1 q)
+
+-- ---- in the whole hall
+
+pub none_runs : (hall : Hall) (store : Store) → RunsWithin hall store hall store
+unfolding RunsWithin
+none_runs hall store = (refl, [], tt, runs_none (machines hall) (machines hall) store (λ k. refl))
+
+pub then_runs : (a b c : Hall) (s t u : Store) → RunsWithin a s b t → RunsWithin b t c u → RunsWithin a s c u
+unfolding RunsWithin
+then_runs a b c s t u p q = (
+  q.0 ∙ p.0,
+  p.1 ++ q.1,
+  all_append (IsAmong (length a.seats)) p.1 q.1 p.2 (subst (λ (n : ℕ). AllByRecursion (IsAmong n) q.1) p.0 q.2),
+  runs_append (machines a) (machines b) (machines c) s t u p.1 q.1 p.3 q.3,
+)
+
+pub none_idle : (hall : Hall) → RunsIdle hall hall
+unfolding RunsIdle
+none_idle hall = λ store. none_runs hall store
+
+pub then_idle : (a b c : Hall) → RunsIdle a b → RunsIdle b c → RunsIdle a c
+unfolding RunsIdle
+then_idle a b c p q = λ store. then_runs a b c store store store (p store) (q store)
+
+pub idle_runs : (old new : Hall) (store : Store) → RunsIdle old new → RunsWithin old store new store
+unfolding RunsIdle
+idle_runs old new store p = p store
+
+-- a session comes
+comes_idle : (old new : Hall) (place : ℕ) (settings : Settings) → position is_none old.seats ≡ Some place
+    → new ≡ with_seat old place (Some (opening_seat settings)) → HappensIn (Comes place settings) old new → RunsIdle old new
+unfolding RunsIdle RunsWithin
+comes_idle old new place settings first is h = λ store. (
+  ap (λ (x : Hall). length x.seats) is ∙ length-set old.seats place (Some (opening_seat settings)),
+  Comes place settings ∷ [],
+  ((position-Some is_none old.seats place None first).0, tt),
+  runs_one (machines old) (machines new) store store (Comes place settings) (h store),
+)
+
+pub idle_then : (a b c : Hall) (s t : Store) → RunsIdle a b → RunsWithin b s c t → RunsWithin a s c t
+idle_then a b c s t p q = then_runs a b c s s t (idle_runs a b s p) q
+
+-- a session gets a seat, or none is free
+pub seat_idle : (old new : Hall) (settings : Settings) (result : Option ℕ) → result ≡ position is_none old.seats
+    → IfSome result (λ place. new ≡ with_seat old place (Some (opening_seat settings))) → IfNone result (new ≡ old)
+    → IfSome result (λ place. HappensIn (Comes place settings) old new) → RunsIdle old new
+seat_idle old new settings None first seated full comes = subst (λ (x : Hall). RunsIdle old x) (sym full) (none_idle old)
+seat_idle old new settings (Some place) first seated full comes = comes_idle old new place settings (sym first) seated comes
+
+-- a session goes, or the seat was none of the hall
+outside_is : (old new : Hall) (place : ℕ) → length old.seats ≤ place → new ≡ with_seat old place None → new.seats ≡ old.seats
+outside_is old new place le is =
+    ap (λ (x : Hall). x.seats) is
+    ∙ ap (λ (o : Option Seat). set old.seats place o) (sym (get_or_past old.seats place None le))
+    ∙ set-get_or old.seats place None
+
+goes_if : (b : Bool) (old new : Hall) (place : ℕ) → nat_lt place (length old.seats) ≡ b → new ≡ with_seat old place None
+    → HappensIn (Goes place) old new → RunsIdle old new
+unfolding RunsIdle RunsWithin
+goes_if true old new place lt is h = λ store. (
+  ap (λ (x : Hall). length x.seats) is ∙ length-set old.seats place None,
+  Goes place ∷ [],
+  (ltb-true place (length old.seats) lt, tt),
+  runs_one (machines old) (machines new) store store (Goes place) (h store),
+)
+goes_if false old new place lt is h =
+    let same : new.seats ≡ old.seats = outside_is old new place (ltb-false place (length old.seats) lt) is in
+    λ store. (
+      ap (λ (x : List (Option Seat)). length x) same,
+      [],
+      tt,
+      runs_none (machines old) (machines new) store (λ k. ap (λ (x : List (Option Seat)). machine_in (get_or x k None)) same),
+    )
+
+pub goes_idle : (old new : Hall) (place : ℕ) → new ≡ with_seat old place None → HappensIn (Goes place) old new → RunsIdle old new
+goes_idle old new place is h = goes_if (nat_lt place (length old.seats)) old new place refl is h
+
+-- what the events executed left the blocks
+pub runs_executed : (old new : Hall) (before after : Disk) (counted failures : ℕ)
+    → RunsWithin old (store_of before counted) new (store_of after failures) → HasExecuted before after
+unfolding RunsWithin
+runs_executed old new before after counted failures r =
+    (executed_in r.1, runs_lead (machines old) (machines new) (store_of before counted) (store_of after failures) r.1 r.3)
+
+-- ---- at one seat
+
+pub none_at : (seat : ℕ) (hall : Hall) (store : Store) → RunsAt seat hall store hall store
+unfolding RunsAt
+none_at seat hall store = ((λ k ne. refl), refl, [], tt, runs_none (machines hall) (machines hall) store (λ k. refl))
+
+pub then_at : (seat : ℕ) (a b c : Hall) (s t u : Store) → RunsAt seat a s b t → RunsAt seat b t c u → RunsAt seat a s c u
+unfolding RunsAt
+then_at seat a b c s t u p q = (
+  λ k ne. q.0 k ne ∙ p.0 k ne,
+  q.1 ∙ p.1,
+  p.2 ++ q.2,
+  all_append (IsOfSession seat (length a.seats)) p.2 q.2 p.3 (subst (λ (n : ℕ). AllByRecursion (IsOfSession seat n) q.2) p.1 q.3),
+  runs_append (machines a) (machines b) (machines c) s t u p.2 q.2 p.4 q.4,
+)
+
+all_among : (seat count : ℕ) (es : List Event) → AllByRecursion (IsOfSession seat count) es → AllByRecursion (IsAmong count) es
+all_among seat count [] p = tt
+all_among seat count (e ∷ es) p = (p.0.1, all_among seat count es p.1)
+
+pub at_runs : (seat : ℕ) (old new : Hall) (before after : Store) → RunsAt seat old before new after → RunsWithin old before new after
+unfolding RunsAt RunsWithin
+at_runs seat old new before after p = (p.1, p.2, all_among seat (length old.seats) p.2 p.3, p.4)
+
+pub at_idle : (seat : ℕ) (a b c : Hall) (s t : Store) → RunsAt seat a s b t → RunsIdle b c → RunsWithin a s c t
+at_idle seat a b c s t p q = then_runs a b c s t t (at_runs seat a b s t p) (idle_runs b c t q)
+
+pub none_idle_at : (seat : ℕ) (hall : Hall) → RunsIdleAt seat hall hall
+unfolding RunsIdleAt
+none_idle_at seat hall = λ store. none_at seat hall store
+
+pub idle_at : (seat : ℕ) (old new : Hall) (store : Store) → RunsIdleAt seat old new → RunsAt seat old store new store
+unfolding RunsIdleAt
+idle_at seat old new store p = p store
+
+changed_length : (seat : ℕ) (old new : Hall) (P : Seat → Seat → Type 0) → Changes seat old new P → length new.seats ≡ length old.seats
+changed_length seat old new P c = ap (λ (x : List (Option Seat)). length x) c.now ∙ length-set old.seats seat (Some c.after)
+
+changed_within : (seat : ℕ) (old new : Hall) (P : Seat → Seat → Type 0) → Changes seat old new P → seat < length old.seats
+changed_within seat old new P c = some_within old.seats seat c.before c.was
+
+changed_others : (seat : ℕ) (old new : Hall) (P : Seat → Seat → Type 0) → Changes seat old new P → OthersAreKept seat old new
+changed_others seat old new P c = λ k ne. changed_other seat k old new (Some c.after) ne c.now
+
+-- an event that changes one seat
+changed_at : (seat : ℕ) (old new : Hall) (before after : Store) (P : Seat → Seat → Type 0) (e : Event) → Changes seat old new P
+    → IsOfSession seat (length old.seats) e → Happens (machines old) before e (machines new) after → RunsAt seat old before new after
+unfolding RunsAt
+changed_at seat old new before after P e c is h = (
+  changed_others seat old new P c,
+  changed_length seat old new P c,
+  e ∷ [],
+  (is, tt),
+  runs_one (machines old) (machines new) before after e h,
+)
+
+-- a turn
+pub turn_at : (seat : ℕ) (old new : Hall) (before after : Store) (result : Result ℕ TargetFault)
+    → TakesAtSeat seat old before result new after → TakesTurn seat old before result new after → RunsAt seat old before new after
+turn_at seat old new before after result c h =
+    let within : seat < length old.seats = some_within old.seats seat c.before c.was in
+    changed_at seat old new before after _ (Takes h.turn) c
+    (h.seat_is, subst (λ (k : ℕ). k < length old.seats) (sym h.seat_is) within, tt) h.is_turn
+
+-- a sync, where something waits at the seat
+waits_taken : (o : Option Seat) → 0 < length (waiting_at o) → is_some o ≡ true
+waits_taken None lt = absurd (omega (arith, lt))
+waits_taken (Some s) lt = refl
+
+pub sync_at : (seat : ℕ) (hall : Hall) (before after : Store) → 0 < length (waiting_at (seat_at hall seat))
+    → Happens (machines hall) before (Syncs seat) (machines hall) after → RunsAt seat hall before hall after
+unfolding RunsAt
+sync_at seat hall before after waits h = (
+  λ k ne. refl,
+  refl,
+  Syncs seat ∷ [],
+  ((refl, taken_within hall.seats seat (waits_taken (seat_at hall seat) waits), tt), tt),
+  runs_one (machines hall) (machines hall) before after (Syncs seat) h,
+)
+
+-- what changes no session
+pub same_at : (seat : ℕ) (old new : Hall) (P : Seat → Seat → Type 0) → Changes seat old new P → SameMachines old new → RunsIdleAt seat old new
+unfolding RunsIdleAt RunsAt
+same_at seat old new P c same = λ store. (
+  changed_others seat old new P c,
+  changed_length seat old new P c,
+  [],
+  tt,
+  runs_none (machines old) (machines new) store same,
+)
+
+-- the end of a stream
+pub ends_at : (seat : ℕ) (old new : Hall) (P : Seat → Seat → Type 0) → Changes seat old new P → HappensIn (Ends seat) old new → RunsIdleAt seat old new
+unfolding RunsIdleAt
+ends_at seat old new P c h =
+    λ store. changed_at seat old new store store P (Ends seat) c (refl, changed_within seat old new P c, tt) (h store)
+
+-- ---- from free seats on
+
+abbrev no_seat : Option Seat
+no_seat = None
+
+free_at : (n k : ℕ) → get_or (replicate n no_seat) k no_seat ≡ no_seat
+free_at zero k = refl
+free_at (suc n) zero = refl
+free_at (suc n) (suc k) = free_at n k
+
+pub none_served : (count : ℕ) (store : Store) → Served count store store
+none_served count store =
+    record { events = []; few = tt; seats = no_sessions; runs = runs_none no_sessions no_sessions store (λ k. refl) }
+
+pub all_served : (count : ℕ) (old new : Hall) (before after : Store) → length old.seats ≡ count → old ≡ record { seats = replicate count no_seat }
+    → RunsWithin old before new after → Served count before after
+unfolding RunsWithin
+all_served count old new before after many free r = record {
+  events = r.1;
+  few = subst (λ (n : ℕ). AllByRecursion (IsAmong n) r.1) many r.2;
+  seats = machines new;
+  runs = subst (λ (x : Seats). Runs x before r.1 (machines new) after)
+      (fun_ext (λ k. ap (λ (h : Hall). machines h k) free ∙ ap machine_in (free_at count k))) r.3;
+}
+
+-- ---- a part of a run
+
+runs_split : (seats after : Seats) (store last : Store) (es fs : List Event) → Runs seats store (es ++ fs) after last
+    → (mid : Seats) × (now : Store) × Runs seats store es mid now × Runs mid now fs after last
+unfolding Runs
+runs_split seats after store last [] fs r = (seats, store, ((λ k. refl), refl), r)
+runs_split seats after store last (e ∷ es) fs r =
+    let rest = runs_split r.0 after r.1 last es fs r.3 in (rest.0, rest.1, (r.0, r.1, r.2, rest.2), rest.3)
+
+-- a session from the event by which it comes
+pub served_own : (count : ℕ) (before after : Store) (s : Served count before after) (past es later : List Event) (seat : ℕ) (settings : Settings)
+    → s.events ≡ past ++ (Comes seat settings ∷ (es ++ later)) → Stays seat es
+    → (end : Machine) × Session (opening settings 1) (events_of seat es) end
+unfolding Runs
+served_own count before after s past es later seat settings is stays =
+    let whole : Runs no_sessions before (past ++ (Comes seat settings ∷ (es ++ later))) s.seats after =
+    subst (λ (x : List Event). Runs no_sessions before x s.seats after) is s.runs in
+    let behind = runs_split no_sessions s.seats before after past (Comes seat settings ∷ (es ++ later)) whole in
+    let comes = behind.3 in
+    let stay = runs_split comes.0 s.seats comes.1 after es later comes.3 in
+    let own = own_session comes.0 stay.0 comes.1 stay.1 es seat (opening settings 1) stay.2 comes.2.1 stays in
+    (own.0, own.2)

@@ -1,0 +1,14 @@
+use Rattle.iscsi_hall.proofs.RunLemmas.{runs_lead}
+use Rattle.iscsi_hall.proofs.BlockLemmas.{follow_block}
+use Rattle.iscsi_hall.proofs.ExactLemmas.{runs_follows}
+use Rattle.iscsi_hall.specs.Turns.{executed_in}
+use Rattle.iscsi_server.specs.Running.{no_sessions}
+use Rattle.iscsi_server.proofs.laws.one_disk_of_all.Goals as goal
+
+pub returns : goal.returns
+returns c = record {
+  may = λ count before after s. runs_lead no_sessions s.seats before after s.events s.runs;
+  follows = λ count before after s same. runs_follows no_sessions s.seats before after s.events s.runs same;
+  blocks = λ count before after s n same. follow_block before.disk after.disk (executed_in s.events)
+      (runs_follows no_sessions s.seats before after s.events s.runs same) n;
+}

@@ -1,0 +1,36 @@
+//! Laws of what a service did from free seats on: functions that do nothing, whose contracts are the
+//! theorems.
+
+ghost use Rattle.std.specs.Prelude.{◌≡◌, ◌∷◌, ◌++◌, ℕ, List};
+ghost use Rattle.iscsi_target_session.specs.Configured.{Settings};
+ghost use Rattle.iscsi_target.specs.Feed.{Store};
+ghost use Rattle.iscsi_target.specs.Laws.{Leads};
+ghost use Rattle.iscsi_target.specs.State.{Machine, opening};
+ghost use Rattle.iscsi_hall.specs.Blocks.{Follows, block_left};
+ghost use Rattle.iscsi_hall.specs.Turns.{Comes, Event, Session, Stays, events_of, executed_in};
+ghost use Rattle.iscsi_server.specs.Running.{Served};
+
+/// One disk of all sessions of a service: the blocks are those that all executed commands leave, one
+/// after another.
+pub fn one_disk_of_all()
+    // Over a store that may fail, each does what it does, or what it may do where the device fails.
+    ensures may { (count : ℕ) (before after : Store) (s : Served count before after)
+        → Leads before.disk (executed_in s.events) after.disk }
+    // Where no failure was counted, each does exactly what it does.
+    ensures follows { (count : ℕ) (before after : Store) (s : Served count before after)
+        → after.failures ≡ before.failures
+        → Follows before.disk (executed_in s.events) after.disk }
+    // Then each block is what the last write to it left, of whichever session, or what it was.
+    ensures blocks { (count : ℕ) (before after : Store) (s : Served count before after)
+        (n : ℕ) → after.failures ≡ before.failures
+        → after.disk.block n ≡ block_left before.disk (executed_in s.events) n }
+{}
+
+/// Each session of a service is its own: from the event by which it comes, and while it has its seat,
+/// its turns are those of its own machine, over the blocks that each met.
+pub fn each_its_own()
+    ensures own { (count : ℕ) (before after : Store) (s : Served count before after)
+        (past es later : List Event) (seat : ℕ) (settings : Settings)
+        → s.events ≡ past ++ (Comes seat settings ∷ (es ++ later)) → Stays seat es
+        → (end : Machine) × Session (opening settings 1) (events_of seat es) end }
+{}

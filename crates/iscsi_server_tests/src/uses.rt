@@ -1,0 +1,27 @@
+//! What another program does with `iscsi_server`.
+
+ghost use Rattle.std.specs.Prelude.{◌≡◌};
+ghost use Rattle.iscsi_target.specs.Inside.{store_of};
+ghost use Rattle.iscsi_hall.specs.Blocks.{Follows};
+ghost use Rattle.iscsi_hall.specs.Turns.{executed_in};
+ghost use Rattle.iscsi_server.specs.Running.{Served};
+ghost use Rattle.iscsi_server.specs.Service.{IsService};
+
+use iscsi_server::laws::one_disk_of_all;
+use iscsi_server::{Options, serve_at_once};
+use scsi_disk::BlockStore;
+
+/// Serves some sessions at a time, and says whether that ended well. Where the store counted no
+/// failure, its blocks are exactly those that the executed commands, of whichever session, leave one
+/// after another.
+pub fn serve<S: BlockStore>(rt: &HostRuntime, options: Options<'_>, store: &mut S) -> bool
+    requires service { IsService options }
+    ensures blocks { (s : Served options.entry.at_once
+        (store_of (S.disk store.old) (S.failures store.old))
+        (store_of (S.disk store.new) (S.failures store.new)))
+        × (S.failures store.new ≡ S.failures store.old
+        → Follows (S.disk store.old) (executed_in s.events) (S.disk store.new)) }
+{
+    one_disk_of_all();
+    serve_at_once(rt, options, store).is_ok()
+}
