@@ -19,8 +19,9 @@ second_of false = 1000000
 abbrev pub longest : ℕ
 longest = 1048576
 
--- The bytes begin with a record of a classic file, of n bytes, which has this packet: its seconds and
--- units, how many bytes were captured, how many it had on the link, and the bytes.
+-- The bytes begin with a record of a classic file, of n bytes, which has this packet. The record has
+-- the packet's seconds and units, how many bytes were captured, how many the packet had on the link,
+-- and the bytes.
 pub record IsRecord (order : Order) (precise : Bool) (link : ℕ) (bytes : List ℕ) (n : ℕ)
     (p : Packet) : Type 0 where
   pub whole : n ≤ length bytes
@@ -57,9 +58,10 @@ IsTooLong order bytes = (16 ≤ length bytes) × (longest < number order 4 8 byt
 abbrev pub width_of : ℕ → ℕ
 width_of kind = if kind == 2 then 2 else 4
 
--- The block is an enhanced packet block (6), or an obsolete packet block (2), and has this packet: the
--- number of its interface, the time in two halves, how many bytes were captured, how many it had on
--- the link, and the bytes. Padding, options and the length follow.
+-- The block is an enhanced packet block (6), or an obsolete packet block (2), and has this packet. The
+-- block has the number of the packet's interface, the time in two halves, how many bytes were
+-- captured, how many the packet had on the link, and the bytes. Padding, options and the length
+-- follow.
 pub record IsEnhanced (order : Order) (kind : ℕ) (interfaces : List Interface) (block : List ℕ)
     (p : Packet) : Type 0 where
   pub interface : Interface
@@ -86,8 +88,9 @@ EnhancedFails order kind interfaces block faults.Length = length block < 32 + nu
 EnhancedFails order kind interfaces block faults.Interface = length interfaces
     ≤ number order (width_of kind) 8 block
 
--- The block is a simple packet block (3) of the first interface: how many bytes it had on the link, of
--- which as many follow as were captured, up to the interface's snap length. It has no time.
+-- The block is a simple packet block (3) of the first interface, and says how many bytes the packet
+-- had on the link. As many of these bytes follow as were captured, up to the interface's snap length.
+-- The block has no time.
 pub record IsSimple (order : Order) (interfaces : List Interface) (block : List ℕ) (p : Packet)
     : Type 0 where
   pub interface : Interface

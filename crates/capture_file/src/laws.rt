@@ -26,8 +26,8 @@ pub fn a_step_asks_for_no_more_than_a_record()
         → (length bytes < n) × (n ≤ most_asked) × (new ≡ old) }
 {}
 
-/// A record of a classic file whose head is at hand is asked for only where it can be whole: some
-/// continuation has all of its bytes, and then it is read.
+/// A record of a classic file whose head is at hand is asked for only if the record can be whole.
+/// Some continuation has all bytes of the record, and then the record is read.
 pub fn a_record_that_is_begun_can_be_whole()
     ensures { (order : Order) (bytes : List ℕ) (n : ℕ) → IsPartRecord order bytes n
         → 16 ≤ length bytes → (more : List ℕ) × IsWholeRecord order (bytes ++ more) n }

@@ -85,8 +85,8 @@ abbrev pub if_of : ℕ → Side → ℕ → Heard → List ℕ → List ℕ
 if_of wanted side number heard more =
     if (number == wanted) && is_side side heard.said.side then more else []
 
--- From one table to the other these segments came in turn, and of what was known more by each of
--- them these bytes are of this end of the connection with this number.
+-- From one table to the other these segments came in turn. Of what was known more by each segment,
+-- these bytes are of this end of the connection with this number.
 abbrev pub Gathers : ℕ → Side → Table → List Heard → Table → List ℕ → Type 0
 Gathers wanted side old [] new given = (old ≡ new) × (given ≡ [])
 Gathers wanted side old (heard ∷ segments) new given =

@@ -57,8 +57,9 @@ FeedsSome old heard [] new before after =
 FeedsSome old heard (byte ∷ bytes) new before after =
     Feeds (opened old.direction new.start) (numbered heard) new.direction before after
 
--- A direction took a segment: its beginning is that of its own segments, and as long as it is
--- followed, the bytes that are known more are those that its own segments determine.
+-- A direction took a segment: the beginning of the direction is that of its own segments. As long
+-- as the direction is followed, the bytes that are known more are those that its own segments
+-- determine.
 pub record HalfTakes (old : Half) (heard : Heard) (new : Half) (before after : List ℕ) : Type 0 where
   pub start : new.start ≡ start_after old.start heard.said
   pub fed : new.stop ≡ None → (old.stop ≡ None)

@@ -18,8 +18,8 @@ pub fn connections_are_private()
 {}
 
 /// What is known of a direction of a capture, as long as it is followed, is what its own segments
-/// determine: those of all segments that belong to the connection and that its end sent. Nothing
-/// that they determine is held back, and no other segment adds a byte.
+/// determine. Its own segments are all segments that belong to the connection and that its end
+/// sent. Nothing that they determine is held back, and no other segment adds a byte.
 pub fn directions_are_determined()
     ensures { (number : ℕ) (side : Side) (segments : List Heard) (new : Table) (given : List ℕ)
         → AllByRecursion SaysSome segments

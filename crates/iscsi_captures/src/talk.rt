@@ -187,7 +187,8 @@ impl Talk {
     }
 
     // Why the first byte of the initiator is missing, if it is and one of the ends has the port of
-    // iSCSI: its direction stopped or waits, it was not captured, or its target alone was heard.
+    // iSCSI. Either the initiator's direction stopped or waits, or the byte was not captured, or
+    // the target alone was heard.
     fn missed(&self, number: usize, connection: &Connection) -> Result<(), CapturesFault> {
         let half = connection.half(connection.initiator());
         if half.first_byte.is_some() || !has_port(connection) {

@@ -15,11 +15,14 @@ use std::io::Read;
 /// differ it appends two lines: for each stream the line of the PDU that stands there, as `show`
 /// writes it, or its place and `end`.
 ///
-/// What stands behind a difference isn't judged. A fault comes where it stands before any difference,
-/// and is the first stream's where both have one behind the same PDUs; the PDUs before it mean the
-/// same in both, and `out` stays as it was: `Stream` where that stream leaves the profile, `Read`
-/// where a read fails or 16,777,216 of them did not reach the next PDU, `NoMemory` where memory runs
-/// out. One PDU of each stream is held, and its canonical form, however long the streams are.
+/// What stands behind a difference isn't judged. A fault comes if it stands before any difference. If
+/// both streams have a fault behind the same PDUs, the first stream's fault comes. The PDUs before a
+/// fault mean the same in both streams, and `out` stays as it was. The fault is:
+/// - `Stream` if the stream at fault leaves the profile;
+/// - `Read` if a read of the stream at fault fails or 16,777,216 reads did not reach the next PDU;
+/// - `NoMemory` if memory runs out.
+///
+/// One PDU of each stream is held, and its canonical form, however long the streams are.
 pub fn compare<R: Read, Q: Read>(
     alloc: Global,
     mine: &mut R,

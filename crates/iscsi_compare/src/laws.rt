@@ -24,8 +24,8 @@ pub fn same_meaning()
         → Compares (Ok verdict.Same) first second ↔ (canon ms ≡ canon ns) }
 {}
 
-/// Of two streams of the profile, of which as much was read as was needed: a verdict says truly
-/// whether their meanings are one, and no fault of a stream is returned.
+/// A verdict on two streams of the profile says truly whether their meanings are one, and no fault
+/// of a stream is returned. This holds if as much of the streams was read as was needed.
 pub fn whole_streams()
     ensures same { (s t : List ℕ) (ms ns : List Message) (left other_left : Option (List ℕ))
         (first second : Input) → Gave (Some s) left first → Gave (Some t) other_left second

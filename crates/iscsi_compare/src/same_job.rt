@@ -20,15 +20,16 @@ use crate::verdict::Verdict;
 use std::alloc::Global;
 use std::io::Read;
 
-/// Reads two streams in step, PDU by PDU, and says whether they are two runs of one job: equal up
-/// to a one-to-one renaming of task tags, transfer tags, ISIDs and TSIHs, and constant steps of
-/// CmdSN and of StatSN. Where they part it appends two lines as `compare` does.
+/// Reads two streams in step, PDU by PDU, and says whether they are two runs of one job. Two such
+/// runs are equal up to a one-to-one renaming of task tags, transfer tags, ISIDs and TSIHs, and
+/// constant steps of CmdSN and of StatSN. If the streams part, it appends two lines as `compare`
+/// does.
 ///
-/// `Same` says that both streams are of the profile and of one job; `Differ` has the places of the
-/// first PDUs with which they are not, or at which one stream ends. What stands behind a difference
-/// isn't judged. Its faults are those of `compare`, behind PDUs of one job. One PDU of each stream
-/// is held, and each distinct tag, ISID and TSIH of both; a PDU takes a time that grows with the
-/// logarithm of their number.
+/// `Same` says that both streams are of the profile and of one job. `Differ` has the places of the
+/// first PDUs with which they are not of one job, or at which one stream ends. What stands behind a
+/// difference isn't judged. Its faults are those of `compare`, behind PDUs of one job. One PDU of
+/// each stream is held, and each distinct tag, ISID and TSIH of both; a PDU takes a time that grows
+/// with the logarithm of their number.
 pub fn compare_jobs<R: Read, Q: Read>(
     alloc: Global,
     mine: &mut R,

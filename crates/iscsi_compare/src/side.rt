@@ -15,8 +15,8 @@ use itoa::Buffer;
 use std::alloc::{AllocError, Global};
 use std::io::Read;
 
-/// A stream that is read PDU by PDU: its framer, the piece that was read last, of which the framer
-/// has not taken the bytes from `from` to `to`, and its reads.
+/// A stream that is read PDU by PDU: its framer, the piece that was read last, and its reads. The
+/// framer has not taken the bytes of the piece from `from` to `to`.
 #[derive(Drop)]
 pub(crate) struct Side {
     pub(crate) which: Which,
@@ -73,9 +73,10 @@ impl Side {
     /// Reads on until the next PDU is ready, and says whether there is one: where there is none,
     /// the stream has ended behind the PDUs before.
     ///
-    /// Returns `Stream` where the stream leaves the profile, `Read` where a read fails or
-    /// 16,777,216 of them did not reach the next PDU, and `NoMemory` where there is no memory for
-    /// its segment.
+    /// Returns:
+    /// - `Stream` if the stream leaves the profile;
+    /// - `Read` if a read fails or 16,777,216 reads did not reach the next PDU;
+    /// - `NoMemory` if there is no memory for the segment of that PDU.
     pub(crate) fn advance<R: Read>(&mut self, r: &mut R) -> Result<bool, CompareFault>
         requires inside { IsOpen self.old }
         ensures inside { IsOpen self.new }

@@ -1,5 +1,5 @@
 //! Two runs of one job by example: headers in words of hex, worked out by hand from the tables of RFC
-//! 7143, section 11; the last rows are of a session that was captured twice. Long, since it has a table
+//! 7143, section 11. The last rows are of a session that was captured twice. Long, since it has a table
 //! of 40 rows.
 
 use crate::asserts::same;

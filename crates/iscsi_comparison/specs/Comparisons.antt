@@ -43,8 +43,8 @@ fault_status (fault.Own f) = exit_status f
 abbrev pub Outcome : Type 0
 Outcome = Result Verdict ComparisonFault
 
--- What is answered and written where a comparison says this: its verdict, and the lines of the
--- difference, of which a write that fails leaves a front; or its fault, and nothing.
+-- What is answered and written if a comparison says this: its verdict, and the lines of the
+-- difference; or its fault, and nothing. A write of the lines that fails leaves a front of them.
 abbrev pub Ends : Result Verdict CompareFault → Outcome → List ℕ → Type 0
 Ends (Ok verdict) (Ok said) written = (said ≡ verdict) × Tells (Ok verdict) [] written
 Ends (Ok verdict) (Err f) written =

@@ -43,10 +43,15 @@ fn asked<S: AsStr>(words: &[S]) -> Option<Comparison<'_>> {
     })
 }
 
-/// Runs the comparison that words ask for, and returns the exit status: 0 if two streams are the same, 1 if
-/// they differ or one is refused, 2 for words that ask for none, 3 for memory, and 4 for reading and writing.
-/// The line of a fault goes to the third stream; a write there that fails changes nothing. Files are those
-/// of the process.
+/// Runs the comparison that words ask for, and returns the exit status:
+/// - 0 if two streams are the same;
+/// - 1 if they differ or one is refused;
+/// - 2 for words that ask for no comparison;
+/// - 3 for memory;
+/// - 4 for reading and writing.
+///
+/// The line of a fault goes to the third stream; a write there that fails changes nothing. Files are those of
+/// the process.
 #[tactic(auto, using(iscsi_filters::proofs::Untouched::reads_nothing, iscsi_filters::proofs::Untouched::writes_nothing))]
 pub fn run_comparison_words<S: AsStr, R: Read, W: Write, E: Write>(
     rt: &HostRuntime,

@@ -1,11 +1,15 @@
 //! PDUs as lines of text.
 //!
 //! A line has the header in hex, in twelve words of four bytes, and what the segment has, without
-//! padding. That is nothing; or words of hex, of which `5a*512` stands for so many of a byte; or
-//! behind an apostrophe a text, in which `|` stands for a byte 00 and `~` for a byte ff, and `+500`
-//! at the end for so many keys that no end knows; or `@` for the standard text of the operational
-//! stage. A shorter line is the front of a header. A line such as `@login` stands for a PDU that
-//! many sessions have.
+//! padding. What the segment has is one of these:
+//! - It may be nothing.
+//! - It may be words of hex, of which `5a*512` stands for 512 bytes 5a.
+//! - It may be a text behind an apostrophe, in which `|` stands for a byte 00 and `~` for a byte
+//!   ff. There `+500` at the end stands for 500 keys that no end knows.
+//! - It may be `@` for the standard text of the operational stage.
+//!
+//! A shorter line is the front of a header. A line such as `@login` stands for a PDU that many
+//! sessions have.
 
 use crate::logins::{OPERATIONAL, named};
 use hex::FromHexError;

@@ -1,8 +1,10 @@
 //! A session of both ends.
 
-/// A whole session of the standard initiator and of a target with bursts of 1,024 bytes and
-/// segments of 512, over a disk of 2,048 blocks: login, a ping, a write with data that go of their
-/// own and data that are asked for, a read of its last block, and a logout.
+/// A whole session of the standard initiator and of a target, over a disk of 2,048 blocks.
+///
+/// The target has bursts of 1,024 bytes and segments of 512. The session is a login, a ping, a
+/// write, a read of its last block, and a logout. The write has data that go of their own and data
+/// that are asked for.
 ///
 /// A line with `I>` is a PDU that the initiator sends, one with `T>` a PDU that the target sends.
 /// One with `!` is what the initiator is asked to do before the PDUs behind it. Headers are worked

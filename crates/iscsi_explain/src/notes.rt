@@ -9,9 +9,9 @@ use crate::sense::{sense_words, status_words};
 use iscsi_pdu::{Head, LoginResponse, Pdu, ScsiResponse};
 use std::alloc::{AllocError, Global};
 
-/// The notes of a PDU, one for each thing that people look up: a SCSI command by its name with its
-/// first block and number of blocks; sense data, statuses and reasons by their words; each key of a
-/// login or text with its value.
+/// The notes of a PDU, one for each thing that people look up. They give a SCSI command by its
+/// name, with its first block and number of blocks. They give sense data, statuses and reasons by
+/// their words, and each key of a login or text with its value.
 ///
 /// Bytes of a key or value other than `!` to `~` and the space are `\x` and two hex digits, and so
 /// is the backslash.

@@ -61,9 +61,14 @@ impl StreamFilter {
     }
 }
 
-/// Runs the filter that words ask for, from a reader to a writer, and returns the exit status: 0 if it is
-/// done, 1 if the input is refused, 2 for words that ask for none, 3 for memory, and 4 for reading and
-/// writing. The line of a fault goes to the third stream; a write there that fails changes nothing.
+/// Runs the filter that words ask for, from a reader to a writer, and returns the exit status:
+/// - 0 if the filter is done;
+/// - 1 if the input is refused;
+/// - 2 for words that ask for no filter;
+/// - 3 for memory;
+/// - 4 for reading and writing.
+///
+/// The line of a fault goes to the third stream; a write there that fails changes nothing.
 #[tactic(auto, using(crate::proofs::Untouched::reads_nothing, crate::proofs::Untouched::writes_nothing))]
 pub fn run_filter_words<S: AsStr, R: Read, W: Write, E: Write>(
     alloc: Global,

@@ -1,5 +1,5 @@
--- What a hall of seats holds, and what its calls do: several sessions of a target at a time, over
--- one store (RFC 7143, section 4.2; which seat may be read and fed is own rule).
+-- What a hall of seats holds, and what its calls do. A hall is for several sessions of a target at
+-- a time, over one store (RFC 7143, section 4.2; which seat may be read and fed is own rule).
 use Rattle.std.specs.Prelude.{◌≡◌, ℕ, Bool, true, false, not, ◌==◌, ◌&&◌, ◌||◌, nat_lt, List, [], length, drop, get_or, set, Option, None, Some, Result, Ok, Err}
 use Rattle.iscsi_login.specs.declared.phase.Phase.{Phase}
 use Rattle.iscsi_target_session.specs.Configured.{Settings}

@@ -16,8 +16,9 @@ use Rattle.iscsi_hall.specs.Seats.{Hall, Seat, seat_at, waiting_at}
 abbrev pub Seats : Type 0
 Seats = ℕ → Option Machine
 
--- Bytes came for a seat: the store that its session met, the PDUs that they completed, what these
--- did, what was done of the PDU behind them where memory ran out there, and the store then.
+-- Bytes came for a seat. A turn has the store that the seat's session met, the PDUs that the bytes
+-- completed, and what these PDUs did. It also has what was done of the PDU behind them, if memory
+-- ran out there, and the store behind the turn.
 pub record Turn : Type 0 where
   pub seat : ℕ
   pub before : Store
@@ -40,8 +41,9 @@ IsFront r counted front after =
     ((front ≡ unchanged r.machine r.disk) × (counted ≤ after))
     ⊎ ((m : Message) × MayStop r.machine r.disk counted m front after)
 
--- The turn is the machine's own, on the store that it met: it did what it may do where the device
--- fails, and where no failure was counted exactly what it does. A closed session takes no turn.
+-- The turn is the machine's own, on the store that it met. It did what the machine may do if the
+-- device fails. If no failure was counted, it did exactly what the machine does. A closed session
+-- takes no turn.
 pub record IsOwn (s : Machine) (t : Turn) : Type 0 where
   pub live : is_closed s ≡ false
   pub counted : ℕ

@@ -20,12 +20,12 @@ use std::marker::Model;
 /// Several sessions at a time over one store, which each turn is given: a row of seats, each free
 /// or with a session.
 ///
-/// A seat is read only where all that was read before is taken and all answers are written. It takes
-/// PDU after PDU of what was read, until all is taken or 65,536 bytes of answers wait; where they
-/// were offered to the peer, it takes none before all of them are written (own rule). So the answers
-/// to one read leave in one write, a peer that reads nothing is not read, and beyond those bytes a
-/// seat keeps the answers to one PDU. Seats are numbered from 0; a place behind the last one counts
-/// as free.
+/// A seat is read only if all that was read before is taken and all answers are written. It takes PDU
+/// after PDU of what was read, until all is taken or 65,536 bytes of answers wait (own rule). If the
+/// answers that wait were offered to the peer, it takes no PDU before all of them are written (own
+/// rule). So the answers to one read leave in one write, a peer that reads nothing is not read, and
+/// beyond those bytes a seat keeps the answers to one PDU. Seats are numbered from 0; a place behind
+/// the last one counts as free.
 #[derive(Drop)]
 pub struct Hall {
     alloc: Global,
@@ -133,8 +133,10 @@ impl Hall {
         }
     }
 
-    /// Whether `take` may be called: the seat's session goes on, has not taken all that was read,
-    /// and nothing waits to be written, or less than 65,536 bytes that were not offered to the peer.
+    /// Whether `take` may be called, which needs three things:
+    /// - The seat's session goes on.
+    /// - The session has not taken all that was read.
+    /// - Nothing waits to be written, or less than 65,536 bytes that were not offered to the peer.
     pub fn may_take(&self, seat: usize) -> bool
         ensures { result ≡ may_take_at (seat_at self.now seat) }
     {
@@ -144,10 +146,10 @@ impl Hall {
         }
     }
 
-    /// The place of an older session whose place this seat's takes: its initiator logged in once
-    /// more with the same name and ISID, as after a restart, so that the older one is to leave; none
-    /// where there is none. Discovery sessions are left alone, which is own rule (RFC 7143, section
-    /// 6.3.5).
+    /// The place of an older session whose place this seat's session takes, or none if there is
+    /// none. The initiator of the older session logged in once more with the same name and ISID, as
+    /// after a restart, so the older session is to leave. Discovery sessions are left alone, which
+    /// is own rule (RFC 7143, section 6.3.5).
     pub fn taken_over(&self, seat: usize) -> Option<usize>
         ensures some { IfSome result (λ place. takes_place_of self.now seat place ≡ true) }
         ensures none { IfNone result ((place : ℕ) → takes_place_of self.now seat place ≡ false) }
@@ -185,10 +187,10 @@ impl Hall {
         taken.receive(piece)
     }
 
-    /// One turn, over the store of all: the session of a seat takes what was read up to the end of
-    /// one PDU, and its answers wait to be written, behind those that do. Says how many bytes it took. A fault closes
-    /// this session alone: what was read is dropped, and what the fault leaves is as
-    /// `Target::feed_next` says.
+    /// One turn, over the store of all sessions. The session of a seat takes what was read up to
+    /// the end of one PDU. Its answers wait to be written, behind the answers that wait already.
+    /// Says how many bytes the session took. A fault closes this session alone: what was read is
+    /// dropped, and what the fault leaves is as `Target::feed_next` says.
     pub fn take<S: BlockStore>(&mut self, seat: usize, store: &mut S) -> Result<usize, TargetFault>
         requires may { may_take_at (seat_at self.old seat) ≡ true }
         ensures takes { Takes seat self.old (store_of (S.disk store.old) (S.failures store.old))

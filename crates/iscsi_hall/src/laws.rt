@@ -40,9 +40,9 @@ pub fn one_disk_of_all()
         → Follows store.disk (executed_in es) last.disk }
 {}
 
-/// What is read is what was written last: where no failure was counted, a READ that is done gives
-/// of each block what the last write to it, of whichever session, left, or what it was at first;
-/// and so are the blocks in the end.
+/// What is read is what was written last. If no failure was counted, a READ that is done gives of
+/// each block what the last write to the block, of whichever session, left. If there was no such
+/// write, the READ gives what the block was at first. The blocks in the end are so too.
 pub fn last_write_is_read()
     ensures read { (seats after : Seats) (store last : Store) (es : List Event)
         (past later : List Execution) (e : Execution) (length : ℕ)
@@ -65,15 +65,16 @@ pub fn each_its_own()
         → (end : Machine) × (after seat ≡ Some end) × Session s (events_of seat es) end }
 {}
 
-/// The order of a session's commands in the one list of all is its own: what the list has of a
-/// seat is what that seat's turns executed, one after another.
+/// The order of a session's commands in the one list of all is its own. What the list has of a seat
+/// is what that seat's turns executed, one after another.
 pub fn own_order()
     // The one list of what was executed, each with its seat.
     ensures all { (es : List Event) → map (λ p. p.1) (placed_in es) ≡ executed_in es }
     ensures turns { (es : List Event) (seat : ℕ)
         → executed_for seat (placed_in es) ≡ executed_in (events_of seat es) }
-    // While one session has the seat, and where no failure was counted and memory was there, they
-    // are those of its own machine with its own PDUs, pieces of data joined.
+    // Suppose that one session has the seat, no failure was counted and memory was there. Then the
+    // commands that the list has of the seat are those of the session's own machine with its own
+    // PDUs, pieces of data joined.
     ensures own { (seats after : Seats) (store last : Store) (es : List Event) (seat : ℕ)
         (s : Machine) → Runs seats store es after last → seats seat ≡ Some s → Stays seat es
         → AllByRecursion IsCalm (events_of seat es) → (disk : Disk)
@@ -88,12 +89,12 @@ pub fn own_order()
         ≡ tasks_done (executed_for seat (placed_in es)) ++ more) }
 {}
 
-/// Little is there of a session at a time: whatever came to it in company, and whatever the store
-/// did, at most nine tasks are there between two PDUs, eight of the window and an immediate one; and
-/// for a PDU at most nine commands are executed.
+/// Little is there of a session at a time, whatever came to it in company, and whatever the store
+/// did. At most nine tasks are there between two PDUs, eight of the window and an immediate one.
+/// For a PDU at most nine commands are executed.
 ///
-/// So a seat keeps, beside what its framer holds of one PDU and one read: the data of nine writes,
-/// and less than 65,536 bytes of answers with the answers to one PDU.
+/// So a seat keeps the data of nine writes, and less than 65,536 bytes of answers with the answers
+/// to one PDU. Beside these it keeps what its framer holds of one PDU and one read.
 pub fn few_at_a_time()
     ensures tasks { (settings : Settings) (n : ℕ) (end : Machine) (es : List Event)
         → Session (opening settings n) es end → AllByRecursion IsNumbered es
@@ -111,7 +112,7 @@ pub fn few_at_a_time()
     ensures read { (order : Order) (blocks n : ℕ) → is_read order.cdb ≡ true
         → plan_of order blocks ≡ Give n → n ≤ 4_194_304 }
     // What waits to be written at a seat behind a turn: less than 65,536 bytes, and the answers of
-    // that turn, which is of one PDU at most where there is no fault.
+    // that turn. The turn is of one PDU at most if there is no fault.
     ensures waits { (seat : ℕ) (old new : Hall) (before after : Store)
         (result : Result ℕ TargetFault) (t : TakesTurn seat old before result new after)
         → may_take_at (seat_at old seat) ≡ true

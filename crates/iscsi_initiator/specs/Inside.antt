@@ -56,8 +56,8 @@ pub record Sends {E : Type 0} (stepped : Stepped) (result : Result (Unit {0}) E)
   pub err : OnErr result (new ≡ old)
   pub unwritten : OnErr result (after ≡ before)
 
--- The fault of a message that is due, if it breaks a rule, by the length of its segment, then by the
--- StatSN that has to be the expected one (sections 4.2.2.2 and 13.12).
+-- The fault of a message that is due, if the message breaks a rule. The length of its segment is
+-- judged first, then the StatSN, which has to be the expected one (sections 4.2.2.2 and 13.12).
 abbrev pub fault_of : Machine → ℕ → Option ℕ → Option InitiatorFault
 fault_of m len stat_sn =
     if nat_lt m.held.initiator_max_recv len then Some (faults.Protocol segment_too_long)

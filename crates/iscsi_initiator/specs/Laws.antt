@@ -147,8 +147,8 @@ pub record HasReceived (m : Machine) (bytes : List ℕ) : Type 0 where
   pub outcome : m.done ≡ Some (done.Command response status sense bytes residual)
 
 -- What came for an outstanding read, until a fault closed the session if one did: its Data-In tile
--- its data, each lies where the last one ended, and what is received, or the outcome has, are their
--- bytes (section 11.7.5). A closed session receives nothing.
+-- its data, and each lies where the last one ended. What is received, or what the outcome has, are
+-- the bytes of these Data-In (section 11.7.5). A closed session receives nothing.
 pub record TilesRead (m : Machine) (messages : List Message) : Type 0 where
   pub received : List Message
   pub rest : List Message

@@ -66,8 +66,8 @@ impl Model for Config {
 
 impl Config {
     /// A configuration: what is offered, the stage where the login starts (`Security` or
-    /// `Operational`), the ISID, the first CmdSN, and the most bytes of one segment of a login text,
-    /// 64 to 8192 (RFC 7143, sections 6.3 and 11.12; the segment is own rule).
+    /// `Operational`), the ISID and the first CmdSN (RFC 7143, sections 6.3 and 11.12). One segment
+    /// of a login text has at most `login_segment` bytes, which is 64 to 8192 (own rule).
     ///
     /// A bad name is refused first, then a number or stage out of its range; `NoMemory` comes
     /// last.

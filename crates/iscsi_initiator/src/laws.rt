@@ -48,8 +48,8 @@ pub fn record_of_a_block()
     ensures record_is { (block : List ℕ) → length block ≡ 16 → IsRecord block (record_of block) }
 {}
 
-/// A call has one outcome: where memory is there, what a piece or a request leads to is the same
-/// each time, also where the piece breaks off within a PDU.
+/// A call has one outcome. If memory is there, what a piece or a request leads to is the same each
+/// time, also if the piece breaks off within a PDU.
 pub fn one_outcome()
     ensures feed { (stream piece output written rewritten : List ℕ) (ms : List Message)
         (old same a b : Connection) (result other : Result Phase InitiatorFault)

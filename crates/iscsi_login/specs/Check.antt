@@ -51,9 +51,9 @@ abbrev pub key_or : Option (List ℕ × Typed) → Option (List ℕ) → Option 
 key_or None other = other
 key_or (Some pair) other = Some pair.0
 
--- The key for which an initiator refuses the answer to its offers: that of the first pair that may
--- not stand there, else the first offered key that has no answer (section 6.2; the order is own
--- rule).
+-- The key for which an initiator refuses the answer to its offers. It is the key of the first pair
+-- that may not stand there, else the first offered key without an answer (section 6.2; the order is
+-- own rule).
 abbrev pub bad_key : Pairs → Pairs → Option (List ℕ)
 bad_key offered answer =
     key_or (find (is_bad offered) answer) (key_or (find (is_unanswered answer) offered) None)

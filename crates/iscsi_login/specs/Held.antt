@@ -64,8 +64,8 @@ first_burst held =
 abbrev pub unasked : Held → ℕ → ℕ
 unasked held n = min n (first_burst held)
 
--- The longest segment that an end takes: the one that it declares, or one of a login, before which it
--- declares nothing (section 13.12; that 8,192 bytes fit is own rule).
+-- The longest segment that an end takes: the one that it declares, or one of a login (section
+-- 13.12; that 8,192 bytes fit is own rule). Before a login the end declares nothing.
 abbrev pub longest_taken : Preferences → ℕ
 longest_taken p = max 8192 p.max_recv
 

@@ -17,12 +17,17 @@ use std::alloc::{AllocError, Global};
 
 /// The canonical answer to a login text.
 ///
-/// A negotiated key is answered by its result, or in a discovery session by `Irrelevant` where it
-/// has no use there; `IFMarker` and `OFMarker` by `No`; `IFMarkInt`, `OFMarkInt` and `SendTargets`
-/// by `Reject`; a declared key by nothing; an unknown one by `NotUnderstood`. The target's portal
-/// group tag and the most bytes that it takes in one segment are declared where they are given.
-/// The only error is that memory ran out; nothing else changes (RFC 7143, sections 6.2, 13.9 and
-/// 13.12; which known keys are rejected is own rule).
+/// Each key of the text is answered by its kind:
+/// - A negotiated key is answered by its result, or in a discovery session by `Irrelevant` if the
+///   key has no use there.
+/// - `IFMarker` and `OFMarker` are answered by `No`.
+/// - `IFMarkInt`, `OFMarkInt` and `SendTargets` are answered by `Reject`.
+/// - A declared key is answered by nothing.
+/// - An unknown key is answered by `NotUnderstood`.
+///
+/// The target's portal group tag and the most bytes that it takes in one segment are declared where
+/// they are given. The only error is that memory ran out; nothing else changes (RFC 7143, sections
+/// 6.2, 13.9 and 13.12; which known keys are rejected is own rule).
 pub fn answer_text(
     alloc: Global,
     text: &Text,

@@ -20,12 +20,15 @@ impl Offers<'_> {
     /// The key for which the initiator refuses this answer to its text of a stage, in a login that
     /// started at `start`; `None` for an answer that it takes.
     ///
-    /// The key is that of the first pair that may not stand there. Such a pair has a key with a
-    /// result function that wasn't offered, or a value of it that is no legal answer; or a key that
-    /// a target may not declare, or `MaxRecvDataSegmentLength` with anything but a number from 512
-    /// to 16777215. If there is none, it is the first offered key with a result function that the
-    /// answer leaves out (RFC 7143, sections 6.2, 13.6, 13.8, 13.9 and 13.12; the order is own
-    /// rule).
+    /// The key is that of the first pair that may not stand there. Such a pair is one of these:
+    /// - Its key has a result function and wasn't offered.
+    /// - Its key has a result function, and its value is no legal answer.
+    /// - Its key has no result function, and is one that a target may not declare.
+    /// - The pair has `MaxRecvDataSegmentLength` with anything but a number from 512 to 16777215.
+    ///
+    /// If there is no such pair, the key is the first offered one with a result function that the
+    /// answer leaves out. See RFC 7143, sections 6.2, 13.6, 13.8, 13.9 and 13.12; the order is own
+    /// rule.
     pub fn bad_key<'b>(&self, start: Stage, stage: Stage, answer: &Text<'b>) -> Option<&'b [u8]>
         ensures key { option_map (λ key. key.now) result ≡
             bad_key (in_order (offers_at (proposed self.now) start stage)) answer.now }

@@ -166,9 +166,10 @@ impl NegKey {
         self.row().default
     }
 
-    /// Whether the session answers an offer of the key by `Irrelevant`: a discovery session does so
-    /// for all keys but the digests and `AuthMethod` (own rule: RFC 7143, section 13, names some of
-    /// them).
+    /// Whether the session answers an offer of the key by `Irrelevant`.
+    ///
+    /// A discovery session does so for all keys but the digests and `AuthMethod` (own rule: RFC
+    /// 7143, section 13, names some of them).
     pub fn is_irrelevant(self, session: Session) -> bool
         ensures irrelevant { result ≡ is_irrelevant session self }
     {

@@ -14,8 +14,8 @@ ghost use Rattle.iscsi_text.specs.Reading.{in_order};
 ghost use Rattle.iscsi_login.specs.Offers.{Proposal, security_offers, operational_offers, single_offers};
 ghost use Rattle.iscsi_login.specs.Check.{IsOffer, IsGoodAnswer, bad_key};
 
-/// Whatever is offered of a key, in a session of either kind: the answer of a target with
-/// preferences in range is legal, and after it both ends hold the same value.
+/// Whatever is offered of a key, the answer of a target with preferences in range is legal, and
+/// after it both ends hold the same value. That is so in a session of either kind.
 pub fn agreement()
     ensures legal { (session : Session) (p : Preferences) → IsInRange p →
         (key : NegKey) (offer : Typed) → IsLegal key offer (answer_to session p key offer) }

@@ -20,9 +20,11 @@ pub fn result(key: NegKey, offer: &Value, preferences: &Preferences) -> Answered
     chosen(key.rule(), value(key.rule(), offer), preferences.of(key))
 }
 
-/// Whether the answer to this offer is a legal one: one of the words `Reject`, `Irrelevant` and
-/// `NotUnderstood`, or a value that the key's function gives from this offer for some preference
-/// that the key allows (RFC 7143, section 6.2).
+/// Whether the answer to this offer is a legal one.
+///
+/// A legal answer is one of the words `Reject`, `Irrelevant` and `NotUnderstood`, or a value of the
+/// key's function. The function gives that value from this offer for some preference that the key
+/// allows (RFC 7143, section 6.2).
 #[tactic(auto, using(crate::proofs::LegalAnswerLemmas::legal_from, crate::proofs::LegalAnswerLemmas::legal_passes))]
 pub fn legal_answer(key: NegKey, offer: &Value, answer: &Value) -> bool
     ensures legal { IsTrue result ↔ IsLegal key (typed offer.now) (typed answer.now) }

@@ -59,9 +59,10 @@ pub struct Offers<'a> {
 }
 
 impl Offers<'_> {
-    /// Appends the text of a stage, in a login that started at `start`: the security text, the one
-    /// text of a login that starts in the operational stage, or the operational text behind the
-    /// security stage (RFC 7143, section 6.3).
+    /// Appends the text of a stage, in a login that started at `start` (RFC 7143, section 6.3).
+    ///
+    /// That is the security text, the one text of a login that starts in the operational stage, or
+    /// the operational text behind the security stage.
     ///
     /// When out of memory, `out` is unchanged.
     pub fn write_text(
@@ -107,8 +108,10 @@ impl Offers<'_> {
         write_pairs(&self.operational_pairs(), out)
     }
 
-    /// Appends the one text of a login that starts in the operational stage: all pairs of both
-    /// texts but `AuthMethod` (RFC 7143, section 6.3; that it is one text is own rule).
+    /// Appends the one text of a login that starts in the operational stage.
+    ///
+    /// The text has all pairs of both texts but `AuthMethod` (RFC 7143, section 6.3; that it is one
+    /// text is own rule).
     ///
     /// When out of memory, `out` is unchanged.
     pub fn single_text(&self, out: &mut Vec<u8>) -> Result<(), AllocError>
@@ -158,8 +161,8 @@ impl Offers<'_> {
     }
 
     // All pairs of a login that starts in the operational stage, and the target's name in any
-    // session: those of the operational stage, and who speaks to whom where the order of the keys
-    // puts it.
+    // session. The pairs are those of the operational stage, and those of who speaks to whom, where
+    // the order of the keys puts them.
     pub(crate) fn single_pairs(&self) -> [Pair; 17]
         ensures { said self.now.session (all_shown result) ≡
             in_order (single_offers (proposed self.now)) }

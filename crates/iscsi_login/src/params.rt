@@ -53,9 +53,11 @@ impl Params {
         Params::declaring(8192)
     }
 
-    /// The defaults, but the most bytes that the initiator takes in one segment, 512 to 16777215:
-    /// what an initiator holds before its login, in which it declares that length (RFC 7143,
-    /// section 13.12).
+    /// The defaults, but with `max_recv` as the most bytes that the initiator takes in one segment,
+    /// 512 to 16777215.
+    ///
+    /// These are what an initiator holds before its login, in which it declares that length (RFC
+    /// 7143, section 13.12).
     pub fn declaring(max_recv: u32) -> Params
         requires { IsWithin max_recv_range max_recv }
         ensures declares { result ≡ record defaults { initiator_max_recv = max_recv } }

@@ -35,8 +35,10 @@ impl Stage {
         }
     }
 
-    /// Whether a login may move from this stage to the other: from security to each of the two
-    /// later ones, and from there to full feature phase (RFC 7143, section 6.3).
+    /// Whether a login may move from this stage to the other (RFC 7143, section 6.3).
+    ///
+    /// It may move from security to each of the two later stages, and from the operational stage to
+    /// full feature phase.
     pub fn may_move(self, to: Stage) -> bool
         ensures moves { result ≡ may_move self to }
     {

@@ -645,7 +645,7 @@ fn lines_of_faults(rt: HostRuntime) {
 }
 
 // The longest burst and first burst, the seconds to wait and to retain, the longest segment, and
-// whether all are in their ranges: the ends of each range, and one past them.
+// whether all are in their ranges. The rows are the ends of each range, and one past them.
 type Range = (u32, u32, u32, u32, u32, bool);
 
 const RANGES: &[Range] = &[

@@ -66,9 +66,9 @@ written logical_block_address blocks byte =
     requests.Out 0 (canonical (writing logical_block_address blocks))
     (replicate (512 * blocks) byte)
 
--- What a command asks for: TEST UNIT READY, INQUIRY and REPORT LUNS are SPC-4's, READ CAPACITY,
--- READ, WRITE and SYNCHRONIZE CACHE(10) SBC-3's, a ping and a logout those of RFC 7143, sections
--- 11.18 and 11.14 (what stands in their other fields is own rule).
+-- What a command asks for. TEST UNIT READY, INQUIRY and REPORT LUNS are SPC-4's, and READ CAPACITY,
+-- READ, WRITE and SYNCHRONIZE CACHE(10) are SBC-3's. A ping and a logout are those of RFC 7143,
+-- sections 11.18 and 11.14 (what stands in the other fields of all these is own rule).
 abbrev pub request_of : Command → Request
 request_of (TestUnitReady unit) = data_in_request unit (cdb.TestUnitReady 0) 0
 request_of (Inquiry unit allocation_length) =

@@ -14,8 +14,8 @@ use Rattle.iscsi_initiator.specs.Block.{record_of}
 use Rattle.iscsi_pair.specs.World.{Opening}
 use Rattle.iscsi_pair.specs.Served.{HasRoom}
 
--- A WRITE(10) and a READ(10) of the same blocks, which the disk has, at most as many as one command
--- may name and without protection, and as many bytes (SBC-3; the most is own rule).
+-- A WRITE(10) and a READ(10) of the same blocks, without protection, and as many bytes (SBC-3). The
+-- disk has the blocks, which are at most as many as one command may name (the most is own rule).
 pub record NameSame (c : Opening) (write_cdb read_cdb bytes : List ℕ) : Type 0 where
   pub named : Transfer10
   pub writes : record_of write_cdb ≡ Write10 named
@@ -40,9 +40,9 @@ first_read = 0x28 ∷ 0 ∷ 0 ∷ 0 ∷ 0 ∷ 0 ∷ 0 ∷ 0 ∷ 1 ∷ 0 ∷ 0 �
 abbrev pub good : List ℕ → Done
 good bytes = done.Command 0 0x00 [] bytes Exact
 
--- Two ends of these names over these blocks, both with the standard preferences, in a normal
--- session that offers no authentication and starts with its operational stage (sections 6.3 and
--- 13).
+-- Two ends of these names over these blocks, both with the standard preferences. They are in a
+-- normal session that offers no authentication and starts with its operational stage (sections 6.3
+-- and 13).
 abbrev pub standard_opening : List ℕ → Opening
 standard_opening blocks = record {
   initiator = record {

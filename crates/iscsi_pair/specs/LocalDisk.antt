@@ -1,5 +1,5 @@
--- One local disk: what requests do where the disk is here; two ends that are in step, and what a
--- request leads them to, answer by answer (RFC 7143, sections 11.3 and 11.4).
+-- One local disk: what requests do if the disk is here. Then come two ends that are in step, and
+-- what a request leads them to, answer by answer (RFC 7143, sections 11.3 and 11.4).
 use Rattle.std.specs.Prelude.{◌≡◌, ◌⊎◌, ℕ, ◌+◌, ◌%◌, ◌<◌, ◌≤◌, ◌^◌, ◌==◌, zero, suc, false, not, List, [], ◌∷◌, ◌++◌, length, take, Option, Some, None}
 use Rattle.scsi_cdb.specs.Sense.{sense_bytes}
 use Rattle.scsi_cdb.specs.declared.sense.Sense.{Sense}
@@ -171,8 +171,8 @@ handed_in m t disk request =
       answers = answered.answers;
     }
 
--- The request has this outcome and left this disk, no answer is on its way, and once the outcome is
--- taken both ends are in step and hold this, or have parted (section 4.2).
+-- The request has this outcome and left this disk, and no answer is on its way. Once the outcome is
+-- taken, both ends are in step and hold this, or have parted (section 4.2).
 pub record HasEnded (held : Held) (outcome : Done) (disk_now : Disk) (x : Exchange) : Type 0 where
   pub done_is : x.initiator.done ≡ Some outcome
   pub silent : x.answers ≡ []

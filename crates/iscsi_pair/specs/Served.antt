@@ -25,8 +25,8 @@ IsServed (requests.Ping bytes) = Unit {0}
 IsServed (requests.Text bytes) = ⊥
 IsServed requests.Logout = Unit {0}
 
--- A command or a ping that any target takes between two others: it moves no more than one command
--- may, or has no more bytes than each end takes at least (sections 11.3, 11.18 and 13.12).
+-- A command or a ping that any target takes between two others. A command moves no more than one
+-- may, and a ping has no more bytes than each end takes at least (sections 11.3, 11.18 and 13.12).
 abbrev pub IsAlwaysTaken : Request → Type 0
 IsAlwaysTaken (requests.In lun cdb expected) = HasRoom lun cdb × (expected ≤ most_bytes)
 IsAlwaysTaken (requests.Out lun cdb bytes) = HasRoom lun cdb × (length bytes ≤ most_bytes)

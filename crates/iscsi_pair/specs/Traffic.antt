@@ -109,10 +109,10 @@ demanded (input ∷ inputs) = demanded_in input ++ demanded inputs
 abbrev pub said : Opening → List Message → Stepped
 said c messages = answers (opening c.target c.first_stat_sn) (disk_of c.blocks) messages
 
--- The target is where its machine goes with these PDUs, which are the first of what was moved to
--- it, and so are the blocks; its answers are all that was queued for the initiator. While its
--- session goes on it has taken all that was moved; behind the end of its session the rest is
--- dropped.
+-- The target is where its machine goes with these PDUs, and so are the blocks. These PDUs are the
+-- first of what was moved to the target. Its answers are all that was queued for the initiator.
+-- While its session goes on it has taken all that was moved; behind the end of its session the rest
+-- is dropped.
 pub record TargetStands (c : Opening) (t : Traffic) (w : World) : Type 0 where
   pub messages : List Message
   pub given : List ℕ

@@ -131,8 +131,8 @@ impl Head {
 
     /// The head of its kind, where the opcode is one.
     ///
-    /// Each arm returns, and the call stays one, so that a head is written once, by its arm: where
-    /// the arms meet, the compiler merges heads of 17 forms byte by byte.
+    /// Each arm returns, and the call stays one, so that a head is written once, by its arm. If the
+    /// arms meet, the compiler merges heads of 17 forms byte by byte.
     #[inline(never)]
     fn read(bytes: &[u8; 48]) -> Option<Head>
         ensures { MatchOption result (is_opcode (bits_at 0 63 bytes.now) ≡ false)
@@ -250,9 +250,10 @@ fn checked(bytes: &[u8; 48]) -> Result<(Head, u32), HeadFault>
 /// The canonical header of a head, before a data segment of `len` bytes: bits of no field are 0,
 /// but for those that the standard wants to be 1.
 ///
-/// The head has to fit the table: each number is within its mask, each field with a condition is
-/// there exactly where its condition holds, and an unknown descriptor block is one of no other
-/// record.
+/// The head has to fit the table:
+/// - Each number is within its mask.
+/// - Each field with a condition is there exactly if its condition holds.
+/// - An unknown descriptor block is one of no other record.
 pub fn write_head(head: &Head, len: u32) -> [u8; 48]
     requires fits { Fits head.now }
     requires short { len < 2 ^ 24 }

@@ -40,8 +40,8 @@ pub fn same_meaning()
         → Means a g c → Means b h d → ((g ≡ h) × (c ≡ d)) ↔ (whole g c ≡ whole h d) }
 {}
 
-/// A header that is written has 0 in each free bit, one that no field with a value has, and 1 where
-/// the table of its kind has ones (RFC 7143, section 11).
+/// A header that is written has 0 in each free bit, and 1 where the table of its kind has ones (RFC
+/// 7143, section 11). A bit is free if no field with a value has the bit.
 pub fn free_bits()
     ensures zero { (h : Head) (len n mask : ℕ) → IsWritable h len → are_free n mask h len ≡ true
         → bit_and (slice_index (header h len) n) mask ≡ 0 }

@@ -49,8 +49,8 @@ RunsIdleAt seat old new = (store : Store) → RunsAt seat old store new store
 abbrev pub no_sessions : Seats
 no_sessions place = None
 
--- What a service of n seats did: its events at these, the sessions in the end, and that the events
--- lead from free seats and one store to the other one.
+-- What a service of n seats did: its events at these seats, and the sessions in the end. The events
+-- lead from free seats and one store to those sessions and the other store.
 pub record Served (count : ℕ) (before after : Store) : Type 0 where
   pub events : List Event
   pub few : AllByRecursion (IsAmong count) events

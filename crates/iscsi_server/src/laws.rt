@@ -26,8 +26,8 @@ pub fn one_disk_of_all()
         → after.disk.block n ≡ block_left before.disk (executed_in s.events) n }
 {}
 
-/// Each session of a service is its own: from the event by which it comes, and while it has its seat,
-/// its turns are those of its own machine, over the blocks that each met.
+/// Each session of a service is its own. From the event by which it comes, and while it has its seat,
+/// its turns are those of its own machine, over the blocks that each turn met.
 pub fn each_its_own()
     ensures own { (count : ℕ) (before after : Store) (s : Served count before after)
         (past es later : List Event) (seat : ℕ) (settings : Settings)

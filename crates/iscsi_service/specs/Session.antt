@@ -77,7 +77,7 @@ pub record DoesSome (settings : Settings) (disk : Disk) (read : List ℕ) (recei
       failures message front failures
 
 -- The answers to some first PDUs of what was read are written, whole, and the blocks are those that
--- these PDUs lead to; of the PDU behind them some tasks may have been done, whole.
+-- these PDUs lead to. Of the PDU behind them some tasks may have been done, whole.
 pub record ServesFirst (settings : Settings) (disk : Disk) (read : List ℕ) (disk_now : Disk)
     (written : List ℕ) : Type 0 where
   pub receives : Receives settings read
@@ -119,8 +119,8 @@ Serves settings disk (Err session.Sync) read disk_now written =
 Serves settings disk (Err session.Write) read disk_now written =
     ServesFront settings disk read disk_now written
 
--- The session was closed by the first PDUs of what was read, and none of them broke a rule: by a
--- logout or a refused login (RFC 7143, sections 11.13 and 11.14).
+-- The session was closed by the first PDUs of what was read, and none of them broke a rule. It was
+-- closed by a logout or a refused login (RFC 7143, sections 11.13 and 11.14).
 abbrev pub IsOver : Settings → Disk → List ℕ → Type 0
 IsOver settings disk read = (receives : Receives settings read)
     × ((led settings disk read receives).rule ≡ None)

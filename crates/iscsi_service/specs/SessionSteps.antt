@@ -31,9 +31,9 @@ service target store contents waiting = record {
   waiting = waiting;
 }
 
--- This stream was fed in pieces, from the first store on, and led to what is now; of the answers
+-- This stream was fed in pieces, from the first store on, and led to what is now. Of the answers
 -- some were sent, behind what the writer had got at the start, and the others wait. What is said of
--- them holds where no failure was counted.
+-- the answers holds if no failure was counted.
 pub record ServedUpTo (settings : Settings) (first : Store) (stream : List ℕ)
     (start : Option (List ℕ)) (now : Service) : Type 0 where
   pub pieces : List (List ℕ)

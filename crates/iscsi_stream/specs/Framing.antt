@@ -9,10 +9,10 @@ use Rattle.iscsi_stream.specs.declared.logins.Logins.{Logins}
 use Rattle.iscsi_stream.specs.Segment.{no_login, continues, after}
 use Rattle.iscsi_stream.specs.Stream.{pdu_len, Message, message, ReadsAs, after_all}
 
--- A framer as its callers see it: the longest segment that it takes, the place of the PDU that is
--- ready, begun or next, what the login PDUs before it said, the bytes gathered of it, how long a
--- segment its buffer has room for, and whether there was a fault. Padding counts as gathered, but
--- its bytes are not kept: they stand as 0.
+-- A framer as its callers see it: the longest segment that it takes, and the place of the PDU that
+-- is ready, begun or next. It also has what the login PDUs before that PDU said, the bytes gathered
+-- of that PDU, and how long a segment its buffer has room for. `failed` says whether there was a
+-- fault. Padding counts as gathered, but its bytes are not kept: they stand as 0.
 pub record Framing : Type 0 where
   pub limit : ℕ
   pub place : ℕ

@@ -32,8 +32,9 @@ abbrev pub Parts : List ℕ → (List Message → List ℕ → List ℕ → Type
 Parts read P = (ms : List Message) × (given : List ℕ) × (rest : List ℕ)
     × Reaches longest_segment read ms given rest × P ms given rest
 
--- What was read and written where a fault is answered: what is due for the PDUs before it, for some
--- first of them where memory ran out, and a part of that where a write failed.
+-- What was read and written if a fault is answered: what is due for the PDUs before the fault. If
+-- memory ran out, it is what is due for some first of these PDUs; if a write failed, it is a part
+-- of that.
 abbrev pub WritesUntil : (List Message → List ℕ → Type 0) → ToolFault → List ℕ → List ℕ → Type 0
 WritesUntil Due tool.NoMemory read written = Parts read (λ ms given rest. Due ms written)
 WritesUntil Due (tool.Stream fault) read written = Parts read

@@ -45,7 +45,7 @@ abbrev pub segment_if : Bool → List ℕ → Segment
 segment_if true bytes = text_or_bytes (text_in bytes) bytes
 segment_if false bytes = Bytes bytes
 
--- What the bytes of a segment mean behind a head, in a PDU that continues another or does not: a
+-- What the bytes of a segment mean behind a head, in a PDU that continues another or does not. A
 -- login PDU that neither continues one nor is continued has a whole text, and every other segment
 -- means its bytes.
 unfoldable pub segment_of : Bool → Head → List ℕ → Segment

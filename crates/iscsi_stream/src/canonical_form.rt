@@ -63,9 +63,9 @@ pub fn canonical_head(alloc: Global, pdu: &Pdu<'_>, continued: bool) -> Result<[
     }
 }
 
-/// Appends the canonical form of a PDU, which continues another login PDU or does not: free bits 0,
-/// or 1 where the profile says so, a whole login text in canonical form, and padding 00. Returns
-/// `AllocError` where memory runs out, and leaves `out` as it was.
+/// Appends the canonical form of a PDU, which continues another login PDU or does not. Free bits
+/// are 0, or 1 if the profile says so, a whole login text is in canonical form, and padding is 00.
+/// Returns `AllocError` if memory runs out, and leaves `out` as it was.
 pub fn canonical(pdu: &Pdu<'_>, continued: bool, out: &mut Vec<u8>) -> Result<(), AllocError>
     requires fits { Fits pdu.now.head }
     requires short { length pdu.now.bytes.now < 2 ^ 24 }

@@ -14,8 +14,8 @@ use std::alloc::Global;
 use std::marker::Model;
 
 /// Gathers the PDUs of a stream, one at a time, from pieces of any length. It has one buffer, which
-/// is kept from PDU to PDU: a segment no longer than an earlier one asks for no memory, and a
-/// longer one for its own length.
+/// is kept from PDU to PDU. A segment no longer than an earlier one asks for no memory, and a
+/// longer one asks for its own length.
 #[derive(Drop)]
 pub struct Framer {
     limit: u32,
@@ -70,13 +70,15 @@ impl Framer {
         }
     }
 
-    /// Takes bytes of the piece until a PDU is ready, and says how many it took: all of them, or
-    /// fewer where a PDU is ready then; none while one is ready already.
+    /// Takes bytes of the piece until a PDU is ready, and says how many bytes it took. It takes all
+    /// of them, or fewer if a PDU is ready then; it takes none while a PDU is ready already.
     ///
-    /// With the last byte of a header it returns `Head` where the header is refused, `OverLimit`
-    /// where its segment is longer than the limit, and `NoMemory` where it is longer than each
-    /// before it and there is no memory for it. After a fault it returns `Failed`, and holds
-    /// nothing.
+    /// With the last byte of a header it returns:
+    /// - `Head` if the header is refused;
+    /// - `OverLimit` if the segment of the header is longer than the limit;
+    /// - `NoMemory` if that segment is longer than each before it and there is no memory for it.
+    ///
+    /// After a fault it returns `Failed`, and holds nothing.
     pub fn feed(&mut self, piece: &[u8]) -> Result<usize, StreamFault>
         ensures ok { IfOk result (λ n. Takes self.old piece.now n self.new) }
         ensures err { IfErr result (FeedFails self.old piece.now) }

@@ -78,8 +78,8 @@ pub fn any_pieces()
 {}
 
 /// The PDU that is ready stands in the stream at the framer's place, behind the PDUs that were
-/// given up: its header and its segment are the bytes there, and it continues another where these
-/// PDUs say so.
+/// given up. Its header and its segment are the bytes there, and it continues another PDU if those
+/// that were given up say so.
 pub fn ready_pdu()
     ensures { (stream segment : List ℕ) (ms : List Message) (head : Head) (v : Framing)
         → HasTaken stream ms v → Means v.held head segment
@@ -97,9 +97,9 @@ pub fn next_given()
         → HasTaken stream (ms ++ message_of old head segment ∷ []) (given_up old head) }
 {}
 
-/// Where no PDU is ready, the PDUs that a framer gave up are those of the longest prefix of what it
-/// took, and its place is the length of that prefix. The rest begins with no header that is refused
-/// or says a segment over the limit: that would have been a fault.
+/// If no PDU is ready, the PDUs that a framer gave up are those of the longest prefix of what it
+/// took. The framer's place is then the length of that prefix. The rest begins with no header that
+/// is refused or says a segment over the limit: that would have been a fault.
 pub fn given_so_far()
     ensures { (stream : List ℕ) (ms : List Message) (v : Framing) → HasTaken stream ms v
         → is_ready v ≡ false → (given : List ℕ) × (rest : List ℕ)
@@ -107,9 +107,10 @@ pub fn given_so_far()
         × (v.place ≡ min (length given) last_place) }
 {}
 
-/// Whichever pieces the bytes come in, and however they are fed and taken: a new framer gives up
-/// the PDUs of the longest prefix of the bytes that it took, but for the one that is ready. Where
-/// no fault came, the rest begins with no header that is refused or says a segment over the limit.
+/// A new framer gives up the PDUs of the longest prefix of the bytes that it took, but for the PDU
+/// that is ready. This holds whichever pieces the bytes come in, and however they are fed and
+/// taken. If no fault came, the rest begins with no header that is refused or says a segment over
+/// the limit.
 pub fn every_run()
     ensures { (limit : ℕ) (calls : List Call) (v : Framing) → Runs (opening limit) calls v
         → is_ready v ≡ false
@@ -128,8 +129,8 @@ pub fn header_fault()
         × (place ≡ min (length given) last_place) }
 {}
 
-/// The other way: where the rest of what a framer took and of a piece begins with a header that is
-/// refused, `feed` of the piece answers that fault and nothing else.
+/// The other way: if the rest begins with a header that is refused, `feed` of the piece answers
+/// that fault and nothing else. The rest is that of what a framer took and of the piece behind it.
 pub fn header_refused()
     ensures { (stream piece given rest : List ℕ) (ms : List Message) (fault : HeadFault)
         (v new : Framing) (result : Result ℕ StreamFault) → HasTaken stream ms v

@@ -12,9 +12,9 @@ use self::writing::Line;
 use iscsi_pdu::Pdu;
 use std::alloc::AllocError;
 
-/// Appends the line of a PDU: its place in decimal, its kind, its fields that have a value in the
-/// order of the field table, in lower hex, and the length of its segment in decimal. Returns
-/// `AllocError` where memory runs out, and leaves `out` as it was.
+/// Appends the line of a PDU: its place in decimal, its kind, its fields, and the length of its
+/// segment in decimal. The fields are those that have a value, in the order of the field table, in
+/// lower hex. Returns `AllocError` if memory runs out, and leaves `out` as it was.
 pub fn show_line(place: u64, pdu: &Pdu<'_>, out: &mut Vec<u8>) -> Result<(), AllocError>
     requires { Fits pdu.now.head }
     ensures ok { OnOk result ((line : List ℕ) × IsLine line

@@ -34,11 +34,13 @@ pub(crate) enum Form {
 /// Reads a stream to its end and writes its canonical stream; what the PDUs of one read give goes
 /// out in one write.
 ///
-/// Returns `Stream` where the stream leaves the profile, and has then written the canonical form of
-/// all PDUs before that place; `Read` where a read fails or 16,777,216 of them did not reach the
-/// end, having written that of all whole PDUs that came; `NoMemory` where memory runs out, having
-/// written that of some first PDUs; and `Write` where a write fails, having written a part of what
-/// was due.
+/// Returns:
+/// - `Stream` if the stream leaves the profile, having written the canonical form of all PDUs
+///   before that place;
+/// - `Read` if a read fails or 16,777,216 reads did not reach the end, having written the canonical
+///   form of all whole PDUs that came;
+/// - `NoMemory` if memory runs out, having written the canonical form of some first PDUs;
+/// - `Write` if a write fails, having written a part of what was due.
 pub fn normalise<R: Read, W: Write>(
     alloc: Global,
     r: &mut R,

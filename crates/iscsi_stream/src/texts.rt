@@ -42,9 +42,9 @@ fn canonical_text(alloc: Global, bytes: &[u8]) -> Result<Vec<u8>, ToolFault>
 /// Reads one text to its end and writes its canonical form (RFC 7143, section 6.1). Nothing is
 /// written before all is read.
 ///
-/// Returns `Text` where the text has a fault, `TextTooLong` where it has more than 16,384 bytes,
-/// `Read` where a read fails, `NoMemory` where memory runs out, having written nothing; and `Write`
-/// where a write fails, having written a part of the canonical text.
+/// Returns `Text` if the text has a fault, `TextTooLong` if it has more than 16,384 bytes, `Read`
+/// if a read fails, and `NoMemory` if memory runs out. With each of these faults nothing was
+/// written. Returns `Write` if a write fails, having written a part of the canonical text.
 pub fn normalise_text<R: Read, W: Write>(
     alloc: Global,
     r: &mut R,

@@ -77,9 +77,9 @@ send_r2t s disk w = record (unchanged (led_by (with_r2t s.session.held w) s) dis
   answers = message (r2t_head s.session (waiting (led_by w s).tasks) w) [] ∷ [];
 }
 
--- The first task is a write, with these behind it: it is executed when all bytes are there; else an
--- R2T is sent where no sequence is due (sections 4.2.5.2 and 11.8; that all blocks are written at
--- once is own rule).
+-- The first task is a write, with these behind it. The write is executed when all its bytes are
+-- there; else an R2T is sent if no sequence is due (sections 4.2.5.2 and 11.8). All blocks are
+-- written at once (own rule).
 abbrev pub proceed : Device → Machine → Disk → Write → Stepped
 proceed device s disk w =
     if is_whole w then execute device s disk w.initiator_task_tag w.order w.pieces

@@ -111,8 +111,8 @@ pub record IsPassed (old : Connection) (before : Store) (piece : List ℕ) (most
   pub few : failures ≤ most
   pub behind : IsBehind led.disk (commands_at led.machine led.disk.count message) n bytes
 
--- A crash behind a call with these bytes leaves of each block what it would have left before, or
--- the block as a command of a PDU that they complete leaves it; there are as many blocks.
+-- A crash behind a call with these bytes leaves each block as it would have left it before, or as a
+-- command of a PDU that they complete leaves it. There are as many blocks as before.
 pub record CrashesFed (old : Connection) (before : Store) (piece : List ℕ) (after : Store)
     (kept_before kept_after : ℕ → List ℕ → Type 0) : Type 0 where
   pub count : after.disk.count ≡ before.disk.count

@@ -87,8 +87,8 @@ progress framing messages stepped = record {
 }
 
 -- A call took bytes that complete these PDUs, and answered them one after another. Each execution did
--- what the order does where no failure was counted at it, and failed where one was; where none was
--- counted at all the answers are those of the machine.
+-- what the order does if no failure was counted at it, and failed if one was. If no failure was
+-- counted at all, the answers are those of the machine.
 pub record Answers (old : Connection) (before : Store) (bytes : List ℕ) (now : Progress)
     (after : Store) : Type 0 where
   pub taken : Moves old.framing now.framing bytes now.messages
@@ -151,8 +151,8 @@ pub record StopsAt (framing : Framing) (rest : List ℕ) (r : Stepped) (counted 
   pub limit : next.limit ≡ framing.limit
   pub stops : MayStop r.machine r.disk counted message front after
 
--- Where a call stands behind the PDUs that it answered: what it has of the next one, what is left
--- of the piece, what they led to, and the failures that were counted.
+-- Where a call stands behind the PDUs that it answered. The parts are what the call has of the next
+-- PDU, what is left of the piece, what the answered PDUs led to, and the failures that were counted.
 pub record Remainder : Type 0 where
   pub framing : Framing
   pub rest : List ℕ
@@ -230,7 +230,7 @@ Fed old piece result new = FedIf (is_closed old.connection.machine) old piece re
 -- ---- a call of feed_next
 
 -- A call in a session that isn't closed took the first n bytes, did with them what feed does, and
--- answered one PDU at most: it took up to the end of that one, or the whole piece.
+-- answered one PDU at most. The call took the bytes up to the end of that PDU, or the whole piece.
 pub record FeedsOne (old : Scene) (piece : List ℕ) (n : ℕ) (phase : Phase)
     (new : Scene) : Type 0 where
   pub bound : n ≤ length piece
@@ -296,7 +296,7 @@ FedAll old (piece ∷ pieces) new =
     × FedAll (scene now store out) pieces new
 
 -- The target is where these messages lead to from the opening state, and so are the blocks and what
--- was written; of each write the program keeps the bytes as one piece.
+-- was written. The program keeps the bytes of each write as one piece.
 pub record Meets (start : Beginning) (messages : List Message) (now : Connection)
     (disk_now : Disk) (written : List ℕ) : Type 0 where
   pub machine : now.machine ≡ joined (answers_from start messages).machine

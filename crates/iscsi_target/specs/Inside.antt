@@ -90,8 +90,8 @@ pub record IsJudged (s : Machine) (m : Message) (met : ℕ → Met) (verdict : V
 
 -- ---- a step
 
--- What was done with a message that leaves the disk: it was answered so, or memory ran out, with
--- the target as it was but for what a closed one drops.
+-- What was done with a message that leaves the disk: it was answered so, or memory ran out. If
+-- memory ran out, the target is as it was but for what a closed one drops.
 pub record Leaves {E : Type 0} (r : Stepped) (result : Result (Option ℕ) E) (old new : Machine)
     (before after : List ℕ) : Type 0 where
   pub machine : OnOk result (new ≡ r.machine)
@@ -287,8 +287,8 @@ target_fault stream.Failed = faults.Stream stream.Failed
 
 -- ---- PDU after PDU
 
--- These bytes led a target and its store from here to there: it took them and answered the PDUs
--- that they complete, and may keep the bytes of each write as one piece.
+-- These bytes led a target and its store from here to there: the target took them and answered the
+-- PDUs that they complete. The target may keep the bytes of each write as one piece.
 pub record Advances (old : Connection) (before : Store) (bytes : List ℕ) (new : Connection)
     (after : Store) : Type 0 where
   pub messages : List Message

@@ -142,8 +142,8 @@ response_tag _ = []
 abbrev pub response_tags : List Message → List ℕ
 response_tags ms = flat_map (λ m. response_tag m.head) ms
 
--- What the response to a command says: the command's tag, its status, by how many bytes it had more
--- or fewer than were expected, and the sense data behind their length (section 11.4).
+-- What the response to a command says (section 11.4). It gives the command's tag, its status, by how
+-- many bytes it had more or fewer than were expected, and the sense data behind their length.
 pub record Told : Type 0 where
   pub initiator_task_tag : ℕ
   pub status : Option ℕ

@@ -200,8 +200,8 @@ is_same_tag _ _ = false
 abbrev pub is_tag_of : List Task → Option ℕ → Bool
 is_tag_of tasks tag = list_any (λ task. is_same_tag (task_tag task) tag) tasks
 
--- A request that was accepted becomes the last task: its tag is no task's, and it keeps the rules
--- of the first burst (sections 11.2.1.8 and 13.14; the order is own rule).
+-- A request that was accepted becomes the last task if its tag is no task's and it keeps the rules
+-- of the first burst (sections 11.2.1.8 and 13.14). The order of these two checks is own rule.
 abbrev pub admitted : Machine → ℕ → Message → Next
 admitted s count m =
     if is_tag_of s.tasks (tag_of m.head) then broken s kind_not_due m
@@ -311,8 +311,8 @@ answers s disk (m ∷ ms) =
 
 -- ---- a store that may fail
 
--- The orders were executed one after another, from one count of the store's failures to another:
--- each did what the order does where the count stayed, and failed where it rose.
+-- The orders were executed one after another, from one count of the store's failures to another.
+-- Each execution did what the order does if the count stayed, and failed if the count rose.
 abbrev pub RunsIn : Device → ℕ → List Execution → ℕ → Type 0
 RunsIn device before [] after = after ≡ before
 RunsIn device before (e ∷ es) after =
@@ -328,9 +328,9 @@ pub record MayStep (s : Machine) (disk : Disk) (before : ℕ) (m : Message) (r :
   pub is : r ≡ step_on device s disk m
   pub runs : RunsIn device before r.executed after
 
--- One message at which memory ran out, over a store that may fail: some of the tasks were done, in
--- their order, and the one at which it ran out changed nothing. None before it ended the session, as
--- a broken rule and a logout do.
+-- One message at which memory ran out, over a store that may fail. Some of the tasks were done, in
+-- their order, and the one at which memory ran out changed nothing. No task before that one ended the
+-- session, as a broken rule and a logout do.
 pub record MayStop (s : Machine) (disk : Disk) (before : ℕ) (m : Message) (r : Stepped)
     (after : ℕ) : Type 0 where
   pub full : s.session.phase ≡ phases.Full

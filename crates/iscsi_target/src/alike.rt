@@ -53,10 +53,10 @@ pub fn answer_pieces<S: BlockStore>(
 }
 
 /// Answers two streams, each by a new target over a store of its own, whose first blocks, settings
-/// and StatSN are the same. Where both mean the same, and no failure was counted at a store, both
-/// targets have written the same bytes, left the same blocks, and are in the same state: they hold
-/// the same values, stage and phase (RFC 7143, sections 6 and 11). Returns `NoMemory` where memory
-/// ran out, and no other fault.
+/// and StatSN are the same. If both streams mean the same, and no failure was counted at a store,
+/// both targets have written the same bytes and left the same blocks. Both are then in the same
+/// state: they hold the same values, stage and phase (RFC 7143, sections 6 and 11). Returns
+/// `NoMemory` if memory ran out, and no other fault.
 pub fn answers_alike<S: BlockStore>(
     alloc: Global,
     configs: (Config, Config),

@@ -17,9 +17,9 @@ pub enum TargetFault {
     /// The stream is refused; the fault is never `NoMemory`.
     #[error(transparent)]
     Stream(StreamFault),
-    /// A PDU of the initiator broke the rule of this number, 1 to 5 or 9: a kind or tag that is not
-    /// due, a segment too long, data out of order, a text at fault, a logout for another reason, a
-    /// command out of its turn.
+    /// A PDU of the initiator broke the rule of this number, 1 to 5 or 9. Rules 1 to 5 forbid a kind
+    /// or tag not due, a segment too long, data out of order, a text at fault and a logout for another
+    /// reason. Rule 9 forbids a command out of its turn.
     #[error("protocol: rule {0}")]
     Protocol(u8),
     /// The session was closed before.

@@ -39,7 +39,7 @@ pub fn worked_sessions()
 {}
 
 /// One disk: it is what the commands that were executed make of it, one after another. They are
-/// those whose response went out, in the order in which they were accepted, and no accepted one is
+/// those whose response went out, in the order in which they were accepted. No accepted command is
 /// left out but those that wait, which come behind, or at which the session was closed.
 pub fn one_disk()
     ensures fold { (s : Machine) (disk : Disk) (ms : List Message)
@@ -116,8 +116,8 @@ pub fn status_numbers()
 {}
 
 /// Tiling: whatever came before, the Data-In that a message leads to are those of the commands that
-/// are executed, one after another, and tile the data of each; and the pieces of a write that is
-/// executed tile its transfer.
+/// are executed, one after another, and tile the data of each. Also whatever came before, the pieces
+/// of a write that is executed tile its transfer.
 pub fn tiling()
     ensures data_in { (settings : Settings) (n : ℕ) (disk : Disk) (ms : List Message) (m : Message)
         → IsInRange settings.preferences
@@ -128,7 +128,8 @@ pub fn tiling()
 {}
 
 /// Ready-to-transfer bounds: whatever came before, an R2T asks for at most a burst, and for nothing
-/// past the transfer of the write that is the first task; and at most one R2T is unanswered.
+/// past the transfer of the write that is the first task. Also whatever came before, at most one R2T
+/// is unanswered.
 pub fn ready_to_transfer_bounds()
     ensures modest { (settings : Settings) (n : ℕ) (disk : Disk) (ms : List Message) (m : Message)
         → let r = answers (opening settings n) disk ms in let t = step r.machine r.disk m in
@@ -189,9 +190,9 @@ pub fn one_meaning_one_answer()
         → answers (opening settings n) disk ns ≡ answers (opening settings n) disk ms }
 {}
 
-/// Cuts make no difference: whatever pieces a stream of the profile comes in, what is written, the
-/// blocks and the session are those that its messages lead to, also where the session is closed
-/// before the end.
+/// Cuts make no difference, whatever pieces a stream of the profile comes in. What is written, the
+/// blocks and the session are those that its messages lead to, also if the session is closed before
+/// the end.
 pub fn any_pieces()
     ensures meets { (settings : Settings) (n : ℕ) (store after : Store) (pieces : List (List ℕ))
         (target : Connection) (written : List ℕ) (ms : List Message)
@@ -238,8 +239,8 @@ pub fn canonical_form()
         → (rewritten ≡ written) × (second.disk ≡ first.disk) × (b.machine ≡ a.machine) }
 {}
 
-/// A call has one outcome: where memory is there and the device doesn't fail, what a piece leads to
-/// is the same each time, also where it breaks off within a PDU.
+/// A call has one outcome: if memory is there and the device doesn't fail, what a piece leads to is
+/// the same each time. This also holds if the piece breaks off within a PDU.
 pub fn one_outcome()
     ensures alike { (stream piece output written rewritten : List ℕ) (ms : List Message)
         (old same a b : Connection) (before store first second : Store)

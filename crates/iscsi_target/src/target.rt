@@ -66,8 +66,8 @@ impl Target {
     /// which phase the session is then.
     ///
     /// A login that is refused and a logout return `Closed`, and the rest of the piece is dropped.
-    /// After a fault the session is closed: `out` has the whole answers to the tasks that were
-    /// handled before, and a Reject where a rule was broken in full feature phase. The task at which
+    /// After a fault the session is closed. `out` has the whole answers to the tasks that were
+    /// handled before, and a Reject if a rule was broken in full feature phase. The task at which
     /// memory ran out wrote nothing and changed no block, and none behind it was handled. A closed
     /// session returns `Closed` and takes nothing (RFC 7143, sections 6 and 11; the rules and their
     /// order are own).
@@ -103,10 +103,10 @@ impl Target {
         feed_all(&mut self.machine, &mut self.framer, piece, store, out)
     }
 
-    /// Takes bytes of a piece up to the end of one PDU, answers it, and returns how many bytes it
-    /// took and in which phase the session is then: `feed`, one PDU at a time, for a caller that
-    /// writes the answers before it goes on. A piece that completes no PDU is taken whole. Faults
-    /// and what they leave are those of `feed` with the piece.
+    /// Takes bytes of a piece up to the end of one PDU, and answers that PDU. Returns how many bytes
+    /// it took and in which phase the session is then. This is `feed`, one PDU at a time, for a
+    /// caller that writes the answers before it goes on. A piece that completes no PDU is taken
+    /// whole. Faults and what they leave are those of `feed` with the piece.
     pub fn feed_next<S: BlockStore>(
         &mut self,
         piece: &[u8],

@@ -177,8 +177,8 @@ segment_taken s r segment =
     else whole_text (record s { gathered = [] }) r (text_ending s.gathered segment)
 
 -- The reasons to refuse a request by its head, in their order (sections 11.12 and 11.13.5; the
--- order is own rule): its version; a session to join; its stage; a text that goes on and a transit
--- at once; a transit to a stage that cannot follow.
+-- order is own rule). They are its version, a session to join, its stage, a text that goes on
+-- together with a transit, and a transit to a stage that cannot follow.
 abbrev pub request_refusals : Session → LoginRequest → List (Bool × Status)
 request_refusals s r =
     (nat_lt 0 r.version_min, unsupported_version)

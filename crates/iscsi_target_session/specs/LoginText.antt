@@ -183,10 +183,10 @@ abbrev pub held_after : Session → Pairs → Held
 held_after s pairs =
     target_holds (session_for s pairs) s.settings.preferences (declared_length s) pairs s.held
 
--- The reasons to refuse a text, in their order (section 11.13.5; the order is own rule): a key is
--- repeated; the first text has no initiator's name, another type of session, in a normal session no
--- target's name or another's; authentication is demanded; the declared length may not be; the
--- answer is too long.
+-- The reasons to refuse a text, in their order (section 11.13.5; the order is own rule). First, a
+-- key is repeated. Next, the first text has no initiator's name, or has another type of session.
+-- Next, in a normal session, the first text has no target's name or another target's. Then
+-- authentication is demanded, the declared length may not be, or the answer is too long.
 abbrev pub text_refusals : Session → Pairs → List (Bool × Status)
 text_refusals s pairs =
     let is_first = not s.has_text in

@@ -1,5 +1,6 @@
 -- The session of a target between two PDUs, but for its commands: its login, its numbers and what is
--- held; and what a message does that no command needs (RFC 7143, section 4.2).
+-- held (RFC 7143, section 4.2). The definitions below also say what a message does that no command
+-- needs (section 4.2).
 use Rattle.std.specs.Prelude.{ℕ, ◌+◌, ◌-◌, ◌^◌, ◌%◌, Bool, false, List, [], ◌∷◌, Option, None, replicate}
 use Rattle.iscsi_pdu.specs.Serial.{next_sn}
 use Rattle.iscsi_pdu.specs.declared.head.Head.{Head}

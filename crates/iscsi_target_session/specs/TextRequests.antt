@@ -19,8 +19,8 @@ use Rattle.iscsi_target_session.specs.LoginText.{value_for}
 
 -- ---- the text
 
--- All targets are asked for, or the one of this session, or this one by its name (appendix C; that
--- a discovery session takes each of these too is own rule).
+-- All targets are asked for, or the one of this session, or this one by its name (appendix C). A
+-- discovery session takes each of these too (own rule).
 abbrev pub asks_for : List ℕ → Option Typed → Bool
 asks_for name (Some (values.Plain asked)) = is_among (codes "All" ∷ [] ∷ name ∷ []) asked
 asks_for name _ = false

@@ -37,9 +37,9 @@ impl Model for Config {
 }
 
 impl Config {
-    /// A name of 1 to 223 bytes, each of `!` to `~`; the tag of the portal group; a TSIH, which is
-    /// not 0; and preferences in range (RFC 7143, sections 4.2.7, 13.9 and 11.12.6; which bytes a
-    /// name may have is own rule).
+    /// A name, the tag of the portal group, a TSIH and preferences (RFC 7143, sections 4.2.7, 13.9
+    /// and 11.12.6). The name has 1 to 223 bytes, each of `!` to `~` (which bytes it may have is own
+    /// rule). The TSIH is not 0, and the preferences are in range.
     ///
     /// Another name is `BadName`, a TSIH of 0 or preferences out of range are `OutOfRange`, in this
     /// order; `NoMemory` comes last.

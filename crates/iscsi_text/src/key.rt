@@ -54,7 +54,7 @@ const PLAIN_KEYS: [&[u8]; 9] = [
 /// The kind of value that a known key has, and `None` for an unknown one.
 ///
 /// Known are 27 keys, and case counts. The keys and their types are those of RFC 7143, section 13,
-/// and `AuthMethod` of section 12.1; the markers' keys `IFMarker`, `OFMarker`, `IFMarkInt` and
+/// and `AuthMethod` of section 12.1. The markers' keys `IFMarker`, `OFMarker`, `IFMarkInt` and
 /// `OFMarkInt` are of RFC 3720, appendix A. Which keys are plain here is own rule.
 #[tactic(auto, unfolding(crate::specs::Key::kind_of))]
 pub fn key_kind(key: &[u8]) -> Option<KeyKind>

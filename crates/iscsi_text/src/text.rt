@@ -24,11 +24,11 @@ pub use write::write_pairs;
 
 /// What a text means: its pairs in the canonical order, over the text's own bytes.
 ///
-/// Contracts see it as the list of its keys and values in the byte order of the keys, the values
-/// of a repeated `TargetAddress` in their order: for each key that is what the map has there. A
-/// text is a row of pairs `key=value`, each ended by a byte 0 (RFC 7143, section 6.1). Bytes 0
-/// before, between and after pairs mean nothing, and a key may begin with a small letter and have
-/// a `#` (own rule).
+/// Contracts see a text as the list of its keys and values in the byte order of the keys. The
+/// values of a repeated `TargetAddress` stay in their order. For each key the list has what the map
+/// has there. A text is a row of pairs `key=value`, each ended by a byte 0 (RFC 7143, section 6.1).
+/// Bytes 0 before, between and after pairs mean nothing, and a key may begin with a small letter
+/// and have a `#` (own rule).
 #[derive(Debug, Drop)]
 pub struct Text<'a> {
     pairs: Vec<Pair<'a>>,
@@ -52,7 +52,7 @@ impl<'a> Text<'a> {
     /// Reads a text (RFC 7143, section 6.1), or returns its first fault and the fault's place.
     ///
     /// Memory is taken for the list of pairs. Beside it the sort of more than 20 pairs whose keys
-    /// neither ascend nor strictly descend takes a second list as long, while it runs; and where a
+    /// neither ascend nor strictly descend takes a second list as long, while the sort runs. If a
     /// key is repeated, a set of keys takes the list's place. Where memory runs out the answer is
     /// `NoMemory`. The bytes mean something exactly where they have no fault.
     ///

@@ -270,8 +270,8 @@ lent_grew m n (Some x) (Some (c ∷ y)) true digits p =
     sym (take-append-drop (length y) (c ∷ y)) ∙ ap (λ (l : List ℕ). l ++ drop (length y) (c ∷ y)) front ∙ append_assoc x digits (drop (length y) (c ∷ y))
     ∙ ap (λ (k : ℕ). x ++ (digits ++ drop k (c ∷ y))) (sym len)
 
--- the bytes that a writer of digits took are digits, and perhaps a cut one, that the writer took which
--- is lent to it; and what was written to that one then comes behind them
+-- The bytes that a writer of digits took are digits, and perhaps a cut one, that the writer took which
+-- is lent to it. What was then written to the lent writer comes behind these digits.
 pub through_lent : {W : Type 0} (contents : W → Option (List ℕ)) (start after : HexWriter (LentWriter W)) (a z last : Option (List ℕ))
     (bytes ending : List ℕ) → IsBytes bytes
     → start.is_cut ≡ false → contents start.inner.writer.now ≡ a

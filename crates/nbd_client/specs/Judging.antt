@@ -1,5 +1,6 @@
--- Which exports keep blocks: those that can be written and flushed, have 1 to 2^40 whole blocks, and
--- take requests of one block and of 65,536 ("Transmission flags", "Block size constraints").
+-- Which exports keep blocks: those that can be written and flushed, and that have 1 to 2^40 whole
+-- blocks. They also have to take requests of one block and of 65,536 ("Transmission flags", "Block
+-- size constraints").
 use Rattle.std.specs.Prelude.{ℕ, if◌then◌else◌, ◌==◌, ◌&&◌, ◌||◌, not, bit_and, nat_lt, ◌/◌, ◌%◌, Result, Ok, Err}
 use Rattle.scsi_disk.specs.Disk.{most_blocks}
 use Rattle.nbd_wire.specs.declared.information.BlockSizes.{BlockSizes}

@@ -20,8 +20,8 @@ pub(crate) const LONGEST_REQUEST: usize = 33_554_432;
 /// A medium whose blocks an NBD server keeps.
 ///
 /// One request is asked at a time, and none for 0 blocks. A request that the server refuses fails
-/// with `Device`, and the next one may do. The medium ends where the connection is lost, an answer
-/// is none, or a FLUSH is refused: that is told once, nothing more is asked, and each call fails
+/// with `Device`, and the next one may do. The medium ends if the connection is lost, an answer is
+/// none, or a FLUSH is refused. The end is told once, nothing more is asked, and each call fails
 /// with `Device`. There is no new connection, since a request whose answer did not come may still be
 /// done, behind a later one.
 #[derive(Drop)]

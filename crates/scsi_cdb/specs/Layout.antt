@@ -61,9 +61,9 @@ always x = record { wanted = true; value = Some x }
 abbrev pub only_if : {A : Type 0} → Bool → Option A → Cell A
 only_if test x = record { wanted = test; value = x }
 
--- A row of a field table: a place, and the field that stands there. bit: a flag at a byte and mask;
--- bits: a number at a byte and mask; bytes: a number from the first byte to the last; raw: those
--- bytes as they are.
+-- A row of a field table: a place, and the field that stands there. `bit` is a flag at a byte and
+-- mask, and `bits` a number at a byte and mask. `bytes` is a number from the first byte to the
+-- last, and `raw` those bytes as they are.
 pub data Row : Type 0 where
   bit : ℕ → ℕ → Cell Bool → Row
   bits : ℕ → ℕ → Cell ℕ → Row

@@ -264,8 +264,8 @@ impl Cdb {
 
     /// The one block of a record in which each free bit is 0.
     ///
-    /// The record has to fit the table: a group number of at most 31, options of a SYNCHRONIZE
-    /// CACHE of at most 3, and in `Unknown` a block of no other record.
+    /// The record has to fit the table. That is, a group number is at most 31, and the options of a
+    /// SYNCHRONIZE CACHE are at most 3. An `Unknown` has a block of no other record.
     pub fn write(&self) -> [u8; 16]
         requires { Fits self.now }
         ensures canonical { result ≡ canonical self.now }

@@ -47,8 +47,8 @@ abbrev pub written : ℕ → List ℕ → Disk → Disk
 written first bytes disk =
     record { count = disk.count; block = overlaid 512 first bytes disk.block; tells = disk.tells }
 
--- Each block is that of one of two disks: where the new one is the old one after a write, each
--- block of the write is old or new and no other has changed.
+-- Each block is that of one of two disks. If the new disk is the old one after a write, each block
+-- of the write is old or new and no other has changed.
 pub record IsOldOrNew (old new disk : Disk) : Type 0 where
   pub count : disk.count ≡ old.count
   pub tells : disk.tells ≡ old.tells
@@ -76,9 +76,9 @@ pub record AreBlocks (bytes : List ℕ) : Type 0 where
   pub some : 0 < length bytes
   pub few : length bytes ≤ 33554432
 
--- A store returns `Device` exactly where the count that it tells rose: that of all failures without
--- those that no code can tell, of which a store that tells each failure has none. Want of memory is
--- no failure.
+-- A store returns `Device` exactly if the count that it tells rose. That is the count of all
+-- failures without those that no code can tell, and a store that tells each failure has none of the
+-- latter. Want of memory is no failure.
 pub record Tells {T : Type 0} (tells : Bool) (before after untold_before untold_after : ℕ)
     (result : Result T StoreFault) : Type 0 where
   pub rises : before ≤ after

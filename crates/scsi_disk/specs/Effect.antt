@@ -90,9 +90,9 @@ HasOtherData disk order length outcome =
     (bytes : List ℕ) × (size bytes ≡ length)
     × (outcome ≡ good order (wanted_length order disk.count) bytes)
 
--- What a failure of the store leaves: CHECK CONDITION, after a write with each block in range old
--- or new and no other changed, after a read with none changed; over a store that does not tell each
--- failure also GOOD, after a read with any bytes.
+-- What a failure of the store leaves: CHECK CONDITION, or over a store that does not tell each
+-- failure also GOOD. After a write each block in range is old or new, and no other has changed.
+-- After a read no block has changed, and GOOD comes with any bytes.
 abbrev pub FailsBy : Plan → Disk → Order → List ℕ → Effect → Type 0
 FailsBy (Refuse sense) disk order bytes after = ⊥
 FailsBy (Take length) disk order bytes after =

@@ -90,11 +90,11 @@ parameter_data order blocks = data_of (order.lun == 0) (blocks - 1) order.cdb
 
 -- ---- refusals
 
--- The reasons to refuse an order on a disk of n blocks, in their order: an unknown command; a
--- unit other than 0, but for the standard INQUIRY data; data both ways; data for a command that
--- takes none; protection (RDPROTECT or WRPROTECT); a page or a report that there is not; over 8,192
--- blocks; blocks past the end; a WRITE that expects other than its blocks, or sends none of them; a
--- SYNCHRONIZE CACHE of blocks past the end.
+-- The reasons to refuse an order on a disk of n blocks, in their order. The command is unknown, or
+-- the unit is not 0, but for the standard INQUIRY data. Data go both ways, or to a command that
+-- takes none. The command asks for protection (RDPROTECT or WRPROTECT), or for a page or a report
+-- that there is not. It names over 8,192 blocks, or blocks past the end. A WRITE expects other than
+-- its blocks, or sends none of them. A SYNCHRONIZE CACHE names blocks past the end.
 abbrev pub refusals : Order → ℕ → List (Bool × Sense)
 refusals order blocks =
     let named = transfer order.cdb in

@@ -15,9 +15,9 @@ whole_blocks order (Give length) =
     else None
 whole_blocks order _ = None
 
--- These bytes were read from n blocks, over a store whose failures were counted before and
--- after: they are those of the disk where none was counted, and one was counted and not told only
--- where the store doesn't tell each.
+-- These bytes were read from n blocks, over a store whose failures were counted before and after.
+-- If none was counted, the bytes are those of the disk. A failure was counted and not told only if
+-- the store doesn't tell each.
 pub record WereRead (disk : Disk) (first count before after : ℕ) (bytes : List ℕ) : Type 0 where
   pub size : size bytes ≡ 512 * count
   pub works : after ≡ before → bytes ≡ blocks_from disk first count

@@ -179,9 +179,9 @@ fn settled(
 /// the outcome may then be GOOD, after a READ with any bytes. An error says that memory ran out, and
 /// no block has changed.
 ///
-/// Where a crash would have left the blocks and nothing else, it still does, if no failure was
-/// counted, over a store that syncs no writes; over another one, once it is synced. A crash
-/// meanwhile leaves each block as it was or as the order leaves it.
+/// If a crash would have left the blocks and nothing else, it still does if no failure was counted.
+/// That is so over a store that syncs no writes; over another store it is so once that store is
+/// synced. A crash meanwhile leaves each block as it was or as the order leaves it.
 ///
 /// The data of a READ or WRITE are copied once. Status and sense are those of SPC-4, the residual
 /// is an own rule: what the command has is held against what the initiator expects.

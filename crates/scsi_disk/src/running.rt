@@ -13,11 +13,11 @@ use std::alloc::{AllocError, Global};
 /// Executes orders in turn, each with its bytes, and gives the outcome of each.
 ///
 /// Each order has the bytes that it takes. An order at which the device of the store fails has its
-/// outcome too, and those behind it are executed. Where the device does not fail, outcomes and
-/// blocks are those of the orders' effects one after another, whichever store it is (the law
-/// `run_without_failures`), and once the store is synced a crash leaves these blocks, if at first it
-/// would have left the blocks as they were and nothing else. An error says that memory ran out; then
-/// some first orders are done, and no others.
+/// outcome too, and those behind it are executed. If the device does not fail, outcomes and blocks
+/// are those of the orders' effects one after another, whichever store it is (the law
+/// `run_without_failures`). Then, once the store is synced, a crash leaves these blocks, if at
+/// first it would have left the blocks as they were and nothing else. An error says that memory ran
+/// out; then some first orders are done, and no others.
 pub fn run_orders<S: BlockStore>(
     alloc: Global,
     orders: &[(Order, Bytes)],

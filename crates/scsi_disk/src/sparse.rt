@@ -60,8 +60,8 @@ pub const MOST_BLOCKS: u64 = 1_099_511_627_776;
 /// A store of 1 to 2^40 blocks. A block that was never written is 00.
 ///
 /// It keeps extents of 64 blocks in an ordered map. A transfer looks up each extent that it reaches
-/// into once. A read takes no memory. A write first goes over its extents, from the first of them;
-/// where not all are there, it takes memory for the others, of 00, before it changes a byte, so
+/// into once. A read takes no memory. A write first goes over its extents, from the first of them.
+/// If not all are there, the write takes memory for the others, of 00, before it changes a byte. So
 /// after `NoMemory` no block has changed. The device does not fail.
 #[derive(Drop)]
 pub struct SparseStore {

@@ -32,9 +32,9 @@ impl From<AllocError> for StoreFault {
 
 /// Blocks of 512 bytes, numbered from 0.
 ///
-/// Contracts see a store as the number of its blocks with the bytes of each, as the number of times
-/// that its device failed, and as what each block may be after a crash, block by block. What they
-/// say of blocks is so where no failure was counted.
+/// Contracts see a store as the number of its blocks with the bytes of each, and as the number of
+/// times that its device failed. They also see it as what each block may be after a crash, block by
+/// block. What they say of blocks is so where no failure was counted.
 pub trait BlockStore {
     /// What is stored, however it is kept.
     ghost disk: { Self → Disk };

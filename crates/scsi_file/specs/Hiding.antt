@@ -8,8 +8,8 @@ use Rattle.scsi_disk.specs.Disk.{Disk}
 abbrev pub hiding : Disk → Disk
 hiding disk = record { count = disk.count; block = disk.block; tells = false }
 
--- How often a medium did something else than it said, before a call and after it: never, where it
--- tells each failure, and not at this call, where memory ran out.
+-- How often a medium did something else than it said, before a call and after it. A medium that
+-- tells each failure never does so, and no medium does so at a call at which memory ran out.
 pub record Hides {T : Type 0} (tells : Bool) (before after : ℕ) (result : Result T StoreFault)
     : Type 0 where
   pub rises : before ≤ after

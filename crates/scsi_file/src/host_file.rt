@@ -1,9 +1,9 @@
 //! A file of the operating system as a medium.
 //!
-//! No contract says what a file keeps. So each of its calls counts as one that may have done
-//! something else than it said, and a crash may leave anything: what is proved of a store on it is
-//! that it asks the right things in the right order, and nothing more after a sync that failed.
-//! What is left to read is that each call below asks the system for what its name says.
+//! No contract says what a file keeps. So each call of a file counts as one that may have done
+//! something else than it said, and a crash may leave anything. What is proved of a store on a file
+//! is that the store asks the right things in the right order, and nothing more after a sync that
+//! failed. What is left to read is that each call below asks the system for what its name says.
 
 ghost use Rattle.std.specs.Prelude.{◌≡◌, true, ◌<◌, ◌≤◌, ◌*◌, ◌^◌, IfErr, IfOk, OnErr, OnOk};
 ghost use Rattle.scsi_disk.specs.Disk.{most_blocks};

@@ -154,8 +154,8 @@ fn each_header_byte_is_changed(rt: HostRuntime) {
     }
 }
 
-/// A packet of raw IPv4 as hex text, how many bytes it had on the link, and what it tells: flags
-/// SYN, ACK, FIN and RST, how many bytes there are, and how many are missing.
+/// A packet of raw IPv4 as hex text, how many bytes it had on the link, and what it tells. It tells
+/// the flags SYN, ACK, FIN and RST, how many bytes there are, and how many are missing.
 type Row = (
     &'static str,
     &'static str,

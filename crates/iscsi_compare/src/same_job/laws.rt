@@ -25,8 +25,8 @@ pub fn through_a_third()
     ensures { (ms ns os : List Message) → SameJob ms ns → SameJob ns os → SameJob ms os }
 {}
 
-/// Of two streams of the profile, of which as much was read as was needed: a verdict says truly
-/// whether they are of one job, and no fault of a stream is returned.
+/// A verdict on two streams of the profile says truly whether they are of one job, and no fault of
+/// a stream is returned. This holds if as much of the streams was read as was needed.
 pub fn whole_runs()
     ensures same { (s t : List ℕ) (ms ns : List Message) (left other_left : Option (List ℕ))
         (first second : Input) → Gave (Some s) left first → Gave (Some t) other_left second

@@ -17,8 +17,8 @@ use iscsi_pdu::{Head, Pdu, RESERVED_TAG};
 use iscsi_stream::Framer;
 use std::alloc::{AllocError, Global};
 
-/// What two runs of one job number differently, as far as their PDUs have said it: names of the one
-/// run with those of the other, and how many steps their serial numbers are apart.
+/// What two runs of one job number differently, as far as their PDUs have said it. These are names
+/// of the one run with those of the other, and how many steps their serial numbers are apart.
 ///
 /// It grows with the number of distinct tags, ISIDs and TSIHs, and takes a time for each PDU that
 /// grows with the logarithm of that number.
@@ -50,9 +50,9 @@ impl Renaming {
     }
 
     /// Whether some renumbering that agrees with all that is known gives what stands next in the
-    /// second stream from what stands next in the first: a PDU that is ready in both, or none in
-    /// either. If so, it learns which. Returns `AllocError` where memory runs out; what is known is
-    /// then of no use.
+    /// second stream from what stands next in the first. Then a PDU is ready in both streams, or
+    /// none in either. If there is such a renumbering, it learns which. Returns `AllocError` if
+    /// memory runs out; what is known is then of no use.
     pub(crate) fn accepts_next(
         &mut self,
         alloc: Global,

@@ -1,5 +1,5 @@
 //! Responses to the outstanding request (RFC 7143, section 11): a method for each kind of PDU that may
-//! answer, but for the data of a read and R2Ts, which have files of their own.
+//! answer. The data of a read and R2Ts are not among them: they have files of their own.
 
 ghost use Rattle.std.specs.Prelude.{◌≡◌, None, Some};
 ghost use Rattle.std.specs.Option.{option_map};

@@ -20,8 +20,8 @@ fn offers<'a>(initiator: &'a [u8], target: &'a [u8], max_recv: u32) -> Offers<'a
     }
 }
 
-/// A configuration: what is told of it, the names, the longest segment that is taken, the stage of the
-/// first request, the longest segment of a login text, and its fault.
+/// A configuration: what is told of it, the names, the longest segment that is taken, and the stage of
+/// the first request. The longest segment of a login text and the fault of the configuration follow.
 type Row = (
     &'static str,
     &'static [u8],

@@ -1,12 +1,13 @@
 //! Sessions by example, in pieces of any length.
 //!
-//! A line with `T>` is a PDU that the target sends, one with `I>` a PDU that the initiator sends: the
-//! header in hex, and what the segment has, without padding: nothing, words of hex, as `5a*512` for
-//! so many of a byte, behind an apostrophe a text, in which `|` stands for a byte 00, or `@` for the
-//! standard text of the operational stage. A line with `#` begins a session. A line with
-//! `!` is a call: `start`, `finish`, `outcome` or a request. A line with `=` says what is answered by
-//! the call, or by the one that takes the PDUs that came since the last answer. A line with `:` has
-//! bytes of an outcome, and one with `?` says in which phase and stage the session is.
+//! A line with `T>` is a PDU that the target sends, and a line with `I>` is a PDU that the initiator
+//! sends. A PDU is its header in hex, and what its segment has, without padding. The segment is
+//! nothing, words of hex, `5a*512` for 512 bytes `5a`, a text behind an apostrophe, or `@` for the
+//! standard text of the operational stage. In a text, `|` stands for a byte 00. A line with `#`
+//! begins a session. A line with `!` is a call: `start`, `finish`, `outcome` or a request. A line
+//! with `=` says what is answered by the call, or by the one that takes the PDUs that came since the
+//! last answer. A line with `:` has bytes of an outcome, and one with `?` says in which phase and
+//! stage the session is.
 
 use super::breaches::BREACHES;
 use super::logins::LOGINS;

@@ -1,6 +1,7 @@
-//! Requests as dialogues. The bytes were laid out by a script from the tables of RFC 7143,
-//! section 11, or taken from the capture in `docs/session`, with other task tags, without the two
-//! marker keys and without its logout. The file is long for its rows, and has nothing else.
+//! Requests as dialogues. The bytes were laid out by a script from the tables of RFC 7143, section
+//! 11, or taken from the capture in `docs/session`. Those of the capture have other task tags, and
+//! come without the two marker keys and without the capture's logout. The file is long for its
+//! rows, and has nothing else.
 
 /// Requests and their outcomes.
 pub const REQUESTS: &str = "# standard, logged in: two pings\n\

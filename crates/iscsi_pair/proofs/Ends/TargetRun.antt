@@ -30,8 +30,9 @@ use Rattle.iscsi_target.proofs.StreamingLemmas.{goes_on}
 use Rattle.iscsi_pair.specs.World.{Opening, store_of, target_ran_out}
 use Rattle.iscsi_pair.specs.Traffic.{said}
 
--- The first of the bytes moved are these messages, and the answers to them were queued; a failed end did nothing with the others,
--- but that it answered some tasks of the next one where memory ran out at one of them, in full feature phase.
+-- The first of the bytes moved are these messages, and the answers to them were queued. A failed end did nothing with
+-- the other messages, but for some tasks of the next one. It answered such tasks only if memory ran out at one of them,
+-- in full feature phase.
 pub record TargetFront (c : Opening) (moved out : List ℕ) (t : Connection) (fault : Option TargetFault) : Type 0 where
   pub limit : ℕ
   pub messages : List Message

@@ -28,8 +28,8 @@ use Rattle.iscsi_pair.proofs.Request.Invariant.{AreWritten, ReceivesWell, Histor
 use Rattle.iscsi_pair.proofs.Run.DiskInvariant.{HaveAgreed, receives_well, most_back, most_out, written_within}
 use Rattle.iscsi_pair.proofs.Lists.StepLemmas.{requests_append, initiator_asked, initiator_receives, level, served_more, Spot, spot_after, target_receives}
 
--- A run that was served has come to a world with these ends, in which no PDU is begun, and with these messages on their way to
--- the target and to the initiator.
+-- A run that was served has come to a world with these ends, in which no PDU is begun. In this world these messages are
+-- on their way to the target and to the initiator.
 pub record Stays (c : Opening) (x : Exchange) (out : List Message) (s : SoFar) : Type 0 where
   pub events : List Event
   pub blocks : List ℕ

@@ -117,8 +117,8 @@ none_said k back taken_ y m ms extra t login (inr full) q f = (let bad : phases.
 
 -- ---- the exchange
 
--- What stays throughout: the configurations, what the target says behind its login, the most bytes of a segment at either
--- end, and what is left over of the bytes for the target and of those for the initiator.
+-- What stays throughout: the configurations, what the target says behind its login, and the most bytes of a segment at
+-- either end. What is left over of the bytes for the target and of those for the initiator stays too.
 pub record Way : Type 0 where
   pub opening : Opening
   pub extra : List Message

@@ -71,8 +71,8 @@ pub record IsPart (i : initiator.Machine) (t : target.Machine) (logins : Logins)
   pub short : length bytes ≤ 8192
   pub part : (not logins.request && is_sent i.unsent_text) ≡ false
 
--- The initiator has asked, and the target has not yet received it: both are in their login, and hold the same but for what
--- the initiator has not yet declared of itself.
+-- The initiator has asked, and the target has not yet received the request. Both are in their login, and hold the same
+-- but for what the initiator has not yet declared of itself.
 pub record Asking (c : Opening) (i : initiator.Machine) (t : target.Machine) (logins : Logins) (r : Message) : Type 0 where
   pub settings : i.settings ≡ c.initiator
   pub phase : i.phase ≡ phases.Login

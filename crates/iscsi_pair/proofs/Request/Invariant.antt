@@ -84,8 +84,8 @@ limits out back = record { out = out; back = back }
 abbrev pub limits_of : Opening → Limits
 limits_of c = limits (target_session.limit c.target) (calls.limit c.initiator)
 
--- What holds of both ends and the disk once the target has received all that was sent: of the answers that the initiator has
--- not yet received, and of what was said, asked and taken.
+-- What holds of both ends and the disk once the target has received all that was sent. The relation speaks also of
+-- the answers that the initiator has not yet received, and of what was said, asked and taken.
 abbrev pub Relation : Type 1
 Relation = Exchange → SoFar → Type 0
 

@@ -40,8 +40,8 @@ const REFUSALS: &str =
     21820002 00000014 00000000 00000000 00000002 00000000 00000003 00000003 0000000a 00000000 00000000 00000200 0012700003000000000a000000000c0000000000\n\
     26800000 00000000 00000000 00000000 00000003 00000000 00000004 00000003 0000000a 00000000 00000000 00000000";
 
-/// What comes of the session where a medium stops after so many calls: a store syncs it as it
-/// begins, and the session asks it for two writes and for one sync.
+/// What comes of the session if a medium stops after a number of calls. A store syncs the medium as
+/// the store begins, and the session asks the medium for two writes and for one sync.
 struct Row {
     calls: u64,
     answers: &'static str,

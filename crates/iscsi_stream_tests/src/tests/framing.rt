@@ -1,7 +1,7 @@
 //! Calls of a framer one by one, as scripts.
 //!
-//! A line is a call and what it answers, in Rust's debugging form: `new 3` begins a framer with this limit,
-//! `feed 0 47` feeds bytes 0 to 47 of the stream, `segment` is what the ready PDU has, `ready` says
+//! A line is a call and what it answers, in Rust's debugging form. `new 3` begins a framer with the limit
+//! 3, and `feed 0 47` feeds bytes 0 to 47 of the stream. `segment` is what the ready PDU has, `ready` says
 //! whether there is one, and `rest` counts the bytes of the stream past the framer's place.
 
 use super::rows::{LOGIN_IN_THREE, MIXED_REQUESTS, NOP_OUT, lines_of};

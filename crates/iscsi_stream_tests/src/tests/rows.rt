@@ -1,9 +1,9 @@
 //! Streams and their canonical streams, worked out by hand from the tables of RFC 7143, section 11.
 //!
-//! A row is a name and the lines below it, up to a blank one. A line with `>` is a PDU that comes, the
-//! one with `<` behind it that PDU in the canonical stream: the header in hex, and its segment with the
-//! padding: nothing, bytes in hex, `5a*512` for so many of a byte, or behind an apostrophe a text, in
-//! which `|` stands for a byte 00 and `~` for a byte ff.
+//! A row is a name and the lines below it, up to a blank one. A line with `>` is a PDU that comes, and
+//! the line with `<` behind it is that PDU in the canonical stream. A PDU is its header in hex, and its
+//! segment with the padding. The segment is nothing, bytes in hex, `5a*512` for 512 bytes `5a`, or a
+//! text behind an apostrophe. In a text, `|` stands for a byte 00 and `~` for a byte ff.
 
 use super::{came_of, nth_row, written_of};
 use std::alloc::Global;

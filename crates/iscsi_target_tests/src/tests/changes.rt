@@ -12,12 +12,12 @@ use std::alloc::Global;
 use std::process::Abort;
 
 // PDUs behind the login of the dialogues: without InitialR2T, so that a write whose bit F is cleared
-// waits for data of its own. If each byte of the header in turn has each value, so many have a canonical form:
-// any value of a byte is taken but for bytes 0 and 4 to 7: 43 * 256 PDUs. Byte 0 has one of the 17 opcodes
-// below two bits that refuse nothing: 17 * 4. Byte 4 has to be 00. Bytes 5 to 7 have to say the length of
-// the segment: a longer one is not whole, and what a shorter one leaves over is no PDU. So each of the
-// four has one value, but byte 7 of the ping four: segments of 1 to 4 bytes fill the same word with their
-// padding.
+// waits for data of its own. Each byte of the header in turn has each value, and `forms` counts the PDUs that
+// have a canonical form. Any value of a byte is taken but for bytes 0 and 4 to 7: 43 * 256 PDUs. Byte 0 has one
+// of the 17 opcodes below two bits that refuse nothing: 17 * 4. Byte 4 has to be 00. Bytes 5 to 7 have to say
+// the length of the segment: a longer one is not whole, and what a shorter one leaves over is no PDU. So each
+// of the four has one value, but byte 7 of the ping four: segments of 1 to 4 bytes fill the same word with
+// their padding.
 
 /// How many blocks the disk has.
 const BLOCKS: u64 = 2048;
@@ -54,9 +54,12 @@ const OTHERS: Count = Count {
 const WHOLE: &str =
     "01a10000 00000200 00000000 00000000 00000001 00000200 00000001 00000003 2a000000 00000000 01000000 00000000 5a*512";
 
-// A byte of it that has another canonical form: the highest bit of byte 0, with or without the bit of immediate commands: 2;
-// some of two bits of byte 1, with any attribute: 3 * 8; bytes 2 and 3: 2 * 255; some of three bits of byte 38, with any
-// group: 7 * 32; bytes 42 to 47: 6 * 255.
+// `writes` counts these values of one byte, with which the PDU has another canonical form:
+// - Byte 0 has the highest bit, with or without the bit of immediate commands: 2.
+// - Byte 1 has some of two bits, with any attribute: 3 * 8.
+// - Byte 2 or 3 has another value: 2 * 255.
+// - Byte 38 has some of three bits, with any group: 7 * 32.
+// - One of bytes 42 to 47 has another value: 6 * 255.
 const WHOLES: Count = Count {
     forms: 11_080,
     writes: 2290,

@@ -2,12 +2,18 @@
 //! are worked out by hand from the tables of RFC 7143, section 11; the bytes of some were laid out by a
 //! script. The file is long for its rows, and has nothing else.
 //!
-//! A line with `I>` is a PDU that the initiator sends, one with `T>` a PDU that the target answers: the header in hex, and
-//! what the segment has, without padding: nothing, bytes in hex, `5a*512` for so many of a byte, or
-//! behind an apostrophe a text, in which `|` stands for a byte 00, and `+500` at its end for so many
-//! keys more, from `K000=1` on. A line with `#` says how many of the first 16 blocks are of 5a when these
-//! PDUs were answered, while those behind them are of 00. A line with `=` says what the call
-//! answers that takes the PDUs since the last one: a phase, a broken rule, or that it was closed.
+//! A line with `I>` is a PDU that the initiator sends, and one with `T>` is a PDU that the target answers.
+//! Such a line has the header in hex, and what the segment has, without padding:
+//!
+//! - The segment has nothing.
+//! - Bytes stand in hex.
+//! - `5a*512` stands for 512 bytes of 5a.
+//! - A text stands behind an apostrophe. In the text `|` stands for a byte 00, and `+500` at its end stands for
+//!   500 keys more, from `K000=1` on.
+//!
+//! A line with `#` says how many of the first 16 blocks are of 5a when these PDUs were answered, while those
+//! behind them are of 00. A line with `=` says what the call answers that takes the PDUs since the last one: a
+//! phase, a broken rule, or that it was closed.
 
 /// A session: its name, whether it begins without a login, and its lines.
 pub type Dialogue = (&'static str, bool, &'static str);

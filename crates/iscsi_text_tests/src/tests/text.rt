@@ -258,8 +258,8 @@ fn check_twice(rt: &impl Abort, alloc: Global, name: &str, bytes: &[u8], want: &
     same(rt, &out.as_slice(), &want, &name);
 }
 
-// What `rt try --test --fail-alloc N` is for: what is refused answers that memory is out and leaves
-// `out` as it was, and the next call writes what ample memory gives.
+// What `rt try --test --fail-alloc N` is for. What is refused answers that memory is out and leaves
+// `out` as it was. The next call writes what ample memory gives.
 #[test]
 fn refused_memory_changes_no_answer(rt: HostRuntime) {
     for (name, bytes, want) in CANONICAL {

@@ -1,6 +1,6 @@
-//! Answers of a target, worked out by hand from RFC 7143 and the rules of the profile: a line for
-//! each PDU, with its header in hex and, behind an apostrophe, the text of its segment, in which
-//! `|` stands for a byte 00; `5a*512` are 512 bytes of 5a. The padding is left out.
+//! Answers of a target, worked out by hand from RFC 7143 and the rules of the profile. They have a
+//! line for each PDU, with its header in hex and, behind an apostrophe, the text of its segment. In
+//! the text `|` stands for a byte 00, and `5a*512` are 512 bytes of 5a. The padding is left out.
 
 use crate::asserts::same;
 use iscsi_examples::{Broken, CUT, FIRST_ANSWER, Full, NAMELESS, PING, REFUSAL, pdus_of};

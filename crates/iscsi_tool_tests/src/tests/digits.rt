@@ -50,7 +50,7 @@ fn answers(rt: &impl Abort, alloc: Global) -> Vec<u8> {
 }
 
 // A writer that takes a byte at a time has the first digits of what is due, as many as it has room
-// for, and all of it where it has room.
+// for. If the writer has room for all of what is due, it has all of it.
 fn check_narrow(rt: &impl Abort, alloc: Global, text: &str, due: &[u8], room: usize) {
     let mut source = text.as_bytes();
     let mut out = Narrow {

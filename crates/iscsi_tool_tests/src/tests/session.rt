@@ -144,7 +144,7 @@ fn digits_of(rt: &impl Abort, alloc: Global, text: &[u8]) -> Vec<u8> {
     digits.expect(rt, "digits")
 }
 
-// The canonical stream as hex text: each bit that is free is 0 already, and each pad byte, so that only the
+// The canonical stream as hex text. Each bit that is free is 0 already, and so is each pad byte. So only the
 // keys of the login text, behind its header, are in another order.
 fn canonical_of(rt: &impl Abort, alloc: Global, text: &[u8], keys: &str) -> Vec<u8> {
     let digits = digits_of(rt, alloc, text);

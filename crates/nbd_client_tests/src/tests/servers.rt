@@ -50,7 +50,7 @@ fn read<S: BlockStore>(store: &mut S) -> Result<[u8; 8], StoreFault> {
 }
 
 /// After how many calls the server's medium stops, what comes of two writes that are synced and of a
-/// read, and what a crash leaves that takes back each block's last write, if it can.
+/// read, and what a crash leaves. The crash takes back each block's last write, if it can.
 type Row = (
     u64,
     [Result<(), StoreFault>; 2],

@@ -7,9 +7,10 @@ use std::alloc::{AllocError, Global};
 use std::process::Abort;
 use std::test::Fail;
 
-/// What comes of two writes, of `XY` to blocks 2 and 3 and of `Z` to block 3, and of a sync, where a
-/// medium stops after so many calls: a store syncs it as it begins, and each write and sync asks it
-/// for one.
+/// What comes of two writes and of a sync, if a medium stops after a number of calls.
+///
+/// The writes are of `XY` to blocks 2 and 3 and of `Z` to block 3. A store syncs its medium as the
+/// store begins, and each write and sync asks the medium for one call.
 struct Row {
     /// Whether the first write is synced before the second one.
     apart: bool,

@@ -84,9 +84,11 @@ impl Medium for LiesOnce {
     }
 }
 
-/// What comes of a write of `XY` to blocks 2 and 3 and of a read, where one call of the medium is
-/// not made: a store syncs it as it begins, and is asked for a write, a sync and the read. Each is
-/// answered well.
+/// What comes of a write of `XY` to blocks 2 and 3 and of a read, if one call of the medium is not
+/// made.
+///
+/// A store syncs its medium as the store begins, and is asked for a write, a sync and the read.
+/// Each is answered well.
 struct Row {
     lie: u64,
     /// What the read gives.
