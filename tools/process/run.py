@@ -179,6 +179,7 @@ ROWS = [
     Row("too much time", [*SERVE, "--at-once", "1", "--login-within", "65536"], says=b"'--login-within <S>' takes a number", status=2),
     Row("a time limit without --at-once", [*SERVE, "--idle", "1"], says=b"--at-once", status=2),
     Row("a port to print without --at-once", [*SERVE, "--print-port"], says=b"--at-once", status=2),
+    Row("a log without --at-once", [*SERVE, "--log"], says=b"--at-once", status=2),
     Row("neither a size nor an image", IMAGE[:-1], says=b"the disk size is missing", status=2),
     Row("an image without a name", IMAGE, says=b"a value is required for '--file <F>'", status=2),
     Row("an image to be made without its size", [*IMAGE, "a", "--create"], says=b"the disk size is missing", status=2),

@@ -328,6 +328,35 @@ def escapes_names(program):
         return goes_on(service) and service.lines() == line.encode()
 
 
+def logs_sessions(program):
+    with Service(program, "--blocks", "8", "--log") as service:
+        one, two = (peer.getsockname()[1] for peer in service.peers)
+        reader = service.peers[0]
+        for n in (1, 2):
+            reader.sendall(pdu(0x01, p1=b"\xc1", p16=number(n), p20=number(512), p24=number(n), p32=bytes([0x28]) + bytes(7) + b"\1"))
+            if len(reader.recv(4096)) < 48 + 512:
+                return False
+        reader.sendall(pdu(0x06, p1=b"\x80", p16=number(3), p24=number(3)))
+        reader.recv(48)
+        service.peers[1].close()
+        other = service.connect()
+        third = other.getsockname()[1]
+        text = b"InitiatorName=iqn.2026-01.example:c\0TargetName=iqn.2026-01.example:other\0"
+        other.sendall(pdu(0x43, text, p1=b"\x87", p24=number(1)))
+        other.recv(4096)
+        time.sleep(0.5)
+        lines = service.lines().decode().splitlines()
+    a, b = "iqn.2026-01.example:a", "iqn.2026-01.example:b"
+    counts = r"; ([0-9]+) commands, [1-9][0-9]* bytes received, [1-9][0-9]* bytes sent, [0-9]+ seconds"
+    wanted = {
+        f"session 1 127.0.0.1:{one} {a}: logged in": None, f"session 2 127.0.0.1:{two} {b}: logged in": None,
+        f"session 1 127.0.0.1:{one} {a}: logged out": "2", f"session 2 127.0.0.1:{two} {b}: disconnected": "0",
+        f"session 3 127.0.0.1:{third}: login refused: 0203": "0",
+    }
+    ends = [re.fullmatch(f"(.*?)(?:{counts})?", line) for line in lines]
+    return {end.group(1): end.group(2) for end in ends} == wanted and len(lines) == len(wanted)
+
+
 def write(peer, block, n=1):
     """The status of a write of one block, the n-th command of a session, and the code of its sense."""
     cdb = b"\x2a\0" + number(block) + b"\0\0\1\0"
@@ -421,6 +450,7 @@ ROWS = [
     ("a standard error that nobody reads", has_no_reader),
     ("the line of a session", names_sessions),
     ("a name with a backslash", escapes_names),
+    ("a log of sessions", logs_sessions),
     ("20,000 lone blocks", has_lone_blocks),
     ("a disk that is full", has_a_limit_of_memory),
     ("a peer that takes all memory", has_little_memory),

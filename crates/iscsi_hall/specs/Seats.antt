@@ -121,6 +121,11 @@ abbrev pub initiator_at : Option Seat → List ℕ
 initiator_at None = []
 initiator_at (Some s) = s.connection.machine.session.initiator_name
 
+-- The CmdSN that the next numbered request there is to have; 0 if nobody is there.
+abbrev pub expected_command_at : Option Seat → ℕ
+expected_command_at None = 0
+expected_command_at (Some s) = s.connection.machine.session.exp_cmd_sn
+
 -- What waits to be written there.
 abbrev pub waiting_at : Option Seat → List ℕ
 waiting_at None = []

@@ -6,7 +6,7 @@ ghost use Rattle.scsi_disk.specs.Disk.{Tells};
 ghost use Rattle.scsi_disk.specs.Lasting.{Lasts, Settled, Within};
 ghost use Rattle.iscsi_target.specs.Crash.{CrashesNext};
 ghost use Rattle.iscsi_target.specs.Inside.{store_of};
-ghost use Rattle.iscsi_hall.specs.Seats.{initiator_at, opening_seat, phase_of, may_read_at, may_take_at, most_read, received, with_sent, waiting_at, seat_at, with_seat, Changes, Takes, FinishesAt};
+ghost use Rattle.iscsi_hall.specs.Seats.{expected_command_at, initiator_at, opening_seat, phase_of, may_read_at, may_take_at, most_read, received, with_sent, waiting_at, seat_at, with_seat, Changes, Takes, FinishesAt};
 ghost use Rattle.iscsi_hall.specs.Reinstatement.{takes_place_of};
 ghost use Rattle.iscsi_hall.specs.Turns.{Comes, Ends, Goes, Happens, HappensIn, SameMachines, Syncs, TakesTurn, machines};
 
@@ -119,6 +119,17 @@ impl Hall {
         match self.at(seat) {
             Some(taken) => taken.initiator_name(),
             None => &[],
+        }
+    }
+
+    /// The CmdSN that the next numbered request at the seat is to have (ExpCmdSN; RFC 7143, section
+    /// 4.2.2.1). It is 0 before a login, once the session is closed, and if the seat is free.
+    pub fn expected_command(&self, seat: usize) -> u32
+        ensures { result ≡ expected_command_at (seat_at self.now seat) }
+    {
+        match self.at(seat) {
+            Some(taken) => taken.expected_command(),
+            None => 0,
         }
     }
 

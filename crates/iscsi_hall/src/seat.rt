@@ -77,6 +77,13 @@ impl Seat {
         self.target.initiator_name()
     }
 
+    /// The CmdSN that the next numbered request is to have.
+    pub fn expected_command(&self) -> u32
+        ensures { result ≡ self.now.connection.machine.session.exp_cmd_sn }
+    {
+        self.target.expected_command()
+    }
+
     /// Whether the session goes on, all that was read was taken, and nothing waits.
     pub fn may_read(&self) -> bool
         ensures { result ≡ may_read self.now }

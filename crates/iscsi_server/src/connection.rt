@@ -36,6 +36,9 @@ pub struct Connection {
     has_mark: bool,
     accepted: Instant,
     moved: Instant,
+    // how many bytes were read, and written
+    received: u64,
+    sent: u64,
 }
 
 impl Connection {
@@ -51,6 +54,8 @@ impl Connection {
             has_mark: false,
             accepted: now,
             moved: now,
+            received: 0,
+            sent: 0,
         }
     }
 
@@ -85,6 +90,7 @@ impl Connection {
                 let is_emptied = count < buffer.len() && !self.has_mark;
                 self.is_readable = self.is_half_closed || !is_emptied;
                 self.moved = now;
+                self.received = self.received.saturating_add(count as u64);
                 Moved::Bytes(count)
             }
             Err(error) => {
@@ -104,6 +110,7 @@ impl Connection {
                 // A short write has filled the socket, and the system tells when it has room again.
                 self.is_writable = count == bytes.len();
                 self.moved = now;
+                self.sent = self.sent.saturating_add(count as u64);
                 Moved::Bytes(count)
             }
             Err(error) => {
@@ -118,9 +125,19 @@ impl Connection {
         self.address
     }
 
-    /// When it was accepted.
-    pub fn accepted(&self) -> Instant {
-        self.accepted
+    /// How many bytes were read.
+    pub fn received(&self) -> u64 {
+        self.received
+    }
+
+    /// How many bytes were written.
+    pub fn sent(&self) -> u64 {
+        self.sent
+    }
+
+    /// When a byte went over it last.
+    pub fn moved(&self) -> Instant {
+        self.moved
     }
 
     /// How long ago it was accepted.

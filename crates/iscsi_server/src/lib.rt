@@ -5,7 +5,6 @@ mod accepting;
 mod budget;
 mod configuration;
 mod connection;
-mod end_line;
 pub mod laws;
 mod limited;
 mod limits;
@@ -17,7 +16,9 @@ mod room;
 mod server;
 mod service;
 mod session_end;
+mod session_line;
 mod system;
+mod tally;
 
 pub use limited::{LEAST_MEMORY, LimitedStore, MEMORY, MOST_MEMORY};
 pub use limits::{LOGIN_WITHIN, Limits};

@@ -36,4 +36,6 @@ pub struct Options<'a> {
     pub memory: u64,
     /// Whether the port is printed.
     pub print_port: bool,
+    /// Whether logins and ends of sessions are told on standard error.
+    pub log: bool,
 }

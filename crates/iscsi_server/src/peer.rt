@@ -9,6 +9,7 @@ use crate::budget::Budget;
 use crate::connection::{Connection, Moved};
 use crate::limits::Limits;
 use crate::session_end::SessionEnd;
+use crate::tally::Tally;
 use iscsi_hall::{Hall, MOST_READ};
 use iscsi_login::Phase;
 use scsi_disk::BlockStore;
@@ -25,6 +26,8 @@ pub struct Peer {
     pub connection: Connection,
     /// Why its session ends; the first reason stays, but where a sync fails.
     pub end: Option<SessionEnd>,
+    /// What came of the session so far.
+    pub tally: Tally,
 }
 
 // What a step leaves to do.
@@ -44,6 +47,7 @@ impl Peer {
         Peer {
             connection,
             end: None,
+            tally: Tally::new(),
         }
     }
 
@@ -188,10 +192,20 @@ impl Peer {
     {
         let was = hall.phase(seat);
         self.take_pdu(hall, store, seat, left);
+        self.note(hall, seat, was);
         if was == hall.phase(seat) {
             Step::Went
         } else {
             Step::Rests
+        }
+    }
+
+    // Notes what a PDU led to, behind which the session was in this phase.
+    fn note(&mut self, hall: &Hall, seat: usize, was: Option<Phase>) {
+        match (was, hall.phase(seat)) {
+            (_, Some(Phase::Full)) => self.tally.expect(hall.expected_command(seat)),
+            (Some(Phase::Login), Some(Phase::Closed)) => self.tally.refuse(hall.waiting(seat)),
+            _ => {}
         }
     }
 

@@ -80,6 +80,7 @@ fn options(sessions: u16, at_once: u16, idle: u16) -> Options<'static> {
         preferences: Preferences::standard(),
         memory: MEMORY,
         print_port: false,
+        log: false,
     }
 }
 

@@ -122,6 +122,13 @@ impl Machine {
         self.session.numbers(self.waiting())
     }
 
+    /// The CmdSN that the next numbered request is to have.
+    pub fn expected_command(&self) -> u32
+        ensures { result ≡ self.now.session.exp_cmd_sn }
+    {
+        self.numbers().exp_cmd_sn
+    }
+
     // An answer was sent that carries StatSN and advances it.
     fn count(&mut self)
         ensures { self.new ≡ record self.old { session = counted self.old.session } }

@@ -153,6 +153,14 @@ impl Target {
         self.machine.initiator_name()
     }
 
+    /// The CmdSN that the next numbered request is to have (ExpCmdSN; RFC 7143, section 4.2.2.1). It
+    /// is 0 before a login, and once the session is closed.
+    pub fn expected_command(&self) -> u32
+        ensures number { result ≡ self.now.machine.session.exp_cmd_sn }
+    {
+        self.machine.expected_command()
+    }
+
     /// The ISID of the first Login Request; zero before (RFC 7143, section 11.12.5).
     pub fn isid(&self) -> [u8; 6]
         ensures isid { result ≡ self.now.machine.session.isid }

@@ -146,7 +146,8 @@ fn with_options<'a>(alloc: Global, program: Command<'a>) -> Result<Command<'a>, 
     let program = with_word(program, no_login_limit(alloc))?;
     let program = with_word(program, option(alloc, "memory", "BYTES", memory_help))?;
     let program = with_lengths(alloc, program)?;
-    with_word(program, print_port(alloc))
+    let program = with_word(program, print_port(alloc))?;
+    with_word(program, log(alloc))
 }
 
 // With the words for what a session may move at once.
@@ -175,6 +176,16 @@ fn print_port<'a>(alloc: Global) -> Result<Arg<'a>, AllocError> {
         alloc,
         "print-port",
         "Print the port on a second line, after 'listening'",
+    )
+    .requires_arg("at-once")
+}
+
+// `--log`, which wants `--at-once`.
+fn log<'a>(alloc: Global) -> Result<Arg<'a>, AllocError> {
+    flag(
+        alloc,
+        "log",
+        "Tell each login, and how each session ends, on standard error",
     )
     .requires_arg("at-once")
 }
@@ -221,6 +232,7 @@ pub(crate) fn service_of<'a>(alloc: Global, asked: &ArgMatches<'a>) -> Result<Jo
         preferences,
         memory: memory_of(alloc, asked)?,
         print_port: asked.get_flag("print-port"),
+        log: asked.get_flag("log"),
     };
     Ok(Job::Serve {
         storage,

@@ -4,8 +4,12 @@ ghost use Rattle.std.specs.Prelude.{◌≡◌, length};
 ghost use Rattle.iscsi_server.specs.Running.{RunsIdle};
 
 use super::Server;
-use crate::end_line::EndLine;
+use crate::peer::Peer;
 use crate::session_end::SessionEnd;
+use crate::session_line::SessionLine;
+use crate::system::now;
+use crate::tally::Ended;
+use iscsi_hall::Hall;
 use iscsi_login::Phase;
 
 impl<'a> Server<'a> {
@@ -67,32 +71,44 @@ impl<'a> Server<'a> {
         }
     }
 
-    // Tells why the session of a seat ended.
-    fn tell_end(&mut self, rt: &HostRuntime, seat: usize, end: SessionEnd)
+    // Tells that a login is completed, if that is asked for.
+    pub(super) fn tell_login(&mut self, rt: &HostRuntime, seat: usize)
         ensures same { self.new ≡ self.old }
     {
         let Some(Some(peer)) = self.peers.get(seat) else {
             return;
         };
-        let line = EndLine {
-            number: self.numbers.get(seat).copied().unwrap_or(0),
-            address: peer.connection.address(),
-            initiator: self.hall.initiator_name(seat),
-            end,
-        };
-        self.lines.tell(rt, &line);
+        if self.options.log {
+            let line = line_of(&self.numbers, &self.hall, seat, peer, "logged in");
+            self.lines.tell(rt, &line);
+        }
     }
 
-    // Frees a seat, and prints why its session ended.
+    // Tells why the session of a seat ended, if that is a fault, and of all ends if that is asked for.
+    fn tell_end(&mut self, rt: &HostRuntime, seat: usize, end: Option<SessionEnd>)
+        ensures same { self.new ≡ self.old }
+    {
+        let Some(Some(peer)) = self.peers.get(seat) else {
+            return;
+        };
+        if self.options.log {
+            let ended = ended(rt, peer, self.hall.phase(seat), end);
+            let line = line_of(&self.numbers, &self.hall, seat, peer, ended);
+            self.lines.tell(rt, &line);
+        } else if let Some(end) = end {
+            let line = line_of(&self.numbers, &self.hall, seat, peer, end);
+            self.lines.tell(rt, &line);
+        }
+    }
+
+    // Frees a seat, and tells why its session ended.
     pub(super) fn dismiss(&mut self, rt: &HostRuntime, seat: usize, end: Option<SessionEnd>)
         ensures runs { RunsIdle self.old.hall self.new.hall }
         ensures seats { length self.new.hall.seats ≡ length self.old.hall.seats }
         ensures sessions { self.new.sessions ≡ self.old.sessions }
         ensures logins { self.new.logins ≡ self.old.logins }
     {
-        if let Some(end) = end {
-            self.tell_end(rt, seat, end);
-        }
+        self.tell_end(rt, seat, end);
         self.free(seat);
         self.forget(seat);
     }
@@ -118,5 +134,35 @@ impl<'a> Server<'a> {
         if let Some(place) = self.numbers.get_mut(seat) {
             *place = 0;
         }
+    }
+}
+
+// The line of the session of a seat.
+fn line_of<'b, T>(
+    numbers: &[u16],
+    hall: &'b Hall,
+    seat: usize,
+    peer: &Peer,
+    told: T,
+) -> SessionLine<'b, T> {
+    SessionLine {
+        number: numbers.get(seat).copied().unwrap_or(0),
+        address: peer.connection.address(),
+        initiator: hall.initiator_name(seat),
+        told,
+    }
+}
+
+// How the session of a peer ends in this phase, and what went over its connection. If the system
+// doesn't tell the time, the seconds are those up to the last byte.
+fn ended(rt: &HostRuntime, peer: &Peer, phase: Option<Phase>, end: Option<SessionEnd>) -> Ended {
+    let connection = &peer.connection;
+    let now = now(rt).unwrap_or(connection.moved());
+    Ended {
+        end: peer.tally.end(phase, end),
+        commands: peer.tally.commands(),
+        received: connection.received(),
+        sent: connection.sent(),
+        seconds: connection.since_accepted(now).as_secs(),
     }
 }

@@ -85,6 +85,7 @@ impl<'a> Server<'a> {
         ensures logins { self.old.logins ≤ self.new.logins }
     {
         if is_login {
+            self.tell_login(rt, seat);
             self.end_older(rt, seat);
             self.count_login(rt);
         }

@@ -1,31 +1,30 @@
-//! The line of a session that ended.
+//! The line of a session on standard error.
 
-use crate::session_end::SessionEnd;
 use std::fmt::{self, Display, Write};
 use std::net::SocketAddr;
 
-/// The line of a session that ended: its number, where its peer is, and the initiator's name, if there
-/// is one, before why it ended.
+/// The line of a session: its number, where its peer is, and the initiator's name, if there is one,
+/// before what is told of it.
 #[derive(Clone, Copy, Debug)]
-pub struct EndLine<'a> {
+pub struct SessionLine<'a, T> {
     /// The session's number.
     pub number: u16,
     /// Where the peer is.
     pub address: SocketAddr,
     /// The initiator's name.
     pub initiator: &'a [u8],
-    /// Why the session ended.
-    pub end: SessionEnd,
+    /// What is told of the session.
+    pub told: T,
 }
 
-impl Display for EndLine<'_> {
+impl<T: Display> Display for SessionLine<'_, T> {
     fn fmt<W: Write>(&self, f: &mut fmt::Formatter<W>) -> fmt::Result {
         write!(f, "session {} {}", self.number, self.address)?;
         if !self.initiator.is_empty() {
             f.write_char(' ')?;
             write_name(self.initiator, f)?;
         }
-        write!(f, ": {}", self.end)
+        write!(f, ": {}", self.told)
     }
 }
 
