@@ -28,13 +28,13 @@ use Rattle.iscsi_loop.specs.Looping.{HaveOutcomes, FirstHaveOutcomes, Loops, Rea
 use Rattle.iscsi_loop.specs.LoopSteps.{Continues, Fails, IsOfSession, Stops, Runs}
 use Rattle.iscsi_loop.specs.Reports.{report}
 use Rattle.iscsi_loop.specs.Script.{IsScript, ScriptFails}
-use Rattle.iscsi_service.specs.declared.fault.ServeFault.{ServeFault}
-use Rattle.iscsi_service.specs.declared.fault.ServeFault.TheVariants as serve
+use Rattle.iscsi_serving.specs.declared.fault.ServeFault.{ServeFault}
+use Rattle.iscsi_serving.specs.declared.fault.ServeFault.TheVariants as serve
 use Rattle.iscsi_target.specs.declared.fault.TargetFault.{TargetFault}
 use Rattle.iscsi_target.specs.declared.fault.TargetFault.TheVariants as target
 use Rattle.iscsi_initiator.specs.declared.fault.InitiatorFault.{InitiatorFault}
 use Rattle.iscsi_initiator.specs.declared.fault.InitiatorFault.TheVariants as initiator
-use Rattle.iscsi_service.specs.Serving.{target_fault, initiator_fault}
+use Rattle.iscsi_serving.specs.Faults.{target_fault, initiator_fault}
 
 -- ---- runs in two parts
 

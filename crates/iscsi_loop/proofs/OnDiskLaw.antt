@@ -13,8 +13,8 @@ use Rattle.iscsi_initiator.specs.declared.request.Request.{Request}
 use Rattle.iscsi_pair.specs.LocalDisk.{local, local_disk, local_outcomes}
 use Rattle.iscsi_pair.proofs.Request.OneRequestLaw.{outcomes_more}
 use Rattle.iscsi_loop.specs.declared.command.Command.{Command}
-use Rattle.iscsi_service.specs.declared.fault.ServeFault.{ServeFault}
-use Rattle.iscsi_service.specs.declared.fault.ServeFault.TheVariants as serve
+use Rattle.iscsi_serving.specs.declared.fault.ServeFault.{ServeFault}
+use Rattle.iscsi_serving.specs.declared.fault.ServeFault.TheVariants as serve
 use Rattle.iscsi_loop.specs.Commands.{is_logout, request_of}
 use Rattle.iscsi_loop.specs.Reports.{report}
 use Rattle.iscsi_loop.specs.Script.{IsScript}

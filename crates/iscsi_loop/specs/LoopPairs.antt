@@ -12,7 +12,7 @@ use Rattle.iscsi_pair.specs.World.{World, Opening, Event, new_pair}
 use Rattle.iscsi_pair.specs.LocalDisk.{local}
 use Rattle.iscsi_pair.specs.Served.{RunsServed, requests_of, disk_after, disk_outcomes}
 use Rattle.iscsi_loop.specs.declared.command.Command.{Command}
-use Rattle.iscsi_service.specs.declared.fault.ServeFault.{ServeFault}
+use Rattle.iscsi_serving.specs.declared.fault.ServeFault.{ServeFault}
 use Rattle.iscsi_loop.specs.Commands.{request_of}
 use Rattle.iscsi_loop.specs.Script.{IsScript}
 use Rattle.iscsi_service.specs.Session.{target_settings}

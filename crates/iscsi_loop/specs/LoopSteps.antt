@@ -10,8 +10,8 @@ use Rattle.iscsi_initiator.specs.declared.request.SubmitFault.TheVariants as ref
 use Rattle.iscsi_initiator.specs.State.{Machine}
 use Rattle.iscsi_initiator.specs.Laws.{Event, run, accepted, given}
 use Rattle.iscsi_loop.specs.declared.command.Command.{Command}
-use Rattle.iscsi_service.specs.declared.fault.ServeFault.{ServeFault}
-use Rattle.iscsi_service.specs.declared.fault.ServeFault.TheVariants as serve
+use Rattle.iscsi_serving.specs.declared.fault.ServeFault.{ServeFault}
+use Rattle.iscsi_serving.specs.declared.fault.ServeFault.TheVariants as serve
 use Rattle.iscsi_stream.specs.Normalising.{WroteFront}
 use Rattle.iscsi_loop.specs.Commands.{request_of}
 use Rattle.iscsi_loop.specs.Reports.{report}

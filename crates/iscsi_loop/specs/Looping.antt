@@ -12,8 +12,8 @@ use Rattle.iscsi_initiator.specs.declared.request.Done.{Done}
 use Rattle.iscsi_initiator.specs.State.{Settings}
 use Rattle.iscsi_initiator.specs.Laws.{IsOutcomeOf}
 use Rattle.iscsi_loop.specs.declared.command.Command.{Command}
-use Rattle.iscsi_service.specs.declared.fault.ServeFault.{ServeFault}
-use Rattle.iscsi_service.specs.declared.fault.ServeFault.TheVariants as serve
+use Rattle.iscsi_serving.specs.declared.fault.ServeFault.{ServeFault}
+use Rattle.iscsi_serving.specs.declared.fault.ServeFault.TheVariants as serve
 use Rattle.iscsi_loop.specs.Commands.{request_of, is_logout}
 use Rattle.iscsi_loop.specs.Script.{IsScript, ScriptFails}
 use Rattle.iscsi_loop.specs.Reports.{report}

@@ -6,8 +6,8 @@ use Rattle.hex.specs.Hex.{decode_of, decode_sized}
 use Rattle.hex.specs.declared.error.FromHexError.{FromHexError}
 use Rattle.iscsi_loop.specs.declared.command.Command.{Command}
 use Rattle.iscsi_loop.specs.declared.command.Command.TheVariants.{TestUnitReady, Inquiry, Capacity, Capacity16, Luns, Read, Write, Sync, Ping, Logout}
-use Rattle.iscsi_service.specs.declared.fault.ServeFault.{ServeFault}
-use Rattle.iscsi_service.specs.declared.fault.ServeFault.TheVariants as serve
+use Rattle.iscsi_serving.specs.declared.fault.ServeFault.{ServeFault}
+use Rattle.iscsi_serving.specs.declared.fault.ServeFault.TheVariants as serve
 
 -- ---- words
 

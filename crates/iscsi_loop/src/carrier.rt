@@ -3,7 +3,7 @@
 ghost use Rattle.std.specs.Prelude.{◌≡◌, ℕ, List, IfErr, OnOk, length};
 ghost use Rattle.iscsi_loop.specs.LoopSteps.{IsOfSession};
 
-use iscsi_service::ServeFault;
+use iscsi_serving::ServeFault;
 
 /// A connection of an initiator and a target that are both here. What one end writes is read at the
 /// other, piece by piece.

@@ -9,4 +9,5 @@ mod script;
 mod socket_pair;
 
 pub use carrier::{Carrier, Channel};
-pub use loop_script::{LONGEST_PIECE, run_loop, run_over};
+pub use iscsi_serving::LONGEST_PIECE;
+pub use loop_script::{run_loop, run_over};

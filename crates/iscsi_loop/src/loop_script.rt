@@ -9,7 +9,7 @@ ghost use Rattle.iscsi_initiator.specs.Calls.{opening_connection};
 ghost use Rattle.iscsi_initiator.specs.declared.fault.InitiatorFault.TheVariants as faults;
 ghost use Rattle.iscsi_initiator.specs.declared.request.Done.{Done};
 ghost use Rattle.iscsi_initiator.specs.declared.request.Request.{Request};
-ghost use Rattle.iscsi_service.specs.declared.fault.ServeFault.TheVariants as serve;
+ghost use Rattle.iscsi_serving.specs.declared.fault.ServeFault.TheVariants as serve;
 ghost use Rattle.iscsi_loop.specs.Reports.{report};
 ghost use Rattle.iscsi_loop.specs.Commands.{request_of};
 ghost use Rattle.iscsi_loop.specs.Script.{IsScript};
@@ -27,15 +27,14 @@ use crate::socket_pair::Wire;
 use iscsi_initiator::{Config, Done, Initiator, InitiatorFault, SubmitFault};
 use iscsi_login::{Auth, Offers, Phase, Preferences, Session, Stage};
 use iscsi_pdu::LOGIN_SEGMENT;
-use iscsi_service::{FIRST_STAT_SN, ServeFault, TARGET_NAME, configuration};
+use iscsi_service::{FIRST_STAT_SN, TARGET_NAME, configuration};
+use iscsi_serving::{LONGEST_PIECE, ServeFault};
 use iscsi_stream::write_fully;
 use iscsi_target::Target;
 use scsi_disk::{BlockStore, SparseStore};
 use std::alloc::{AllocError, Global};
 use std::io::{Read, Write};
 
-/// The most bytes of a piece, which one end writes before the other reads them.
-pub const LONGEST_PIECE: u32 = 4096;
 
 /// The name of the initiator.
 const INITIATOR_NAME: &[u8] = b"iqn.2026-01.example:host";

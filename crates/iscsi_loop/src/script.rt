@@ -10,7 +10,7 @@ ghost use Rattle.iscsi_loop.specs.Script.{AreCommands, IsTooLongAt, LinesFail, I
 
 use crate::command::Command;
 use hex::{FromHex, FromHexError};
-use iscsi_service::ServeFault;
+use iscsi_serving::ServeFault;
 use iscsi_stream::{ToolFault, read_within};
 use iscsi_text::split_at_byte;
 use scsi_cdb::Bytes;

@@ -4,7 +4,7 @@ ghost use Rattle.std.specs.Prelude.{IfErr};
 ghost use Rattle.iscsi_loop.specs.LoopSteps.{IsOfSession};
 
 use crate::carrier::Carrier;
-use iscsi_service::ServeFault;
+use iscsi_serving::ServeFault;
 use iscsi_stream::write_fully;
 use std::io;
 use std::io::Read;

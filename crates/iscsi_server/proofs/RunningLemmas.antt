@@ -13,14 +13,14 @@ use Rattle.iscsi_target.specs.declared.fault.TargetFault.{TargetFault}
 use Rattle.iscsi_target.specs.State.{Machine, opening}
 use Rattle.iscsi_target.specs.Feed.{Store}
 use Rattle.iscsi_target.specs.Inside.{store_of}
-use Rattle.iscsi_service.specs.Session.{HasExecuted}
+use Rattle.iscsi_serving.specs.Executed.{HasExecuted}
 use Rattle.iscsi_hall.specs.Seats.{Hall, Seat, opening_seat, seat_at, waiting_at, with_seat, Changes}
 use Rattle.iscsi_hall.specs.Seats.{Takes as TakesAtSeat}
 use Rattle.iscsi_hall.specs.Turns.{Event, Comes, Ends, Goes, Syncs, Takes, Happens, HappensIn, Runs, Seats, SameMachines, TakesTurn}
 use Rattle.iscsi_hall.specs.Turns.{Session, Stays, events_of, executed_in, machine_in, machines}
 use Rattle.iscsi_hall.proofs.SeatLemmas.{changed_other, some_within, taken_within}
 use Rattle.iscsi_hall.proofs.RunLemmas.{own_session, runs_append, runs_lead, runs_none, runs_one}
-pub use Rattle.iscsi_service.proofs.SessionReadInvariant.{none_executed}
+pub use Rattle.iscsi_serving.proofs.ExecutedLemmas.{none_executed}
 use Rattle.iscsi_server.specs.Running.{IsAmong, IsOfSession, OthersAreKept, RunsAt, RunsIdle, RunsIdleAt, RunsWithin, Served, no_sessions}
 
 all_append : (P : Event → Type 0) (es fs : List Event) → AllByRecursion P es → AllByRecursion P fs → AllByRecursion P (es ++ fs)

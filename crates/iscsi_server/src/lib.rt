@@ -7,22 +7,20 @@ mod configuration;
 mod connection;
 pub mod laws;
 mod limited;
-mod limits;
 mod lines;
 mod numbers;
-mod options;
 mod peer;
 mod room;
 mod server;
 mod service;
-mod session_end;
 mod session_line;
 mod system;
 mod tally;
 
-pub use limited::{LEAST_MEMORY, LimitedStore, MEMORY, MOST_MEMORY};
-pub use limits::{LOGIN_WITHIN, Limits};
-pub use options::{LONGEST_ASKED, MOST_AT_ONCE, Options, SHORTEST_ASKED};
+pub use iscsi_serving::{
+    LEAST_MEMORY, LOGIN_WITHIN, LONGEST_ASKED, Limits, MEMORY, MOST_AT_ONCE, MOST_MEMORY, Options,
+    SHORTEST_ASKED, SessionEnd,
+};
+pub use limited::LimitedStore;
 pub use server::Server;
 pub use service::{serve_at_once, serve_memory_at_once};
-pub use session_end::SessionEnd;

@@ -10,15 +10,6 @@ use std::alloc::{AllocError, Global};
 use std::collections::BTreeSet;
 use std::marker::Model;
 
-/// How many bytes the blocks of a disk in memory take at most, if no other number is asked for.
-pub const MEMORY: u64 = 268_435_456;
-
-/// The fewest bytes that may be asked for: those of 64 blocks.
-pub const LEAST_MEMORY: u64 = 32_768;
-
-/// The most bytes that may be asked for: those of 2^40 blocks.
-pub const MOST_MEMORY: u64 = 562_949_953_421_312;
-
 /// How many blocks are kept together.
 const EXTENT_BLOCKS: u64 = 64;
 

@@ -7,8 +7,8 @@ ghost use Rattle.iscsi_server.specs.Running.{RunsAt, RunsIdleAt};
 
 use crate::budget::Budget;
 use crate::connection::{Connection, Moved};
-use crate::limits::Limits;
-use crate::session_end::SessionEnd;
+use iscsi_serving::Limits;
+use iscsi_serving::SessionEnd;
 use crate::tally::Tally;
 use iscsi_hall::{Hall, MOST_READ};
 use iscsi_login::Phase;

@@ -2,9 +2,9 @@
 
 ghost use Rattle.std.specs.Prelude.{◌≡◌, ◌≤◌, ◌↔◌, length, replicate, None, IsTrue, IfSome, IfOk, IfErr};
 ghost use Rattle.iscsi_target.specs.Inside.{store_of};
-ghost use Rattle.iscsi_service.specs.Session.{HasExecuted};
-ghost use Rattle.iscsi_service.specs.Serving.{EndsService};
-ghost use Rattle.iscsi_service.specs.declared.fault.ServeFault.TheVariants as serve;
+ghost use Rattle.iscsi_serving.specs.Executed.{HasExecuted};
+ghost use Rattle.iscsi_serving.specs.Faults.{EndsService};
+ghost use Rattle.iscsi_serving.specs.declared.fault.ServeFault.TheVariants as serve;
 ghost use Rattle.iscsi_server.specs.Running.{RunsWithin};
 ghost use Rattle.iscsi_server.specs.Serving.{has_all, IsDone, IsEmpty};
 
@@ -15,11 +15,11 @@ mod waiting;
 
 use crate::accepting::Accepting;
 use crate::lines::Lines;
-use crate::options::Options;
+use iscsi_serving::Options;
 use crate::peer::{Peer, no_peers};
 use crate::system::{listen, now};
 use iscsi_hall::{Hall, MOST_READ};
-use iscsi_service::ServeFault;
+use iscsi_serving::ServeFault;
 use mio::net::TcpListener;
 use mio::{Events, Poll};
 use scsi_disk::BlockStore;

@@ -3,17 +3,17 @@
 ghost use Rattle.std.specs.Prelude.{◌≡◌, ◌⊎◌, ◌<◌, ◌≤◌, IfErr};
 ghost use Rattle.scsi_disk.specs.Disk.{most_blocks};
 ghost use Rattle.iscsi_target.specs.Inside.{store_of};
-ghost use Rattle.iscsi_service.specs.Session.{HasExecuted};
-ghost use Rattle.iscsi_service.specs.Serving.{EndsService};
-ghost use Rattle.iscsi_service.specs.declared.fault.ServeFault.TheVariants as serve;
+ghost use Rattle.iscsi_serving.specs.Executed.{HasExecuted};
+ghost use Rattle.iscsi_serving.specs.Faults.{EndsService};
+ghost use Rattle.iscsi_serving.specs.declared.fault.ServeFault.TheVariants as serve;
 ghost use Rattle.iscsi_server.specs.Running.{RunsWithin, Served};
-ghost use Rattle.iscsi_server.specs.Service.{IsService};
+ghost use Rattle.iscsi_serving.specs.Options.{IsService};
 
 use crate::limited::LimitedStore;
-use crate::options::Options;
+use iscsi_serving::Options;
 use crate::server::Server;
 use crate::system::{OTHER_DESCRIPTORS, most_descriptors};
-use iscsi_service::ServeFault;
+use iscsi_serving::ServeFault;
 use scsi_disk::BlockStore;
 
 /// Listens, and prints `listening` and, if asked, the port on a line of its own. Serves connections

@@ -2,9 +2,9 @@
 
 ghost use Rattle.std.specs.Prelude.{◌≡◌, IfErr};
 ghost use Rattle.libc.specs.Net.{SockOption};
-ghost use Rattle.iscsi_service.specs.Serving.{EndsService};
+ghost use Rattle.iscsi_serving.specs.Faults.{EndsService};
 
-use iscsi_service::ServeFault;
+use iscsi_serving::ServeFault;
 use libc::net::{
     IPPROTO_TCP, SO_KEEPALIVE, SOL_SOCKET, TCP_KEEPCNT, TCP_KEEPIDLE, TCP_KEEPINTVL, setsockopt,
 };

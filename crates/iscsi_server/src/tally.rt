@@ -1,6 +1,6 @@
 //! What the log tells of a session when it ends.
 
-use crate::session_end::SessionEnd;
+use iscsi_serving::SessionEnd;
 use iscsi_login::Phase;
 use std::fmt::{self, Display, Write};
 

@@ -1,4 +1,3 @@
-pub mod ExecutedLemmas
 pub mod SessionEndLemmas
 pub mod SessionReadInvariant
 pub mod SessionCrashLemmas

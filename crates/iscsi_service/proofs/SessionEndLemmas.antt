@@ -41,7 +41,7 @@ use Rattle.iscsi_target.proofs.FeedingLemmas.{Told, told}
 use Rattle.iscsi_target.proofs.ClosingLemmas.{answers_close}
 use Rattle.iscsi_target.proofs.StreamingLemmas.{goes_on}
 use Rattle.iscsi_service.specs.Session.{ended_by, Receives, ServesFirst, IsOver, GoesOnBehind, RestFails, EndsBy}
-use Rattle.iscsi_service.specs.declared.session.SessionFault.TheVariants as session
+use Rattle.iscsi_service.specs.declared.session_fault.SessionFault.TheVariants as session
 
 -- memory ran out before anything was read
 pub none_served : (settings : Settings) (disk : Disk) → ServesFirst settings disk [] disk []

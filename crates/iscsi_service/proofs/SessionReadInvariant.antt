@@ -32,9 +32,11 @@ use Rattle.iscsi_target.specs.Laws.{Leads}
 use Rattle.iscsi_target.proofs.FeedingLemmas.{fed_any}
 use Rattle.iscsi_target.proofs.FeedInvariant.{may_rise, short_rises}
 use Rattle.iscsi_target.proofs.FailingDiskLemmas.{may_leads, stop_leads, leads_append}
-use Rattle.iscsi_service.specs.declared.session.SessionFault.{SessionFault}
-use Rattle.iscsi_service.specs.declared.session.SessionFault.TheVariants as session
-use Rattle.iscsi_service.specs.Session.{target_settings, ended_by, HasExecuted, ServesAll, ServesFirst, ServesFront, Serves, IsOver, EndsBy, EndsWell, EndsCut}
+use Rattle.iscsi_service.specs.declared.session_fault.SessionFault.{SessionFault}
+use Rattle.iscsi_service.specs.declared.session_fault.SessionFault.TheVariants as session
+use Rattle.iscsi_serving.specs.Executed.{HasExecuted}
+pub use Rattle.iscsi_serving.proofs.ExecutedLemmas.{nothing_executed, none_executed}
+use Rattle.iscsi_service.specs.Session.{target_settings, ended_by, ServesAll, ServesFirst, ServesFront, Serves, IsOver, EndsBy, EndsWell, EndsCut}
 use Rattle.iscsi_service.specs.SessionSteps.{ServedUpTo, Service, service, Goes, ClosesBy, Tells, Loses, RunsOut, Breaks, HoldsBack, Syncs, IsUncut}
 use Rattle.iscsi_service.specs.Serving.{session_fault, ServesOne}
 use Rattle.iscsi_service.proofs.SessionEndLemmas.{Stands, stands_first, stands_answered, read_told, end_told}
@@ -47,14 +49,6 @@ Leaves r0 r1 w0 w1 P C = (read : List ℕ) × (written : List ℕ) × Consumes r
 -- what is said of it where no failure was counted
 abbrev pub Given : Store → Store → (List ℕ → List ℕ → Type 0) → List ℕ → List ℕ → Type 0
 Given first store P read written = store.failures ≡ first.failures → P read written
-
-nothing_executed : (disk : Disk) → Leads disk [] disk
-unfolding Leads
-nothing_executed disk = refl
-
--- the blocks of a disk are those that no command left
-pub none_executed : (disk : Disk) → HasExecuted disk disk
-none_executed disk = ([], nothing_executed disk)
 
 pub at_start : (settings : Settings) (first : Store) (contents : Option (List ℕ)) →
     ServedUpTo settings first [] contents (service (opening_connection settings 1) first contents [])

@@ -22,8 +22,8 @@ use Rattle.iscsi_target.specs.Feed.{Connection, Store, Writes, beginning, openin
 use Rattle.iscsi_target.specs.Inside.{Advances, store_of}
 use Rattle.iscsi_target.specs.Crash.{CrashesFed}
 use Rattle.iscsi_target.specs.Laws.{Leads}
-use Rattle.iscsi_service.specs.declared.session.SessionFault.{SessionFault}
-use Rattle.iscsi_service.specs.declared.session.SessionFault.TheVariants as session
+use Rattle.iscsi_service.specs.declared.session_fault.SessionFault.{SessionFault}
+use Rattle.iscsi_service.specs.declared.session_fault.SessionFault.TheVariants as session
 
 -- What the target of the programs is configured with.
 abbrev pub target_settings : Settings
@@ -40,10 +40,6 @@ ended_by faults.NoMemory = session.NoMemory
 ended_by (faults.Stream fault) = session.Target (faults.Stream fault)
 ended_by (faults.Protocol rule) = session.Target (faults.Protocol rule)
 ended_by faults.Closed = session.Target faults.Closed
-
--- Commands that were executed, one after another, lead from one disk to another.
-abbrev pub HasExecuted : Disk → Disk → Type 0
-HasExecuted before after = (executed : List Execution) × Leads before executed after
 
 -- The target has answered all PDUs of what was read, of its longest prefix in the profile: what is
 -- written and the blocks are those that they lead to.

@@ -11,9 +11,10 @@ use Rattle.iscsi_target.specs.declared.fault.TargetFault.TheVariants as faults
 use Rattle.iscsi_target_session.specs.Configured.{Settings}
 use Rattle.iscsi_target.specs.Feed.{Connection, Store, FedAll, opening_connection, stream_of, scene}
 use Rattle.iscsi_target.specs.Crash.{CrashesFed}
-use Rattle.iscsi_service.specs.Session.{HasExecuted, IsOver, EndsBy, ServesFirst, ServesFront, StandsBehind}
-use Rattle.iscsi_service.specs.declared.session.SessionFault.{SessionFault}
-use Rattle.iscsi_service.specs.declared.session.SessionFault.TheVariants as session
+use Rattle.iscsi_serving.specs.Executed.{HasExecuted}
+use Rattle.iscsi_service.specs.Session.{IsOver, EndsBy, ServesFirst, ServesFront, StandsBehind}
+use Rattle.iscsi_service.specs.declared.session_fault.SessionFault.{SessionFault}
+use Rattle.iscsi_service.specs.declared.session_fault.SessionFault.TheVariants as session
 
 -- A target, its store, what a writer got, and the answers that wait.
 pub record Service : Type 0 where

@@ -1,8 +1,9 @@
 //! A target's service on a socket: one connection after another, over one store.
 
 ghost use Rattle.std.specs.Prelude.{◌≡◌, ◌≢◌, ◌⊎◌, ◌<◌, ℕ, List, true, length, Err, IfOk, IfErr};
-ghost use Rattle.iscsi_service.specs.Session.{HasExecuted};
-ghost use Rattle.iscsi_service.specs.Serving.{ServesOne, EndsService};
+ghost use Rattle.iscsi_serving.specs.Executed.{HasExecuted};
+ghost use Rattle.iscsi_serving.specs.Faults.{EndsService};
+ghost use Rattle.iscsi_service.specs.Serving.{ServesOne};
 
 use crate::fault::ServeFault;
 use crate::session::{configuration, serve_reads};

@@ -11,16 +11,17 @@ ghost use Rattle.iscsi_target.specs.Machine.{is_closed};
 ghost use Rattle.iscsi_target.specs.Feed.{opening_connection};
 ghost use Rattle.iscsi_target.specs.Crash.{CrashesFed};
 ghost use Rattle.iscsi_target.specs.Inside.{store_of};
-ghost use Rattle.iscsi_service.specs.Session.{target_settings, Comes, EndsBy, EndsCut, EndsWell, HasExecuted, SentBefore, Serves, ServesAll, exchange};
+ghost use Rattle.iscsi_serving.specs.Executed.{HasExecuted};
+ghost use Rattle.iscsi_service.specs.Session.{target_settings, Comes, EndsBy, EndsCut, EndsWell, SentBefore, Serves, ServesAll, exchange};
 ghost use Rattle.iscsi_service.specs.SessionSteps.{Goes, ClosesBy, Breaks, HoldsBack, LeftLast, Syncs, service};
 
+use crate::session_fault::SessionFault;
 use iscsi_login::{Phase, Preferences};
 use iscsi_stream::{PIECE, ReadFault, Reads, write_fully};
 use iscsi_target::{Config, Target, TargetFault};
 use scsi_disk::BlockStore;
 use std::alloc::{AllocError, Global};
 use std::io::{Read, Write};
-use thiserror::Error;
 
 /// The name of the target of the programs.
 pub const TARGET_NAME: &[u8] = b"iqn.2026-01.example:disk";
@@ -40,54 +41,6 @@ pub fn configuration(alloc: Global) -> Result<Config, AllocError>
 {
     // Name and numbers are in range, so only memory can run out.
     Config::new(alloc, TARGET_NAME, GROUP, TSIH, Preferences::standard()).map_err(|_| AllocError)
-}
-
-/// Why a session over a stream ends early.
-#[derive(Clone, Copy, Debug, PartialEq, Eq, Error)]
-pub enum SessionFault {
-    /// Memory ran out.
-    #[error("memory")]
-    NoMemory,
-    /// The target refuses what its initiator sent; the fault is never `NoMemory`.
-    #[error(transparent)]
-    Target(TargetFault),
-    /// A read failed, or there were 16,777,216 of them.
-    #[error("read failed")]
-    Read,
-    /// What was written to the store could not be made to last. The answers that waited were not
-    /// sent.
-    #[error("sync failed")]
-    Sync,
-    /// A write failed, or took no byte.
-    #[error("write failed")]
-    Write,
-}
-
-impl From<TargetFault> for SessionFault {
-    ghost use Rattle.std.specs.Prelude.{◌≡◌};
-    ghost use Rattle.iscsi_service.specs.Session.{ended_by};
-
-    ghost from_gives = { λ fault e. e ≡ ended_by fault };
-
-    fn from(fault: TargetFault) -> SessionFault {
-        match fault {
-            TargetFault::NoMemory => SessionFault::NoMemory,
-            TargetFault::Stream(_) | TargetFault::Protocol(_) | TargetFault::Closed => {
-                SessionFault::Target(fault)
-            }
-        }
-    }
-}
-
-impl From<ReadFault> for SessionFault {
-    ghost use Rattle.std.specs.Prelude.{◌≡◌};
-    ghost use Rattle.iscsi_service.specs.declared.session.SessionFault.TheVariants as faults;
-
-    ghost from_gives = { λ _ e. e ≡ faults.Read };
-
-    fn from(_fault: ReadFault) -> SessionFault {
-        SessionFault::Read
-    }
 }
 
 /// Runs the session of a target with a store over a stream. It takes what a reader returns, in

@@ -1,7 +1,8 @@
 //! What another program does with `iscsi_service`.
 
 ghost use Rattle.std.specs.Prelude.{◌≡◌, ◌++◌, List, OnOk, ℕ};
-ghost use Rattle.iscsi_service.specs.Session.{HasExecuted, Serves, ServesAll};
+ghost use Rattle.iscsi_serving.specs.Executed.{HasExecuted};
+ghost use Rattle.iscsi_service.specs.Session.{Serves, ServesAll};
 
 use iscsi_service::{SessionFault, serve_stream};
 use iscsi_target::Config;

@@ -8,8 +8,8 @@ use Rattle.scsi_disk.specs.Disk.{Disk, zeros}
 use Rattle.iscsi_stream.specs.Stream.{ReadsAs}
 use Rattle.iscsi_target.specs.declared.fault.TargetFault.TheVariants as faults
 use Rattle.iscsi_target.specs.Machine.{answers}
-use Rattle.iscsi_service.specs.declared.session.SessionFault.{SessionFault}
-use Rattle.iscsi_service.specs.declared.session.SessionFault.TheVariants as session
+use Rattle.iscsi_service.specs.declared.session_fault.SessionFault.{SessionFault}
+use Rattle.iscsi_service.specs.declared.session_fault.SessionFault.TheVariants as session
 use Rattle.iscsi_service.specs.Session.{target_settings, ServesAll, Serves, EndsBy, EndsWell}
 use Rattle.iscsi_tool.specs.Answering.{filter_fault, AnswersAll, AnswersFirst, AnswersBytes, AnswersHex, SpellsAnswers, line_end}
 use Rattle.iscsi_tool.specs.Spelling.{Finishes}

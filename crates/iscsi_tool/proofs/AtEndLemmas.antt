@@ -3,8 +3,8 @@ use Rattle.std.proofs.Common.{ℕ, List, Option, Err}
 use Rattle.std.specs.Io.KnownBytes.{IsAtEnd}
 use Rattle.iscsi_stream.specs.declared.fault.StreamFault.TheVariants as stream
 use Rattle.iscsi_target.specs.declared.fault.TargetFault.TheVariants as faults
-use Rattle.iscsi_service.specs.declared.session.SessionFault.{SessionFault}
-use Rattle.iscsi_service.specs.declared.session.SessionFault.TheVariants as session
+use Rattle.iscsi_service.specs.declared.session_fault.SessionFault.{SessionFault}
+use Rattle.iscsi_service.specs.declared.session_fault.SessionFault.TheVariants as session
 use Rattle.iscsi_service.specs.Session.{EndsCut}
 use Rattle.iscsi_filters.specs.Filters.{CutAtEnd}
 use Rattle.iscsi_tool.specs.Answering.{filter_fault}

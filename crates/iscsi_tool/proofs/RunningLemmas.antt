@@ -2,9 +2,9 @@
 use Rattle.std.specs.Prelude.{ℕ, List, [], Option}
 use Rattle.std.specs.Io.KnownBytes.{Appends, Consumes}
 use Rattle.std.proofs.KnownBytes.{Appends-nil, Consumes-nil}
-use Rattle.iscsi_tool.specs.declared.storage.Origin.{Origin}
-use Rattle.iscsi_tool.specs.declared.storage.Origin.TheVariants as origin
-use Rattle.iscsi_tool.specs.Storage.{CanBeOpened, IsOrigin}
+use Rattle.iscsi_words.specs.declared.storage.Origin.{Origin}
+use Rattle.iscsi_words.specs.declared.storage.Origin.TheVariants as origin
+use Rattle.iscsi_words.specs.Storage.{CanBeOpened, IsOrigin}
 
 pub reads_nothing : (left : Option (List ℕ)) → Consumes left left []
 reads_nothing left = Consumes-nil left

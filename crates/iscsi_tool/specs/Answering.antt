@@ -9,8 +9,8 @@ use Rattle.iscsi_stream.specs.Canonical.{canon}
 use Rattle.iscsi_target.specs.declared.fault.TargetFault.TheVariants as faults
 use Rattle.iscsi_target.specs.State.{opening}
 use Rattle.iscsi_target.specs.Machine.{answers}
-use Rattle.iscsi_service.specs.declared.session.SessionFault.{SessionFault}
-use Rattle.iscsi_service.specs.declared.session.SessionFault.TheVariants as session
+use Rattle.iscsi_service.specs.declared.session_fault.SessionFault.{SessionFault}
+use Rattle.iscsi_service.specs.declared.session_fault.SessionFault.TheVariants as session
 use Rattle.iscsi_service.specs.Session.{target_settings, ServesFirst, ServesFront, EndsBy, EndsWell}
 use Rattle.iscsi_filters.specs.HexText.{BytesOf, IsNotHex}
 

@@ -5,7 +5,7 @@ use Rattle.iscsi_compare.specs.declared.verdict.Verdict.{Verdict}
 use Rattle.iscsi_compare.specs.Comparing.{Input, Tells}
 use Rattle.iscsi_comparison.specs.declared.comparing.Sameness.{Sameness}
 use Rattle.iscsi_comparison.specs.declared.comparing.ComparisonFault.{ComparisonFault}
-use Rattle.iscsi_tool.specs.declared.capture_comparing.CaptureComparisonFault.{CaptureComparisonFault}
+use Rattle.iscsi_words.specs.declared.capture_comparing.CaptureComparisonFault.{CaptureComparisonFault}
 use Rattle.iscsi_comparison.specs.Comparisons.{ComparesBytes}
 
 -- The verdict is that of a comparison of two streams, whose bytes the two directions gave, and so is

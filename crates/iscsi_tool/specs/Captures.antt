@@ -1,6 +1,5 @@
 -- What a job over a capture writes.
-use Rattle.std.specs.Prelude.{◌≡◌, ◌⊎◌, ◌<◌, ◌≤◌, ℕ, List, [], Result, OnOk, IsOk, MatchResult}
-use Rattle.scsi_disk.specs.Disk.{most_blocks}
+use Rattle.std.specs.Prelude.{◌≡◌, ◌⊎◌, ℕ, List, [], Result, OnOk, IsOk, MatchResult}
 use Rattle.iscsi_captures.specs.declared.fault.CapturesFault.{CapturesFault}
 use Rattle.iscsi_pdu.specs.Meaning.{AreBytes}
 use Rattle.iscsi_stream.specs.declared.counts.Counts.{Counts}
@@ -10,8 +9,8 @@ use Rattle.iscsi_stream.specs.Normalising.{IsCanonical, IsNormalised, Shows, Wri
 use Rattle.iscsi_explain.specs.declared.form.Form.{Form}
 use Rattle.iscsi_explain.specs.Showing.{AreEntries}
 use Rattle.iscsi_tool.specs.Answering.{AnswersBytes}
-use Rattle.iscsi_tool.specs.declared.capture_words.CaptureWork.{CaptureWork}
-use Rattle.iscsi_tool.specs.declared.capture_words.CaptureWork.TheVariants.{List as ListAll, ShowAll, Show, Tell, Normalise, Answer}
+use Rattle.iscsi_words.specs.declared.capture_words.CaptureWork.{CaptureWork}
+use Rattle.iscsi_words.specs.declared.capture_words.CaptureWork.TheVariants.{List as ListAll, ShowAll, Show, Tell, Normalise, Answer}
 
 -- How a job over a capture ends: done, or why not.
 abbrev pub Said : Type 0
@@ -41,11 +40,6 @@ abbrev pub AnswersCaptured : ℕ → Said → List ℕ → Type 0
 AnswersCaptured blocks ends written = (written ≡ [])
     ⊎ ((said : Result (Unit {0}) ToolFault) × (bytes : List ℕ)
     × AnswersBytes blocks said bytes written × (IsOk ends → IsOk said))
-
--- The disk of a target has 1 to 2^40 blocks.
-abbrev pub CanWork : CaptureWork → Type 0
-CanWork (Answer connection blocks) = (0 < blocks) × (blocks ≤ most_blocks)
-CanWork _ = Unit {0}
 
 -- What a job over a capture writes; the lines of connections, and those of all connections together,
 -- are not stated.

@@ -1,47 +1,14 @@
--- What a filter writes for what it has read, and which jobs can be run.
-use Rattle.std.specs.Prelude.{◌≤◌, ◌<◌, ℕ, Bool, true, false, List, Option}
+-- What a filter writes for what it has read.
+use Rattle.std.specs.Prelude.{ℕ, Bool, true, false, List, Option}
 use Rattle.std.specs.Io.KnownBytes.{IsAtEnd}
-use Rattle.scsi_disk.specs.Disk.{zeros, most_blocks}
+use Rattle.scsi_disk.specs.Disk.{zeros}
 use Rattle.iscsi_service.specs.Session.{target_settings, EndsWell}
-use Rattle.iscsi_server.specs.Service.{AreLimits, IsMemory, IsService}
-use Rattle.iscsi_tool.specs.declared.filter.Filter.{Filter}
-use Rattle.iscsi_tool.specs.declared.filter.Work.{Work}
-use Rattle.iscsi_tool.specs.declared.filter.Work.TheVariants.{Show, Normalise, Text, Answer}
-use Rattle.iscsi_tool.specs.declared.words.Job.{Job}
-use Rattle.iscsi_tool.specs.declared.words.Job.TheVariants as job
-use Rattle.iscsi_tool.specs.declared.words.Service.{Service}
-use Rattle.iscsi_tool.specs.declared.words.Service.TheVariants as service
+use Rattle.iscsi_words.specs.declared.filter.Filter.{Filter}
+use Rattle.iscsi_words.specs.declared.filter.Work.{Work}
+use Rattle.iscsi_words.specs.declared.filter.Work.TheVariants.{Show, Normalise, Text, Answer}
 use Rattle.iscsi_filters.specs.declared.work.StreamWork.TheVariants as stream
 use Rattle.iscsi_filters.specs.Filters.{CutAtEnd, DoesWork, HexAtEnd, Outcome, RefusesWork}
 use Rattle.iscsi_tool.specs.Answering.{AnswersBytes, AnswersHex}
-use Rattle.iscsi_tool.specs.Captures.{CanWork}
-use Rattle.iscsi_tool.specs.Storage.{IsStorage}
-
--- ---- filters
-
--- The disk of a target has 1 to 2^40 blocks.
-abbrev pub HasDisk : Work → Type 0
-HasDisk (Answer blocks) = (0 < blocks) × (blocks ≤ most_blocks)
-HasDisk _ = Unit {0}
-
--- A service of several sessions at a time has from 1 to 64 of them, and a target's name. A limit of
--- time is 1 second at least, and a disk in memory has room for some blocks.
-abbrev pub CanServe : Service → Type 0
-CanServe (service.InTurn port sessions) = Unit {0}
-CanServe (service.AtOnce options) =
-    IsService options × AreLimits options.limits × IsMemory options.memory
-
--- The disk of a job's target has 1 to 2^40 blocks, but for that of an image that is there, and a piece
--- 1 to 4096 bytes.
-abbrev pub IsJob : Job → Type 0
-IsJob (job.Filter filter) = HasDisk filter.work
-IsJob (job.Serve storage service) = IsStorage storage × CanServe service
-IsJob (job.Loop blocks piece) =
-    (0 < blocks) × (blocks ≤ most_blocks) × (0 < piece) × (piece ≤ 4096)
-IsJob (job.Compare comparison) = Unit {0}
-IsJob (job.Tell telling) = Unit {0}
-IsJob (job.CompareCaptures comparison) = Unit {0}
-IsJob (job.Capture capture) = CanWork capture.work
 
 -- A work that ended well has read its input to the end; answers to bytes end also where the session
 -- is closed.

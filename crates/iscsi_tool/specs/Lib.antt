@@ -1,6 +1,5 @@
 pub mod Answering
 pub mod Spelling
-pub mod Storage
 pub mod Captures
 pub mod Filtering
 pub mod Telling

@@ -3,35 +3,36 @@ use Rattle.std.specs.Prelude.{◌≡◌, ◌⊎◌, ℕ, true, List, [], Result,
 use Rattle.iscsi_stream.specs.declared.fault.ToolFault.{ToolFault}
 use Rattle.iscsi_compare.specs.declared.verdict.Verdict.{Verdict}
 use Rattle.iscsi_compare.specs.declared.verdict.Verdict.TheVariants as verdict
-use Rattle.iscsi_service.specs.declared.fault.ServeFault.{ServeFault}
-use Rattle.iscsi_service.specs.Serving.{exit_status as session_status}
+use Rattle.iscsi_serving.specs.declared.fault.ServeFault.{ServeFault}
+use Rattle.iscsi_serving.specs.Faults.{exit_status as session_status}
 use Rattle.iscsi_loop.specs.Looping.{Loops}
 use Rattle.iscsi_captures.specs.declared.fault.CapturesFault.{CapturesFault}
 use Rattle.iscsi_captures.specs.Faults.{fault_status as capture_status}
-use Rattle.iscsi_tool.specs.declared.capture_words.CaptureJob.{CaptureJob}
-use Rattle.iscsi_tool.specs.declared.capture_comparing.CaptureComparison.{CaptureComparison}
-use Rattle.iscsi_tool.specs.declared.capture_comparing.CaptureComparisonFault.{CaptureComparisonFault}
+use Rattle.iscsi_words.specs.declared.capture_words.CaptureJob.{CaptureJob}
+use Rattle.iscsi_words.specs.declared.capture_comparing.CaptureComparison.{CaptureComparison}
+use Rattle.iscsi_words.specs.declared.capture_comparing.CaptureComparisonFault.{CaptureComparisonFault}
 use Rattle.iscsi_comparison.specs.declared.comparing.ComparisonFault.{ComparisonFault}
-use Rattle.iscsi_tool.specs.declared.filter.Filter.{Filter}
-use Rattle.iscsi_tool.specs.declared.filter.Work.TheVariants.{Normalise}
+use Rattle.iscsi_words.specs.declared.filter.Filter.{Filter}
+use Rattle.iscsi_words.specs.declared.filter.Work.TheVariants.{Normalise}
 use Rattle.iscsi_tool.specs.declared.running.Outcome.{Outcome}
 use Rattle.iscsi_tool.specs.declared.running.Outcome.TheVariants as outcome
-use Rattle.iscsi_tool.specs.declared.nbd_storage.NbdFault.{NbdFault}
-use Rattle.iscsi_tool.specs.declared.storage.ImageFault.{ImageFault}
-use Rattle.iscsi_tool.specs.declared.storage.Storage.{Storage}
-use Rattle.iscsi_tool.specs.declared.storage.Storage.TheVariants as storage
-use Rattle.iscsi_tool.specs.declared.telling.Telling.{Telling}
+use Rattle.iscsi_words.specs.declared.nbd_storage.NbdFault.{NbdFault}
+use Rattle.iscsi_words.specs.declared.storage.ImageFault.{ImageFault}
+use Rattle.iscsi_words.specs.declared.storage.Storage.{Storage}
+use Rattle.iscsi_words.specs.declared.storage.Storage.TheVariants as storage
+use Rattle.iscsi_words.specs.declared.telling.Telling.{Telling}
 use Rattle.iscsi_comparison.specs.declared.files.Comparison.{Comparison}
-use Rattle.iscsi_tool.specs.declared.words.Job.{Job}
-use Rattle.iscsi_tool.specs.declared.words.Job.TheVariants as job
-use Rattle.iscsi_tool.specs.declared.words.LineFault.{LineFault}
-use Rattle.iscsi_tool.specs.declared.words.LineFault.TheVariants as line
+use Rattle.iscsi_words.specs.declared.words.Job.{Job}
+use Rattle.iscsi_words.specs.declared.words.Job.TheVariants as job
+use Rattle.iscsi_words.specs.declared.words.LineFault.{LineFault}
+use Rattle.iscsi_words.specs.declared.words.LineFault.TheVariants as line
 use Rattle.iscsi_tool.specs.Captures.{WritesCapture}
 use Rattle.iscsi_tool.specs.CaptureComparisons.{ComparesCaptures}
 use Rattle.iscsi_tool.specs.Telling.{Tells}
 use Rattle.iscsi_comparison.specs.Comparisons.{fault_status}
 use Rattle.iscsi_filters.specs.Filters.{exit_status}
-use Rattle.iscsi_tool.specs.Filtering.{Filters, IsJob}
+use Rattle.iscsi_words.specs.Jobs.{IsJob}
+use Rattle.iscsi_tool.specs.Filtering.{Filters}
 
 -- The exit status of words that ask for no job: 2, and 3 for memory.
 abbrev pub words_status : LineFault → ℕ

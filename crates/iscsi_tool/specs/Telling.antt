@@ -4,7 +4,7 @@ use Rattle.iscsi_explain.specs.declared.form.Form.{Form}
 use Rattle.iscsi_explain.specs.Showing.{AreEntries}
 use Rattle.iscsi_stream.specs.declared.fault.ToolFault.{ToolFault}
 use Rattle.iscsi_stream.specs.Stream.{Message, StreamMeans}
-use Rattle.iscsi_tool.specs.declared.telling.Telling.{Telling}
+use Rattle.iscsi_words.specs.declared.telling.Telling.{Telling}
 
 -- An entry for each PDU of what was read is written, if all of it was read; of hex text nothing is
 -- stated.

@@ -5,17 +5,14 @@ ghost use Rattle.std.specs.Prelude.{◌≡◌, ◌<◌, ◌≤◌, ℕ, List, If
 ghost use Rattle.std.specs.Io.KnownBytes.{Appends, Consumes};
 ghost use Rattle.scsi_disk.specs.Disk.{most_blocks};
 ghost use Rattle.iscsi_tool.specs.declared.running.Outcome.{Outcome};
-ghost use Rattle.iscsi_tool.specs.Filtering.{CanServe, IsJob};
-ghost use Rattle.iscsi_tool.specs.Storage.{IsStorage};
+ghost use Rattle.iscsi_words.specs.Jobs.{CanServe, IsJob};
+ghost use Rattle.iscsi_words.specs.Storage.{IsStorage};
 ghost use Rattle.iscsi_tool.specs.Running.{EndsComparison, EndsService, Runs, RunsWords, of_capture, of_captures, of_comparison, of_filter, of_session, outcome_status, words_status};
 
-use crate::capture_comparing::{CaptureComparison, CaptureComparisonFault, run_comparison};
-use crate::capture_words::{CaptureJob, run_capture};
-use crate::filter::run_filter;
-use crate::nbd_storage::{NbdExport, NbdFault};
-use crate::storage::{Image, ImageFault, Storage};
+use crate::capture_comparing::run_comparison;
+use crate::capturing::run_capture;
+use crate::filtering::run_filter;
 use crate::telling::run_telling;
-use crate::words::{Job, LineFault, Service, read_words};
 use iscsi_captures::CapturesFault;
 use iscsi_compare::Verdict;
 use iscsi_comparison::{Comparison, ComparisonFault};
@@ -24,6 +21,10 @@ use iscsi_loop::run_loop;
 use iscsi_server::{serve_at_once, serve_memory_at_once};
 use iscsi_service::{ServeFault, serve};
 use iscsi_stream::ToolFault;
+use iscsi_words::{
+    CaptureComparison, CaptureComparisonFault, CaptureJob, Image, ImageFault, Job, LineFault,
+    NbdExport, NbdFault, Service, Storage, read_words,
+};
 use scsi_disk::{BlockStore, SparseStore};
 use std::alloc::Global;
 use std::convert::AsStr;

@@ -4,51 +4,12 @@ ghost use Rattle.std.specs.Prelude.{◌≡◌, ℕ, List, OnOk, IsOk};
 ghost use Rattle.std.specs.Io.KnownBytes.{Appends, Consumes};
 ghost use Rattle.iscsi_tool.specs.Telling.{Tells};
 
-use crate::words::{flag, with_word};
-use clap::{ArgMatches, Command};
 use iscsi_explain::{Form, show_in_form};
 use iscsi_filters::read_bytes;
 use iscsi_stream::ToolFault;
-use std::alloc::{AllocError, Global};
+use iscsi_words::Telling;
+use std::alloc::Global;
 use std::io::{Read, Write};
-
-/// A stream that is shown in another form than by plain lines.
-#[derive(Clone, Copy, Debug, PartialEq, Eq)]
-pub struct Telling {
-    /// The form of each PDU.
-    pub form: Form,
-    /// Whether the stream is hex text.
-    pub hex: bool,
-}
-
-/// The words for the forms of a program that shows PDUs.
-pub(crate) fn with_form_words<'a>(
-    alloc: Global,
-    program: Command<'a>,
-) -> Result<Command<'a>, AllocError> {
-    let program = with_word(
-        program,
-        Ok(flag(
-            alloc,
-            "explain",
-            "Tell commands, sense, keys, statuses and reasons in words, under each line",
-        )),
-    )?;
-    with_word(
-        program,
-        Ok(flag(alloc, "json", "Print one JSON object for each PDU")),
-    )
-}
-
-/// The form that words ask for.
-pub(crate) fn form_of(asked: &ArgMatches<'_>) -> Form {
-    match (asked.get_flag("explain"), asked.get_flag("json")) {
-        (false, false) => Form::Line,
-        (true, false) => Form::Explained,
-        (false, true) => Form::Json,
-        (true, true) => Form::ExplainedJson,
-    }
-}
 
 /// Shows a stream in a form. Its faults are those of `show`; with hex they are those of
 /// `run_filter`, too.

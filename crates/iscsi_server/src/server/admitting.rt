@@ -11,7 +11,7 @@ use crate::connection::Connection;
 use crate::numbers::next_number;
 use crate::peer::Peer;
 use crate::room::makes_room;
-use crate::session_end::SessionEnd;
+use iscsi_serving::SessionEnd;
 use crate::system::watch;
 use iscsi_target::Config;
 use mio::net::TcpStream;

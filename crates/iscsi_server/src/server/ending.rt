@@ -5,7 +5,7 @@ ghost use Rattle.iscsi_server.specs.Running.{RunsIdle};
 
 use super::Server;
 use crate::peer::Peer;
-use crate::session_end::SessionEnd;
+use iscsi_serving::SessionEnd;
 use crate::session_line::SessionLine;
 use crate::system::now;
 use crate::tally::Ended;

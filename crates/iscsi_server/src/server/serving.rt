@@ -6,7 +6,7 @@ ghost use Rattle.iscsi_server.specs.Running.{RunsIdle, RunsWithin};
 
 use super::Server;
 use crate::budget::Budget;
-use crate::session_end::SessionEnd;
+use iscsi_serving::SessionEnd;
 use iscsi_login::Phase;
 use scsi_disk::BlockStore;
 use std::time::Instant;

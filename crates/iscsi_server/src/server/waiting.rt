@@ -1,13 +1,13 @@
 //! The wait of a service, and for how long.
 
 ghost use Rattle.std.specs.Prelude.{◌≡◌, IfErr};
-ghost use Rattle.iscsi_service.specs.Serving.{EndsService};
+ghost use Rattle.iscsi_serving.specs.Faults.{EndsService};
 
 use super::Server;
-use crate::limits::sooner;
+use iscsi_serving::sooner;
 use crate::system::LISTENER;
 use iscsi_login::Phase;
-use iscsi_service::ServeFault;
+use iscsi_serving::ServeFault;
 use std::time::{Duration, Instant};
 
 impl<'a> Server<'a> {

@@ -5,7 +5,7 @@ use Rattle.std.proofs.lemmas.Result.{err_from_is_err_and}
 use Rattle.scsi_disk.specs.Sparse.{disk_in}
 use Rattle.iscsi_loop.specs.Commands.{request_of}
 use Rattle.iscsi_loop.specs.LoopPairs.{ends_of}
-use Rattle.iscsi_service.specs.declared.fault.ServeFault.TheVariants as serve
+use Rattle.iscsi_serving.specs.declared.fault.ServeFault.TheVariants as serve
 use Rattle.iscsi_stream.specs.Normalising.{WroteFront}
 use Rattle.iscsi_loop.proofs.OnDiskLaw.{line_written, no_line}
 use Rattle.iscsi_loop.proofs.loop_script.run_command.Goals as goal

@@ -1,4 +1,4 @@
-use Rattle.iscsi_service.proofs.ExecutedLemmas.{executed_then}
+use Rattle.iscsi_serving.proofs.ExecutedLemmas.{executed_then}
 use Rattle.iscsi_service.proofs.serving.serve_connections.Goals as goal
 
 pub returns-in-Err-NoMemory-clause-blocks : goal.returns-in-Err-NoMemory-clause-blocks

@@ -1,4 +1,4 @@
-use Rattle.iscsi_service.specs.Session.{HasExecuted}
+use Rattle.iscsi_serving.specs.Executed.{HasExecuted}
 use Rattle.iscsi_service.proofs.serving.serve_connections.Given as goal
 
 abbrev pub invariant-loop : goal.invariant-loop

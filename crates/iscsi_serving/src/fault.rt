@@ -1,9 +1,8 @@
-//! Why a session over a socket ends early.
+//! Why a service, or a session over a socket, ends early.
 
 ghost use Rattle.std.specs.Prelude.{◌≡◌};
-ghost use Rattle.iscsi_service.specs.Serving.{exit_status};
+ghost use Rattle.iscsi_serving.specs.Faults.{exit_status};
 
-use crate::session::SessionFault;
 use iscsi_initiator::InitiatorFault;
 use iscsi_target::TargetFault;
 use std::alloc::AllocError;
@@ -55,7 +54,7 @@ impl ServeFault {
 
 impl From<AllocError> for ServeFault {
     ghost use Rattle.std.specs.Prelude.{◌≡◌};
-    ghost use Rattle.iscsi_service.specs.declared.fault.ServeFault.TheVariants as serve;
+    ghost use Rattle.iscsi_serving.specs.declared.fault.ServeFault.TheVariants as serve;
 
     ghost from_gives = { λ _ e. e ≡ serve.NoMemory };
 
@@ -66,7 +65,7 @@ impl From<AllocError> for ServeFault {
 
 impl From<TargetFault> for ServeFault {
     ghost use Rattle.std.specs.Prelude.{◌≡◌};
-    ghost use Rattle.iscsi_service.specs.Serving.{target_fault};
+    ghost use Rattle.iscsi_serving.specs.Faults.{target_fault};
 
     ghost from_gives = { λ fault e. e ≡ target_fault fault };
 
@@ -80,7 +79,7 @@ impl From<TargetFault> for ServeFault {
 
 impl From<InitiatorFault> for ServeFault {
     ghost use Rattle.std.specs.Prelude.{◌≡◌};
-    ghost use Rattle.iscsi_service.specs.Serving.{initiator_fault};
+    ghost use Rattle.iscsi_serving.specs.Faults.{initiator_fault};
 
     ghost from_gives = { λ fault e. e ≡ initiator_fault fault };
 
@@ -88,23 +87,6 @@ impl From<InitiatorFault> for ServeFault {
         match fault {
             InitiatorFault::NoMemory => ServeFault::NoMemory,
             fault => ServeFault::Initiator(fault),
-        }
-    }
-}
-
-impl From<SessionFault> for ServeFault {
-    ghost use Rattle.std.specs.Prelude.{◌≡◌};
-    ghost use Rattle.iscsi_service.specs.Serving.{session_fault};
-
-    ghost from_gives = { λ fault e. e ≡ session_fault fault };
-
-    fn from(fault: SessionFault) -> ServeFault {
-        match fault {
-            SessionFault::NoMemory => ServeFault::NoMemory,
-            SessionFault::Target(fault) => ServeFault::from(fault),
-            SessionFault::Read => ServeFault::Read,
-            SessionFault::Sync => ServeFault::Sync,
-            SessionFault::Write => ServeFault::Write,
         }
     }
 }

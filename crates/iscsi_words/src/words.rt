@@ -2,9 +2,9 @@
 //! together.
 
 ghost use Rattle.std.specs.Prelude.{◌≡◌, ◌<◌, ◌≤◌, [], true, Ok, IfOk, IfSome};
-ghost use Rattle.iscsi_tool.specs.Filtering.{HasDisk, IsJob};
-ghost use Rattle.iscsi_tool.specs.declared.filter.Work.TheVariants.{Normalise};
-ghost use Rattle.iscsi_tool.specs.declared.words.Job.TheVariants as job;
+ghost use Rattle.iscsi_words.specs.Jobs.{HasDisk, IsJob};
+ghost use Rattle.iscsi_words.specs.declared.filter.Work.TheVariants.{Normalise};
+ghost use Rattle.iscsi_words.specs.declared.words.Job.TheVariants as job;
 
 use crate::capture_comparing::CaptureComparison;
 use crate::capture_words::{
@@ -21,8 +21,7 @@ use clap::error::ErrorKind;
 use clap::{Arg, ArgAction, ArgMatches, Command, Error};
 use iscsi_comparison::{Comparison, Sameness};
 use iscsi_explain::Form;
-use iscsi_loop::LONGEST_PIECE;
-use iscsi_server::Options;
+use iscsi_serving::{LONGEST_PIECE, Options};
 use std::alloc::{AllocError, AllocFailed, Global};
 use std::convert::AsStr;
 use thiserror::Error;

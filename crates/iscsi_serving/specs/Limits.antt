@@ -2,9 +2,9 @@
 use Rattle.std.specs.Prelude.{ℕ, Bool, false, ◌*◌, ◌-◌, Option, Some, None, min, nat_le, ◌||◌, if◌then◌else◌}
 use Rattle.iscsi_login.specs.declared.phase.Phase.{Phase}
 use Rattle.iscsi_login.specs.declared.phase.Phase.TheVariants as phase
-use Rattle.iscsi_server.specs.declared.limits.Limits.{Limits}
-use Rattle.iscsi_server.specs.declared.session_end.SessionEnd.{SessionEnd}
-use Rattle.iscsi_server.specs.declared.session_end.SessionEnd.TheVariants as ends
+use Rattle.iscsi_serving.specs.declared.limits.Limits.{Limits}
+use Rattle.iscsi_serving.specs.declared.session_end.SessionEnd.{SessionEnd}
+use Rattle.iscsi_serving.specs.declared.session_end.SessionEnd.TheVariants as ends
 
 -- There is a limit, and n seconds reach it.
 abbrev pub is_passed : Option ℕ → ℕ → Bool

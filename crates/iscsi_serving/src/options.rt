@@ -14,6 +14,18 @@ pub const SHORTEST_ASKED: u32 = 512;
 /// segments of 64 MiB at most.
 pub const LONGEST_ASKED: u32 = 1_048_576;
 
+/// How many bytes the blocks of a disk in memory take at most, if no other number is asked for.
+pub const MEMORY: u64 = 268_435_456;
+
+/// The fewest bytes that may be asked for: those of 64 blocks.
+pub const LEAST_MEMORY: u64 = 32_768;
+
+/// The most bytes that may be asked for: those of 2^40 blocks.
+pub const MOST_MEMORY: u64 = 562_949_953_421_312;
+
+/// The most bytes that a loop of both ends writes before they are read.
+pub const LONGEST_PIECE: u32 = 4096;
+
 /// What a service of several sessions at a time is asked for.
 #[derive(Clone, Copy, Debug, PartialEq, Eq)]
 pub struct Options<'a> {

@@ -2,35 +2,15 @@
 
 ghost use Rattle.std.specs.Prelude.{ℕ, List, OnOk};
 ghost use Rattle.std.specs.Io.KnownBytes.{Appends, Consumes};
-ghost use Rattle.iscsi_tool.specs.Filtering.{Filters, HasDisk, ReadsOn, RefusesRead};
+ghost use Rattle.iscsi_words.specs.Jobs.{HasDisk};
+ghost use Rattle.iscsi_tool.specs.Filtering.{Filters, ReadsOn, RefusesRead};
 
 use crate::answering::{answer, answer_hex};
 use iscsi_filters::{StreamWork, run_work};
 use iscsi_stream::ToolFault;
 use std::alloc::Global;
+use iscsi_words::{Filter, Work};
 use std::io::{Read, Write};
-
-/// What a filter does with a stream.
-#[derive(Clone, Copy, Debug, PartialEq, Eq)]
-pub enum Work {
-    /// Writes a line for each PDU.
-    Show,
-    /// Writes the canonical stream.
-    Normalise,
-    /// Writes the canonical text of one text.
-    Text,
-    /// Writes the answers of a target whose disk has `n` blocks of 512 bytes, 1 to 2^40.
-    Answer(u64),
-}
-
-/// A filter, and whether its input is hex text and its bytes are written as a line of hex.
-#[derive(Clone, Copy, Debug, PartialEq, Eq)]
-pub struct Filter {
-    /// What it does.
-    pub work: Work,
-    /// Whether streams are hex text; the lines of `Show` are text in any case.
-    pub hex: bool,
-}
 
 /// Runs a filter from a reader to a writer.
 ///

@@ -4,9 +4,9 @@
 ghost use Rattle.std.specs.Prelude.{◌≡◌, ◌<◌, ◌≤◌, IfOk, IfSome};
 ghost use Rattle.scsi_disk.specs.Disk.{most_blocks};
 ghost use Rattle.iscsi_login.specs.Name.{IsName};
-ghost use Rattle.iscsi_server.specs.Service.{AreOffered, IsMemory, longest_asked};
-ghost use Rattle.iscsi_tool.specs.Filtering.{IsJob};
-ghost use Rattle.iscsi_tool.specs.Storage.{IsStorage};
+ghost use Rattle.iscsi_serving.specs.Options.{AreOffered, IsMemory, longest_asked};
+ghost use Rattle.iscsi_words.specs.Jobs.{IsJob};
+ghost use Rattle.iscsi_words.specs.Storage.{IsStorage};
 
 use crate::disk_size::{SizeFault, bad_size, said_blocks, with_size};
 use crate::examples;
@@ -15,7 +15,7 @@ use crate::storage::{Image, Origin, Storage};
 use crate::words::{Job, LineFault, Service, bad_number, bad_value, flag, valued, with_word};
 use clap::{Arg, ArgMatches, Command};
 use iscsi_login::{Preferences, is_name};
-use iscsi_server::{
+use iscsi_serving::{
     LEAST_MEMORY, LOGIN_WITHIN, LONGEST_ASKED, Limits, MEMORY, MOST_AT_ONCE, MOST_MEMORY, Options,
     SHORTEST_ASKED,
 };

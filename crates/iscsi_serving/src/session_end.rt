@@ -1,7 +1,7 @@
 //! Why a session of a seat ends, where it has a line.
 
 ghost use Rattle.std.specs.Prelude.{◌≡◌};
-ghost use Rattle.iscsi_server.specs.Ending.{end_of};
+ghost use Rattle.iscsi_serving.specs.Ending.{end_of};
 
 use iscsi_target::TargetFault;
 use thiserror::Error;

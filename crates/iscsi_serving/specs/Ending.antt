@@ -1,8 +1,8 @@
 -- Why a session ends.
 use Rattle.iscsi_target.specs.declared.fault.TargetFault.{TargetFault}
 use Rattle.iscsi_target.specs.declared.fault.TargetFault.TheVariants as target
-use Rattle.iscsi_server.specs.declared.session_end.SessionEnd.{SessionEnd}
-use Rattle.iscsi_server.specs.declared.session_end.SessionEnd.TheVariants as ends
+use Rattle.iscsi_serving.specs.declared.session_end.SessionEnd.{SessionEnd}
+use Rattle.iscsi_serving.specs.declared.session_end.SessionEnd.TheVariants as ends
 
 -- By a fault of its target, of which a want of memory is an end of its own.
 abbrev pub end_of : TargetFault → SessionEnd

@@ -2,7 +2,7 @@
 
 ghost use Rattle.std.specs.Prelude.{◌≡◌, option_map};
 ghost use Rattle.std.specs.Duration.{as_nanos};
-ghost use Rattle.iscsi_server.specs.Limits.{broken_limit, is_passed, left_of, shorter, time_left};
+ghost use Rattle.iscsi_serving.specs.Limits.{broken_limit, is_passed, left_of, shorter, time_left};
 
 use crate::session_end::SessionEnd;
 use iscsi_login::Phase;
@@ -40,8 +40,8 @@ impl Limits {
         }
     }
 
-    // How long such a session goes on if no byte comes; none: for ever.
-    pub(crate) fn time_left(
+    /// How long such a session goes on if no byte comes; `None` if for ever.
+    pub fn time_left(
         &self,
         phase: Phase,
         accepted: Duration,
@@ -79,8 +79,8 @@ fn left(limit: Option<u64>, gone: Duration) -> Option<Duration>
     }
 }
 
-// The shorter of two times, of which none is the longest.
-pub(crate) fn sooner(one: Option<Duration>, other: Option<Duration>) -> Option<Duration>
+/// The shorter of two times, of which `None` is the longest.
+pub fn sooner(one: Option<Duration>, other: Option<Duration>) -> Option<Duration>
     ensures { option_map as_nanos result
         ≡ shorter (option_map as_nanos one) (option_map as_nanos other) }
 {

@@ -1,0 +1,53 @@
+//! Two captures to compare.
+
+ghost use Rattle.std.specs.Prelude.{◌≡◌};
+ghost use Rattle.iscsi_captures.specs.Faults.{fault_status};
+
+use iscsi_captures::{CapturesFault, Wanted};
+use iscsi_compare::Which;
+use iscsi_comparison::Sameness;
+
+/// Two captures to compare.
+#[derive(Clone, Copy, Debug, PartialEq, Eq)]
+pub struct CaptureComparison<'a> {
+    /// The file of the first capture.
+    pub first: &'a str,
+    /// The file of the second capture, or the standard input of the process.
+    pub second: Option<&'a str>,
+    /// What makes the two directions the same.
+    pub sameness: Sameness,
+    /// The direction of the first capture.
+    pub wanted: Wanted,
+    /// The direction of the second one.
+    pub other: Wanted,
+}
+
+/// Why a comparison of two captures stops: a fault, and of which capture it is; none for memory and
+/// a write that failed.
+#[derive(Clone, Copy, Debug, PartialEq, Eq)]
+pub struct CaptureComparisonFault {
+    /// The capture.
+    pub which: Option<Which>,
+    /// The fault.
+    pub fault: CapturesFault,
+}
+
+impl CaptureComparisonFault {
+    /// The exit status that says the fault.
+    pub fn status(&self) -> u8
+        ensures { result ≡ fault_status self.now.fault }
+    {
+        self.fault.status()
+    }
+}
+
+impl CaptureComparison<'_> {
+    /// The name of the input in the line of a fault; none if the fault is of no input.
+    pub fn blamed(&self, fault: CaptureComparisonFault) -> Option<&str> {
+        match fault.which {
+            Some(Which::First) => Some(self.first),
+            Some(Which::Second) => Some(self.second.unwrap_or("standard input")),
+            None => None,
+        }
+    }
+}
