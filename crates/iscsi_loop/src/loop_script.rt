@@ -35,7 +35,6 @@ use scsi_disk::{BlockStore, SparseStore};
 use std::alloc::{AllocError, Global};
 use std::io::{Read, Write};
 
-
 /// The name of the initiator.
 const INITIATOR_NAME: &[u8] = b"iqn.2026-01.example:host";
 /// The initiator's part of the session's identifier (RFC 7143, section 11.12.5).

@@ -7,11 +7,10 @@ ghost use Rattle.iscsi_server.specs.Running.{RunsAt, RunsIdleAt};
 
 use crate::budget::Budget;
 use crate::connection::{Connection, Moved};
-use iscsi_serving::Limits;
-use iscsi_serving::SessionEnd;
 use crate::tally::Tally;
 use iscsi_hall::{Hall, MOST_READ};
 use iscsi_login::Phase;
+use iscsi_serving::{Limits, SessionEnd};
 use scsi_disk::BlockStore;
 use std::alloc::{AllocError, Global};
 use std::time::Instant;

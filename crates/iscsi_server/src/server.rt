@@ -15,11 +15,10 @@ mod waiting;
 
 use crate::accepting::Accepting;
 use crate::lines::Lines;
-use iscsi_serving::Options;
 use crate::peer::{Peer, no_peers};
 use crate::system::{listen, now};
 use iscsi_hall::{Hall, MOST_READ};
-use iscsi_serving::ServeFault;
+use iscsi_serving::{Options, ServeFault};
 use mio::net::TcpListener;
 use mio::{Events, Poll};
 use scsi_disk::BlockStore;

@@ -10,10 +10,9 @@ ghost use Rattle.iscsi_server.specs.Running.{RunsWithin, Served};
 ghost use Rattle.iscsi_serving.specs.Options.{IsService};
 
 use crate::limited::LimitedStore;
-use iscsi_serving::Options;
 use crate::server::Server;
 use crate::system::{OTHER_DESCRIPTORS, most_descriptors};
-use iscsi_serving::ServeFault;
+use iscsi_serving::{Options, ServeFault};
 use scsi_disk::BlockStore;
 
 /// Listens, and prints `listening` and, if asked, the port on a line of its own. Serves connections

@@ -1,7 +1,7 @@
 //! What the log tells of a session when it ends.
 
-use iscsi_serving::SessionEnd;
 use iscsi_login::Phase;
+use iscsi_serving::SessionEnd;
 use std::fmt::{self, Display, Write};
 
 /// The bytes of a header (RFC 7143, section 11.2.1).

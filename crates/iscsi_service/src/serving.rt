@@ -5,8 +5,8 @@ ghost use Rattle.iscsi_serving.specs.Executed.{HasExecuted};
 ghost use Rattle.iscsi_serving.specs.Faults.{EndsService};
 ghost use Rattle.iscsi_service.specs.Serving.{ServesOne};
 
-use crate::fault::ServeFault;
 use crate::session::{configuration, serve_reads};
+use iscsi_serving::ServeFault;
 use iscsi_target::Config;
 use scsi_disk::BlockStore;
 use std::alloc::{AllocError, Global};

@@ -41,12 +41,7 @@ impl Limits {
     }
 
     /// How long such a session goes on if no byte comes; `None` if for ever.
-    pub fn time_left(
-        &self,
-        phase: Phase,
-        accepted: Duration,
-        silent: Duration,
-    ) -> Option<Duration>
+    pub fn time_left(&self, phase: Phase, accepted: Duration, silent: Duration) -> Option<Duration>
         ensures left { option_map as_nanos result
             ≡ time_left self.now phase (as_nanos accepted) (as_nanos silent) }
     {

@@ -8,8 +8,8 @@ ghost use Rattle.iscsi_tool.specs.Filtering.{Filters, ReadsOn, RefusesRead};
 use crate::answering::{answer, answer_hex};
 use iscsi_filters::{StreamWork, run_work};
 use iscsi_stream::ToolFault;
-use std::alloc::Global;
 use iscsi_words::{Filter, Work};
+use std::alloc::Global;
 use std::io::{Read, Write};
 
 /// Runs a filter from a reader to a writer.

@@ -5,12 +5,12 @@ ghost use Rattle.iscsi_server.specs.Running.{RunsIdle};
 
 use super::Server;
 use crate::peer::Peer;
-use iscsi_serving::SessionEnd;
 use crate::session_line::SessionLine;
 use crate::system::now;
 use crate::tally::Ended;
 use iscsi_hall::Hall;
 use iscsi_login::Phase;
+use iscsi_serving::SessionEnd;
 
 impl<'a> Server<'a> {
     // Ends the session of a seat, and all of them where a sync failed.

@@ -6,8 +6,8 @@ ghost use Rattle.iscsi_server.specs.Running.{RunsIdle, RunsWithin};
 
 use super::Server;
 use crate::budget::Budget;
-use iscsi_serving::SessionEnd;
 use iscsi_login::Phase;
+use iscsi_serving::SessionEnd;
 use scsi_disk::BlockStore;
 use std::time::Instant;
 

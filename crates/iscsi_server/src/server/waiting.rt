@@ -4,10 +4,9 @@ ghost use Rattle.std.specs.Prelude.{◌≡◌, IfErr};
 ghost use Rattle.iscsi_serving.specs.Faults.{EndsService};
 
 use super::Server;
-use iscsi_serving::sooner;
 use crate::system::LISTENER;
 use iscsi_login::Phase;
-use iscsi_serving::ServeFault;
+use iscsi_serving::{ServeFault, sooner};
 use std::time::{Duration, Instant};
 
 impl<'a> Server<'a> {
