@@ -60,6 +60,20 @@ fn an_export_is_opened_in_any_pieces(rt: HostRuntime) {
     }
 }
 
+/// What nbd-server says for a disk of 16 MiB: its greeting, and its answers to GO.
+const SAID: &[u8] =
+    b"NBDMAGICIHAVEOPT\x00\x03\x00\x03\xe8\x89\x04\x55\x65\xa9\x00\x00\x00\x07\x00\x00\x00\x03\x00\x00\x00\x0c\x00\x00\x00\x00\x00\x00\x01\x00\x00\x00\x01\x6d\x00\x03\xe8\x89\x04\x55\x65\xa9\x00\x00\x00\x07\x00\x00\x00\x01\x00\x00\x00\x00";
+
+#[test]
+fn refused_memory_is_told(rt: HostRuntime) {
+    let alloc = rt.alloc();
+    let mut taken = Vec::with_capacity(alloc, 64).expect(&rt, "memory");
+    let mut reader = Source::new(SAID, SURE);
+    let answer = negotiate(alloc, &mut reader, &mut taken, b"disk");
+    let is_told = matches!(answer, Ok(32_768) | Err(HandshakeFault::NoMemory));
+    assert!(&rt; is_told);
+}
+
 #[test]
 fn an_end_at_each_byte_is_a_lost_connection(rt: HostRuntime) {
     let alloc = rt.alloc();
