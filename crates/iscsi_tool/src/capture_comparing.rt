@@ -10,7 +10,7 @@ use iscsi_captures::{Captured, CapturesFault};
 use iscsi_compare::{Verdict, Which};
 use iscsi_comparison::{ComparisonFault, compare_bytes};
 use iscsi_stream::ToolFault;
-use iscsi_words::{CaptureComparison, CaptureComparisonFault};
+use iscsi_words::{CaptureComparison, CaptureComparisonFault, STDIN};
 use std::alloc::Global;
 use std::fs;
 use std::io::{Read, Write};
@@ -24,17 +24,35 @@ pub(crate) fn run_comparison<W: Write>(
     ensures compares { (written : List ℕ) × Appends (W.contents w.old) (W.contents w.new) written
         × ComparesCaptures comparison.entry.sameness result written }
 {
+    if comparison.first == STDIN {
+        let mut first = rt.stdin();
+        return compare_with(rt, comparison, &mut first, w);
+    }
     let Ok(mut first) = fs::open(rt, comparison.first) else {
         return Err(unread(Which::First));
     };
-    let Some(name) = comparison.second else {
+    compare_with(rt, comparison, &mut first, w)
+}
+
+// Runs a comparison whose first capture a reader gives.
+fn compare_with<R: Read, W: Write>(
+    rt: &HostRuntime,
+    comparison: CaptureComparison<'_>,
+    first: &mut R,
+    w: &mut W,
+) -> Result<Verdict, CaptureComparisonFault>
+    ensures compares { (written : List ℕ) × Appends (W.contents w.old) (W.contents w.new) written
+        × ComparesCaptures comparison.entry.sameness result written }
+{
+    let name = comparison.second.unwrap_or(STDIN);
+    if name == STDIN {
         let mut second = rt.stdin();
-        return compare_from(rt.alloc(), comparison, &mut first, &mut second, w);
-    };
+        return compare_from(rt.alloc(), comparison, first, &mut second, w);
+    }
     let Ok(mut second) = fs::open(rt, name) else {
         return Err(unread(Which::Second));
     };
-    compare_from(rt.alloc(), comparison, &mut first, &mut second, w)
+    compare_from(rt.alloc(), comparison, first, &mut second, w)
 }
 
 // The fault of a file that cannot be opened.

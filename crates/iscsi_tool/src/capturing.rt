@@ -13,7 +13,7 @@ use iscsi_captures::{
 };
 use iscsi_explain::Form;
 use iscsi_stream::ToolFault;
-use iscsi_words::{CaptureJob, CaptureWork};
+use iscsi_words::{CaptureJob, CaptureWork, STDIN};
 use std::alloc::Global;
 use std::fs;
 use std::io::{Read, Write};
@@ -28,7 +28,7 @@ pub(crate) fn run_capture<W: Write>(
     ensures writes { (written : List ℕ) × Appends (W.contents w.old) (W.contents w.new) written
         × WritesCapture job.entry.work result written }
 {
-    if job.file == "-" {
+    if job.file == STDIN {
         let mut input = rt.stdin();
         return capture_from(rt.alloc(), job.work, &mut input, w);
     }

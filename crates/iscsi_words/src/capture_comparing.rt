@@ -7,12 +7,15 @@ use iscsi_captures::{CapturesFault, Wanted};
 use iscsi_compare::Which;
 use iscsi_comparison::Sameness;
 
-/// Two captures to compare.
+/// The name of a capture that comes from the standard input of the process.
+pub const STDIN: &str = "-";
+
+/// Two captures to compare. At most one of them comes from the standard input of the process.
 #[derive(Clone, Copy, Debug, PartialEq, Eq)]
 pub struct CaptureComparison<'a> {
-    /// The file of the first capture.
+    /// The file of the first capture; `-` is the standard input of the process.
     pub first: &'a str,
-    /// The file of the second capture, or the standard input of the process.
+    /// The file of the second capture; none and `-` are the standard input of the process.
     pub second: Option<&'a str>,
     /// What makes the two directions the same.
     pub sameness: Sameness,
@@ -45,9 +48,18 @@ impl CaptureComparison<'_> {
     /// The name of the input in the line of a fault; none if the fault is of no input.
     pub fn blamed(&self, fault: CaptureComparisonFault) -> Option<&str> {
         match fault.which {
-            Some(Which::First) => Some(self.first),
-            Some(Which::Second) => Some(self.second.unwrap_or("standard input")),
+            Some(Which::First) => Some(named(self.first)),
+            Some(Which::Second) => Some(named(self.second.unwrap_or(STDIN))),
             None => None,
         }
+    }
+}
+
+/// The name of a capture in the line of a fault.
+pub(crate) fn named(file: &str) -> &str {
+    if file == STDIN {
+        "standard input"
+    } else {
+        file
     }
 }

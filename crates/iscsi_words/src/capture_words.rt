@@ -3,7 +3,7 @@
 ghost use Rattle.std.specs.Prelude.{◌<◌, ◌≤◌, IfOk, IfSome};
 ghost use Rattle.iscsi_words.specs.Jobs.{CanWork, IsJob};
 
-use crate::capture_comparing::CaptureComparison;
+use crate::capture_comparing::{CaptureComparison, STDIN, named};
 use crate::disk_size::{bad_size, needed_blocks};
 use crate::telling::form_of;
 use crate::words::{Job, LineFault, bad_number, file, flag, valued, with_word};
@@ -56,8 +56,7 @@ impl CaptureJob<'_> {
         match fault {
             CapturesFault::NoMemory | CapturesFault::Write | CapturesFault::NoConnection { .. } =>
                 None,
-            _ if self.file == "-" => Some("standard input"),
-            _ => Some(self.file),
+            _ => Some(named(self.file)),
         }
     }
 }
@@ -255,12 +254,16 @@ pub(crate) fn compared_job<'a>(
     ensures job { IfOk result IsJob }
 {
     let ends = (end_of(asked), both_numbers(asked));
+    let (a, b) = (asked.get_str("A").unwrap_or(""), asked.get_str("B"));
+    if a == STDIN && b.unwrap_or(STDIN) == STDIN {
+        return Err(bad_number(alloc, program, TWICE_STDIN));
+    }
     match ends {
         (Some(end), Some((first, second))) if !asked.get_flag("hex") && asked.get_flag("capture") =>
             {
                 Ok(Job::CompareCaptures(CaptureComparison {
-                    first: asked.get_str("A").unwrap_or(""),
-                    second: asked.get_str("B"),
+                    first: a,
+                    second: b,
                     sameness,
                     wanted: Wanted {
                         connection: first,
@@ -275,6 +278,9 @@ pub(crate) fn compared_job<'a>(
         _ => Err(bad_number(alloc, program, BAD_COMPARED)),
     }
 }
+
+const TWICE_STDIN: &str =
+    "one of two captures at most is standard input: name a file for the other";
 
 const BAD_COMPARED: &str = "captures are compared with '--capture <A> [B] --connection <K>[,<L>] \
     --from initiator|target', and without '--hex'";

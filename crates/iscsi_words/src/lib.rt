@@ -12,7 +12,7 @@ mod storage;
 mod telling;
 mod words;
 
-pub use capture_comparing::{CaptureComparison, CaptureComparisonFault};
+pub use capture_comparing::{CaptureComparison, CaptureComparisonFault, STDIN};
 pub use capture_words::{CaptureJob, CaptureWork};
 pub use filter::{Filter, Work};
 pub use nbd_storage::{FaultLine, NbdExport, NbdFault};

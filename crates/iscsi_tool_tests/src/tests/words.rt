@@ -199,6 +199,11 @@ const JOBS: &[(&str, &str)] = &[
          wanted: Wanted { connection: 1, end: Target }, other: Wanted { connection: 2, end: Target } })",
     ),
     (
+        "compare --capture - b --connection 0 --from target",
+        "CompareCaptures(CaptureComparison { first: \"-\", second: Some(\"b\"), sameness: Meaning, \
+         wanted: Wanted { connection: 0, end: Target }, other: Wanted { connection: 0, end: Target } })",
+    ),
+    (
         "normalise --from=initiator --connection=00 --capture=-",
         "Capture(CaptureJob { file: \"-\", work: Normalise(Wanted { connection: 0, end: Initiator }) })",
     ),
@@ -211,6 +216,10 @@ const SHOW: &str =
 
 const COMPARE: &str = "error: captures are compared with '--capture <A> [B] --connection <K>[,<L>] \
     --from initiator|target', and without '--hex'\n\nUsage: lanthovur compare";
+
+const TWICE_STDIN: &str =
+    "error: one of two captures at most is standard input: name a file for the other\n\n\
+    Usage: lanthovur compare";
 
 const ANSWER: &str = "error: a capture is answered with '--capture <FILE> --connection <K>', and \
     without '--hex'\n\nUsage: lanthovur answer";
@@ -456,6 +465,14 @@ const REFUSED: &[(&str, &str)] = &[
     ("show --capture a --json --hex", SHOW),
     ("show --connection 0 --from target", SHOW),
     ("compare --capture a b", COMPARE),
+    (
+        "compare --capture - --connection 0 --from target",
+        TWICE_STDIN,
+    ),
+    (
+        "compare --capture - - --connection 0 --from target",
+        TWICE_STDIN,
+    ),
     ("compare --capture a b --connection 0", COMPARE),
     ("compare --connection 0 --from target a b", COMPARE),
     (
