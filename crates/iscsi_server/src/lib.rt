@@ -19,6 +19,8 @@ mod service;
 mod session_end;
 mod system;
 
+// (it stands in `Options`)
+pub use iscsi_service::Initiators;
 pub use limited::{LEAST_MEMORY, LimitedStore, MEMORY, MOST_MEMORY};
 pub use limits::{LOGIN_WITHIN, Limits};
 pub use options::{LONGEST_ASKED, MOST_AT_ONCE, Options, SHORTEST_ASKED};
