@@ -5,7 +5,7 @@ ghost use Rattle.std.specs.Prelude.{◌≡◌, ◌<◌, ◌≤◌, IfOk, IfSome}
 ghost use Rattle.scsi_disk.specs.Disk.{most_blocks};
 ghost use Rattle.iscsi_login.specs.Name.{IsName};
 ghost use Rattle.iscsi_server.specs.Service.{AreOffered, IsMemory, longest_asked};
-ghost use Rattle.iscsi_tool.specs.Filtering.{IsJob};
+ghost use Rattle.iscsi_tool.specs.Filtering.{CanServe, IsJob};
 ghost use Rattle.iscsi_tool.specs.Storage.{IsStorage};
 
 use crate::disk_size::{SizeFault, bad_size, said_blocks, with_size};
@@ -209,16 +209,21 @@ pub(crate) fn service_of<'a>(alloc: Global, asked: &ArgMatches<'a>) -> Result<Jo
 {
     let port = port_of(alloc, asked)?;
     let storage = storage_of(alloc, asked)?;
+    let service = way_of(alloc, asked, port)?;
+    Ok(Job::Serve { storage, service })
+}
+
+// How the disk is served at this port.
+fn way_of<'a>(alloc: Global, asked: &ArgMatches<'a>, port: u16) -> Result<Service<'a>, LineFault>
+    ensures service { IfOk result CanServe }
+{
     let sessions = sessions_of(alloc, asked)?;
     let initiators = initiators_of(alloc, asked)?;
     let Some(digits) = asked.get_str("at-once") else {
-        return Ok(Job::Serve {
-            storage,
-            service: Service::InTurn {
-                port,
-                sessions,
-                initiators,
-            },
+        return Ok(Service::InTurn {
+            port,
+            sessions,
+            initiators,
         });
     };
     let Some(at_once) = at_once_of(digits) else {
@@ -230,7 +235,7 @@ pub(crate) fn service_of<'a>(alloc: Global, asked: &ArgMatches<'a>) -> Result<Jo
         login_within: login_within_of(alloc, asked)?,
     };
     let preferences = preferences_of(alloc, asked)?;
-    let options = Options {
+    Ok(Service::AtOnce(Options {
         listen,
         port,
         sessions,
@@ -241,11 +246,7 @@ pub(crate) fn service_of<'a>(alloc: Global, asked: &ArgMatches<'a>) -> Result<Jo
         preferences,
         memory: memory_of(alloc, asked)?,
         print_port: asked.get_flag("print-port"),
-    };
-    Ok(Job::Serve {
-        storage,
-        service: Service::AtOnce(options),
-    })
+    }))
 }
 
 // The port: the one that is said, or else that of iSCSI.
