@@ -191,7 +191,7 @@ is_normal blocks =
         tsih = n.opening.tsih;
         stat_sn = n.opening.stat_sn;
       };
-      suits = record { name = inr refl; auth = inr (λ e. absurd cc) };
+      suits = record { name = inr refl; auth = inr (λ e. absurd cc); access = refl };
       session = refl;
     }
 

@@ -25,11 +25,13 @@ abbrev pub IsDone : Service → Type 0
 IsDone service = (has_all service.sessions service.logins ≡ true) × IsEmpty service.hall
 
 -- What the target is configured with for the session of a number: portal group 1, and the number as
--- its TSIH (RFC 7143, section 11.12.6; own rule).
-abbrev pub settings_of : List ℕ → ℕ → Preferences → Settings
-settings_of name number preferences = record {
+-- its TSIH (RFC 7143, section 11.12.6; own rule). Where names of initiators are listed, no other one
+-- may log in.
+abbrev pub settings_of : List ℕ → ℕ → Preferences → Option (List (List ℕ)) → Settings
+settings_of name number preferences initiators = record {
   name = name;
   group = 1;
   tsih = number;
   preferences = preferences;
+  access = record { names = initiators };
 }

@@ -126,12 +126,12 @@ answers_go s disk (m ∷ ms) g = answers_go (step s disk m).machine (step s disk
 
 answers_stay : (s : Machine) (disk : Disk) (ms : List Message) → IsLater s.session.phase → Stays s (answers s disk ms).machine
 unfolding answers
-answers_stay s disk [] later = record { stage = refl; held = refl; later = λ l. l }
+answers_stay s disk [] later = record { stage = refl; held = refl; has_text = refl; name = refl; later = λ l. l }
 answers_stay s disk (m ∷ ms) later =
     let x : Stays s (step s disk m).machine = step_stays reliable s disk m later in
     let y : Stays (step s disk m).machine (answers (step s disk m).machine (step s disk m).disk ms).machine =
     answers_stay (step s disk m).machine (step s disk m).disk ms (x.later later) in
-    record { stage = y.stage ∙ x.stage; held = y.held ∙ x.held; later = λ l. y.later (x.later l) }
+    record { stage = y.stage ∙ x.stage; held = y.held ∙ x.held; has_text = y.has_text ∙ x.has_text; name = y.name ∙ x.name; later = λ l. y.later (x.later l) }
 
 later_of : (s : Session) (p : Phase) → s.phase ≡ p → Goes s → s.stage ≡ stages.Full → IsLater s.phase
 later_of s phases.Login e g f = absurd (g e (subst IsLast (sym f) tt))

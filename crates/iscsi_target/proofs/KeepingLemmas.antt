@@ -78,10 +78,12 @@ abbrev pub IsLater : Phase → Type 0
 IsLater phases.Login = ⊥
 IsLater _ = Unit {0}
 
--- what is held stays, and so does the stage
+-- what is held stays, and so do the stage and who logged in
 pub record Stays (s n : Machine) : Type 0 where
   pub stage : n.session.stage ≡ s.session.stage
   pub held : n.session.held ≡ s.session.held
+  pub has_text : n.session.has_text ≡ s.session.has_text
+  pub name : n.session.initiator_name ≡ s.session.initiator_name
   pub later : IsLater s.session.phase → IsLater n.session.phase
 
 -- the settings stay, and behind the login what is held
@@ -93,12 +95,14 @@ record Keeps (s : Machine) (r : Stepped) : Type 0 where
   is : Kept s r.machine
 
 same : (s : Machine) → Kept s s
-same s = record { settings = refl; stays = λ l. record { stage = refl; held = refl; later = λ l. l } }
+same s = record { settings = refl; stays = λ l. record { stage = refl; held = refl; has_text = refl; name = refl; later = λ l. l } }
 
 -- the same of a session
 record StaysSession (s n : Session) : Type 0 where
   stage : n.stage ≡ s.stage
   held : n.held ≡ s.held
+  has_text : n.has_text ≡ s.has_text
+  name : n.initiator_name ≡ s.initiator_name
   later : IsLater s.phase → IsLater n.phase
 
 record KeptSession (s n : Session) : Type 0 where
@@ -106,13 +110,13 @@ record KeptSession (s n : Session) : Type 0 where
   stays : IsLater s.phase → StaysSession s n
 
 same_session : (s : Session) → KeptSession s s
-same_session s = record { settings = refl; stays = λ l. record { stage = refl; held = refl; later = λ l. l } }
+same_session s = record { settings = refl; stays = λ l. record { stage = refl; held = refl; has_text = refl; name = refl; later = λ l. l } }
 
 counts : (s : Session) → KeptSession s (counted s)
-counts s = record { settings = refl; stays = λ l. record { stage = refl; held = refl; later = λ l. l } }
+counts s = record { settings = refl; stays = λ l. record { stage = refl; held = refl; has_text = refl; name = refl; later = λ l. l } }
 
 ends : (s : Session) → KeptSession s (ended (counted s))
-ends s = record { settings = refl; stays = λ l. record { stage = refl; held = refl; later = λ l. tt } }
+ends s = record { settings = refl; stays = λ l. record { stage = refl; held = refl; has_text = refl; name = refl; later = λ l. tt } }
 
 -- what a session keeps, the target keeps
 reply_keeps : (s : Machine) (disk : Disk) (r : Reply) → KeptSession s.session r.session → Keeps s (on disk s.tasks r)
@@ -120,7 +124,7 @@ reply_keeps s disk r k = record {
   is = record {
     settings = k.settings;
     stays = λ l. (let x = k.stays l in
-        record { stage = x.stage; held = x.held; later = x.later });
+        record { stage = x.stage; held = x.held; has_text = x.has_text; name = x.name; later = x.later });
   };
 }
 
@@ -156,10 +160,10 @@ begins_keep : Begins (λ device s disk task r. Keeps s r)
 begins_keep = record {
   request_ = λ device s disk m none. reply_keeps s disk _ (request_keeps_all s.session (waiting s.tasks) m m.head);
   refused_ = λ device s disk m h k broke. reply_keeps s disk _ (ends s.session);
-  command_ = λ device s disk m h k none. record { is = record { settings = refl; stays = λ l. record { stage = refl; held = refl; later = λ l. l } } };
-  write_ = λ device s disk task w is h. record { is = record { settings = refl; stays = λ l. record { stage = refl; held = refl; later = λ l. l } } };
-  send_r2t_ = λ device s disk task w is h g. record { is = record { settings = refl; stays = λ l. record { stage = refl; held = refl; later = λ l. l } } };
-  wait_ = λ device s disk task w is h g. record { is = record { settings = refl; stays = λ l. record { stage = refl; held = refl; later = λ l. l } } };
+  command_ = λ device s disk m h k none. record { is = record { settings = refl; stays = λ l. record { stage = refl; held = refl; has_text = refl; name = refl; later = λ l. l } } };
+  write_ = λ device s disk task w is h. record { is = record { settings = refl; stays = λ l. record { stage = refl; held = refl; has_text = refl; name = refl; later = λ l. l } } };
+  send_r2t_ = λ device s disk task w is h g. record { is = record { settings = refl; stays = λ l. record { stage = refl; held = refl; has_text = refl; name = refl; later = λ l. l } } };
+  wait_ = λ device s disk task w is h g. record { is = record { settings = refl; stays = λ l. record { stage = refl; held = refl; has_text = refl; name = refl; later = λ l. l } } };
 }
 
 begun_keeps : (device : Device) (s : Session) (disk : Disk) (task : Task) (more : List Task) →
@@ -174,7 +178,7 @@ then_keeps s tasks more a b k l = record {
     stays = λ later.
         let x = k.is.stays later in
         let y = l.is.stays (x.later later) in
-        record { stage = y.stage ∙ x.stage; held = y.held ∙ x.held; later = λ _. y.later (x.later later) };
+        record { stage = y.stage ∙ x.stage; held = y.held ∙ x.held; has_text = y.has_text ∙ x.has_text; name = y.name ∙ x.name; later = λ _. y.later (x.later later) };
   };
 }
 
@@ -183,7 +187,7 @@ of_session s a b r k = record {
   is = record {
     settings = k.is.settings;
     stays = λ l. (let x = k.is.stays l in
-        record { stage = x.stage; held = x.held; later = x.later });
+        record { stage = x.stage; held = x.held; has_text = x.has_text; name = x.name; later = x.later });
   };
 }
 
@@ -223,7 +227,7 @@ accepted_keeps s _ m r (Immediately c none) k = record { is = k.is }
 accepted_keeps s _ m r (InTurn n c w is) k = record {
   is = record {
     settings = k.is.settings;
-    stays = λ l. (let x = k.is.stays l in record { stage = x.stage; held = x.held; later = x.later });
+    stays = λ l. (let x = k.is.stays l in record { stage = x.stage; held = x.held; has_text = x.has_text; name = x.name; later = x.later });
   };
 }
 
@@ -232,7 +236,7 @@ accepted_keeps s _ m r (InTurn n c w is) k = record {
 parts_keep : (device : Device) (disk : Disk) → Parts device disk (λ s m r. Keeps s r)
 parts_keep device disk = record {
   nothing_ = λ s m c. record { is = same s };
-  shut_ = λ s m. record { is = record { settings = refl; stays = λ l. record { stage = refl; held = refl; later = λ l. tt } } };
+  shut_ = λ s m. record { is = record { settings = refl; stays = λ l. record { stage = refl; held = refl; has_text = refl; name = refl; later = λ l. tt } } };
   reject_ = λ s reason m a. reply_keeps s disk _ (counts s.session);
   reject_and_close_ = λ s rule m. reply_keeps s disk _ (ends s.session);
   login_ = λ s m k. record { is = record { settings = login_keeps s.session m.head m.segment; stays = λ l. absurd (never s k l) } };
@@ -254,7 +258,7 @@ admitted_next s t count m k same =
     (λ e. by_cases (breaks_rules t.session.held (length (segment_bytes m.segment)) m.head) (λ f. rw (e, f) tt) (λ f. rw (e, f) (k, same)))
 
 advances : (s : Machine) → KeptSession s.session (advanced s).session
-advances s = record { settings = refl; stays = λ l. record { stage = refl; held = refl; later = λ l. l } }
+advances s = record { settings = refl; stays = λ l. record { stage = refl; held = refl; has_text = refl; name = refl; later = λ l. l } }
 
 request_next : (s : Machine) (count : ℕ) (m : Message) (i : Bool) (cmd_sn : ℕ) → NextKeeps s.session (request s count m i cmd_sn).next
 request_next s count m true cmd_sn = by_cases (is_busy s.tasks) (λ e. rw e tt) (λ e. rw e (admitted_next s.session s count m (same_session s.session) refl))
@@ -317,4 +321,4 @@ stop_stays s disk before m r after h =
     let l : IsLater s.session.phase = subst IsLater (sym h.full) tt in
     let a = x.stays l in
     let b = y.is.stays (a.later l) in
-    record { stage = b.stage ∙ a.stage; held = b.held ∙ a.held; later = λ _. b.later (a.later l) }
+    record { stage = b.stage ∙ a.stage; held = b.held ∙ a.held; has_text = b.has_text ∙ a.has_text; name = b.name ∙ a.name; later = λ _. b.later (a.later l) }

@@ -44,3 +44,4 @@ pub mod CrashLemmas
 pub mod PassedLemmas
 pub mod ReadPartLemmas
 pub mod AlikeLemmas
+pub mod AllowedLaw

@@ -15,7 +15,7 @@ use Rattle.iscsi_login.specs.declared.stage.Stage.TheVariants as stages
 use Rattle.iscsi_login.specs.declared.preferences.Answered.TheVariants as answered
 use Rattle.iscsi_login.specs.Held.{Held}
 use Rattle.iscsi_login.specs.Negotiation.{standard}
-use Rattle.iscsi_target_session.specs.Configured.{Settings}
+use Rattle.iscsi_target_session.specs.Configured.{Settings, open_to_all}
 use Rattle.iscsi_target.specs.State.{Machine, opening}
 use Rattle.iscsi_target.specs.Machine.{answers}
 
@@ -177,6 +177,7 @@ settings = record {
   group = 1;
   tsih = 1;
   preferences = standard;
+  access = open_to_all;
 }
 
 -- before the first request

@@ -1,10 +1,11 @@
 //! Laws of the target machine: functions that do nothing, whose contracts are the theorems. They
 //! speak of the definitions in `specs`, which the contracts of the working functions cite too.
 
-ghost use Rattle.std.specs.Prelude.{◌≡◌, ◌≤◌, ◌<◌, ◌+◌, ◌%◌, ◌^◌, ◌++◌, ◌∷◌, [], ℕ, false, List, Result, length, map};
+ghost use Rattle.std.specs.Prelude.{◌≡◌, ◌≢◌, ◌≤◌, ◌<◌, ◌+◌, ◌%◌, ◌^◌, ◌++◌, ◌∷◌, [], ℕ, false, true, List, Result, Some, length, map};
 ghost use Rattle.std.specs.List.{AllByRecursion};
 ghost use Rattle.scsi_disk.specs.Disk.{Disk};
 ghost use Rattle.scsi_disk.specs.Runs.{disk_after};
+ghost use Rattle.iscsi_text.specs.Key.{is_among};
 ghost use Rattle.iscsi_pdu.specs.declared.head.Head.TheVariants as heads;
 ghost use Rattle.iscsi_pdu.specs.declared.head.login_request.LoginRequest.{LoginRequest};
 ghost use Rattle.iscsi_stream.specs.Stream.{Message, StreamMeans, Splits, longest_segment};
@@ -90,6 +91,28 @@ pub fn held_stays()
     // So does a fault that closes it.
     ensures closed { (s : Machine) → ((closed s).session.stage ≡ s.session.stage)
         × ((closed s).session.held ≡ s.session.held) }
+{}
+
+/// Who may log in: where names are listed, a session in full feature phase is that of an initiator
+/// which gave one of them, and so is one in which a command was executed. Any other initiator has
+/// nothing executed, and leaves the blocks as they are.
+pub fn allowed_only()
+    ensures full { (settings : Settings) (names : List (List ℕ)) (n : ℕ) (disk : Disk)
+        (ms : List Message) → settings.access.names ≡ Some names
+        → (answers (opening settings n) disk ms).machine.session.phase ≡ Full
+        → is_among names (answers (opening settings n) disk ms).machine.session.initiator_name
+        ≡ true }
+    ensures executed { (settings : Settings) (names : List (List ℕ)) (n : ℕ) (disk : Disk)
+        (ms : List Message) → settings.access.names ≡ Some names
+        → (answers (opening settings n) disk ms).executed ≢ []
+        → is_among names (answers (opening settings n) disk ms).machine.session.initiator_name
+        ≡ true }
+    // A login that is refused leaves no name in the session: an empty one.
+    ensures others { (settings : Settings) (names : List (List ℕ)) (n : ℕ) (disk : Disk)
+        (ms : List Message) → settings.access.names ≡ Some names
+        → let r = answers (opening settings n) disk ms in
+        is_among names r.machine.session.initiator_name ≡ false
+        → (r.executed ≡ []) × (r.disk ≡ disk) }
 {}
 
 /// The order of acceptance is that of CmdSN: the requests that were accepted and aren't immediate

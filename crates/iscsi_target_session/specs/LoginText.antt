@@ -19,6 +19,7 @@ use Rattle.iscsi_login.specs.declared.preferences.Preferences.{Preferences}
 use Rattle.iscsi_login.specs.Negotiation.{result_of, in_range, max_recv_range}
 use Rattle.iscsi_login.specs.Held.{Held}
 use Rattle.iscsi_login.specs.Answer.{answer, target_holds, max_recv_key}
+use Rattle.iscsi_target_session.specs.Configured.{is_allowed}
 use Rattle.iscsi_target_session.specs.Session.{Session}
 use Rattle.iscsi_target_session.specs.declared.status.Status.{Status}
 
@@ -35,6 +36,10 @@ initiator_error = status 0x02 0x00
 -- It demands authentication (section 11.13.5).
 abbrev pub authentication_failure : Status
 authentication_failure = status 0x02 0x01
+
+-- It may not log in (section 11.13.5).
+abbrev pub authorization_failure : Status
+authorization_failure = status 0x02 0x02
 
 -- It names another target (section 11.13.5).
 abbrev pub target_not_found : Status
@@ -186,7 +191,8 @@ held_after s pairs =
 -- The reasons to refuse a text, in their order (section 11.13.5; the order is own rule). First, a
 -- key is repeated. Next, the first text has no initiator's name, or has another type of session.
 -- Next, in a normal session, the first text has no target's name or another target's. Then
--- authentication is demanded, the declared length may not be, or the answer is too long.
+-- authentication is demanded, the declared length may not be, or the answer is too long. Last, the
+-- first text is that of an initiator that may not log in.
 abbrev pub text_refusals : Session → Pairs → List (Bool × Status)
 text_refusals s pairs =
     let is_first = not s.has_text in
@@ -205,4 +211,9 @@ text_refusals s pairs =
     )
     ∷ (is_bad_length (value_for max_recv_key pairs), initiator_error)
     ∷ (nat_lt 8192 (length (canonical_text (answer_pairs s pairs))), out_of_resources)
+    ∷ (
+      is_first
+          && not (is_allowed s.settings.access (name_in (value_for (codes "InitiatorName") pairs))),
+      authorization_failure,
+    )
     ∷ []

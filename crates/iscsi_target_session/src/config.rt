@@ -1,25 +1,29 @@
 //! What a target is configured with.
 
-ghost use Rattle.std.specs.Prelude.{◌≡◌};
+ghost use Rattle.std.specs.Prelude.{◌≡◌, IfOk, Some, map};
 ghost use Rattle.iscsi_login.specs.Negotiation.{IsInRange};
-ghost use Rattle.iscsi_target_session.specs.Configured.{Configures};
+ghost use Rattle.iscsi_target_session.specs.Configured.{Configures, is_allowed};
 
+use crate::initiators::{Name, copies_of, has_name};
 use iscsi_login::{ConfigFault, Preferences, is_name};
-use std::alloc::Global;
+use std::alloc::{AllocError, Global};
 use std::marker::Model;
 
 /// What a target is configured with: its name, the tag of its portal group, the TSIH of a session
-/// that has logged in, and what it prefers in a negotiation.
+/// that has logged in, what it prefers in a negotiation, and who may log in.
 #[derive(Debug, Drop)]
 pub struct Config {
     name: Vec<u8>,
     group: u16,
     tsih: u16,
     preferences: Preferences,
+    // none: everybody may log in
+    names: Option<Vec<Name>>,
 }
 
 impl Model for Config {
     ghost use Rattle.std.specs.Prelude.{◌≡◌, ◌<◌};
+    ghost use Rattle.std.specs.Option.{option_map};
     ghost use Rattle.iscsi_login.specs.Negotiation.{IsInRange};
     ghost use Rattle.iscsi_login.specs.Name.{IsName};
     ghost use Rattle.iscsi_target_session.specs.Configured.{Settings};
@@ -31,6 +35,7 @@ impl Model for Config {
       group = c.group;
       tsih = c.tsih;
       preferences = c.preferences;
+      access = record { names = option_map (λ v. v.items) c.names };
     } };
 
     ghost invariant = { λ c. IsName c.name.items × (0 < c.tsih) × IsInRange c.preferences };
@@ -39,7 +44,7 @@ impl Model for Config {
 impl Config {
     /// A name, the tag of the portal group, a TSIH and preferences (RFC 7143, sections 4.2.7, 13.9
     /// and 11.12.6). The name has 1 to 223 bytes, each of `!` to `~` (which bytes it may have is own
-    /// rule). The TSIH is not 0, and the preferences are in range.
+    /// rule). The TSIH is not 0, and the preferences are in range. Everybody may log in.
     ///
     /// Another name is `BadName`, a TSIH of 0 or preferences out of range are `OutOfRange`, in this
     /// order; `NoMemory` comes last.
@@ -66,7 +71,35 @@ impl Config {
             group,
             tsih,
             preferences,
+            names: None,
         })
+    }
+
+    /// The same, which lets in no initiator but those of these names, in discovery sessions too. Names
+    /// are compared by bytes. Another one is refused by status 02/02 (RFC 7143, section 11.13.5; that
+    /// names are listed is own rule). A name is what an initiator says of itself, and no proof.
+    ///
+    /// On want of memory the configuration is dropped.
+    pub fn with_names(self, alloc: Global, names: &[&[u8]]) -> Result<Config, AllocError>
+        ensures names { IfOk result (λ config. config ≡ record self {
+          access = record { names = Some (map (λ name. name.now) names.now) };
+        }) }
+    {
+        let names = copies_of(alloc, names)?;
+        Ok(Config {
+            names: Some(names),
+            ..self
+        })
+    }
+
+    // Whether an initiator of this name may log in.
+    pub(crate) fn is_allowed(&self, name: &[u8]) -> bool
+        ensures { result ≡ is_allowed self.now.access name.now }
+    {
+        match &self.names {
+            Some(names) => has_name(names, name),
+            None => true,
+        }
     }
 
     // The target's name.

@@ -3,6 +3,7 @@
 #![tactic(auto)]
 
 mod config;
+mod initiators;
 mod numbers;
 mod received;
 mod session;

@@ -28,6 +28,14 @@ fn target_with(rt: &impl Abort, alloc: Global, preferences: Preferences) -> Box<
     Box::new(alloc, Target::new(alloc, config, 1)).expect(rt, "a target")
 }
 
+// A target that has just begun, and lets in initiators of these names alone.
+fn target_that_lists(rt: &impl Abort, alloc: Global, names: &[&[u8]]) -> Box<Target> {
+    let preferences = Preferences::standard();
+    let config = Config::new(alloc, NAME, 1, 1, preferences).expect(rt, "a configuration");
+    let config = config.with_names(alloc, names).expect(rt, "names");
+    Box::new(alloc, Target::new(alloc, config, 1)).expect(rt, "a target")
+}
+
 // Feeds what comes in a turn one PDU at a time, and gives the last answer.
 fn feed_pdus<S: BlockStore>(
     target: &mut Target,

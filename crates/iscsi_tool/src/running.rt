@@ -20,6 +20,7 @@ use iscsi_filters::status;
 use iscsi_loop::run_loop;
 use iscsi_server::{serve_at_once, serve_memory_at_once};
 use iscsi_service::{ServeFault, serve};
+use iscsi_serving::Initiators;
 use iscsi_stream::ToolFault;
 use iscsi_words::{
     CaptureComparison, CaptureComparisonFault, CaptureJob, Image, ImageFault, Job, LineFault,
@@ -367,9 +368,13 @@ fn serve_memory(rt: &HostRuntime, service: Service<'_>, blocks: u64) -> Result<(
     requires few { blocks ≤ most_blocks }
 {
     match service {
-        Service::InTurn { port, sessions } => {
+        Service::InTurn {
+            port,
+            sessions,
+            initiators,
+        } => {
             let mut store = SparseStore::new(rt.alloc(), blocks);
-            serve(rt, port, &mut store, count_of(sessions))
+            serve_in_turn(rt, port, &mut store, sessions, initiators)
         }
         Service::AtOnce(options) => serve_memory_at_once(rt, options, blocks),
     }
@@ -384,9 +389,28 @@ fn serve_store<S: BlockStore>(
     requires service { CanServe service }
 {
     match service {
-        Service::InTurn { port, sessions } => serve(rt, port, store, count_of(sessions)),
+        Service::InTurn {
+            port,
+            sessions,
+            initiators,
+        } => serve_in_turn(rt, port, store, sessions, initiators),
         Service::AtOnce(options) => serve_at_once(rt, options, store),
     }
+}
+
+// Serves a store to one connection after another.
+fn serve_in_turn<S: BlockStore>(
+    rt: &HostRuntime,
+    port: u16,
+    store: &mut S,
+    sessions: Option<u16>,
+    initiators: Option<Initiators<'_>>,
+) -> Result<(), ServeFault> {
+    let names = match &initiators {
+        Some(initiators) => Some(initiators.as_slice()),
+        None => None,
+    };
+    serve(rt, port, store, count_of(sessions), names)
 }
 
 // How many connections are served; any number is more than there will ever be.

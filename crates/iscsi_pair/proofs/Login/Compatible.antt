@@ -25,11 +25,12 @@ use Rattle.std.proofs.lemmas.List.{length-append}
 use Rattle.iscsi_text.proofs.KeyLemmas.{bytes_eq_same}
 use Rattle.iscsi_text.proofs.OrderLemmas.{all_in_order}
 use Rattle.iscsi_pair.proofs.Wire.TextSizes.{IsShort, text_short, length-in_order, security_short, operational_short, single_short}
+use Rattle.iscsi_target_session.specs.Configured.{is_allowed}
 use Rattle.iscsi_target_session.specs.declared.status.Status.{Status}
 use Rattle.iscsi_target_session.specs.Session.{Session as TargetSession}
 use Rattle.scsi_disk.specs.Plan.{first_of}
 use Rattle.iscsi_target_session.specs.LoginText.{answer_pairs, is_normal, session_for, text_refusals, known_keys, repeats_key, seen_with, value_for, is_name}
-use Rattle.iscsi_target_session.specs.LoginText.{session_in, names_target, demands_authentication, is_bad_length}
+use Rattle.iscsi_target_session.specs.LoginText.{session_in, names_target, demands_authentication, is_bad_length, name_in}
 
 -- ---- what a target reads in an offer
 
@@ -208,8 +209,9 @@ pub first_text : (e : TargetSession) (o : Proposal) (pairs : Pairs) → e.has_te
     → (o.session ≡ sessions.Discovery) ⊎ (o.target ≡ e.settings.name) → demands_authentication e.settings.preferences (value_for (codes "AuthMethod") pairs)
     ≡ false
     → is_bad_length (value_for max_recv_key pairs) ≡ false → nat_lt 8192 (length (canonical_text (answer_pairs e pairs))) ≡ false
+    → is_allowed e.settings.access o.initiator ≡ true
     → first_of (text_refusals e pairs) ≡ None
-first_text e o pairs t g i s name auth len size =
+first_text e o pairs t g i s name auth len size allowed =
     let a = asks_for o.session e o pairs refl t s name in
     none_of (text_refusals e pairs) (
       ap (λ (x : List Bool). repeats_key known_keys x pairs) g ∙ first_gives pairs,
@@ -221,7 +223,19 @@ first_text e o pairs t g i s name auth len size =
             on_both e.has_text _ _ a.0,
             (
               on_both e.has_text _ _ a.1,
-              (auth, (len, (size, tt))),
+              (
+                auth,
+                (
+                  len,
+                  (
+                    size,
+                    (
+                      on e.has_text _ (ap (λ (x : Option Typed). not (is_allowed e.settings.access (name_in x))) s.initiator ∙ ap not allowed),
+                      tt,
+                    ),
+                  ),
+                ),
+              ),
             ),
           ),
         ),
@@ -234,4 +248,4 @@ pub second_text : (e : TargetSession) (pairs : Pairs) → e.has_text ≡ true �
     → first_of (text_refusals e pairs) ≡ None
 second_text e pairs t g auth len size =
     none_of (text_refusals e pairs)
-    (g, (off e.has_text _ t, (off e.has_text _ t, (off_both e.has_text _ _ t, (off_both e.has_text _ _ t, (auth, (len, (size, tt))))))))
+    (g, (off e.has_text _ t, (off e.has_text _ t, (off_both e.has_text _ _ t, (off_both e.has_text _ _ t, (auth, (len, (size, (off e.has_text _ t, tt)))))))))

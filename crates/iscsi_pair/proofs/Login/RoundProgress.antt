@@ -145,6 +145,12 @@ suited_name c e suits same = elim suits.name [
   | inr n ↦ inr (n ∙ ap (λ (x : target_settings.Settings). x.name) (sym same))
 ]
 
+-- the initiator may log in
+suited_access : (c : Opening) (e : target_session.Session) → Suits c → e.settings ≡ c.target
+    → target_settings.is_allowed e.settings.access c.initiator.proposal.initiator ≡ true
+suited_access c e suits same =
+    ap (λ (x : target_settings.Settings). target_settings.is_allowed x.access c.initiator.proposal.initiator) same ∙ suits.access
+
 demands_chap : (c : Opening) → Suits c → c.initiator.start ≡ stages.Security → c.initiator.proposal.auth ≢ auths.Chap
 demands_chap c suits started = elim suits.auth [
   | inl s ↦ absurd (let bad : stages.Security ≡ stages.Operational = sym started ∙ s in cc)
@@ -165,6 +171,7 @@ text_at stages.Security stages.Security c i t e o suits started is same settings
     (security_auth p.session p.auth p e.settings.preferences refl refl (demands_chap c suits started)) (security_length p.session p refl)
     (answer_fits c e (in_order (security_offers p)) o there (offers_few stages.Security stages.Security p o.initiator.names.initiator o.initiator.names.target
     o.initiator.in_range.preferences tt))
+    (suited_access c e suits there)
 text_at stages.Security stages.Security c i t e o suits started is same settings (inr g) ok = absurd (let bad : stages.Security ≡ stages.Operational =
     sym is ∙ g.stage in cc)
 text_at stages.Security stages.Operational c i t e o suits started is same settings (inl f) ok = absurd (let bad : stages.Operational ≡ stages.Security =
@@ -190,6 +197,7 @@ text_at stages.Operational stages.Operational c i t e o suits started is same se
     (single_auth p.session p e.settings.preferences refl) (single_length p.session p o.initiator.in_range.preferences refl)
     (answer_fits c e (in_order (single_offers p)) o there (offers_few stages.Operational stages.Operational p o.initiator.names.initiator
     o.initiator.names.target o.initiator.in_range.preferences tt))
+    (suited_access c e suits there)
 text_at stages.Operational stages.Operational c i t e o suits started is same settings (inr g) ok = absurd (let bad : stages.Operational ≡ stages.Security =
     sym started ∙ g.start in cc)
 text_at stages.Full stage c i t e o suits started is same settings texts ok = absurd (subst IsStart started o.initiator.in_range.start)

@@ -90,7 +90,10 @@ text_refusal s pairs why e =
               (refl, (omega arith, omega arith)),
               (
                 (refl, (omega arith, omega arith)),
-                ((refl, (omega arith, omega arith)), ((refl, (omega arith, omega arith)), tt)),
+                (
+                  (refl, (omega arith, omega arith)),
+                  ((refl, (omega arith, omega arith)), ((refl, (omega arith, omega arith)), tt)),
+                ),
               ),
             ),
           ),

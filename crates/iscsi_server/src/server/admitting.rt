@@ -160,7 +160,12 @@ impl<'a> Server<'a> {
         };
         self.last_number = number;
         let options = self.options;
-        let Ok(config) = configuration(alloc, options.name, number, options.preferences) else {
+        let initiators = match &options.initiators {
+            Some(initiators) => Some(initiators.as_slice()),
+            None => None,
+        };
+        let Ok(config) = configuration(alloc, options.name, number, options.preferences, initiators)
+        else {
             return;
         };
         let Some(seat) = self.seat(config) else {

@@ -10,6 +10,7 @@ ghost use Rattle.iscsi_text.specs.Canonical.{canonical_text};
 ghost use Rattle.iscsi_text.specs.Reading.{has_key};
 ghost use Rattle.iscsi_login.specs.Answer.{DeclaresWell, max_recv_key};
 ghost use Rattle.scsi_disk.specs.Plan.{first_of};
+ghost use Rattle.iscsi_target_session.specs.Configured.{is_allowed};
 ghost use Rattle.iscsi_target_session.specs.LoginText.{known_keys, repeats_key, seen_with, is_name, name_in, initiator_for, value_for, is_bad_length, session_named, session_in, session_for, is_normal, names_target, demands_authentication, declared_tag, declared_length, answer_pairs, text_refusals};
 
 use super::Session;
@@ -53,6 +54,9 @@ impl Session {
         if answer.len() > LOGIN_SEGMENT as usize {
             return Some(Status::OUT_OF_RESOURCES);
         }
+        if self.has_unlisted_initiator(text) {
+            return Some(Status::AUTHORIZATION_FAILURE);
+        }
         None
     }
 
@@ -62,6 +66,14 @@ impl Session {
             && not (is_name (value_for (codes "InitiatorName") text.now))) }
     {
         !self.has_text && !has_initiator_name(text)
+    }
+
+    // Whether the first text has the name of an initiator that may not log in.
+    fn has_unlisted_initiator(&self, text: &Text<'_>) -> bool
+        ensures { result ≡ (not self.now.has_text && not (is_allowed self.now.settings.access
+            (name_in (value_for (codes "InitiatorName") text.now)))) }
+    {
+        !self.has_text && !self.config.is_allowed(name_of(text))
     }
 
     // Whether the first text names a session of neither type.

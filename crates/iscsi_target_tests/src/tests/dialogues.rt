@@ -4,8 +4,10 @@ use super::queues::{
     BEHIND, EIGHT, FAILING_QUEUES, LONG_QUEUES, SHORT_QUEUES, TURN, WAITING_REQUESTS,
     WAITING_WRITES, WINDOWS,
 };
-use super::rows::{Dialogue, FAILING, FAILING_PARTS, LOGIN, LOGINS, LONG, REQUESTS, SHORT, WRITES};
-use super::{BY_PDU, feed_pieces, target_of, target_with};
+use super::rows::{
+    Dialogue, FAILING, FAILING_PARTS, LISTED, LOGIN, LOGINS, LONG, NOBODY, REQUESTS, SHORT, WRITES,
+};
+use super::{BY_PDU, feed_pieces, target_of, target_that_lists, target_with};
 use crate::asserts::same;
 use iscsi_examples::{SESSION, Turn, append_pdu};
 use iscsi_login::{Phase, Preferences, Session, Stage};
@@ -160,6 +162,43 @@ fn check_rows(rt: &impl Abort, alloc: Global, rows: &[Dialogue]) {
 #[test]
 fn logins(rt: HostRuntime) {
     check_rows(&rt, rt.alloc(), LOGINS);
+}
+
+// A session of a target that lists two names, whose stream comes in pieces of this length.
+fn check_listed(rt: &impl Abort, alloc: Global, row: &Dialogue, len: usize) {
+    let (name, _, lines) = *row;
+    let mut target = target_that_lists(
+        rt,
+        alloc,
+        &[b"iqn.2026-01.example:guest", b"iqn.2026-01.example:host"],
+    );
+    let mut store = SparseStore::new(alloc, 2048);
+    check(rt, alloc, name, len, &mut target, &mut store, lines);
+}
+
+#[test]
+fn listed_initiators(rt: HostRuntime) {
+    for row in LISTED {
+        for len in LENGTHS {
+            check_listed(&rt, rt.alloc(), row, *len);
+        }
+    }
+}
+
+/// A target that lists no name lets nobody in.
+#[test]
+fn an_empty_list(rt: HostRuntime) {
+    let mut target = target_that_lists(&rt, rt.alloc(), &[]);
+    let mut store = SparseStore::new(rt.alloc(), 2048);
+    check(
+        &rt,
+        rt.alloc(),
+        "an empty list",
+        BY_PDU,
+        &mut target,
+        &mut store,
+        NOBODY,
+    );
 }
 
 #[test]
