@@ -105,9 +105,14 @@ segment_admits s r segment = by_cases (nat_lt 16384 (length s.gathered + length 
 
 -- ---- a request
 
+numbered_by : (begun : Bool) (s t : Session) → Admits s t → Admits s (if begun then s else t)
+numbered_by true s t a = unmoved s s refl refl refl (λ f. f)
+numbered_by false s t a = a
+
 numbered_admits : (s : Session) (r : Request) → Admits s (numbered s r)
-numbered_admits s r = by_cases s.begun (λ e. rw e (unmoved s s refl refl refl (λ f. f)))
-    (λ e. rw e (unmoved s (record s { begun = true; exp_cmd_sn = r.cmd_sn; isid = r.isid }) refl refl refl (λ f. f)))
+numbered_admits s r =
+    numbered_by s.begun s (record s { begun = true; exp_cmd_sn = r.cmd_sn; isid = r.isid })
+    (unmoved s (record s { begun = true; exp_cmd_sn = r.cmd_sn; isid = r.isid }) refl refl refl (λ f. f))
 
 request_admits : (s : Session) (r : Request) (segment : Segment) → Admits s (login_request s r segment).session
 request_admits s r segment =
