@@ -43,6 +43,7 @@ MISTAKES = [
      "uint8_t *head = response(s, 0x21, 0x80, command, NULL, 0); put(head + 44, len);", "the residual is"),
     ("uint8_t *head = response(s, 0x21, 0x80, command, NULL, 0);",
      "uint8_t *head = response(s, 0x21, 0x80, command, NULL, 0); head[3] = s->stat_sn > 20 ? 8 : 0;", "status 08"),
+    ("*at++ = 0;", "*at = 0;", "DataDigest=None;"),
     ("put(head + 28, s->exp_cmd_sn);", "put(head + 28, s->exp_cmd_sn + 1);", "ExpCmdSN above CmdSN is"),
     ("if (task->came == task->total) {", "if (task->came) {", "the length that was asked for is"),
 ]
@@ -59,7 +60,8 @@ def built(room, name, text):
 def said(client, floor):
     """What the client says of a target, or nothing where all is well."""
     port = free_port()
-    with subprocess.Popen([floor, str(port), "client", "131072", "262144", "131072"], stdout=subprocess.PIPE, stderr=subprocess.DEVNULL) as target:
+    serving = [floor, str(port), "client", "131072", "262144", "131072"]
+    with subprocess.Popen(serving, stdout=subprocess.PIPE, stderr=subprocess.DEVNULL) as target:
         try:
             target.stdout.readline()
             words = ["--size", SIZE, "--places", PLACES, "--depth", 4, "--segment", 131072, "--do", "frw", "--seconds", "0.05"]

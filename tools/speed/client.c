@@ -529,10 +529,18 @@ static int yes_of(const struct session *s, const char *key, int otherwise) {
   return value ? !strcmp(value, "Yes") : otherwise;
 }
 
+/* Digests are not sent, whatever the target says. */
+static void need_none(const struct session *s, const char *key) {
+  const char *value = value_of(s, key);
+  if (value && strcmp(value, "None")) stop("%s=%s", key, value);
+}
+
 /* An answer to a login: what it says counts, and the next request is due unless it ends the login. */
 static void take_login(struct session *s) {
   if (s->head[36]) stop("the login is refused: %02x%02x", s->head[36], s->head[37]);
   expect(s, "C", s->head[1] & 0x40, 0);
+  need_none(s, "HeaderDigest");
+  need_none(s, "DataDigest");
   s->stat_sn = get(s->head + 24) + 1;
   s->max_cmd_sn = get(s->head + 32);
   s->held.segment = number_of(s, "MaxRecvDataSegmentLength", s->held.segment);
@@ -571,6 +579,10 @@ static void log_in(struct session *s, uint32_t number) {
     for (s->is_in = 0; !s->is_in;) receive(s);
   }
   if (s->is_in != 1) fail("no end of the login");
+  if (!number)
+    printf("negotiated: %sR2T first, %simmediate data, bytes of a segment to the target %u, of a burst %u, of a first burst %u\n",
+           s->held.waits_for_r2t ? "" : "no ", s->held.has_immediate ? "" : "no ", s->held.segment, s->held.burst,
+           s->held.first_burst);
 }
 
 /* Has the disk say that it is ready, thrice at most. */
@@ -649,10 +661,11 @@ static void tell(double took, double of_target, double of_client) {
   uint32_t outstanding = 0;
   for (uint32_t i = 0; i < words.sessions; i++)
     if (sessions[i]->most_outstanding > outstanding) outstanding = sessions[i]->most_outstanding;
-  double each = stage.ended ? 1e6 / stage.ended : 0;
-  printf("%s: %.1f commands/s, %.2f MB/s, %.2f us of the target, %.2f us of the client, %lu kB, %llu commands, %u outstanding\n",
-         stage.kind == 'f' ? "fill" : stage.kind == 'r' ? "read" : "write", stage.ended / took, stage.ended * (double)words.size / took / 1e6,
-         of_target * each, of_client * each, target_memory(), (unsigned long long)stage.ended, outstanding);
+  const char *name = stage.kind == 'f' ? "fill" : stage.kind == 'r' ? "read" : "write";
+  double each = stage.ended ? 1e6 / stage.ended : 0, rate = stage.ended / took;
+  printf("%s: %.1f commands/s, %.2f MB/s, ", name, rate, rate * words.size / 1e6);
+  printf("%.2f us of the target, %.2f us of the client, %lu kB, ", of_target * each, of_client * each, target_memory());
+  printf("%llu commands, %u outstanding\n", (unsigned long long)stage.ended, outstanding);
   remark(stage.long_bursts, "Data-Ins went past MaxBurstLength");
   remark(stage.old_stat_sns, "R2Ts had another StatSN than is due");
 }

@@ -224,7 +224,7 @@ static void prepare_text(void) {
       "DataSequenceInOrder=Yes;ErrorRecoveryLevel=0;%sMaxRecvDataSegmentLength=%u;";
   const char *markers = has_numbers ? "" : "IFMarker=No;OFMarker=No;";
   operational_len = snprintf(operational, sizeof operational, keys, burst, first_burst, markers, segment_out);
-  for (char *at = operational; (at = strchr(at, ';'));) *at = 0;
+  for (char *at = operational; (at = strchr(at, ';'));) *at++ = 0;
 }
 
 /* A login goes on to the stage that the client wants. What it offers is not read: libiscsi and client.c offer these keys. */

@@ -9,7 +9,7 @@ isn't installed is skipped, with a word. --only names some of them: serve,at-onc
 
 They are measured in turn, N rounds of it (5 if not said), of S seconds each of reads and of writes (1). The tables have
 the median, the least and the most: commands a second, and the microseconds of processor time that the target took for a
-command, by /proc. A round writes all places first, BYTES of the disk (64 MiB), and reads what it wrote last once more.
+command, by /proc, which counts hundredths of a second. A round writes all places first, BYTES of the disk (64 MiB), and reads what it wrote last once more.
 
 Without --grow: reads and writes of 4 KiB to 1 MiB with 1 and 8 outstanding, with --deep also 32; then with segments and
 bursts of 131,072 bytes at both ends, and no initial R2T. With --grow, of `serve --at-once` and tgt: 1, 8 and 64 sessions at
@@ -24,6 +24,7 @@ import argparse
 import os
 import re
 import shutil
+import signal
 import subprocess
 import sys
 import tempfile
@@ -47,6 +48,7 @@ EXTENTS = [(1 << 20, 1000), (1 << 20, 16384), (1 << 40, 1000), (1 << 40, 50000)]
 # Seconds after which a client hangs.
 PATIENCE = 600
 LINE = re.compile(r"^(fill|read|write): ([\d.]+) commands/s, [\d.]+ MB/s, ([\d.]+) us of the target, ([\d.]+) us of the client, (\d+) kB", re.M)
+NEGOTIATED = re.compile(r"^negotiated: (.*)$", re.M)
 REMARK = re.compile(r"^against the standard: \d+ (.*)$", re.M)
 
 ISTGT = """
@@ -228,7 +230,7 @@ class Measures:
 
     def __init__(self, words, room):
         self.words, self.room = words, room
-        self.passed, self.failed, self.share, self.remarks = 0, 0, 0, set()
+        self.passed, self.failed, self.share, self.remarks, self.negotiated = 0, 0, 0, set(), {}
         self.load = os.getloadavg()[0]
 
     def kinds(self, names):
@@ -264,6 +266,7 @@ class Measures:
             return {}
         self.passed += 1
         self.remarks |= {f"{target.title}: {what}" for what in REMARK.findall(ran.stdout)}
+        self.negotiated[target.title + ", long" * target.is_long] = NEGOTIATED.search(ran.stdout)[1]
         found = {}
         for stage, rate, of_target, of_client, kilobytes in LINE.findall(ran.stdout):
             self.share = max(self.share, float(rate) * float(of_client) / 1e6)
@@ -342,7 +345,7 @@ def side_by_side(measures):
     for names, is_long in (("serve at-once tgt istgt floor", False), ("at-once tgt floor", True)):
         kinds = measures.kinds(names.split())
         if is_long:
-            tables += [f"The same with segments and bursts of {LONG:,} bytes at both ends, and no initial R2T:", ""]
+            tables += [f"The same with segments and bursts of {LONG:,} bytes at both ends, and no initial R2T (long):", ""]
         tables += cells_table(measures, kinds, depths, is_long) if kinds else ["None of these targets is there.", ""]
     window = ["`serve` and the floor take eight commands at a time; the client holds the others back.", ""] if measures.words.deep else []
     return [f"## {SIDE_BY_SIDE}", "",
@@ -412,6 +415,7 @@ def told(measures, command):
     lines = [f"These are by `{command}`: the medians of {measures.words.rounds} rounds of {measures.words.seconds:g} seconds in turn, the "
              f"least and the most. The load was {load:.0f} on {os.cpu_count()} processors. The client is `tools/speed/client.c`, which "
              f"looks at all that it reads. It took at most {measures.share:.2f} of a processor."]
+    lines += ["", "What was negotiated:", "", *(f"- {title}: {what}." for title, what in measures.negotiated.items())]
     if measures.remarks:
         lines += ["", "Against the standard, and without effect on the figures:", "", *(f"- {what}." for what in sorted(measures.remarks))]
     return [*lines, ""]
@@ -458,6 +462,8 @@ def main():
     for name in words.only:
         for lacking in missing(*TARGETS[name].wanted):
             print(f"skipped {name}: {lacking} is not installed")
+    # Whoever ends this ends the targets, too.
+    signal.signal(signal.SIGTERM, lambda *_: sys.exit(143))
     room = tempfile.mkdtemp(prefix="targets-")
     try:
         if not compiled(room, "client") or not compiled(room, "floor"):
