@@ -10,8 +10,8 @@ longer than its limit fails; it and the processes that it started are ended. So 
 With --unproved the program is the one that `./lanthovur --unproved </dev/null` keeps. The scripts that measure memory or
 speed, and those that prove something, are left out then.
 
-If this machine lacks a program (QEMU, libiscsi, tgt, tshark), most scripts fail with their own words. Four leave out what
-they can't do and go on: door, many_sessions, lasting and nbd. And pages leaves out the blocks that no script can run. Their parts that were left out are counted, and the last line is
+If this machine lacks a program (QEMU, libiscsi, tgt, tshark), most scripts fail with their own words. Five leave out what
+they can't do and go on: door, many_sessions, lasting, nbd and targets. And pages leaves out the blocks that no script can run. Their parts that were left out are counted, and the last line is
 then 'N passed, M failed, S parts skipped': those parts were not seen.
 """
 import argparse
@@ -44,15 +44,18 @@ class Script:
     ends: str = PASSED
     # Its words for a program that was built without proofs, or None if it wants a proved one.
     unproved: list = None
+    # Other words, always.
+    words: tuple = ()
 
     def command(self, is_unproved):
-        return [f"tools/{self.path}", *(self.unproved if is_unproved else [])]
+        return [f"tools/{self.path}", *self.words, *(self.unproved if is_unproved else [])]
 
 
 # The cheapest first.
 SCRIPTS = [
     Script("check_docs", "check_docs/check_docs.py", "2 seconds", 2, r"[0-9]+ looked at, 0 not so", []),
     Script("process", "process/run.py", "seconds", 5, unproved=UNPROVED),
+    Script("speed, client", "speed/check_client.py", "seconds", 5, unproved=[]),
     Script("strangers", "strangers/run.py", "three minutes", 20, unproved=UNPROVED),
     Script("door", "door/run.py", "a minute", 20, unproved=[]),
     Script("pages", "pages/run.py", "two minutes", 30, unproved=[]),
@@ -68,6 +71,9 @@ SCRIPTS = [
     Script("nbd", "nbd/run.py", "minutes", 60, unproved=UNPROVED),
     Script("refused_memory", "refused_memory/run.py", "15 minutes", 90, r"0 runs ended wrongly, [0-9]+ seconds", ["--unproved"]),
     Script("captures, speed", "captures/speed.py", "a minute", 30, MEASURED),
+    # These want an idle machine.
+    Script("targets", "speed/targets.py", "a quarter of an hour", 60),
+    Script("growth", "speed/targets.py", "a quarter of an hour", 60, words=("--grow",)),
     Script("store", "speed/store.py", "minutes", 60, MEASURED),
     Script("speed", "speed/run.py", "half an hour", 120, MEASURED),
     Script("wrong_bodies", "wrong_bodies/try", "hours", 1440, r"[0-9]+ well, 0 not"),

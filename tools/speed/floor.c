@@ -1,7 +1,8 @@
 /* A target without a disk: how fast any target could be that keeps to the rules of `serve`, with the client of speed.c.
  *
  *   cc -O2 -o floor floor.c
- *   ./floor PORT
+ *   ./floor PORT                                for speed.c
+ *   ./floor PORT client [SEGMENT BURST DATA-IN]  for client.c; SEGMENT and BURST are those of `serve`, DATA-IN that of client.c
  *
  * It prints `listening`, and serves one connection after another on 127.0.0.1 until it is killed. It says in a login what
  * `serve` says to libiscsi (segments of 8,192 bytes, first bursts of 65,536, bursts of 262,144, immediate data, no initial
@@ -10,7 +11,8 @@
  * a MiB at a time. The answers to what a read gave leave in one call, and sooner where more than 65,536 bytes wait.
  *
  * What a target has to do beyond that it leaves out: there is one buffer that holds what speed.c expects to read, whatever
- * the block; data that are written stay where they were read and are forgotten; nothing that comes is checked. So what
+ * the block, or for client.c a disk of 64 MiB that holds what its stage `f` writes. Data that are written stay where they
+ * were read and are forgotten; nothing that comes is checked. So what
  * `serve` takes beyond it is its own work, and what it takes itself is the system's, the client's and the protocol's.
  */
 #include <netinet/in.h>
@@ -27,14 +29,17 @@ enum {
   HEADER = 48,
   READ = 1 << 20,        /* bytes of one read */
   MOST_WAITING = 65536,  /* bytes of answers that may wait until all of a read is taken */
-  FIRST_BURST = 65536,   /* bytes of a write that come unasked */
-  BURST = 262144,        /* bytes that one R2T asks for */
-  SEGMENT = 262144,      /* bytes that the client takes in one Data-In */
-  LONGEST = 16 << 20,    /* bytes of the longest READ */
+  BLOCK = 512,           /* bytes */
   BLOCKS = 131072,       /* of the disk that there isn't */
   WINDOW = 8,
   HEADS = 256,           /* headers that may wait */
 };
+
+/* Bytes: of a write that come unasked, that one R2T asks for, of a segment to the target, and in one Data-In. */
+static uint32_t first_burst = 65536, burst = 262144, segment_out = 8192, segment_in = 262144;
+
+/* Whether client.c is served, which looks for the number of each block. */
+static int has_numbers;
 
 /* A command that isn't answered. */
 struct task {
@@ -56,7 +61,7 @@ struct session {
   int over;
 };
 
-static uint8_t incoming[READ], pattern[LONGEST];
+static uint8_t incoming[READ], pattern[BLOCKS * BLOCK];
 
 static void fail(const char *what) {
   perror(what);
@@ -123,9 +128,9 @@ static uint8_t *response(struct session *s, int opcode, int flags, const uint8_t
 /* Data, and the response behind them. */
 static void give(struct session *s, const uint8_t *command, const uint8_t *data, uint32_t len) {
   uint32_t count = 0;
-  for (uint32_t at = 0; at < len; at += SEGMENT, count++) {
-    uint32_t part = len - at < SEGMENT ? len - at : SEGMENT;
-    int ends = at + part == len || (at + part) % BURST == 0;
+  for (uint32_t at = 0; at < len; at += segment_in, count++) {
+    uint32_t part = len - at < segment_in ? len - at : segment_in;
+    int ends = at + part == len || (at + part) % burst == 0;
     uint8_t *head = answer(s, 0x25, ends ? 0x80 : 0, command, s->count, data + at, part);
     put(head + 20, 0xffffffff);
     put(head + 36, count);
@@ -133,6 +138,14 @@ static void give(struct session *s, const uint8_t *command, const uint8_t *data,
   }
   uint8_t *head = response(s, 0x21, 0x80, command, NULL, 0);
   put(head + 36, count);
+}
+
+/* Blocks of a READ(10). */
+static void give_blocks(struct session *s, const uint8_t *command) {
+  const uint8_t *cdb = command + 32;
+  uint32_t lba = has_numbers ? get(cdb + 2) : 0, blocks = cdb[7] << 8 | cdb[8];
+  if (blocks > BLOCKS || lba > BLOCKS - blocks) fprintf(stderr, "a READ past the end\n"), exit(1);
+  give(s, command, pattern + (size_t)BLOCK * lba, BLOCK * blocks);
 }
 
 /* A write with all its data is answered; else its next burst is asked for, where nothing is on its way. Says whether it
@@ -144,7 +157,7 @@ static int take(struct session *s, struct task *task) {
     return 1;
   }
   if (task->came == task->asked) {
-    uint32_t more = task->total - task->came < BURST ? task->total - task->came : BURST;
+    uint32_t more = task->total - task->came < burst ? task->total - task->came : burst;
     uint8_t *head = answer(s, 0x31, 0x80, task->head, s->count, NULL, 0);
     memcpy(head + 8, task->head + 8, 8);
     put(head + 20, task->r2ts);
@@ -168,7 +181,7 @@ static void work_off(struct session *s) {
       continue;
     }
     s->first = (s->first + 1) % (WINDOW + 1), s->count--;
-    if (cdb[0] == 0x28) give(s, task->head, pattern, 512 * (cdb[7] << 8 | cdb[8]));
+    if (cdb[0] == 0x28) give_blocks(s, task->head);
     else if (cdb[0] == 0x25) give(s, task->head, capacity, sizeof capacity);
     else if (cdb[0] == 0x00) give(s, task->head, NULL, 0);
     else fprintf(stderr, "a command %02x\n", cdb[0]), exit(1);
@@ -183,7 +196,7 @@ static void command(struct session *s, uint32_t len) {
   task->came = len;
   task->r2ts = 0;
   /* F says that nothing comes unasked. */
-  task->asked = s->head[1] & 0x80 ? len : task->total < FIRST_BURST ? task->total : FIRST_BURST;
+  task->asked = s->head[1] & 0x80 ? len : task->total < first_burst ? task->total : first_burst;
   if (!(s->head[0] & 0x40)) s->exp_cmd_sn++;
   work_off(s);
 }
@@ -200,18 +213,28 @@ static void data_out(struct session *s, uint32_t len) {
   }
 }
 
-/* A login goes on to the stage that the client wants. What it offers is not read: libiscsi offers these keys. */
+/* What is said of the operational keys, with room for padding. */
+static char operational[512];
+static uint32_t operational_len;
+
+static void prepare_text(void) {
+  static const char keys[] =
+      "HeaderDigest=None;DataDigest=None;InitialR2T=No;ImmediateData=Yes;MaxBurstLength=%u;FirstBurstLength=%u;"
+      "DefaultTime2Wait=2;DefaultTime2Retain=0;MaxConnections=1;MaxOutstandingR2T=1;DataPDUInOrder=Yes;"
+      "DataSequenceInOrder=Yes;ErrorRecoveryLevel=0;%sMaxRecvDataSegmentLength=%u;";
+  const char *markers = has_numbers ? "" : "IFMarker=No;OFMarker=No;";
+  operational_len = snprintf(operational, sizeof operational, keys, burst, first_burst, markers, segment_out);
+  for (char *at = operational; (at = strchr(at, ';'));) *at++ = 0;
+}
+
+/* A login goes on to the stage that the client wants. What it offers is not read: libiscsi and client.c offer these keys. */
 static void login(struct session *s) {
   /* Behind each are enough bytes of padding. */
   static const char security[] = "AuthMethod=None\0TargetPortalGroupTag=1\0\0\0";
-  static const char operational[] =
-      "HeaderDigest=None\0DataDigest=None\0InitialR2T=No\0ImmediateData=Yes\0MaxBurstLength=262144\0FirstBurstLength=65536\0"
-      "DefaultTime2Wait=2\0DefaultTime2Retain=0\0MaxConnections=1\0MaxOutstandingR2T=1\0DataPDUInOrder=Yes\0"
-      "DataSequenceInOrder=Yes\0ErrorRecoveryLevel=0\0IFMarker=No\0OFMarker=No\0MaxRecvDataSegmentLength=8192\0\0\0";
   int full = (s->head[1] & 0x83) == 0x83;
   s->exp_cmd_sn = get(s->head + 24);
   const char *text = s->head[1] & 0x0c ? operational : security;
-  uint32_t len = s->head[1] & 0x0c ? sizeof operational - 3 : sizeof security - 3;
+  uint32_t len = s->head[1] & 0x0c ? operational_len : sizeof security - 3;
   uint8_t *head = response(s, 0x23, s->head[1], s->head, text, padded(len));
   put(head + 4, len);
   memcpy(head + 8, s->head + 8, 6);
@@ -272,13 +295,26 @@ static void serve(int socket) {
   close(socket);
 }
 
+/* What is read: for client.c each block has its number, and the letter of the stage that writes it. */
+static void prepare_blocks(void) {
+  for (size_t i = 0; i < sizeof pattern; i++) pattern[i] = (has_numbers ? i % BLOCK : i) * 7 + 1;
+  for (uint64_t lba = 0, letter = 'f'; has_numbers && lba < BLOCKS; lba++) {
+    memcpy(pattern + BLOCK * lba, &lba, sizeof lba);
+    memcpy(pattern + BLOCK * lba + sizeof lba, &letter, sizeof letter);
+  }
+}
+
 int main(int argc, char **argv) {
-  if (argc != 2) return 2;
+  if (argc != 2 && argc != 3 && argc != 6) return 2;
+  has_numbers = argc > 2;
+  if (argc == 6) segment_out = atoi(argv[3]), burst = atoi(argv[4]), segment_in = atoi(argv[5]);
+  if (first_burst > burst) first_burst = burst;
   struct sockaddr_in address = {.sin_family = AF_INET, .sin_port = htons(atoi(argv[1])), .sin_addr = {htonl(INADDR_LOOPBACK)}};
   int listener = socket(AF_INET, SOCK_STREAM, 0), yes = 1;
   setsockopt(listener, SOL_SOCKET, SO_REUSEADDR, &yes, sizeof yes);
   if (bind(listener, (struct sockaddr *)&address, sizeof address) || listen(listener, 8)) fail("listen");
-  for (size_t i = 0; i < LONGEST; i++) pattern[i] = i * 7 + 1;
+  prepare_blocks();
+  prepare_text();
   puts("listening");
   fflush(stdout);
   for (;;) {
