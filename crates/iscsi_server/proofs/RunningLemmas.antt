@@ -30,7 +30,7 @@ all_append P (e ∷ es) fs p q = (p.0, all_append P es fs p.1 q)
 -- ---- how much is taken
 
 taken_append : (k : ℕ) (es fs : List Event) → taken_at k (es ++ fs) ≡ taken_at k es + taken_at k fs
-taken_append k [] fs = refl
+taken_append k [] fs = omega arith
 taken_append k (e ∷ es) fs = omega (arith, taken_append k es fs)
 
 -- at one seat, by whether another one lies before or behind it
@@ -106,8 +106,10 @@ then_few f g most a b c s t u le p q = (
 -- a seat more had its turn
 pub next_few : (i n : ℕ) (a b c : Hall) (s t u : Store) → RunsFew (below i n) a s b t → RunsFew (only i n) b t c u
     → RunsFew (below (i + 1) n) a s c u
-next_few i n a b c s t u p q = then_few (below i n) (only i n) (below (i + 1) n) a b c s t u
-    (λ k. subst (λ (j : ℕ). below i n k + only i n k ≤ below j n k) (omega arith : suc i ≡ i + 1) (below_next i n k)) p q
+next_few i n a b c s t u p q =
+    let next : suc i ≡ i + 1 = omega arith in
+    then_few (below i n) (only i n) (below (i + 1) n) a b c s t u
+    (λ k. subst (λ (j : ℕ). below i n k + only i n k ≤ below j n k) next (below_next i n k)) p q
 
 -- all seats had their turns
 pub below_few : (i n : ℕ) (old new : Hall) (before after : Store) → RunsFew (below i n) old before new after
