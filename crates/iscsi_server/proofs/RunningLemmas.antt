@@ -1,5 +1,5 @@
 -- What happens in the hall of a service, one thing behind the other.
-use Rattle.std.proofs.Common.{◌≡◌, ◌<◌, ◌≤◌, ℕ, zero, suc, Bool, true, false, ◌==◌, List, [], ◌∷◌, ◌++◌, length, Option, None, Some, refl, sym, ap, subst, ◌∙◌, arith}
+use Rattle.std.proofs.Common.{◌≡◌, ◌<◌, ◌≤◌, ◌+◌, ◌-◌, ℕ, zero, suc, Bool, true, false, ◌==◌, if◌then◌else◌, List, [], ◌∷◌, ◌++◌, length, Option, None, Some, refl, sym, ap, subst, ◌∙◌, arith}
 use Rattle.std.proofs.Common.{get_or, replicate, set}
 use Rattle.std.proofs.lemmas.Bool.{ltb-true, ltb-false}
 use Rattle.std.proofs.lemmas.List.{get_or_past, length-set, set-get_or}
@@ -21,11 +21,52 @@ use Rattle.iscsi_hall.specs.Turns.{Session, Stays, events_of, executed_in, machi
 use Rattle.iscsi_hall.proofs.SeatLemmas.{changed_other, some_within, taken_within}
 use Rattle.iscsi_hall.proofs.RunLemmas.{own_session, runs_append, runs_lead, runs_none, runs_one}
 pub use Rattle.iscsi_serving.proofs.ExecutedLemmas.{none_executed}
-use Rattle.iscsi_server.specs.Running.{IsAmong, IsOfSession, OthersAreKept, RunsAt, RunsIdle, RunsIdleAt, RunsWithin, Served, no_sessions}
+use Rattle.iscsi_server.specs.Running.{IsAmong, IsOfSession, OthersAreKept, RunsAt, RunsFew, RunsIdle, RunsIdleAt, RunsWithin, Served, below, no_sessions, only, taken_at, taken_by}
 
 all_append : (P : Event → Type 0) (es fs : List Event) → AllByRecursion P es → AllByRecursion P fs → AllByRecursion P (es ++ fs)
 all_append P [] fs p q = q
 all_append P (e ∷ es) fs p q = (p.0, all_append P es fs p.1 q)
+
+-- ---- how much is taken
+
+taken_append : (k : ℕ) (es fs : List Event) → taken_at k (es ++ fs) ≡ taken_at k es + taken_at k fs
+taken_append k [] fs = omega arith
+taken_append k (e ∷ es) fs = omega (arith, taken_append k es fs)
+
+-- at one seat, by whether another one lies before or behind it
+only_zero : (a b : Bool) → (if a then 0 else if b then 0 else 0) ≤ 0
+only_zero true b = omega arith
+only_zero false true = omega arith
+only_zero false false = omega arith
+
+only_most : (a b : Bool) (n most : ℕ) → n ≤ most → (if a then 0 else if b then 0 else n) ≤ (if a then 0 else if b then 0 else most)
+only_most true b n most le = omega arith
+only_most false true n most le = omega arith
+only_most false false n most le = le
+
+only_less : (a b : Bool) (n : ℕ) → 0 < n
+    → (if a then 0 else if b then 0 else 1) + (if a then 0 else if b then 0 else (n - 1)) ≤ (if a then 0 else if b then 0 else n)
+only_less true b n some = omega arith
+only_less false true n some = omega arith
+only_less false false n some = omega (arith, some)
+
+-- one seat more
+below_more : (i k n : ℕ) (a b c : Bool) → nat_lt k i ≡ a → nat_lt i k ≡ b → nat_lt k (suc i) ≡ c
+    → (if a then n else 0) + (if a then 0 else if b then 0 else n) ≤ (if c then n else 0)
+below_more i k n true b true x y z = omega arith
+below_more i k n true b false x y z = absurd (omega (arith, ltb-true k i x, ltb-false k (suc i) z))
+below_more i k n false true true x y z = omega arith
+below_more i k n false true false x y z = omega arith
+below_more i k n false false true x y z = omega arith
+below_more i k n false false false x y z =
+    absurd (omega (arith, ltb-false k i x, ltb-false i k y, ltb-false k (suc i) z))
+
+below_next : (i n k : ℕ) → below i n k + only i n k ≤ below (suc i) n k
+below_next i n k = below_more i k n (nat_lt k i) (nat_lt i k) (nat_lt k (suc i)) refl refl refl
+
+below_most : (a : Bool) (n : ℕ) → (if a then n else 0) ≤ n
+below_most true n = omega arith
+below_most false n = omega arith
 
 -- ---- in the whole hall
 
@@ -42,31 +83,74 @@ then_runs a b c s t u p q = (
   runs_append (machines a) (machines b) (machines c) s t u p.1 q.1 p.3 q.3,
 )
 
+-- few events are events
+pub few_runs : (most : ℕ → ℕ) (old new : Hall) (before after : Store) → RunsFew most old before new after → RunsWithin old before new after
+unfolding RunsFew RunsWithin
+few_runs most old new before after p = (p.0, p.1, p.2, p.3)
+
+pub none_few : (most : ℕ → ℕ) (hall : Hall) (store : Store) → RunsFew most hall store hall store
+unfolding RunsFew
+none_few most hall store = (refl, [], tt, runs_none (machines hall) (machines hall) store (λ k. refl), λ k. omega arith)
+
+pub then_few : (f g most : ℕ → ℕ) (a b c : Hall) (s t u : Store) → ((k : ℕ) → f k + g k ≤ most k)
+    → RunsFew f a s b t → RunsFew g b t c u → RunsFew most a s c u
+unfolding RunsFew
+then_few f g most a b c s t u le p q = (
+  q.0 ∙ p.0,
+  p.1 ++ q.1,
+  all_append (IsAmong (length a.seats)) p.1 q.1 p.2 (subst (λ (n : ℕ). AllByRecursion (IsAmong n) q.1) p.0 q.2),
+  runs_append (machines a) (machines b) (machines c) s t u p.1 q.1 p.3 q.3,
+  λ k. omega (arith, taken_append k p.1 q.1, p.4 k, q.4 k, le k),
+)
+
+-- a seat more had its turn
+pub next_few : (i n : ℕ) (a b c : Hall) (s t u : Store) → RunsFew (below i n) a s b t → RunsFew (only i n) b t c u
+    → RunsFew (below (i + 1) n) a s c u
+next_few i n a b c s t u p q =
+    let next : suc i ≡ i + 1 = omega arith in
+    then_few (below i n) (only i n) (below (i + 1) n) a b c s t u
+    (λ k. subst (λ (j : ℕ). below i n k + only i n k ≤ below j n k) next (below_next i n k)) p q
+
+-- all seats had their turns
+pub below_few : (i n : ℕ) (old new : Hall) (before after : Store) → RunsFew (below i n) old before new after
+    → RunsFew (λ k. n) old before new after
+unfolding RunsFew
+below_few i n old new before after p = (
+  p.0,
+  p.1,
+  p.2,
+  p.3,
+  λ k. omega (arith, p.4 k, below_most (nat_lt k i) n),
+)
+
 pub none_idle : (hall : Hall) → RunsIdle hall hall
 unfolding RunsIdle
-none_idle hall = λ store. none_runs hall store
+none_idle hall = λ store. none_few (λ k. 0) hall store
 
 pub then_idle : (a b c : Hall) → RunsIdle a b → RunsIdle b c → RunsIdle a c
 unfolding RunsIdle
-then_idle a b c p q = λ store. then_runs a b c store store store (p store) (q store)
+then_idle a b c p q =
+    λ store. then_few (λ k. 0) (λ k. 0) (λ k. 0) a b c store store store (λ k. omega arith) (p store) (q store)
 
-pub idle_runs : (old new : Hall) (store : Store) → RunsIdle old new → RunsWithin old store new store
+pub idle_few : (most : ℕ → ℕ) (a b c : Hall) (s t : Store) → RunsIdle a b → RunsFew most b s c t → RunsFew most a s c t
 unfolding RunsIdle
-idle_runs old new store p = p store
+idle_few most a b c s t p q = then_few (λ k. 0) most most a b c s s t (λ k. omega arith) (p s) q
+
+pub few_idle : (most : ℕ → ℕ) (a b c : Hall) (s t : Store) → RunsFew most a s b t → RunsIdle b c → RunsFew most a s c t
+unfolding RunsIdle
+few_idle most a b c s t p q = then_few most (λ k. 0) most a b c s t t (λ k. omega arith) p (q t)
 
 -- a session comes
 comes_idle : (old new : Hall) (place : ℕ) (settings : Settings) → position is_none old.seats ≡ Some place
     → new ≡ with_seat old place (Some (opening_seat settings)) → HappensIn (Comes place settings) old new → RunsIdle old new
-unfolding RunsIdle RunsWithin
+unfolding RunsIdle RunsFew
 comes_idle old new place settings first is h = λ store. (
   ap (λ (x : Hall). length x.seats) is ∙ length-set old.seats place (Some (opening_seat settings)),
   Comes place settings ∷ [],
   ((position-Some is_none old.seats place None first).0, tt),
   runs_one (machines old) (machines new) store store (Comes place settings) (h store),
+  λ k. omega arith,
 )
-
-pub idle_then : (a b c : Hall) (s t : Store) → RunsIdle a b → RunsWithin b s c t → RunsWithin a s c t
-idle_then a b c s t p q = then_runs a b c s s t (idle_runs a b s p) q
 
 -- a session gets a seat, or none is free
 pub seat_idle : (old new : Hall) (settings : Settings) (result : Option ℕ) → result ≡ position is_none old.seats
@@ -84,12 +168,13 @@ outside_is old new place le is =
 
 goes_if : (b : Bool) (old new : Hall) (place : ℕ) → nat_lt place (length old.seats) ≡ b → new ≡ with_seat old place None
     → HappensIn (Goes place) old new → RunsIdle old new
-unfolding RunsIdle RunsWithin
+unfolding RunsIdle RunsFew
 goes_if true old new place lt is h = λ store. (
   ap (λ (x : Hall). length x.seats) is ∙ length-set old.seats place None,
   Goes place ∷ [],
   (ltb-true place (length old.seats) lt, tt),
   runs_one (machines old) (machines new) store store (Goes place) (h store),
+  λ k. omega arith,
 )
 goes_if false old new place lt is h =
     let same : new.seats ≡ old.seats = outside_is old new place (ltb-false place (length old.seats) lt) is in
@@ -98,6 +183,7 @@ goes_if false old new place lt is h =
       [],
       tt,
       runs_none (machines old) (machines new) store (λ k. ap (λ (x : List (Option Seat)). machine_in (get_or x k None)) same),
+      λ k. omega arith,
     )
 
 pub goes_idle : (old new : Hall) (place : ℕ) → new ≡ with_seat old place None → HappensIn (Goes place) old new → RunsIdle old new
@@ -112,38 +198,68 @@ runs_executed old new before after counted failures r =
 
 -- ---- at one seat
 
-pub none_at : (seat : ℕ) (hall : Hall) (store : Store) → RunsAt seat hall store hall store
+pub none_at : (seat n : ℕ) (hall : Hall) (store : Store) → RunsAt seat n n hall store hall store
 unfolding RunsAt
-none_at seat hall store = ((λ k ne. refl), refl, [], tt, runs_none (machines hall) (machines hall) store (λ k. refl))
+none_at seat n hall store = (
+  λ k ne. refl,
+  refl,
+  [],
+  tt,
+  runs_none (machines hall) (machines hall) store (λ k. refl),
+  λ k. omega arith,
+)
 
-pub then_at : (seat : ℕ) (a b c : Hall) (s t u : Store) → RunsAt seat a s b t → RunsAt seat b t c u → RunsAt seat a s c u
+pub then_at : (seat had mid left : ℕ) (a b c : Hall) (s t u : Store) → RunsAt seat had mid a s b t → RunsAt seat mid left b t c u
+    → RunsAt seat had left a s c u
 unfolding RunsAt
-then_at seat a b c s t u p q = (
+then_at seat had mid left a b c s t u p q = (
   λ k ne. q.0 k ne ∙ p.0 k ne,
   q.1 ∙ p.1,
   p.2 ++ q.2,
   all_append (IsOfSession seat (length a.seats)) p.2 q.2 p.3 (subst (λ (n : ℕ). AllByRecursion (IsOfSession seat n) q.2) p.1 q.3),
   runs_append (machines a) (machines b) (machines c) s t u p.2 q.2 p.4 q.4,
+  λ k. omega (arith, taken_append k p.2 q.2, p.5 k, q.5 k),
+)
+
+-- the session takes no more, though it might
+pub spent_at : (seat had left : ℕ) (old new : Hall) (before after : Store) → RunsAt seat had left old before new after
+    → RunsAt seat had 0 old before new after
+unfolding RunsAt
+spent_at seat had left old new before after p = (
+  p.0,
+  p.1,
+  p.2,
+  p.3,
+  p.4,
+  λ k. omega (arith, p.5 k, only_zero (nat_lt k seat) (nat_lt seat k)),
 )
 
 all_among : (seat count : ℕ) (es : List Event) → AllByRecursion (IsOfSession seat count) es → AllByRecursion (IsAmong count) es
 all_among seat count [] p = tt
 all_among seat count (e ∷ es) p = (p.0.1, all_among seat count es p.1)
 
-pub at_runs : (seat : ℕ) (old new : Hall) (before after : Store) → RunsAt seat old before new after → RunsWithin old before new after
-unfolding RunsAt RunsWithin
-at_runs seat old new before after p = (p.1, p.2, all_among seat (length old.seats) p.2 p.3, p.4)
+at_few : (seat had left most : ℕ) (old new : Hall) (before after : Store) → had ≤ most → RunsAt seat had left old before new after
+    → RunsFew (only seat most) old before new after
+unfolding RunsAt RunsFew
+at_few seat had left most old new before after le p = (
+  p.1,
+  p.2,
+  all_among seat (length old.seats) p.2 p.3,
+  p.4,
+  λ k. omega (arith, p.5 k, only_most (nat_lt k seat) (nat_lt seat k) had most le),
+)
 
-pub at_idle : (seat : ℕ) (a b c : Hall) (s t : Store) → RunsAt seat a s b t → RunsIdle b c → RunsWithin a s c t
-at_idle seat a b c s t p q = then_runs a b c s t t (at_runs seat a b s t p) (idle_runs b c t q)
+pub at_idle : (seat had left most : ℕ) (a b c : Hall) (s t : Store) → had ≤ most → RunsAt seat had left a s b t → RunsIdle b c
+    → RunsFew (only seat most) a s c t
+at_idle seat had left most a b c s t le p q = few_idle (only seat most) a b c s t (at_few seat had left most a b s t le p) q
 
 pub none_idle_at : (seat : ℕ) (hall : Hall) → RunsIdleAt seat hall hall
 unfolding RunsIdleAt
-none_idle_at seat hall = λ store. none_at seat hall store
+none_idle_at seat hall = λ store n. none_at seat n hall store
 
-pub idle_at : (seat : ℕ) (old new : Hall) (store : Store) → RunsIdleAt seat old new → RunsAt seat old store new store
+pub idle_at : (seat n : ℕ) (old new : Hall) (store : Store) → RunsIdleAt seat old new → RunsAt seat n n old store new store
 unfolding RunsIdleAt
-idle_at seat old new store p = p store
+idle_at seat n old new store p = p store n
 
 changed_length : (seat : ℕ) (old new : Hall) (P : Seat → Seat → Type 0) → Changes seat old new P → length new.seats ≡ length old.seats
 changed_length seat old new P c = ap (λ (x : List (Option Seat)). length x) c.now ∙ length-set old.seats seat (Some c.after)
@@ -155,57 +271,65 @@ changed_others : (seat : ℕ) (old new : Hall) (P : Seat → Seat → Type 0) �
 changed_others seat old new P c = λ k ne. changed_other seat k old new (Some c.after) ne c.now
 
 -- an event that changes one seat
-changed_at : (seat : ℕ) (old new : Hall) (before after : Store) (P : Seat → Seat → Type 0) (e : Event) → Changes seat old new P
-    → IsOfSession seat (length old.seats) e → Happens (machines old) before e (machines new) after → RunsAt seat old before new after
+changed_at : (seat had left : ℕ) (old new : Hall) (before after : Store) (P : Seat → Seat → Type 0) (e : Event) → Changes seat old new P
+    → IsOfSession seat (length old.seats) e → Happens (machines old) before e (machines new) after
+    → ((k : ℕ) → taken_by k e + only seat left k ≤ only seat had k) → RunsAt seat had left old before new after
 unfolding RunsAt
-changed_at seat old new before after P e c is h = (
+changed_at seat had left old new before after P e c is h few = (
   changed_others seat old new P c,
   changed_length seat old new P c,
   e ∷ [],
   (is, tt),
   runs_one (machines old) (machines new) before after e h,
+  λ k. omega (arith, few k),
 )
 
 -- a turn
-pub turn_at : (seat : ℕ) (old new : Hall) (before after : Store) (result : Result ℕ TargetFault)
-    → TakesAtSeat seat old before result new after → TakesTurn seat old before result new after → RunsAt seat old before new after
-turn_at seat old new before after result c h =
+pub turn_at : (seat had : ℕ) (old new : Hall) (before after : Store) (result : Result ℕ TargetFault) → 0 < had
+    → TakesAtSeat seat old before result new after → TakesTurn seat old before result new after
+    → RunsAt seat had (had - 1) old before new after
+turn_at seat had old new before after result some c h =
     let within : seat < length old.seats = some_within old.seats seat c.before c.was in
-    changed_at seat old new before after _ (Takes h.turn) c
+    changed_at seat had (had - 1) old new before after _ (Takes h.turn) c
     (h.seat_is, subst (λ (k : ℕ). k < length old.seats) (sym h.seat_is) within, tt) h.is_turn
+    (λ k. subst (λ (s : ℕ). only s 1 k + only seat (had - 1) k ≤ only seat had k) (sym h.seat_is)
+    (only_less (nat_lt k seat) (nat_lt seat k) had some))
 
 -- a sync, where something waits at the seat
 waits_taken : (o : Option Seat) → 0 < length (waiting_at o) → is_some o ≡ true
 waits_taken None lt = absurd (omega (arith, lt))
 waits_taken (Some s) lt = refl
 
-pub sync_at : (seat : ℕ) (hall : Hall) (before after : Store) → 0 < length (waiting_at (seat_at hall seat))
-    → Happens (machines hall) before (Syncs seat) (machines hall) after → RunsAt seat hall before hall after
+pub sync_at : (seat n : ℕ) (hall : Hall) (before after : Store) → 0 < length (waiting_at (seat_at hall seat))
+    → Happens (machines hall) before (Syncs seat) (machines hall) after → RunsAt seat n n hall before hall after
 unfolding RunsAt
-sync_at seat hall before after waits h = (
+sync_at seat n hall before after waits h = (
   λ k ne. refl,
   refl,
   Syncs seat ∷ [],
   ((refl, taken_within hall.seats seat (waits_taken (seat_at hall seat) waits), tt), tt),
   runs_one (machines hall) (machines hall) before after (Syncs seat) h,
+  λ k. omega arith,
 )
 
 -- what changes no session
 pub same_at : (seat : ℕ) (old new : Hall) (P : Seat → Seat → Type 0) → Changes seat old new P → SameMachines old new → RunsIdleAt seat old new
 unfolding RunsIdleAt RunsAt
-same_at seat old new P c same = λ store. (
+same_at seat old new P c same = λ store n. (
   changed_others seat old new P c,
   changed_length seat old new P c,
   [],
   tt,
   runs_none (machines old) (machines new) store same,
+  λ k. omega arith,
 )
 
 -- the end of a stream
 pub ends_at : (seat : ℕ) (old new : Hall) (P : Seat → Seat → Type 0) → Changes seat old new P → HappensIn (Ends seat) old new → RunsIdleAt seat old new
 unfolding RunsIdleAt
 ends_at seat old new P c h =
-    λ store. changed_at seat old new store store P (Ends seat) c (refl, changed_within seat old new P c, tt) (h store)
+    λ store n. changed_at seat n n old new store store P (Ends seat) c (refl, changed_within seat old new P c, tt) (h store)
+    (λ k. omega arith)
 
 -- ---- from free seats on
 

@@ -1,6 +1,6 @@
 //! How much a seat may do in a turn before the others have theirs.
 
-ghost use Rattle.std.specs.Prelude.{◌≡◌, ◌-◌, ◌≤◌};
+ghost use Rattle.std.specs.Prelude.{◌≡◌, ◌-◌, ◌<◌, ◌≤◌, false};
 
 /// The most PDUs of a turn.
 const PDUS: usize = 8;
@@ -44,7 +44,9 @@ impl Budget {
     }
 
     /// Whether the turn is over.
-    pub fn is_spent(&self) -> bool {
+    pub fn is_spent(&self) -> bool
+        ensures going { result ≡ false → 0 < self.now.pdus }
+    {
         self.pdus == 0 || self.taken == 0 || self.given == 0
     }
 

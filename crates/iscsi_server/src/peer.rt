@@ -66,7 +66,7 @@ impl Peer {
     /// A turn of its session: at most 64 reads, PDUs and writes, and no more once the budget is spent.
     /// What is read goes through `buffer`. Says whether the session is over; where that is for a
     /// fault, it is kept as its end.
-    #[tactic(auto, using(crate::proofs::RunningLemmas::none_at, crate::proofs::RunningLemmas::then_at))]
+    #[tactic(auto, using(crate::proofs::RunningLemmas::none_at, crate::proofs::RunningLemmas::spent_at))]
     pub fn turn<S: BlockStore>(
         &mut self,
         hall: &mut Hall,
@@ -76,7 +76,9 @@ impl Peer {
         buffer: &mut [u8; MOST_READ],
         budget: Budget,
     ) -> bool
-        ensures runs { RunsAt seat hall.old (store_of (S.disk store.old) (S.failures store.old))
+        // It takes as many PDUs at most as the budget says.
+        ensures runs { RunsAt seat budget.pdus 0
+            hall.old (store_of (S.disk store.old) (S.failures store.old))
             hall.new (store_of (S.disk store.new) (S.failures store.new)) }
         ensures seats { length hall.new.seats ≡ length hall.old.seats }
     {
@@ -125,7 +127,9 @@ impl Peer {
         buffer: &mut [u8; MOST_READ],
         left: &mut Budget,
     ) -> Step
-        ensures runs { RunsAt seat hall.old (store_of (S.disk store.old) (S.failures store.old))
+        requires some { 0 < left.old.pdus }
+        ensures runs { RunsAt seat left.old.pdus left.new.pdus
+            hall.old (store_of (S.disk store.old) (S.failures store.old))
             hall.new (store_of (S.disk store.new) (S.failures store.new)) }
         ensures seats { length hall.new.seats ≡ length hall.old.seats }
     {
@@ -150,7 +154,8 @@ impl Peer {
         left: &mut Budget,
     ) -> Step
         requires some { 0 < length (waiting_at (seat_at hall.old seat)) }
-        ensures runs { RunsAt seat hall.old (store_of (S.disk store.old) (S.failures store.old))
+        ensures runs { RunsAt seat left.old.pdus left.new.pdus
+            hall.old (store_of (S.disk store.old) (S.failures store.old))
             hall.new (store_of (S.disk store.new) (S.failures store.new)) }
         ensures seats { length hall.new.seats ≡ length hall.old.seats }
     {
@@ -185,7 +190,9 @@ impl Peer {
         left: &mut Budget,
     ) -> Step
         requires may { may_take_at (seat_at hall.old seat) ≡ true }
-        ensures runs { RunsAt seat hall.old (store_of (S.disk store.old) (S.failures store.old))
+        requires some { 0 < left.old.pdus }
+        ensures runs { RunsAt seat left.old.pdus left.new.pdus
+            hall.old (store_of (S.disk store.old) (S.failures store.old))
             hall.new (store_of (S.disk store.new) (S.failures store.new)) }
         ensures seats { length hall.new.seats ≡ length hall.old.seats }
     {
@@ -217,13 +224,18 @@ impl Peer {
         left: &mut Budget,
     )
         requires may { may_take_at (seat_at hall.old seat) ≡ true }
-        ensures runs { RunsAt seat hall.old (store_of (S.disk store.old) (S.failures store.old))
+        requires some { 0 < left.old.pdus }
+        ensures runs { RunsAt seat left.old.pdus left.new.pdus
+            hall.old (store_of (S.disk store.old) (S.failures store.old))
             hall.new (store_of (S.disk store.new) (S.failures store.new)) }
         ensures seats { length hall.new.seats ≡ length hall.old.seats }
     {
         match hall.take(seat, store) {
             Ok(count) => left.take(count),
-            Err(fault) => self.end_by(SessionEnd::of(fault)),
+            Err(fault) => {
+                left.take(0);
+                self.end_by(SessionEnd::of(fault));
+            }
         }
     }
 

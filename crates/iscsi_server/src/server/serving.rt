@@ -2,7 +2,7 @@
 
 ghost use Rattle.std.specs.Prelude.{◌≡◌, ◌≤◌, length};
 ghost use Rattle.iscsi_target.specs.Inside.{store_of};
-ghost use Rattle.iscsi_server.specs.Running.{RunsIdle, RunsWithin};
+ghost use Rattle.iscsi_server.specs.Running.{RunsFew, RunsIdle, most_taken, only};
 
 use super::Server;
 use crate::budget::Budget;
@@ -13,14 +13,15 @@ use std::time::Instant;
 
 impl<'a> Server<'a> {
     // A turn for each peer.
-    #[tactic(auto, using(crate::proofs::RunningLemmas::none_runs, crate::proofs::RunningLemmas::then_runs))]
+    #[tactic(auto, using(crate::proofs::RunningLemmas::none_few, crate::proofs::RunningLemmas::below_few))]
     pub(super) fn serve_peers<S: BlockStore>(
         &mut self,
         rt: &HostRuntime,
         store: &mut S,
         now: Instant,
     )
-        ensures runs { RunsWithin
+        // Each seat takes a few PDUs at most.
+        ensures runs { RunsFew (λ k. most_taken)
             self.old.hall (store_of (S.disk store.old) (S.failures store.old))
             self.new.hall (store_of (S.disk store.new) (S.failures store.new)) }
         ensures seats { length self.new.hall.seats ≡ length self.old.hall.seats }
@@ -35,7 +36,7 @@ impl<'a> Server<'a> {
     }
 
     // A turn for the peer of a seat, if there is one.
-    #[tactic(auto, using(crate::proofs::RunningLemmas::none_runs, crate::proofs::RunningLemmas::at_idle))]
+    #[tactic(auto, using(crate::proofs::RunningLemmas::none_few, crate::proofs::RunningLemmas::at_idle))]
     fn serve_peer<S: BlockStore>(
         &mut self,
         rt: &HostRuntime,
@@ -44,7 +45,8 @@ impl<'a> Server<'a> {
         now: Instant,
         budget: Budget,
     )
-        ensures runs { RunsWithin
+        requires few { budget.pdus ≤ most_taken }
+        ensures runs { RunsFew (only seat most_taken)
             self.old.hall (store_of (S.disk store.old) (S.failures store.old))
             self.new.hall (store_of (S.disk store.new) (S.failures store.new)) }
         ensures seats { length self.new.hall.seats ≡ length self.old.hall.seats }
