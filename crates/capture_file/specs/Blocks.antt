@@ -18,6 +18,10 @@ pub record Reading : Type 0 where
   pub kind : Kind
   pub interfaces : List Interface
 
+-- a file of which nothing was read
+abbrev pub opening_file : Reading
+opening_file = record { kind = kinds.Unknown; interfaces = [] }
+
 -- the type of a section header, the same in either order
 abbrev pub section : ℕ
 section = 168627466

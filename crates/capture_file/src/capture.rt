@@ -3,7 +3,7 @@
 ghost use Rattle.std.specs.Prelude.{◌≤◌, ◌<◌, ◌≡◌, ◌≢◌, ◌^◌, length, IfOk, IfErr, IfSome, IfNone, OnErr};
 ghost use Rattle.capture_file.specs.Numbers.{number};
 ghost use Rattle.capture_file.specs.declared.numbers.Order.{Order};
-ghost use Rattle.capture_file.specs.Blocks.{byte_order, SectionStep, SectionFails, DescribeStep, BlockStep, BlockFails, BeginStep, BeginFails, StepAt, FailsAt};
+ghost use Rattle.capture_file.specs.Blocks.{byte_order, opening_file, SectionStep, SectionFails, DescribeStep, BlockStep, BlockFails, BeginStep, BeginFails, StepAt, FailsAt};
 ghost use Rattle.capture_file.specs.declared.fault.CaptureFault.TheVariants.{NoMemory};
 
 use crate::classic::record;
@@ -52,7 +52,9 @@ impl Model for Capture {
 
 impl Capture {
     /// A file of which nothing was read. It takes no memory.
-    pub fn new(alloc: Global) -> Capture {
+    pub fn new(alloc: Global) -> Capture
+        ensures new { result ≡ opening_file }
+    {
         Capture {
             kind: Kind::Unknown,
             interfaces: Vec::new(alloc),

@@ -1,6 +1,6 @@
 //! One direction of a connection, segment by segment.
 
-ghost use Rattle.std.specs.Prelude.{◌≡◌, ◌≤◌, ◌<◌, ◌^◌, length, OnOk, IfErr};
+ghost use Rattle.std.specs.Prelude.{◌≡◌, ◌≤◌, ◌<◌, ◌==◌, ◌^◌, length, not, OnOk, IfErr};
 ghost use Rattle.tcp_streams.specs.Reassembly.{opening, Takes, FeedFails};
 
 use crate::fault::SegmentFault;
@@ -101,7 +101,9 @@ impl Direction {
 
     /// Whether pieces wait for bytes that have not come. At the end of a capture the byte at
     /// `count` is then missing.
-    pub fn has_gap(&self) -> bool {
+    pub fn has_gap(&self) -> bool
+        ensures { result ≡ not (length self.now.waiting == 0) }
+    {
         !self.waiting.is_empty()
     }
 }

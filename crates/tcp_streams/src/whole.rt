@@ -1,9 +1,10 @@
 //! The stream of a whole list of segments.
 
-ghost use Rattle.std.specs.Prelude.{◌≡◌, ◌<◌, ◌^◌, ℕ, List, [], length, map, IfOk};
+ghost use Rattle.std.specs.Prelude.{◌≡◌, ◌<◌, ◌^◌, ℕ, List, [], length, map, IfErr, IfOk};
 ghost use Rattle.std.specs.List.{All};
 ghost use Rattle.tcp_streams.specs.Pieces.{Piece, Determines};
-ghost use Rattle.tcp_streams.specs.Placing.{ArePlaced};
+ghost use Rattle.tcp_streams.specs.Placing.{ArePlaced, Numbered};
+ghost use Rattle.tcp_streams.specs.Reassembly.{FeedFails, Taking};
 ghost use Rattle.tcp_streams.specs.Whole.{numbered};
 
 use crate::direction::Direction;
@@ -31,8 +32,11 @@ pub fn reassemble(
     segments: &[Segment],
 ) -> Result<Vec<u8>, SegmentFault>
     requires { All (λ segment. length segment.bytes.items < 2 ^ 32) segments.now }
-    ensures { IfOk result (λ out. (pieces : List Piece)
+    ensures ok { IfOk result (λ out. (pieces : List Piece)
         × ArePlaced first [] (map numbered segments.now) pieces × Determines pieces out.items) }
+    // A fault is that of a direction with this limit, at one of the segments.
+    ensures err { IfErr result (λ fault. (old : Taking) × (segment : Numbered)
+        × (old.limit ≡ limit) × FeedFails old segment fault) }
 {
     let mut direction = Direction::new(alloc, first, limit);
     let mut out = Vec::new(alloc);
