@@ -3,6 +3,9 @@
 ghost use Rattle.std.specs.Prelude.{◌≡◌, ◌≤◌, false, Some, None, [], ◌++◌, ◌↔◌, IsTrue, IsSome, OnOk, IfSome, length, drop, map, IfOk, IfErr, MatchOption};
 ghost use Rattle.iscsi_initiator.specs.declared.fault.InitiatorFault.TheVariants as faults;
 ghost use Rattle.iscsi_pair.specs.World.{IsOpening, Suits, new_pair, Happens, Runs, RunsCalmly, event_of, keeps_no_memory};
+ghost use Rattle.iscsi_initiator.specs.Calls.{Starts};
+ghost use Rattle.iscsi_initiator.specs.Calls as initiator_calls;
+ghost use Rattle.iscsi_target.specs.Feed as target_calls;
 ghost use Rattle.iscsi_pair.specs.World as worlds;
 ghost use Rattle.std.specs.List.{AllByRecursion};
 ghost use Rattle.scsi_disk.specs.Disk.{disk_of};
@@ -69,9 +72,15 @@ impl Pair {
         }) }
         ensures memory { IfErr result (λ fault. fault ≡ faults.NoMemory) }
     {
-        match Ends::new(alloc, initiator, target, first_statsn, store) {
+        let mut ends = Ends::unstarted(alloc, initiator, target, first_statsn, store);
+        if let Err(fault) = ends.start() {
+            // Taken apart, since ends that are dropped here are dear to prove.
+            ends.into_store();
+            return Err(fault);
+        }
+        match Box::new(alloc, ends) {
             Ok(ends) => Ok(Pair { ends }),
-            Err(fault) => Err(fault),
+            Err(_) => Err(InitiatorFault::NoMemory),
         }
     }
 
@@ -321,44 +330,51 @@ impl Ends {
         self.to_target.is_empty() && self.to_initiator.is_empty()
     }
 
-    // Those of a new pair, whose initiator has started its login.
-    fn new(
+    // Those of a new pair, whose initiator has yet to start its login.
+    fn unstarted(
         alloc: Global,
         initiator: iscsi_initiator::Config,
         target: iscsi_target::Config,
         first_statsn: u32,
         store: MemoryStore,
-    ) -> Result<Box<Ends>, InitiatorFault>
-        ensures opening { IfOk result (λ ends. ends.value ≡ new_pair (record {
-          initiator = initiator;
-          target = target;
-          first_stat_sn = first_statsn;
+    ) -> Ends
+        ensures ends { result ≡ record {
+          target = target_calls.opening_connection target first_statsn;
           blocks = store;
-        })) }
+          initiator = initiator_calls.opening_connection initiator;
+          to_target = [];
+          to_initiator = [];
+          target_fault = None;
+          initiator_fault = None;
+        } }
         ensures in_range { IsOpening (record {
           initiator = initiator;
           target = target;
           first_stat_sn = first_statsn;
           blocks = store;
         }) }
-        ensures memory { IfErr result (λ fault. fault ≡ faults.NoMemory) }
     {
-        let mut to_target = Vec::new(alloc);
-        let mut initiator = Initiator::new(alloc, initiator);
-        initiator.start(&mut to_target)?;
-        let ends = Ends {
+        Ends {
             target: Target::new(alloc, target, first_statsn),
             store,
-            initiator,
-            to_target,
+            initiator: Initiator::new(alloc, initiator),
+            to_target: Vec::new(alloc),
             to_initiator: Vec::new(alloc),
             target_fault: None,
             initiator_fault: None,
-        };
-        match Box::new(alloc, ends) {
-            Ok(ends) => Ok(ends),
-            Err(_) => Err(InitiatorFault::NoMemory),
         }
+    }
+
+    // Starts the login of the initiator.
+    fn start(&mut self) -> Result<(), InitiatorFault>
+        ensures starts { Starts result self.old.initiator self.new.initiator
+            self.old.to_target self.new.to_target }
+        ensures others { self.new ≡ record self.old {
+          initiator = self.new.initiator;
+          to_target = self.new.to_target;
+        } }
+    {
+        self.initiator.start(&mut self.to_target)
     }
 
     // Takes the initiator's outcome, once it is there.

@@ -9,4 +9,4 @@ invariant_of-self c =
     (subst (λ (w : World). HasCome w) (sym c.deref_mut.ensures.value) c.self.invariant) c.outcome.ensures.taken
 
 pub returns-clause-outcome : goal.returns-clause-outcome
-returns-clause-outcome c = c.outcome.ensures.outcome ∙ ap (λ (w : World). w.initiator.machine.done) c.deref_mut.ensures.value
+returns-clause-outcome c = c.outcome.ensures.outcome ∙ ap (λ (w : World). w.initiator.machine.done) (c.deref_mut.ensures.value ∙ c.self.view_is)
