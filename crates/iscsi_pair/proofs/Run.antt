@@ -1,5 +1,6 @@
 -- Every run in which all requests are accepted: its outcomes are those of one disk.
 pub mod MoveLemmas
+pub mod OpeningLemmas
 pub mod ComesLemmas
 pub mod MemoryLemmas
 pub mod QueueReading

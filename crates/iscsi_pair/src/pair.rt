@@ -3,12 +3,15 @@
 ghost use Rattle.std.specs.Prelude.{◌≡◌, ◌≤◌, false, Some, None, [], ◌++◌, ◌↔◌, IsTrue, IsSome, OnOk, IfSome, length, drop, map, IfOk, IfErr, MatchOption};
 ghost use Rattle.iscsi_initiator.specs.declared.fault.InitiatorFault.TheVariants as faults;
 ghost use Rattle.iscsi_pair.specs.World.{IsOpening, Suits, new_pair, Happens, Runs, RunsCalmly, event_of, keeps_no_memory};
+ghost use Rattle.iscsi_initiator.specs.Calls.{Starts};
+ghost use Rattle.iscsi_initiator.specs.Calls as initiator_calls;
+ghost use Rattle.iscsi_target.specs.Feed as target_calls;
 ghost use Rattle.iscsi_pair.specs.World as worlds;
 ghost use Rattle.std.specs.List.{AllByRecursion};
 ghost use Rattle.scsi_disk.specs.Disk.{disk_of};
 ghost use Rattle.iscsi_initiator.specs.Laws.{listed};
 ghost use Rattle.iscsi_pair.specs.Served.{IsServed, disk_after, disk_outcomes};
-ghost use Rattle.iscsi_pair.specs.Outcomes.{HasRun, IsIdle, events_of, opening_of, requests_among};
+ghost use Rattle.iscsi_pair.specs.Outcomes.{Gives, HasRun, IsIdle, events_of, opening_of, requests_among};
 ghost use Rattle.iscsi_login.specs.declared.stage.Session.TheVariants as sessions;
 ghost use Rattle.iscsi_login.specs.declared.stage.Stage.TheVariants as stages;
 
@@ -69,25 +72,37 @@ impl Pair {
         }) }
         ensures memory { IfErr result (λ fault. fault ≡ faults.NoMemory) }
     {
-        let ends = Ends::new(alloc, initiator, target, first_statsn, store)?;
+        let mut ends = Ends::unstarted(alloc, initiator, target, first_statsn, store);
+        if let Err(fault) = ends.start() {
+            // Taken apart, since ends that are dropped here are dear to prove.
+            ends.into_store();
+            return Err(fault);
+        }
         match Box::new(alloc, ends) {
             Ok(ends) => Ok(Pair { ends }),
             Err(_) => Err(InitiatorFault::NoMemory),
         }
     }
 
+    // The ends, for those that look: a box that is opened is dear to prove, so that this stands once.
+    fn ends(&self) -> &Ends
+        ensures { result.now ≡ self.now }
+    {
+        &self.ends
+    }
+
     /// The target's end.
     pub fn target(&self) -> &Target
         ensures target { result.now ≡ self.now.target }
     {
-        &self.ends.target
+        &self.ends().target
     }
 
     /// The initiator's end.
     pub fn initiator(&self) -> &Initiator
         ensures initiator { result.now ≡ self.now.initiator }
     {
-        &self.ends.initiator
+        &self.ends().initiator
     }
 
     /// The target's first fault.
@@ -95,7 +110,7 @@ impl Pair {
         ensures fault { MatchOption result (self.now.target_fault ≡ None)
             (λ fault. self.now.target_fault ≡ Some fault.now) }
     {
-        self.ends.target_fault.as_ref()
+        self.ends().target_fault.as_ref()
     }
 
     /// The initiator's first fault, or its first refusal of a request.
@@ -103,7 +118,7 @@ impl Pair {
         ensures fault { MatchOption result (self.now.initiator_fault ≡ None)
             (λ fault. self.now.initiator_fault ≡ Some fault.now) }
     {
-        self.ends.initiator_fault.as_ref()
+        self.ends().initiator_fault.as_ref()
     }
 
     /// What the target holds of the login, and what the initiator holds, once the initiator has
@@ -128,21 +143,22 @@ impl Pair {
         ensures target { result.0 ≡ length self.now.to_target }
         ensures initiator { result.1 ≡ length self.now.to_initiator }
     {
-        (self.ends.to_target.len(), self.ends.to_initiator.len())
+        let ends = self.ends();
+        (ends.to_target.len(), ends.to_initiator.len())
     }
 
     /// Whether no end has failed, and nothing is on its way.
     pub fn is_idle(&self) -> bool
         ensures { IsTrue result ↔ IsIdle self.now }
     {
-        self.ends.is_idle()
+        self.ends().is_idle()
     }
 
     // Whether nothing is on its way.
     pub(crate) fn is_silent(&self) -> bool
         ensures { IsTrue result ↔ (self.now.to_target ≡ []) × (self.now.to_initiator ≡ []) }
     {
-        self.ends.is_silent()
+        self.ends().is_silent()
     }
 
     /// The target's blocks.
@@ -170,7 +186,7 @@ impl Pair {
     pub(crate) fn ran_out(&self) -> bool
         ensures { result ≡ keeps_no_memory self.now }
     {
-        self.ends.ran_out()
+        self.ends().ran_out()
     }
 
     /// Takes these steps, one after another. Where memory runs out in a step, its end keeps that.
@@ -213,6 +229,23 @@ pub fn outcomes_over(
     let Ok(mut pair) = Pair::new(alloc, configs.0, configs.1, first_statsn, store) else {
         return Err(RunFault::NoMemory);
     };
+    let given = outcomes_behind(&mut pair, alloc, steps);
+    // Taken before the fault is looked at, since a pair that is dropped here is dear to prove.
+    let store = pair.into_store();
+    match given {
+        Ok(outcomes) => Ok((outcomes, store)),
+        Err(fault) => Err(fault),
+    }
+}
+
+// The outcomes behind these steps.
+fn outcomes_behind(pair: &mut Pair, alloc: Global, steps: Vec<Step>) -> Result<Vec<Done>, RunFault>
+    ensures gives { IfOk result (λ outcomes.
+        Gives pair.old (events_of steps.items) pair.new outcomes.items) }
+    ensures none_left { OnOk result (pair.old.initiator.machine.done ≡ None
+        → pair.new.initiator.machine.done ≡ None) }
+    ensures idle { OnOk result (IsIdle pair.new) }
+{
     let mut outcomes = Vec::new(alloc);
     for step in steps {
         pair.step(step);
@@ -224,7 +257,7 @@ pub fn outcomes_over(
     if !pair.is_idle() {
         return Err(RunFault::NotServed);
     }
-    Ok((outcomes, pair.into_store()))
+    Ok(outcomes)
 }
 
 // Appends an outcome, if there is one.
@@ -297,40 +330,51 @@ impl Ends {
         self.to_target.is_empty() && self.to_initiator.is_empty()
     }
 
-    // Those of a new pair, whose initiator has started its login.
-    fn new(
+    // Those of a new pair, whose initiator has yet to start its login.
+    fn unstarted(
         alloc: Global,
         initiator: iscsi_initiator::Config,
         target: iscsi_target::Config,
         first_statsn: u32,
         store: MemoryStore,
-    ) -> Result<Ends, InitiatorFault>
-        ensures opening { IfOk result (λ ends. ends ≡ new_pair (record {
-          initiator = initiator;
-          target = target;
-          first_stat_sn = first_statsn;
+    ) -> Ends
+        ensures ends { result ≡ record {
+          target = target_calls.opening_connection target first_statsn;
           blocks = store;
-        })) }
+          initiator = initiator_calls.opening_connection initiator;
+          to_target = [];
+          to_initiator = [];
+          target_fault = None;
+          initiator_fault = None;
+        } }
         ensures in_range { IsOpening (record {
           initiator = initiator;
           target = target;
           first_stat_sn = first_statsn;
           blocks = store;
         }) }
-        ensures memory { IfErr result (λ fault. fault ≡ faults.NoMemory) }
     {
-        let mut to_target = Vec::new(alloc);
-        let mut initiator = Initiator::new(alloc, initiator);
-        initiator.start(&mut to_target)?;
-        Ok(Ends {
+        Ends {
             target: Target::new(alloc, target, first_statsn),
             store,
-            initiator,
-            to_target,
+            initiator: Initiator::new(alloc, initiator),
+            to_target: Vec::new(alloc),
             to_initiator: Vec::new(alloc),
             target_fault: None,
             initiator_fault: None,
-        })
+        }
+    }
+
+    // Starts the login of the initiator.
+    fn start(&mut self) -> Result<(), InitiatorFault>
+        ensures starts { Starts result self.old.initiator self.new.initiator
+            self.old.to_target self.new.to_target }
+        ensures others { self.new ≡ record self.old {
+          initiator = self.new.initiator;
+          to_target = self.new.to_target;
+        } }
+    {
+        self.initiator.start(&mut self.to_target)
     }
 
     // Takes the initiator's outcome, once it is there.

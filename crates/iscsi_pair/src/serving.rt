@@ -1,13 +1,13 @@
 //! Requests that are served one after another, in steps of the pair's own.
 
-ghost use Rattle.std.specs.Prelude.{◌≡◌, ◌⊎◌, [], ℕ, List, false, length, map, IfErr, IfOk, OnOk};
+ghost use Rattle.std.specs.Prelude.{◌≡◌, ◌⊎◌, [], ℕ, List, None, false, length, map, IfErr, IfOk, OnOk};
 ghost use Rattle.std.specs.List.{AllByRecursion};
 ghost use Rattle.scsi_disk.specs.Disk.{disk_of};
 ghost use Rattle.iscsi_initiator.specs.declared.request.Done.{Done};
 ghost use Rattle.iscsi_login.specs.declared.stage.Session.TheVariants as sessions;
 ghost use Rattle.iscsi_pair.specs.declared.step.RunFault.TheVariants as faults;
 ghost use Rattle.iscsi_pair.specs.declared.step.Step.{Step};
-ghost use Rattle.iscsi_pair.specs.Outcomes.{CanBeServed, HasRun, IsIdle, opening_of, requests_among};
+ghost use Rattle.iscsi_pair.specs.Outcomes.{CanBeServed, Gives, HasRun, IsIdle, opening_of, requests_among};
 ghost use Rattle.iscsi_pair.specs.Served.{IsNormal, IsServed, RunsServed, disk_after, disk_outcomes, requests_of};
 ghost use Rattle.iscsi_pair.specs.World.{Event, Happens, Opening, Runs, Suits, World, event_of, keeps_no_memory, new_pair};
 ghost use Rattle.iscsi_pair.specs.World as worlds;
@@ -52,17 +52,37 @@ pub fn serve_requests(
     let Ok(mut pair) = Pair::new(alloc, configs.0, configs.1, first_statsn, store) else {
         return Err(RunFault::NoMemory);
     };
+    let served = serve_all(&mut pair, alloc, requests);
+    // Taken before the fault is looked at, since a pair that is dropped here is dear to prove.
+    let store = pair.into_store();
+    match served {
+        Ok(outcomes) => Ok((outcomes, store)),
+        Err(fault) => Err(fault),
+    }
+}
+
+// Hands in these requests, and returns their outcomes.
+fn serve_all(pair: &mut Pair, alloc: Global, requests: Vec<Request>) -> Result<Vec<Done>, RunFault>
+    ensures gives { IfOk result (λ outcomes. (events : List Event)
+        × (requests_of events ≡ requests.items)
+        × Gives pair.old events pair.new outcomes.items) }
+    ensures none_left { OnOk result ((pair.new.initiator.machine.done ≡ None)
+        ⊎ (requests.items ≡ [])) }
+    ensures idle { OnOk result (IsIdle pair.new) }
+    ensures served { (c : Opening) → pair.old ≡ new_pair c → IsNormal c
+        → CanBeServed requests.items → IfErr result (λ fault. fault ≡ faults.NoMemory) }
+{
     let mut outcomes = Vec::new(alloc);
-    settle(&mut pair)?;
+    settle(pair)?;
     for request in requests {
         pair.step(Step::Submit(request));
-        settle(&mut pair)?;
+        settle(pair)?;
         let outcome = pair.outcome();
         let Ok(()) = push_some(&mut outcomes, outcome) else {
             return Err(RunFault::NoMemory);
         };
     }
-    Ok((outcomes, pair.into_store()))
+    Ok(outcomes)
 }
 
 // Moves what is on its way, and all that it leads to.

@@ -138,38 +138,38 @@ steps_ask (step ∷ taken) = ap (λ (x : List Request). x ++ requests_of (map ev
     ∙ ap (λ (x : List Request). request_of step ++ x) (steps_ask taken)
 
 -- these requests were handed in, and gave these outcomes; nothing is on its way
-pub record HasServed (c : Opening) (asked : List Request) (w : World) (outcomes : List Done) : Type 0 where
+pub record HasServed (first : World) (asked : List Request) (w : World) (outcomes : List Done) : Type 0 where
   pub events : List Event
-  pub gives : Gives (new_pair c) events w outcomes
+  pub gives : Gives first events w outcomes
   pub requests : requests_of events ≡ asked
   pub idle : IsIdle w
   pub none_left : (w.initiator.machine.done ≡ None) ⊎ (asked ≡ [])
 
-pub served_first : (c : Opening) (taken : List Step) (w : World) → requests_among taken ≡ [] → Runs (new_pair c) (map event_of taken) w → IsIdle w
-    → HasServed c [] w []
-served_first c taken w none r idle = record {
+pub served_first : (first : World) (taken : List Step) (w : World) → requests_among taken ≡ [] → Runs first (map event_of taken) w → IsIdle w
+    → HasServed first [] w []
+served_first first taken w none r idle = record {
   events = map event_of taken;
-  gives = gives_steps (new_pair c) w taken r;
+  gives = gives_steps first w taken r;
   requests = steps_ask taken ∙ none;
   idle = idle;
   none_left = inr refl;
 }
 
-pub served_next : (c : Opening) (asked : List Request) (request : Request) (old mid settled new : World) (taken : List Step) (outcomes : List Done)
-    → HasServed c asked old outcomes → Happens old (Submits request) mid → requests_among taken ≡ [] → Runs mid (map event_of taken) settled
+pub served_next : (first : World) (asked : List Request) (request : Request) (old mid settled new : World) (taken : List Step) (outcomes : List Done)
+    → HasServed first asked old outcomes → Happens old (Submits request) mid → requests_among taken ≡ [] → Runs mid (map event_of taken) settled
     → IsIdle settled → Happens settled Takes new
-    → HasServed c (asked ++ request ∷ []) new (outcomes ++ listed settled.initiator.machine.done)
-served_next c asked request old mid settled new taken outcomes h e none r idle t =
+    → HasServed first (asked ++ request ∷ []) new (outcomes ++ listed settled.initiator.machine.done)
+served_next first asked request old mid settled new taken outcomes h e none r idle t =
     let events : List Event = h.events ++ Submits request ∷ [] in
     let more : List Event = map event_of taken in
-    let first : Gives (new_pair c) events mid (outcomes ++ []) = gives_more (new_pair c) old mid h.events (Submits request) outcomes h.gives e in
-    let second : Gives (new_pair c) (events ++ more) settled ((outcomes ++ []) ++ []) =
-    gives_append (new_pair c) mid settled events more (outcomes ++ []) [] first (gives_steps mid settled taken r) in
-    let third : Gives (new_pair c) ((events ++ more) ++ Takes ∷ []) new (((outcomes ++ []) ++ []) ++ listed settled.initiator.machine.done) =
-    gives_more (new_pair c) settled new (events ++ more) Takes ((outcomes ++ []) ++ []) second t in
+    let asks : Gives first events mid (outcomes ++ []) = gives_more first old mid h.events (Submits request) outcomes h.gives e in
+    let second : Gives first (events ++ more) settled ((outcomes ++ []) ++ []) =
+    gives_append first mid settled events more (outcomes ++ []) [] asks (gives_steps mid settled taken r) in
+    let third : Gives first ((events ++ more) ++ Takes ∷ []) new (((outcomes ++ []) ++ []) ++ listed settled.initiator.machine.done) =
+    gives_more first settled new (events ++ more) Takes ((outcomes ++ []) ++ []) second t in
     record {
       events = (events ++ more) ++ Takes ∷ [];
-      gives = subst (λ (x : List Done). Gives (new_pair c) ((events ++ more) ++ Takes ∷ []) new (x ++ listed settled.initiator.machine.done))
+      gives = subst (λ (x : List Done). Gives first ((events ++ more) ++ Takes ∷ []) new (x ++ listed settled.initiator.machine.done))
           (append-nil (outcomes ++ []) ∙ append-nil outcomes) third;
       requests = requests_more (events ++ more) (Takes ∷ []) ∙ append-nil (requests_of (events ++ more))
           ∙ requests_more events more ∙ ap (λ (x : List Request). requests_of events ++ x) (steps_ask taken ∙ none) ∙ append-nil (requests_of events)
@@ -179,7 +179,7 @@ served_next c asked request old mid settled new taken outcomes h e none r idle t
     }
 
 -- no growth was refused, and no request
-pub runs_served : (c : Opening) (asked : List Request) (w : World) (outcomes : List Done) → (h : HasServed c asked w outcomes)
+pub runs_served : (c : Opening) (asked : List Request) (w : World) (outcomes : List Done) → (h : HasServed (new_pair c) asked w outcomes)
     → AllByRecursion IsServed asked → RunsServed (new_pair c) h.events w outcomes
 runs_served c asked w outcomes h served =
     served_giving (new_pair c) h.events w outcomes h.gives (subst (λ (x : List Request). AllByRecursion IsServed x) (sym h.requests) served)
@@ -190,7 +190,7 @@ listed_none None e = refl
 listed_none (Some d) e = absurd (cc e)
 
 -- no outcome waits
-none_waits : (c : Opening) (asked : List Request) (w : World) (outcomes : List Done) → IsNormal c → (h : HasServed c asked w outcomes)
+none_waits : (c : Opening) (asked : List Request) (w : World) (outcomes : List Done) → IsNormal c → (h : HasServed (new_pair c) asked w outcomes)
     → RunsServed (new_pair c) h.events w outcomes → w.initiator.machine.done ≡ None
 unfolding local_outcomes
 none_waits c asked w outcomes o h r =
@@ -206,7 +206,7 @@ pub record AreServed (c : Opening) (asked : List Request) (w : World) (outcomes 
   pub outcomes_are : outcomes ≡ disk_outcomes c asked
   pub disk_is : disk_of w.blocks ≡ disk_after c asked
 
-pub served_on_disk : (c : Opening) (asked : List Request) (w : World) (outcomes : List Done) → IsOpening c → HasServed c asked w outcomes → Suits c
+pub served_on_disk : (c : Opening) (asked : List Request) (w : World) (outcomes : List Done) → IsOpening c → HasServed (new_pair c) asked w outcomes → Suits c
     → c.initiator.proposal.session ≡ sessions.Normal → AllByRecursion IsServed asked → AreServed c asked w outcomes
 served_on_disk c asked w outcomes opening h suits normal served =
     let o : IsNormal c = record { opening = opening; suits = suits; session = normal } in
@@ -254,7 +254,7 @@ are_in_step asked m t a end = elim end [
 
 -- so the run is served with it, too
 pub asks_next : (c : Opening) (asked : List Request) (request : Request) (old mid : World) (outcomes : List Done) → IsNormal c
-    → (h : HasServed c asked old outcomes) → AllByRecursion IsAlwaysTaken asked → IsNext request → Happens old (Submits request) mid
+    → (h : HasServed (new_pair c) asked old outcomes) → AllByRecursion IsAlwaysTaken asked → IsNext request → Happens old (Submits request) mid
     → keeps_no_memory mid ≡ false → RunsServed (new_pair c) (h.events ++ Submits request ∷ []) mid (outcomes ++ [])
 asks_next c asked request old mid outcomes o h a next e calm =
     let r : RunsServed (new_pair c) h.events old outcomes = runs_served c asked old outcomes h (all_served asked a) in
@@ -271,7 +271,7 @@ asks_next c asked request old mid outcomes o h a next e calm =
 
 -- a request that isn't served so doesn't come about
 pub not_refused : (c : Opening) (asked : List Request) (request : Request) (old mid settled : World) (taken : List Step) (outcomes : List Done) → IsNormal c
-    → HasServed c asked old outcomes → AllByRecursion IsAlwaysTaken asked → IsNext request → Happens old (Submits request) mid
+    → HasServed (new_pair c) asked old outcomes → AllByRecursion IsAlwaysTaken asked → IsNext request → Happens old (Submits request) mid
     → Runs mid (map event_of taken) settled → keeps_no_memory settled ≡ false
     → ((c : Opening) (events : List Event) (outcomes : List Done) → IsNormal c → RunsServed (new_pair c) events mid outcomes → ⊥) → ⊥
 not_refused c asked request old mid settled taken outcomes o h a next e r calm refuted =
@@ -328,7 +328,7 @@ first_memory c w settled fault is o e = elim e [
 
 -- and what a request that failed says
 pub next_memory : (c : Opening) (past : List Request) (request : Request) (old mid settled : World) (taken : List Step) (outcomes : List Done)
-    (fault : RunFault) → IsNormal c → HasServed c past old outcomes → AreNext past request → Happens old (Submits request) mid
+    (fault : RunFault) → IsNormal c → HasServed (new_pair c) past old outcomes → AreNext past request → Happens old (Submits request) mid
     → Runs mid (map event_of taken) settled
     → (fault ≡ faults.NoMemory) ⊎ ((keeps_no_memory settled ≡ false)
     × ((c' : Opening) (events : List Event) (outcomes : List Done) → IsNormal c' → RunsServed (new_pair c') events mid outcomes → ⊥)) → fault ≡ faults.NoMemory

@@ -12,7 +12,7 @@ use Rattle.iscsi_pair.specs.declared.step.Step.{Step}
 use Rattle.iscsi_pair.specs.declared.step.Step.TheVariants as steps
 use Rattle.iscsi_pair.specs.World.{World, Opening, IsOpening, Suits, Event, Takes, Happens, Runs, event_of, new_pair, keeps_no_memory, target_ran_out, initiator_ran_out}
 use Rattle.iscsi_pair.specs.Served.{IsNormal, IsServed, RunsServed, requests_of, requests_in, given_in, disk_after, disk_outcomes}
-use Rattle.iscsi_pair.specs.Outcomes.{Gives, events_of, request_of, requests_among, with_taking}
+use Rattle.iscsi_pair.specs.Outcomes.{Gives, IsIdle, events_of, request_of, requests_among, with_taking}
 use Rattle.iscsi_pair.proofs.Login.RoundAgrees.{first_asks}
 use Rattle.iscsi_pair.proofs.Run.MemoryLemmas.{calm_first}
 use Rattle.iscsi_pair.proofs.Run.ServedRunsLaw.{none_first, was_accepted, all_parts}
@@ -78,9 +78,10 @@ same_request (steps.ToTarget k) = refl
 same_request (steps.ToInitiator k) = refl
 same_request (steps.Submit request) = refl
 
-pub record HasGiven (c : Opening) (taken : List Step) (w : World) (outcomes : List Done) : Type 0 where
-  pub gives : Gives (new_pair c) (events_of taken) w outcomes
-  pub none_left : w.initiator.machine.done ≡ None
+-- behind each of these steps the outcome was taken
+pub record HasGiven (first : World) (taken : List Step) (w : World) (outcomes : List Done) : Type 0 where
+  pub gives : Gives first (events_of taken) w outcomes
+  pub none_left : first.initiator.machine.done ≡ None → w.initiator.machine.done ≡ None
 
 -- taking hands in nothing
 requests_taking : (taken : List Step) → requests_of (events_of taken) ≡ requests_among taken
@@ -88,23 +89,23 @@ requests_taking [] = refl
 requests_taking (step ∷ taken) = ap (λ (x : List Request). x ++ requests_of (events_of taken)) (same_request step)
     ∙ ap (λ (x : List Request). request_of step ++ x) (requests_taking taken)
 
-pub given_none : (c : Opening) → IsOpening c → HasGiven c [] (new_pair c) []
-given_none c o = record { gives = gives_none (new_pair c); none_left = (first_asks c o).asking.no_outcome }
+pub given_none : (first : World) → HasGiven first [] first []
+given_none first = record { gives = gives_none first; none_left = λ none. none }
 
-pub given_more : (c : Opening) (taken : List Step) (step : Step) (old mid new : World) (outcomes : List Done) → HasGiven c taken old outcomes
-    → Happens old (event_of step) mid → Happens mid Takes new → HasGiven c (taken ++ step ∷ []) new (outcomes ++ listed mid.initiator.machine.done)
-given_more c taken step old mid new outcomes g h t =
+pub given_more : (first : World) (taken : List Step) (step : Step) (old mid new : World) (outcomes : List Done) → HasGiven first taken old outcomes
+    → Happens old (event_of step) mid → Happens mid Takes new → HasGiven first (taken ++ step ∷ []) new (outcomes ++ listed mid.initiator.machine.done)
+given_more first taken step old mid new outcomes g h t =
     let event : Event = event_of step in
     let events : List Event = events_of taken in
-    let first = gives_more (new_pair c) old mid events event outcomes g.gives h in
+    let one = gives_more first old mid events event outcomes g.gives h in
     let same : outcomes ++ given_in event old ≡ outcomes = ap (λ (x : List Done). outcomes ++ x) (none_given step old) ∙ append-nil outcomes in
-    let all = gives_more (new_pair c) mid new (events ++ event ∷ []) Takes outcomes
-    (subst (λ (x : List Done). Gives (new_pair c) (events ++ event ∷ []) mid x) same first) t in
+    let all = gives_more first mid new (events ++ event ∷ []) Takes outcomes
+    (subst (λ (x : List Done). Gives first (events ++ event ∷ []) mid x) same one) t in
     let grown : (events ++ event ∷ []) ++ Takes ∷ [] ≡ events_of (taken ++ step ∷ []) =
     append_assoc events (event ∷ []) (Takes ∷ []) ∙ sym (flat_map-append with_taking taken (step ∷ [])) in
     record {
-      gives = subst (λ (x : List Event). Gives (new_pair c) x new (outcomes ++ listed mid.initiator.machine.done)) grown all;
-      none_left = ap (λ (w : World). w.initiator.machine.done) t;
+      gives = subst (λ (x : List Event). Gives first x new (outcomes ++ listed mid.initiator.machine.done)) grown all;
+      none_left = λ none. ap (λ (w : World). w.initiator.machine.done) t;
     }
 
 -- what was given is what one local disk gives
@@ -112,18 +113,19 @@ pub record AreOnDisk (c : Opening) (taken : List Step) (w : World) (outcomes : L
   pub outcomes_are : outcomes ≡ disk_outcomes c (requests_among taken)
   pub disk_is : disk_of w.blocks ≡ disk_after c (requests_among taken)
 
-pub given_on_disk : (c : Opening) (taken : List Step) (w : World) (outcomes : List Done) → IsOpening c → HasGiven c taken w outcomes → Suits c
-    → c.initiator.proposal.session ≡ sessions.Normal → AllByRecursion IsServed (requests_among taken) → w.target_fault ≡ None → w.initiator_fault ≡ None
-    → w.to_target ≡ [] → w.to_initiator ≡ [] → AreOnDisk c taken w outcomes
-given_on_disk c taken w outcomes o g suits normal served none_there none_here out back =
+pub given_on_disk : (c : Opening) (taken : List Step) (w : World) (outcomes : List Done) → IsOpening c → Gives (new_pair c) (events_of taken) w outcomes
+    → ((new_pair c).initiator.machine.done ≡ None → w.initiator.machine.done ≡ None) → IsIdle w → Suits c
+    → c.initiator.proposal.session ≡ sessions.Normal → AllByRecursion IsServed (requests_among taken) → AreOnDisk c taken w outcomes
+given_on_disk c taken w outcomes o gives left idle suits normal served =
     let n : IsNormal c = record { opening = o; suits = suits; session = normal } in
+    let none : w.initiator.machine.done ≡ None = left (first_asks c o).asking.no_outcome in
     let well : keeps_no_memory w ≡ false =
-    or_from (target_ran_out w.target_fault) (initiator_ran_out w.initiator_fault) (ap target_ran_out none_there) (ap initiator_ran_out none_here) in
-    let runs = served_giving (new_pair c) (events_of taken) w outcomes g.gives (subst (λ (x : List Request). AllByRecursion IsServed x) (sym (requests_taking taken)) served) well
-    none_here in
-    let whole = idle_whole c (events_of taken) w outcomes n runs out back in
+    or_from (target_ran_out w.target_fault) (initiator_ran_out w.initiator_fault) (ap target_ran_out idle.0) (ap initiator_ran_out idle.1) in
+    let runs = served_giving (new_pair c) (events_of taken) w outcomes gives (subst (λ (x : List Request). AllByRecursion IsServed x) (sym (requests_taking taken)) served) well
+    idle.1 in
+    let whole = idle_whole c (events_of taken) w outcomes n runs idle.2 idle.3 in
     record {
-      outcomes_are = sym (append-nil outcomes) ∙ ap (λ x. outcomes ++ listed x) (sym g.none_left) ∙ whole.0
+      outcomes_are = sym (append-nil outcomes) ∙ ap (λ x. outcomes ++ listed x) (sym none) ∙ whole.0
           ∙ ap (λ (x : List Request). disk_outcomes c x) (requests_taking taken);
       disk_is = whole.1 ∙ ap (λ (x : List Request). disk_after c x) (requests_taking taken);
     }

@@ -1,84 +1,34 @@
-use Rattle.std.proofs.Common.{◌≡◌, ◌++◌, ◌∷◌, [], ◌∙◌, List, Option, length, map, sym, ap, subst, arith}
-use Rattle.std.proofs.lemmas.Result.{err_from_is_err_and}
-use Rattle.std.proofs.lemmas.Iterator.Consumers.{YieldsList-end, YieldsList-so_far, YieldsList-turn}
-use Rattle.std.proofs.lemmas.Iterator.Adapters.{YieldsList-from_vec}
+use Rattle.std.proofs.Common.{◌∙◌, List, ap, subst}
 use Rattle.scsi_disk.specs.Disk.{disk_of}
 use Rattle.iscsi_initiator.specs.declared.request.Done.{Done}
-use Rattle.iscsi_initiator.specs.declared.request.Request.{Request}
-use Rattle.iscsi_initiator.specs.Laws.{listed}
-use Rattle.iscsi_pair.specs.World.{World, Opening, Runs, event_of}
-use Rattle.iscsi_pair.specs.Outcomes.{opening_of}
+use Rattle.iscsi_pair.specs.World.{World, Opening, new_pair}
+use Rattle.iscsi_pair.specs.Outcomes.{Gives, opening_of}
 use Rattle.iscsi_pair.specs.Served.{IsNormal}
-use Rattle.iscsi_pair.proofs.Lists.ServingLemmas.{AreServed, HasServed, first_memory, map_same, next_memory, next_yielded, served_first, served_next, served_on_disk}
+use Rattle.iscsi_pair.proofs.Lists.ServingLemmas.{AreServed, HasServed, served_on_disk}
 use Rattle.iscsi_pair.proofs.serving.serve_requests.Goals as goal
 
-pub returns-in_err-settle-clause-served : goal.returns-in_err-settle-clause-served
-returns-in_err-settle-clause-served c = λ suits normal can.
+pub returns-in-Err-clause-served : goal.returns-in-Err-clause-served
+returns-in-Err-clause-served c = λ suits normal can.
     (let o : Opening = opening_of c.args.configs.0 c.args.configs.1 c.args.first_statsn c.args.store in
     let n : IsNormal o = record { opening = c.in-Ok.ensures.in_range; suits = suits; session = normal } in
-    let p = err_from_is_err_and c.from_residual.result c.from_residual.ensures.1 in
-    rw (p.1, p.2)
-    (first_memory o c.in-Ok.pair c.settle.new.pair c.in_err-settle.field-0.0 c.in-Ok.ensures.opening n c.in_err-settle.ensures.err))
+    c.in-Err.ensures.served o c.in-Ok.ensures.opening n can)
 
-pub loop-request-init : goal.loop-request-init
-loop-request-init c =
+pub returns-in-Ok-served : goal.returns-in-Ok-served
+returns-in-Ok-served c =
     let o : Opening = opening_of c.args.configs.0 c.args.configs.1 c.args.first_statsn c.args.store in
-    let ran = c.settle.ensures.ran in
-    rw c.new-outcomes.ensures.items
-    (served_first o ran.0 c.settle.new.pair ran.1
-    (subst (λ (w : World). Runs w (map event_of ran.0) c.settle.new.pair) c.in-Ok.ensures.opening ran.2) c.in_ok-settle.ensures.ok)
-
-pub returns-in_err-settle-2-clause-served : goal.returns-in_err-settle-2-clause-served
-returns-in_err-settle-2-clause-served c = λ suits normal can.
-    (let o : Opening = opening_of c.args.configs.0 c.args.configs.1 c.args.first_statsn c.args.store in
-    let n : IsNormal o = record { opening = c.in-Ok.ensures.in_range; suits = suits; session = normal } in
-    let yielded : List Request = c.loop-request.yielded in
-    let gives = c.into_iter-request-iterator.ensures.into_iter_gives in
-    let list = YieldsList-from_vec c.args.requests.items gives.0 (omega (arith, gives.1, ap length gives.0, c.args.requests.ok.0)) in
-    let turn = YieldsList-turn list yielded c.loop-request.request-iterator c.loop-request.yielded_by c.next.result c.next.new.self c.in-Some.request
-    c.in-Some.is c.next.ensures.steps in
-    let so_far = YieldsList-so_far list yielded c.loop-request.request-iterator c.loop-request.yielded_by in
-    let next = next_yielded c.args.requests.items yielded c.in-Some.request so_far turn.0 turn.1 can in
-    let ran = c.settle-in-loop-request.ensures.ran in
-    let p = err_from_is_err_and c.from_residual-in_err-settle-2.result c.from_residual-in_err-settle-2.ensures.1 in
-    rw (p.1, p.2)
-    (next_memory o yielded c.in-Some.request c.loop-request.pair c.step.new.self c.settle-in-loop-request.new.pair ran.0 c.loop-request.outcomes.items
-    c.in_err-settle-2.field-0.0 n c.loop-request.invariant next c.step.ensures ran.2 c.in_err-settle-2.ensures.err))
-
-pub loop-request-preserved : goal.loop-request-preserved
-loop-request-preserved c =
-    let o : Opening = opening_of c.args.configs.0 c.args.configs.1 c.args.first_statsn c.args.store in
-    let yielded : List Request = c.loop-request.yielded in
-    let outcomes : List Done = c.loop-request.outcomes.items in
-    let ran = c.settle-in-loop-request.ensures.ran in
-    let more = served_next o yielded c.in-Some.request c.loop-request.pair c.step.new.self c.settle-in-loop-request.new.pair c.outcome-outcome.new.self ran.0
-    outcomes c.loop-request.invariant c.step.ensures ran.1 ran.2 c.in_ok-settle-2.ensures.ok c.outcome-outcome.ensures.taken in
-    subst (λ (x : List Done). HasServed o (yielded ++ c.in-Some.request ∷ []) c.outcome-outcome.new.self x)
-    (sym (c.in-Ok-push_some.ensures.ok ∙ ap (λ (d : Option Done). outcomes ++ listed d) c.outcome-outcome.ensures.outcome)) more
-
-pub returns-clause-on_disk : goal.returns-clause-on_disk
-returns-clause-on_disk c = λ suits normal served.
-    (let o : Opening = opening_of c.args.configs.0 c.args.configs.1 c.args.first_statsn c.args.store in
-    let outcomes : List Done = c.loop-request.outcomes.items in
-    let gives = c.into_iter-request-iterator.ensures.into_iter_gives in
-    let list = YieldsList-from_vec c.args.requests.items gives.0 (omega (arith, gives.1, ap length gives.0, c.args.requests.ok.0)) in
-    let end = YieldsList-end list c.loop-request.yielded c.loop-request.request-iterator c.loop-request.yielded_by c.next.result c.next.new.self c.in-None.is
-    c.next.ensures.steps in
-    let all : c.loop-request.yielded ≡ c.args.requests.items = sym (map_same c.loop-request.yielded) ∙ end.0 in
-    let a : AreServed o c.args.requests.items c.loop-request.pair outcomes =
-    served_on_disk o c.args.requests.items c.loop-request.pair outcomes c.in-Ok.ensures.in_range
-    (subst (λ (x : List Request). HasServed o x c.loop-request.pair outcomes) all c.loop-request.invariant) suits normal served in
-    (a.outcomes_are, ap disk_of c.into_store.ensures.store ∙ a.disk_is))
-
-pub returns-clause-ran : goal.returns-clause-ran
-returns-clause-ran c =
-    let o : Opening = opening_of c.args.configs.0 c.args.configs.1 c.args.first_statsn c.args.store in
-    let outcomes : List Done = c.loop-request.outcomes.items in
-    let gives = c.into_iter-request-iterator.ensures.into_iter_gives in
-    let list = YieldsList-from_vec c.args.requests.items gives.0 (omega (arith, gives.1, ap length gives.0, c.args.requests.ok.0)) in
-    let end = YieldsList-end list c.loop-request.yielded c.loop-request.request-iterator c.loop-request.yielded_by c.next.result c.next.new.self c.in-None.is
-    c.next.ensures.steps in
-    let all : c.loop-request.yielded ≡ c.args.requests.items = sym (map_same c.loop-request.yielded) ∙ end.0 in
-    let h : HasServed o c.args.requests.items c.loop-request.pair outcomes =
-    subst (λ (x : List Request). HasServed o x c.loop-request.pair outcomes) all c.loop-request.invariant in
-    (h.events, h.requests, record { world = c.loop-request.pair; gives = h.gives; idle = h.idle; blocks_are = c.into_store.ensures.store })
+    let last : World = c.serve_all-served.new.pair in
+    let outcomes : List Done = c.in-Ok-served.outcomes.items in
+    let given = c.in-Ok-served.ensures.gives in
+    let gives : Gives (new_pair o) given.0 last outcomes =
+    subst (λ (w : World). Gives w given.0 last outcomes) c.in-Ok.ensures.opening given.2 in
+    let idle = c.in-Ok-served.ensures.idle in
+    let h : HasServed (new_pair o) c.args.requests.items last outcomes =
+    record { events = given.0; gives = gives; requests = given.1; idle = idle; none_left = c.in-Ok-served.ensures.none_left } in
+    record {
+      on_disk = λ suits normal served.
+          (let a : AreServed o c.args.requests.items last outcomes =
+          served_on_disk o c.args.requests.items last outcomes c.in-Ok.ensures.in_range h suits normal served in
+          (a.outcomes_are, ap disk_of c.into_store-store.ensures.store ∙ a.disk_is));
+      ran = (given.0, given.1, record { world = last; gives = gives; idle = idle; blocks_are = c.into_store-store.ensures.store });
+      served = λ suits normal can. tt;
+    }
