@@ -24,7 +24,7 @@ pub fn configuration(
     initiators: Option<&[&[u8]]>,
 ) -> Result<Config, AllocError>
     ensures settings { IfOk result (λ config. config ≡ settings_of name.now number preferences
-        (option_map (λ names. map (λ name. name.now) names.now) initiators)) }
+        (option_map (λ names. map (λ name. name.now) names.now) initiators.entry)) }
     ensures ok { OnOk result (IsName name.now × IsInRange preferences) }
 {
     let Ok(config) = Config::new(alloc, name, GROUP, number, preferences) else {

@@ -193,7 +193,7 @@ pub fn serve_connections<S: BlockStore>(
 // The target of the programs, which lets in initiators of these names, or everybody.
 fn configuration_for(alloc: Global, initiators: Option<&[&[u8]]>) -> Result<Config, AllocError>
     ensures settings { IfOk result (λ config. config ≡ record target_settings {
-      access = record { names = option_map (λ names. map (λ name. name.now) names.now) initiators };
+      access = record { names = option_map (λ names. map (λ name. name.now) names.now) initiators.entry };
     }) }
 {
     let config = configuration(alloc)?;
