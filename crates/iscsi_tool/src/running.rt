@@ -406,11 +406,14 @@ fn serve_in_turn<S: BlockStore>(
     sessions: Option<u16>,
     initiators: Option<Initiators<'_>>,
 ) -> Result<(), ServeFault> {
-    let names = match &initiators {
-        Some(initiators) => Some(initiators.as_slice()),
-        None => None,
-    };
-    serve(rt, port, store, count_of(sessions), names)
+    let count = count_of(sessions);
+    match &initiators {
+        Some(initiators) => {
+            let names = Some(initiators.as_slice());
+            serve(rt, port, store, count, names)
+        }
+        None => serve(rt, port, store, count, None),
+    }
 }
 
 // How many connections are served; any number is more than there will ever be.
