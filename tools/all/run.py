@@ -60,6 +60,7 @@ SCRIPTS = [
     Script("door", "door/run.py", "a minute", 20, unproved=[]),
     Script("pages", "pages/run.py", "two minutes", 30, unproved=[]),
     Script("captures", "captures/run.py", "a minute", 40, unproved=[]),
+    Script("captures, changes", "captures/changes.py", "minutes", 60),
     Script("captures, live", "captures/live.py", "minutes", 60, unproved=["--quick", *UNPROVED]),
     Script("fields", "fields/run.py", "a minute", 20, unproved=["--program", *UNPROVED]),
     Script("memory, reads", "memory/reads.py", "minutes", 30, MEASURED),

@@ -18,8 +18,8 @@ mod system;
 mod tally;
 
 pub use iscsi_serving::{
-    Initiators, LEAST_MEMORY, LOGIN_WITHIN, LONGEST_ASKED, Limits, MEMORY, MOST_AT_ONCE,
-    MOST_MEMORY, Options, SHORTEST_ASKED, SessionEnd,
+    LEAST_MEMORY, LOGIN_WITHIN, LONGEST_ASKED, Limits, MEMORY, MOST_AT_ONCE, MOST_MEMORY, Options,
+    SHORTEST_ASKED, SessionEnd,
 };
 pub use limited::LimitedStore;
 pub use server::Server;

@@ -2,13 +2,11 @@
 #![tactic(auto)]
 
 mod fault;
-mod initiators;
 mod limits;
 mod options;
 mod session_end;
 
 pub use fault::ServeFault;
-pub use initiators::{Initiators, MOST_INITIATORS};
 pub use limits::{LOGIN_WITHIN, Limits, sooner};
 pub use options::{
     LEAST_MEMORY, LONGEST_ASKED, LONGEST_PIECE, MEMORY, MOST_AT_ONCE, MOST_MEMORY, Options,

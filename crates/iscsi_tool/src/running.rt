@@ -20,7 +20,6 @@ use iscsi_filters::status;
 use iscsi_loop::run_loop;
 use iscsi_server::{serve_at_once, serve_memory_at_once};
 use iscsi_service::{ServeFault, serve};
-use iscsi_serving::Initiators;
 use iscsi_stream::ToolFault;
 use iscsi_words::{
     CaptureComparison, CaptureComparisonFault, CaptureJob, Image, ImageFault, Job, LineFault,
@@ -368,13 +367,9 @@ fn serve_memory(rt: &HostRuntime, service: Service<'_>, blocks: u64) -> Result<(
     requires few { blocks ≤ most_blocks }
 {
     match service {
-        Service::InTurn {
-            port,
-            sessions,
-            initiators,
-        } => {
+        Service::InTurn { port, sessions } => {
             let mut store = SparseStore::new(rt.alloc(), blocks);
-            serve_in_turn(rt, port, &mut store, sessions, initiators)
+            serve(rt, port, &mut store, count_of(sessions))
         }
         Service::AtOnce(options) => serve_memory_at_once(rt, options, blocks),
     }
@@ -389,30 +384,8 @@ fn serve_store<S: BlockStore>(
     requires service { CanServe service }
 {
     match service {
-        Service::InTurn {
-            port,
-            sessions,
-            initiators,
-        } => serve_in_turn(rt, port, store, sessions, initiators),
+        Service::InTurn { port, sessions } => serve(rt, port, store, count_of(sessions)),
         Service::AtOnce(options) => serve_at_once(rt, options, store),
-    }
-}
-
-// Serves a store to one connection after another.
-fn serve_in_turn<S: BlockStore>(
-    rt: &HostRuntime,
-    port: u16,
-    store: &mut S,
-    sessions: Option<u16>,
-    initiators: Option<Initiators<'_>>,
-) -> Result<(), ServeFault> {
-    let count = count_of(sessions);
-    match &initiators {
-        Some(initiators) => {
-            let names = Some(initiators.as_slice());
-            serve(rt, port, store, count, names)
-        }
-        None => serve(rt, port, store, count, None),
     }
 }
 

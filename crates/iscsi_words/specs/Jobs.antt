@@ -25,7 +25,7 @@ HasDisk _ = Unit {0}
 -- A service of several sessions at a time has from 1 to 64 of them, and a target's name. A limit of
 -- time is 1 second at least, and a disk in memory has room for some blocks.
 abbrev pub CanServe : Service → Type 0
-CanServe (service.InTurn port sessions initiators) = Unit {0}
+CanServe (service.InTurn port sessions) = Unit {0}
 CanServe (service.AtOnce options) =
     IsService options × AreLimits options.limits × IsMemory options.memory
 

@@ -5,21 +5,19 @@ ghost use Rattle.std.specs.Prelude.{◌≡◌, ◌<◌, ◌≤◌, IfOk, IfSome}
 ghost use Rattle.scsi_disk.specs.Disk.{most_blocks};
 ghost use Rattle.iscsi_login.specs.Name.{IsName};
 ghost use Rattle.iscsi_serving.specs.Options.{AreOffered, IsMemory, longest_asked};
-ghost use Rattle.iscsi_words.specs.Jobs.{CanServe, IsJob};
+ghost use Rattle.iscsi_words.specs.Jobs.{IsJob};
 ghost use Rattle.iscsi_words.specs.Storage.{IsStorage};
 
 use crate::disk_size::{SizeFault, bad_size, said_blocks, with_size};
 use crate::examples;
 use crate::nbd_storage::export_of;
 use crate::storage::{Image, Origin, Storage};
-use crate::words::{
-    Job, LineFault, Service, bad_number, bad_value, flag, repeated, valued, with_word,
-};
+use crate::words::{Job, LineFault, Service, bad_number, bad_value, flag, valued, with_word};
 use clap::{Arg, ArgMatches, Command};
 use iscsi_login::{Preferences, is_name};
 use iscsi_serving::{
-    Initiators, LEAST_MEMORY, LOGIN_WITHIN, LONGEST_ASKED, Limits, MEMORY, MOST_AT_ONCE,
-    MOST_MEMORY, Options, SHORTEST_ASKED,
+    LEAST_MEMORY, LOGIN_WITHIN, LONGEST_ASKED, Limits, MEMORY, MOST_AT_ONCE, MOST_MEMORY, Options,
+    SHORTEST_ASKED,
 };
 use std::alloc::{AllocError, Global};
 use std::net::{IpAddr, Ipv4Addr};
@@ -41,11 +39,6 @@ const BAD_LISTEN: &str =
     "is no address: '--listen <ADDR>' takes an IPv4 or IPv6 address (default 127.0.0.1)";
 
 const BAD_NAME: &str = "is no name: '--name <IQN>' takes 1 to 223 bytes, each from '!' to '~'";
-
-const BAD_INITIATOR: &str =
-    "is no name: '--initiator <IQN>' takes 1 to 223 bytes, each from '!' to '~'";
-
-const MANY_INITIATORS: &str = "is one name too many: '--initiator <IQN>' may stand 64 times";
 
 const BAD_IDLE: &str = "is no number of seconds: '--idle <S>' takes a number from 1 to 65535";
 
@@ -99,12 +92,6 @@ pub(crate) fn serve_program<'a>(alloc: Global) -> Result<Command<'a>, AllocError
             "sessions",
             "n",
             "Stop after n connections, or with --at-once after n logins (default never)",
-        ))?
-        .arg(repeated(
-            alloc,
-            "initiator",
-            "IQN",
-            "Let in only the initiator of this name; may be repeated, up to 64 times",
         ))?;
     with_options(alloc, program)
 }
@@ -219,21 +206,11 @@ pub(crate) fn service_of<'a>(alloc: Global, asked: &ArgMatches<'a>) -> Result<Jo
 {
     let port = port_of(alloc, asked)?;
     let storage = storage_of(alloc, asked)?;
-    let service = way_of(alloc, asked, port)?;
-    Ok(Job::Serve { storage, service })
-}
-
-// How the disk is served at this port.
-fn way_of<'a>(alloc: Global, asked: &ArgMatches<'a>, port: u16) -> Result<Service<'a>, LineFault>
-    ensures service { IfOk result CanServe }
-{
     let sessions = sessions_of(alloc, asked)?;
-    let initiators = initiators_of(alloc, asked)?;
     let Some(digits) = asked.get_str("at-once") else {
-        return Ok(Service::InTurn {
-            port,
-            sessions,
-            initiators,
+        return Ok(Job::Serve {
+            storage,
+            service: Service::InTurn { port, sessions },
         });
     };
     let Some(at_once) = at_once_of(digits) else {
@@ -245,19 +222,22 @@ fn way_of<'a>(alloc: Global, asked: &ArgMatches<'a>, port: u16) -> Result<Servic
         login_within: login_within_of(alloc, asked)?,
     };
     let preferences = preferences_of(alloc, asked)?;
-    Ok(Service::AtOnce(Options {
+    let options = Options {
         listen,
         port,
         sessions,
         at_once,
         name,
-        initiators,
         limits,
         preferences,
         memory: memory_of(alloc, asked)?,
         print_port: asked.get_flag("print-port"),
         log: asked.get_flag("log"),
-    }))
+    };
+    Ok(Job::Serve {
+        storage,
+        service: Service::AtOnce(options),
+    })
 }
 
 // The port: the one that is said, or else that of iSCSI.
@@ -280,27 +260,6 @@ fn sessions_of(alloc: Global, asked: &ArgMatches<'_>) -> Result<Option<u16>, Lin
         Some(sessions) => Ok(Some(sessions)),
         None => Err(refused(alloc, digits, BAD_SESSIONS)),
     }
-}
-
-// The names of the initiators that may log in, if any are said.
-fn initiators_of<'a>(
-    alloc: Global,
-    asked: &ArgMatches<'a>,
-) -> Result<Option<Initiators<'a>>, LineFault> {
-    let Some(names) = asked.get_strs("initiator") else {
-        return Ok(None);
-    };
-    let mut initiators = Initiators::new();
-    for name in names {
-        if !is_name(name.as_bytes()) {
-            return Err(refused(alloc, name, BAD_INITIATOR));
-        }
-        match initiators.with(name.as_bytes()) {
-            Some(more) => initiators = more,
-            None => return Err(refused(alloc, name, MANY_INITIATORS)),
-        }
-    }
-    Ok(Some(initiators))
 }
 
 // What the disk is kept in: the export or the image that is named, or memory.

@@ -21,7 +21,7 @@ use clap::error::ErrorKind;
 use clap::{Arg, ArgAction, ArgMatches, Command, Error};
 use iscsi_comparison::{Comparison, Sameness};
 use iscsi_explain::Form;
-use iscsi_serving::{Initiators, LONGEST_PIECE, Options};
+use iscsi_serving::{LONGEST_PIECE, Options};
 use std::alloc::{AllocError, AllocFailed, Global};
 use std::convert::AsStr;
 use thiserror::Error;
@@ -35,8 +35,6 @@ pub enum Service<'a> {
         port: u16,
         /// How many connections are served; none: any number.
         sessions: Option<u16>,
-        /// The names of the initiators that may log in; none: everybody may.
-        initiators: Option<Initiators<'a>>,
     },
     /// In several sessions at a time.
     AtOnce(Options<'a>),
@@ -198,11 +196,6 @@ pub(crate) fn valued<'a>(alloc: Global, name: &'a str, value: &'a str, help: &'a
         .value_name(value)
         .action(ArgAction::Set)
         .help(help)
-}
-
-// A word with a value, which may stand there several times.
-pub(crate) fn repeated<'a>(alloc: Global, name: &'a str, value: &'a str, help: &'a str) -> Arg<'a> {
-    valued(alloc, name, value, help).action(ArgAction::Append)
 }
 
 // The name of a file.

@@ -12,10 +12,10 @@ use crate::numbers::next_number;
 use crate::peer::Peer;
 use crate::room::makes_room;
 use crate::system::watch;
-use iscsi_serving::{Options, SessionEnd};
+use iscsi_serving::SessionEnd;
 use iscsi_target::Config;
 use mio::net::TcpStream;
-use std::alloc::{AllocError, Global};
+use std::alloc::Global;
 use std::io;
 use std::net::SocketAddr;
 use std::time::Instant;
@@ -159,7 +159,8 @@ impl<'a> Server<'a> {
             return;
         };
         self.last_number = number;
-        let Ok(config) = configured(alloc, &self.options, number) else {
+        let options = self.options;
+        let Ok(config) = configuration(alloc, options.name, number, options.preferences) else {
             return;
         };
         let Some(seat) = self.seat(config) else {
@@ -199,16 +200,5 @@ impl<'a> Server<'a> {
         if let Some(place) = self.arrivals.get_mut(seat) {
             *place = self.accepted;
         }
-    }
-}
-
-// What the session of this number is configured with, by the options.
-fn configured(alloc: Global, options: &Options<'_>, number: u16) -> Result<Config, AllocError> {
-    match &options.initiators {
-        Some(initiators) => {
-            let names = Some(initiators.as_slice());
-            configuration(alloc, options.name, number, options.preferences, names)
-        }
-        None => configuration(alloc, options.name, number, options.preferences, None),
     }
 }

@@ -45,91 +45,91 @@ const JOBS: &[(&str, &str)] = &[
     ),
     (
         "serve --port 3260 --blocks 2048 --sessions 5",
-        "Serve { storage: Memory { blocks: 2048 }, service: InTurn { port: 3260, sessions: Some(5), initiators: None } }",
+        "Serve { storage: Memory { blocks: 2048 }, service: InTurn { port: 3260, sessions: Some(5) } }",
     ),
     (
         "serve --port 3260 --blocks 2048",
-        "Serve { storage: Memory { blocks: 2048 }, service: InTurn { port: 3260, sessions: None, initiators: None } }",
+        "Serve { storage: Memory { blocks: 2048 }, service: InTurn { port: 3260, sessions: None } }",
     ),
     (
         "serve --sessions=0 --blocks=1 --port=0",
-        "Serve { storage: Memory { blocks: 1 }, service: InTurn { port: 0, sessions: Some(0), initiators: None } }",
+        "Serve { storage: Memory { blocks: 1 }, service: InTurn { port: 0, sessions: Some(0) } }",
     ),
     (
         "serve --port 65535 --sessions 065535 --blocks 1099511627776",
-        "Serve { storage: Memory { blocks: 1099511627776 }, service: InTurn { port: 65535, sessions: Some(65535), initiators: None } }",
+        "Serve { storage: Memory { blocks: 1099511627776 }, service: InTurn { port: 65535, sessions: Some(65535) } }",
     ),
     (
         "serve --port 0 --sessions 1 --file disk.img",
-        "Serve { storage: Image(Image { path: \"disk.img\", origin: Found { blocks: None } }), service: InTurn { port: 0, sessions: Some(1), initiators: None } }",
+        "Serve { storage: Image(Image { path: \"disk.img\", origin: Found { blocks: None } }), service: InTurn { port: 0, sessions: Some(1) } }",
     ),
     (
         "serve --file=/a/b --port 0 --sessions 1 --blocks 1099511627776",
-        "Serve { storage: Image(Image { path: \"/a/b\", origin: Found { blocks: Some(1099511627776) } }), service: InTurn { port: 0, sessions: Some(1), initiators: None } }",
+        "Serve { storage: Image(Image { path: \"/a/b\", origin: Found { blocks: Some(1099511627776) } }), service: InTurn { port: 0, sessions: Some(1) } }",
     ),
     (
         "serve --create --blocks 8 --file - --port 0 --sessions 1",
-        "Serve { storage: Image(Image { path: \"-\", origin: New { blocks: 8 } }), service: InTurn { port: 0, sessions: Some(1), initiators: None } }",
+        "Serve { storage: Image(Image { path: \"-\", origin: New { blocks: 8 } }), service: InTurn { port: 0, sessions: Some(1) } }",
     ),
     (
         "serve --port 1 --sessions 2 --file d --at-once 3",
-        "Serve { storage: Image(Image { path: \"d\", origin: Found { blocks: None } }), service: AtOnce(Options { listen: 127.0.0.1, port: 1, sessions: Some(2), at_once: 3, name: [105, 113, 110, 46, 50, 48, 50, 54, 45, 48, 49, 46, 101, 120, 97, 109, 112, 108, 101, 58, 100, 105, 115, 107], initiators: None, limits: Limits { idle: None, login_within: Some(30) }, preferences: Preferences { initial_r2t: false, immediate_data: true, max_burst: 262144, first_burst: 65536, time2wait: 2, time2retain: 20, max_recv: 8192 }, memory: 268435456, print_port: false, log: false }) }",
+        "Serve { storage: Image(Image { path: \"d\", origin: Found { blocks: None } }), service: AtOnce(Options { listen: 127.0.0.1, port: 1, sessions: Some(2), at_once: 3, name: [105, 113, 110, 46, 50, 48, 50, 54, 45, 48, 49, 46, 101, 120, 97, 109, 112, 108, 101, 58, 100, 105, 115, 107], limits: Limits { idle: None, login_within: Some(30) }, preferences: Preferences { initial_r2t: false, immediate_data: true, max_burst: 262144, first_burst: 65536, time2wait: 2, time2retain: 20, max_recv: 8192 }, memory: 268435456, print_port: false, log: false }) }",
     ),
     (
         "serve --port 1 --file d --at-once 3",
-        "Serve { storage: Image(Image { path: \"d\", origin: Found { blocks: None } }), service: AtOnce(Options { listen: 127.0.0.1, port: 1, sessions: None, at_once: 3, name: [105, 113, 110, 46, 50, 48, 50, 54, 45, 48, 49, 46, 101, 120, 97, 109, 112, 108, 101, 58, 100, 105, 115, 107], initiators: None, limits: Limits { idle: None, login_within: Some(30) }, preferences: Preferences { initial_r2t: false, immediate_data: true, max_burst: 262144, first_burst: 65536, time2wait: 2, time2retain: 20, max_recv: 8192 }, memory: 268435456, print_port: false, log: false }) }",
+        "Serve { storage: Image(Image { path: \"d\", origin: Found { blocks: None } }), service: AtOnce(Options { listen: 127.0.0.1, port: 1, sessions: None, at_once: 3, name: [105, 113, 110, 46, 50, 48, 50, 54, 45, 48, 49, 46, 101, 120, 97, 109, 112, 108, 101, 58, 100, 105, 115, 107], limits: Limits { idle: None, login_within: Some(30) }, preferences: Preferences { initial_r2t: false, immediate_data: true, max_burst: 262144, first_burst: 65536, time2wait: 2, time2retain: 20, max_recv: 8192 }, memory: 268435456, print_port: false, log: false }) }",
     ),
     (
         "serve --port 1 --sessions 2 --file d --at-once 3 --name n --segment 131072 --burst 131072",
-        "Serve { storage: Image(Image { path: \"d\", origin: Found { blocks: None } }), service: AtOnce(Options { listen: 127.0.0.1, port: 1, sessions: Some(2), at_once: 3, name: [110], initiators: None, limits: Limits { idle: None, login_within: Some(30) }, preferences: Preferences { initial_r2t: false, immediate_data: true, max_burst: 131072, first_burst: 65536, time2wait: 2, time2retain: 20, max_recv: 131072 }, memory: 268435456, print_port: false, log: false }) }",
+        "Serve { storage: Image(Image { path: \"d\", origin: Found { blocks: None } }), service: AtOnce(Options { listen: 127.0.0.1, port: 1, sessions: Some(2), at_once: 3, name: [110], limits: Limits { idle: None, login_within: Some(30) }, preferences: Preferences { initial_r2t: false, immediate_data: true, max_burst: 131072, first_burst: 65536, time2wait: 2, time2retain: 20, max_recv: 131072 }, memory: 268435456, print_port: false, log: false }) }",
     ),
     (
         "serve --port 1 --sessions 2 --file d --at-once 3 --name n --burst 512 --segment 1048576 --idle 1 --login-within 65535",
-        "Serve { storage: Image(Image { path: \"d\", origin: Found { blocks: None } }), service: AtOnce(Options { listen: 127.0.0.1, port: 1, sessions: Some(2), at_once: 3, name: [110], initiators: None, limits: Limits { idle: Some(1), login_within: Some(65535) }, preferences: Preferences { initial_r2t: false, immediate_data: true, max_burst: 512, first_burst: 512, time2wait: 2, time2retain: 20, max_recv: 1048576 }, memory: 268435456, print_port: false, log: false }) }",
+        "Serve { storage: Image(Image { path: \"d\", origin: Found { blocks: None } }), service: AtOnce(Options { listen: 127.0.0.1, port: 1, sessions: Some(2), at_once: 3, name: [110], limits: Limits { idle: Some(1), login_within: Some(65535) }, preferences: Preferences { initial_r2t: false, immediate_data: true, max_burst: 512, first_burst: 512, time2wait: 2, time2retain: 20, max_recv: 1048576 }, memory: 268435456, print_port: false, log: false }) }",
     ),
     (
         "serve --port 1 --sessions 2 --file d --at-once 3 --name n --first-burst 262144 --no-login-limit",
-        "Serve { storage: Image(Image { path: \"d\", origin: Found { blocks: None } }), service: AtOnce(Options { listen: 127.0.0.1, port: 1, sessions: Some(2), at_once: 3, name: [110], initiators: None, limits: Limits { idle: None, login_within: None }, preferences: Preferences { initial_r2t: false, immediate_data: true, max_burst: 262144, first_burst: 262144, time2wait: 2, time2retain: 20, max_recv: 8192 }, memory: 268435456, print_port: false, log: false }) }",
+        "Serve { storage: Image(Image { path: \"d\", origin: Found { blocks: None } }), service: AtOnce(Options { listen: 127.0.0.1, port: 1, sessions: Some(2), at_once: 3, name: [110], limits: Limits { idle: None, login_within: None }, preferences: Preferences { initial_r2t: false, immediate_data: true, max_burst: 262144, first_burst: 262144, time2wait: 2, time2retain: 20, max_recv: 8192 }, memory: 268435456, print_port: false, log: false }) }",
     ),
     (
         "serve --port 1 --sessions 2 --blocks 8 --at-once 3 --name n --memory 32768 --log",
-        "Serve { storage: Memory { blocks: 8 }, service: AtOnce(Options { listen: 127.0.0.1, port: 1, sessions: Some(2), at_once: 3, name: [110], initiators: None, limits: Limits { idle: None, login_within: Some(30) }, preferences: Preferences { initial_r2t: false, immediate_data: true, max_burst: 262144, first_burst: 65536, time2wait: 2, time2retain: 20, max_recv: 8192 }, memory: 32768, print_port: false, log: true }) }",
+        "Serve { storage: Memory { blocks: 8 }, service: AtOnce(Options { listen: 127.0.0.1, port: 1, sessions: Some(2), at_once: 3, name: [110], limits: Limits { idle: None, login_within: Some(30) }, preferences: Preferences { initial_r2t: false, immediate_data: true, max_burst: 262144, first_burst: 65536, time2wait: 2, time2retain: 20, max_recv: 8192 }, memory: 32768, print_port: false, log: true }) }",
     ),
     (
         "serve --size 32M",
-        "Serve { storage: Memory { blocks: 65536 }, service: InTurn { port: 3260, sessions: None, initiators: None } }",
+        "Serve { storage: Memory { blocks: 65536 }, service: InTurn { port: 3260, sessions: None } }",
     ),
     (
         "serve --size=512T --port 0",
-        "Serve { storage: Memory { blocks: 1099511627776 }, service: InTurn { port: 0, sessions: None, initiators: None } }",
+        "Serve { storage: Memory { blocks: 1099511627776 }, service: InTurn { port: 0, sessions: None } }",
     ),
     (
         "serve --file d",
-        "Serve { storage: Image(Image { path: \"d\", origin: Found { blocks: None } }), service: InTurn { port: 3260, sessions: None, initiators: None } }",
+        "Serve { storage: Image(Image { path: \"d\", origin: Found { blocks: None } }), service: InTurn { port: 3260, sessions: None } }",
     ),
     (
         "serve --file d --size 3G",
-        "Serve { storage: Image(Image { path: \"d\", origin: Found { blocks: Some(6291456) } }), service: InTurn { port: 3260, sessions: None, initiators: None } }",
+        "Serve { storage: Image(Image { path: \"d\", origin: Found { blocks: Some(6291456) } }), service: InTurn { port: 3260, sessions: None } }",
     ),
     (
         "serve --file d --create --size 010K",
-        "Serve { storage: Image(Image { path: \"d\", origin: New { blocks: 20 } }), service: InTurn { port: 3260, sessions: None, initiators: None } }",
+        "Serve { storage: Image(Image { path: \"d\", origin: New { blocks: 20 } }), service: InTurn { port: 3260, sessions: None } }",
     ),
     (
         "serve --nbd 127.0.0.1:1/disk --port 0",
-        "Serve { storage: Nbd(NbdExport { word: \"127.0.0.1:1/disk\", host: \"127.0.0.1\", port: 1, name: \"disk\", blocks: None }), service: InTurn { port: 0, sessions: None, initiators: None } }",
+        "Serve { storage: Nbd(NbdExport { word: \"127.0.0.1:1/disk\", host: \"127.0.0.1\", port: 1, name: \"disk\", blocks: None }), service: InTurn { port: 0, sessions: None } }",
     ),
     (
         "serve --nbd=host/a/b:c --blocks 8",
-        "Serve { storage: Nbd(NbdExport { word: \"host/a/b:c\", host: \"host\", port: 10809, name: \"a/b:c\", blocks: Some(8) }), service: InTurn { port: 3260, sessions: None, initiators: None } }",
+        "Serve { storage: Nbd(NbdExport { word: \"host/a/b:c\", host: \"host\", port: 10809, name: \"a/b:c\", blocks: Some(8) }), service: InTurn { port: 3260, sessions: None } }",
     ),
     (
         "serve --nbd [::1]:65535 --size 4K",
-        "Serve { storage: Nbd(NbdExport { word: \"[::1]:65535\", host: \"::1\", port: 65535, name: \"\", blocks: Some(8) }), service: InTurn { port: 3260, sessions: None, initiators: None } }",
+        "Serve { storage: Nbd(NbdExport { word: \"[::1]:65535\", host: \"::1\", port: 65535, name: \"\", blocks: Some(8) }), service: InTurn { port: 3260, sessions: None } }",
     ),
     (
         "serve --nbd [::1]/",
-        "Serve { storage: Nbd(NbdExport { word: \"[::1]/\", host: \"::1\", port: 10809, name: \"\", blocks: None }), service: InTurn { port: 3260, sessions: None, initiators: None } }",
+        "Serve { storage: Nbd(NbdExport { word: \"[::1]/\", host: \"::1\", port: 10809, name: \"\", blocks: None }), service: InTurn { port: 3260, sessions: None } }",
     ),
     (
         "answer --size 1536",
@@ -262,13 +262,6 @@ const EXPORT: &str =
     "is no export: '--nbd <SERVER>' takes HOST:PORT/EXPORT, such as 127.0.0.1:10809/disk; without \
     :PORT it is port 10809, without /EXPORT the server's default export\n\nUsage: ";
 
-const INITIATOR: &str =
-    "is no name: '--initiator <IQN>' takes 1 to 223 bytes, each from '!' to '~'\n\n\
-    Usage: lanthovur serve ";
-
-const MOST_INITIATORS: &str = "is one name too many: '--initiator <IQN>' may stand 64 times\n\n\
-    Usage: lanthovur serve ";
-
 /// Words with a value that is refused, in which `''` is an empty word; the value; what follows it.
 const BAD_VALUES: &[(&str, &str, &str)] = &[
     ("answer --blocks 0", "0", BLOCKS),
@@ -282,17 +275,6 @@ const BAD_VALUES: &[(&str, &str, &str)] = &[
         BLOCKS,
     ),
     ("serve --port 65536 --blocks 1 --sessions 1", "65536", PORT),
-    ("serve --blocks 1 --initiator ''", "", INITIATOR),
-    (
-        "serve --blocks 1 --initiator a --initiator café",
-        "café",
-        INITIATOR,
-    ),
-    (
-        "serve --blocks 1 --at-once 1 --initiator café",
-        "café",
-        INITIATOR,
-    ),
     ("serve --port +1 --blocks 1 --sessions 1", "+1", PORT),
     ("serve --port '' --blocks 1 --sessions 1", "", PORT),
     ("serve --port 0x10 --blocks 1 --sessions 1", "0x10", PORT),
@@ -662,27 +644,6 @@ const REFUSED: &[(&str, &str)] = &[
     ),
 ];
 
-/// Words of a service that lists initiators, and what is told of them.
-const LISTED: &[(&str, &str)] = &[
-    (
-        "serve --blocks 1 --initiator a",
-        "initiators: Some(Initiators { names: [[97], [], ",
-    ),
-    ("serve --blocks 1 --initiator a", "[]], count: 1 }) } }"),
-    (
-        "serve --initiator=b --blocks 1 --initiator a",
-        "initiators: Some(Initiators { names: [[98], [97], [], ",
-    ),
-    (
-        "serve --blocks 1 --initiator a --at-once 1 --initiator b",
-        "initiators: Some(Initiators { names: [[97], [98], [], ",
-    ),
-    (
-        "serve --blocks 1 --initiator a --at-once 1 --initiator a",
-        "[]], count: 2 }), limits: ",
-    ),
-];
-
 /// What stands in the text of help: each job, words with their defaults, and an example.
 const HELP: &[(&str, &str)] = &[
     ("--help", "Usage: lanthovur <COMMAND>\n\nCommands:\n"),
@@ -714,7 +675,6 @@ const HELP: &[(&str, &str)] = &[
         "\n\nOptions that need --at-once:\n      --listen <ADDR> ",
     ),
     ("serve --help", "\n  ./lanthovur serve --size 32M\n"),
-    ("serve --help", "a claim, and no protection.\n"),
 ];
 
 /// Words with a stray file, and the hint at the end.
@@ -761,36 +721,6 @@ fn words_that_are_a_job(rt: HostRuntime) {
     for (line, job) in JOBS {
         check_job(&rt, rt.alloc(), line, job);
     }
-}
-
-fn check_listed(rt: &impl Abort, alloc: Global, line: &str, part: &str) {
-    let said = said_of(rt, alloc, line);
-    same(rt, &said.contains(part), &true, &(line, said.as_str()));
-}
-
-#[test]
-fn words_that_list_initiators(rt: HostRuntime) {
-    for (line, part) in LISTED {
-        check_listed(&rt, rt.alloc(), line, part);
-    }
-}
-
-// The words of a service that lists an initiator so many times.
-fn listing(rt: &impl Abort, alloc: Global, count: usize) -> String {
-    let mut line = String::from_str(alloc, "serve --blocks 1").expect(rt, "memory");
-    for _ in 0..count {
-        line.push_str(" --initiator n").expect(rt, "memory");
-    }
-    line
-}
-
-/// A service lists 64 initiators, and no more.
-#[test]
-fn the_most_initiators(rt: HostRuntime) {
-    let most = listing(&rt, rt.alloc(), 64);
-    check_listed(&rt, rt.alloc(), most.as_str(), "[110]], count: 64 })");
-    let more = listing(&rt, rt.alloc(), 65);
-    check_value(&rt, rt.alloc(), more.as_str(), "n", MOST_INITIATORS);
 }
 
 fn check_refused(rt: &impl Abort, alloc: Global, line: &str, text: &str) {
