@@ -8,7 +8,7 @@ mod running;
 mod session;
 mod words;
 
-ghost use Rattle.iscsi_tool.specs.Filtering.{HasDisk};
+ghost use Rattle.iscsi_words.specs.Jobs.{HasDisk};
 
 use crate::asserts::same;
 use iscsi_examples::{Broken, Full};
