@@ -181,8 +181,12 @@ def passes_over_in_turn(program, error):
 
 def ends_in_turn(program):
     process, port = in_turn(program, before=injected("accept4", "EMFILE", 1))
-    with connect(port):
-        return (process.communicate(timeout=SECONDS)[1], process.returncode) == (b"network failed\n", 4)
+    try:
+        connect(port).close()
+    except ConnectionRefusedError:
+        # The program ends as it first accepts, which may be before this connection.
+        pass
+    return (process.communicate(timeout=SECONDS)[1], process.returncode) == (b"network failed\n", 4)
 
 
 def refuses_a_pipe(program):
@@ -414,7 +418,8 @@ def has_little_memory(program):
             stranger = service.connect()
             stranger.sendall(pdu(0x43, bytes(8188), p1=b"\x44", p24=number(1))[:4000])
             stranger.close()
-        return goes_on(service)
+        # What was written takes all that the process may have, so nobody else has room to log in. Who has goes on.
+        return all(ping(peer) for peer in service.peers) and service.process.poll() is None
 
 
 def has_urgent_data(program):
