@@ -13,7 +13,7 @@ use Rattle.std.proofs.lemmas.Bool.{cases_lt, cases_order}
 use Rattle.std.proofs.lemmas.List.{length-replicate, replicate-append-replicate}
 use borrow.Author.Tests.{lt-ltb, le-ltb}
 use Rattle.scsi_disk.specs.Disk.{IsDisk, cut, zeros, zero_blocks, overlaid, written}
-use Rattle.scsi_disk.specs.Sparse.{Extents, AreExtents, IsBlank, block_in, disk_in}
+use Rattle.scsi_disk.specs.Sparse.{Extents, AreExtents, HasBlocks, IsBlank, block_in, disk_in}
 use Rattle.std.proofs.lemmas.Slice.{take-put_mid}
 use Rattle.std.proofs.Math.Nat.{mul-le-mul_left}
 use borrow.Rule.Slice.PartMut.{put_mid}
@@ -281,3 +281,19 @@ next_there extents first next key before is some k low high = elim (cases_order 
 pub behind_there : (extents : FinMap nat_cmp (List ℕ)) (e : ℕ × List ℕ) (es : List (ℕ × List ℕ)) → All (λ e. IsSome (get extents e.0)) (e ∷ es) →
     All (λ e. IsSome (get extents e.0)) es
 behind_there extents e es all k d lt = all (suc k) d (omega (arith, lt))
+
+-- an extent that isn't among the entries isn't there
+pub is_missing : (es : List (ℕ × List ℕ)) (k : ℕ) → is_some (lookup (is_at (nat_cmp k)) es) ≡ false → get (from_entries {R = nat_cmp} es) k ≡ None
+is_missing es k none = missing es k none k (at_itself k)
+
+-- an extent that some of these blocks lie in is there
+pub is_reached : (extents : FinMap nat_cmp (List ℕ)) (first count k : ℕ) → 0 < count → HasBlocks extents first count → first / 64 ≤ k
+    → 64 * k < first + count → IsSome (get extents k)
+is_reached extents first count k some has low high = elim (cases_lt (64 * k) first) [
+  | inl before ↦
+      let same : first / 64 ≡ k = omega arith in
+      subst (λ (n : ℕ). IsSome (get extents n)) same (has first (omega arith) (omega arith))
+  | inr behind ↦
+      let same : 64 * k / 64 ≡ k = omega arith in
+      subst (λ (n : ℕ). IsSome (get extents n)) same (has (64 * k) behind high)
+]

@@ -3,8 +3,8 @@
 
 ghost use Rattle.std.specs.Prelude.{◌≡◌, refl, ◌+◌, ◌*◌, ◌/◌, ◌%◌, ◌^◌, ◌<◌, ◌≤◌, ◌++◌, length, take, ℕ, true, IsOk, IfOk, IsSome, OnOk, OnErr, IsErrOf};
 ghost use Rattle.std.specs.FinMap.{get};
-ghost use Rattle.scsi_disk.specs.Disk.{Disk, most_blocks, zeros, blocks_from, written, cut, overlaid};
-ghost use Rattle.scsi_disk.specs.Lasting.{Within};
+ghost use Rattle.scsi_disk.specs.Disk.{Disk, IsOldOrNew, Tells, most_blocks, zeros, blocks_from, written, cut, overlaid};
+ghost use Rattle.scsi_disk.specs.Lasting.{Adds, Within};
 ghost use Rattle.scsi_disk.specs.Sparse.{disk_in, IsBlank, HasBlocks};
 
 use crate::memory::{append_blocks, read_blocks, write_blocks};
@@ -151,6 +151,7 @@ impl SparseStore {
     fn reserve(&mut self, extent: u64) -> Result<(), AllocError>
         ensures disk { disk_in self.new ≡ disk_in self.old }
         ensures there { OnOk result (IsSome (get self.new.extents extent)) }
+        ensures room { IsSome (get self.old.extents extent) → IsOk result }
         ensures kept { (k : ℕ) → IsSome (get self.old.extents k)
             → IsSome (get self.new.extents k) }
     {
@@ -201,6 +202,7 @@ impl SparseStore {
         requires { first + count ≤ self.old.count }
         ensures disk { disk_in self.new ≡ disk_in self.old }
         ensures there { OnOk result (HasBlocks self.new.extents first count) }
+        ensures room { HasBlocks self.old.extents first count → IsOk result }
     {
         prove!(first <= self.blocks);
         if count == 0 {
@@ -281,7 +283,22 @@ impl BlockStore for SparseStore {
         Ok(())
     }
 
-    fn write(&mut self, lba: u64, bytes: &[u8]) -> Result<(), StoreFault> {
+    fn write(&mut self, lba: u64, bytes: &[u8]) -> Result<(), StoreFault>
+        requires whole { length bytes.now % 512 ≡ 0 }
+        requires inside { 512 * lba + length bytes.now ≤ 512 * (disk_in self.old).count }
+        ensures ok { OnOk result (disk_in self.new ≡ written lba bytes.now (disk_in self.old)) }
+        ensures no_memory { IsErrOf result StoreFault.NoMemory
+            → (disk_in self.new ≡ disk_in self.old)
+            × Within (λ n c. c ≡ (disk_in self.old).block n)
+                (λ n c. c ≡ (disk_in self.new).block n) }
+        ensures each { IsOldOrNew (disk_in self.old) (written lba bytes.now (disk_in self.old))
+            (disk_in self.new) }
+        ensures kept { Adds (written lba bytes.now (disk_in self.old))
+            (λ n c. c ≡ (disk_in self.old).block n) (λ n c. c ≡ (disk_in self.new).block n) }
+        ensures tells { Tells true 0 0 0 0 result }
+        // If all extents are there, no memory is needed.
+        ensures room { HasBlocks self.old.extents lba (length bytes.now / 512) → IsOk result }
+    {
         prove!(lba <= self.blocks);
         let blocks = bytes.len() as u64 / 512;
         if !self.has_all(lba, blocks) {

@@ -1,8 +1,8 @@
-use Rattle.std.proofs.Common.{◌≡◌, true, false, ap, sym, ◌∙◌, rules}
+use Rattle.std.proofs.Common.{subst, ◌≡◌, ℕ, List, Option, None, IsSome, true, false, ap, sym, ◌∙◌, rules}
 use Rattle.std.specs.Ordering.{nat_cmp}
 use Rattle.std.specs.FinMap.{from_entries, get}
 use Rattle.scsi_disk.specs.Sparse.{disk_in}
-use Rattle.scsi_disk.proofs.SparseLemmas.{get_inserted, inserted, unseen, missing, is_inserted, stays, is_kept}
+use Rattle.scsi_disk.proofs.SparseLemmas.{get_inserted, inserted, unseen, missing, is_missing, is_inserted, stays, is_kept}
 use Rattle.scsi_disk.proofs.sparse.SparseStore.reserve.Goals as goal
 use Rattle.scsi_disk.proofs.sparse.SparseStore.reserve.Goals.{in-Some-1, in-None-1}
 
@@ -54,3 +54,19 @@ returns-else-not-contains_key-clause-there c =
     let present : c.contains_key.result ≡ true = search rules in
     let there = is_kept c.self.inside.extents.entries c.args.extent (sym c.contains_key.ensures ∙ present) in
     rw (← c.self.view_is) there
+
+pub returns-in_err-blank-clause-room : goal.returns-in_err-blank-clause-room
+returns-in_err-blank-clause-room c some =
+    let es = c.self.inside.extents.entries in
+    let absent : c.contains_key.result ≡ false = search rules in
+    let none = is_missing es c.args.extent (sym c.contains_key.ensures ∙ absent) in
+    let there = rw (← c.self.view_is) at some in
+    absurd (let h : IsSome {T = List ℕ} None = subst (λ (o : Option (List ℕ)). IsSome o) none there in cc)
+
+pub returns-in_err-insert-clause-room : goal.returns-in_err-insert-clause-room
+returns-in_err-insert-clause-room c some =
+    let es = c.self.inside.extents.entries in
+    let absent : c.contains_key.result ≡ false = search rules in
+    let none = is_missing es c.args.extent (sym c.contains_key.ensures ∙ absent) in
+    let there = rw (← c.self.view_is) at some in
+    absurd (let h : IsSome {T = List ℕ} None = subst (λ (o : Option (List ℕ)). IsSome o) none there in cc)

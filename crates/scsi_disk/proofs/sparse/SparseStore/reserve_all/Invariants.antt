@@ -7,5 +7,6 @@ use Rattle.scsi_disk.proofs.sparse.SparseStore.reserve_all.Given as goal
 abbrev pub invariant-loop-extent : goal.invariant-loop-extent
 invariant-loop-extent l = record {
   disk : disk_in l.self ≡ disk_in l.fn.self;
+  kept : (k : ℕ) → IsSome (get l.fn.self.extents k) → IsSome (get l.self.extents k);
   there : (k : ℕ) → l.first / 64 ≤ k → k < l.extent → IsSome (get l.self.extents k);
 }
