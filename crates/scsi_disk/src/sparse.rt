@@ -290,7 +290,7 @@ impl BlockStore for SparseStore {
         ensures no_memory { IsErrOf result StoreFault.NoMemory
             → (disk_in self.new ≡ disk_in self.old)
             × Within (λ n c. c ≡ (disk_in self.old).block n)
-                (λ n c. c ≡ (disk_in self.new).block n) }
+            (λ n c. c ≡ (disk_in self.new).block n) }
         ensures each { IsOldOrNew (disk_in self.old) (written lba bytes.now (disk_in self.old))
             (disk_in self.new) }
         ensures kept { Adds (written lba bytes.now (disk_in self.old))
