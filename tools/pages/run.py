@@ -183,7 +183,7 @@ def missing_in(command, reason, words_of_program):
 
 def look_at_texts(is_told):
     """Looks at the commands in the text of all pages, and returns how many have no reason or name what is not there."""
-    sources = ["lanthovur", *(str(path.relative_to(TOP)) for path in Path(TOP).glob("crates/iscsi_words/src/*.rt"))]
+    sources = ["lanthovur", *(str(path.relative_to(TOP)) for path in Path(TOP).glob("crates/iscsi_*words/src/*.rt"))]
     words_of_program = "\n".join(open(f"{TOP}/{path}", encoding="utf-8").read().replace("_", "-") for path in sources)
     failed, count = 0, 0
     for page in sorted({path for pattern in TEXTS for path in Path(TOP).glob(pattern)}):

@@ -9,5 +9,5 @@ mod script;
 mod socket_pair;
 
 pub use carrier::{Carrier, Channel};
-pub use iscsi_serving::LONGEST_PIECE;
+pub use iscsi_options::LONGEST_PIECE;
 pub use loop_script::{run_loop, run_over};

@@ -17,10 +17,11 @@ mod session_line;
 mod system;
 mod tally;
 
-pub use iscsi_serving::{
+pub use iscsi_options::{
     LEAST_MEMORY, LOGIN_WITHIN, LONGEST_ASKED, Limits, MEMORY, MOST_AT_ONCE, MOST_MEMORY, Options,
-    SHORTEST_ASKED, SessionEnd,
+    SHORTEST_ASKED,
 };
+pub use iscsi_serving::SessionEnd;
 pub use limited::LimitedStore;
 pub use server::Server;
 pub use service::{serve_at_once, serve_memory_at_once};

@@ -10,7 +10,8 @@ use crate::connection::{Connection, Moved};
 use crate::tally::Tally;
 use iscsi_hall::{Hall, MOST_READ};
 use iscsi_login::Phase;
-use iscsi_serving::{Limits, SessionEnd};
+use iscsi_options::Limits;
+use iscsi_serving::SessionEnd;
 use scsi_disk::BlockStore;
 use std::alloc::{AllocError, Global};
 use std::time::Instant;
@@ -100,7 +101,7 @@ impl Peer {
     pub fn is_late(&mut self, limits: &Limits, phase: Option<Phase>, now: Instant) -> bool {
         let accepted = self.connection.since_accepted(now).as_secs();
         let silent = self.connection.since_moved(now).as_secs();
-        match limits.broken(phase.unwrap_or(Phase::Closed), accepted, silent) {
+        match SessionEnd::by_limits(limits, phase.unwrap_or(Phase::Closed), accepted, silent) {
             Some(end) => {
                 self.end_by(end);
                 true

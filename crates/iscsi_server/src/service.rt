@@ -7,12 +7,13 @@ ghost use Rattle.iscsi_serving.specs.Executed.{HasExecuted};
 ghost use Rattle.iscsi_serving.specs.Faults.{EndsService};
 ghost use Rattle.iscsi_serving.specs.declared.fault.ServeFault.TheVariants as serve;
 ghost use Rattle.iscsi_server.specs.Running.{RunsWithin, Served};
-ghost use Rattle.iscsi_serving.specs.Options.{IsService};
+ghost use Rattle.iscsi_options.specs.Options.{IsService};
 
 use crate::limited::LimitedStore;
 use crate::server::Server;
 use crate::system::{OTHER_DESCRIPTORS, most_descriptors};
-use iscsi_serving::{Options, ServeFault};
+use iscsi_options::Options;
+use iscsi_serving::ServeFault;
 use scsi_disk::BlockStore;
 
 /// Listens, and prints `listening` and, if asked, the port on a line of its own. Serves connections

@@ -5,7 +5,7 @@ ghost use Rattle.iscsi_target.specs.Inside.{store_of};
 ghost use Rattle.iscsi_hall.specs.Blocks.{Follows};
 ghost use Rattle.iscsi_hall.specs.Turns.{executed_in};
 ghost use Rattle.iscsi_server.specs.Running.{Served};
-ghost use Rattle.iscsi_serving.specs.Options.{IsService};
+ghost use Rattle.iscsi_options.specs.Options.{IsService};
 
 use iscsi_server::laws::one_disk_of_all;
 use iscsi_server::{Options, serve_at_once};

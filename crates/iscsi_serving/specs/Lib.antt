@@ -1,5 +1,3 @@
 pub mod Ending
 pub mod Executed
 pub mod Faults
-pub mod Limits
-pub mod Options

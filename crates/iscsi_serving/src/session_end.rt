@@ -1,8 +1,10 @@
 //! Why a session of a seat ends, where it has a line.
 
 ghost use Rattle.std.specs.Prelude.{◌≡◌};
-ghost use Rattle.iscsi_serving.specs.Ending.{end_of};
+ghost use Rattle.iscsi_serving.specs.Ending.{broken_limit, end_of, is_passed};
 
+use iscsi_login::Phase;
+use iscsi_options::{LAST_WRITE, Limits};
 use iscsi_target::TargetFault;
 use thiserror::Error;
 
@@ -55,5 +57,38 @@ impl SessionEnd {
                 SessionEnd::Target(fault)
             }
         }
+    }
+
+    /// Why a session in this phase is ended, by the whole seconds since its connection was accepted
+    /// and since its last byte. `None` if it goes on. A late login is told before a silence; a
+    /// closed session whose last answers aren't taken is ended after 30 seconds in any case (own
+    /// rule).
+    pub fn by_limits(
+        limits: &Limits,
+        phase: Phase,
+        accepted: u64,
+        silent: u64,
+    ) -> Option<SessionEnd>
+        ensures broken { result ≡ broken_limit limits.now phase accepted silent }
+    {
+        let is_idle = is_over(limits.idle, silent);
+        match phase {
+            Phase::Login if is_over(limits.login_within, accepted) => Some(
+                SessionEnd::LoginTooLate,
+            ),
+            Phase::Login | Phase::Full if is_idle => Some(SessionEnd::Idle),
+            Phase::Closed if is_idle || LAST_WRITE <= silent => Some(SessionEnd::Idle),
+            Phase::Login | Phase::Full | Phase::Closed => None,
+        }
+    }
+}
+
+// Whether there is a limit, and `n` seconds reach it.
+fn is_over(limit: Option<u16>, seconds: u64) -> bool
+    ensures { result ≡ is_passed limit seconds }
+{
+    match limit {
+        Some(limit) => u64::from(limit) <= seconds,
+        None => false,
     }
 }

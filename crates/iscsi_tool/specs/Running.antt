@@ -1,5 +1,5 @@
 -- How a run of the program ends, and with which exit status.
-use Rattle.std.specs.Prelude.{◌≡◌, ◌⊎◌, ℕ, true, List, [], Result, Ok, Err}
+use Rattle.std.specs.Prelude.{◌≡◌, ℕ, List, [], Result, Ok, Err}
 use Rattle.iscsi_stream.specs.declared.fault.ToolFault.{ToolFault}
 use Rattle.iscsi_compare.specs.declared.verdict.Verdict.{Verdict}
 use Rattle.iscsi_compare.specs.declared.verdict.Verdict.TheVariants as verdict
@@ -16,16 +16,15 @@ use Rattle.iscsi_words.specs.declared.filter.Filter.{Filter}
 use Rattle.iscsi_words.specs.declared.filter.Work.TheVariants.{Normalise}
 use Rattle.iscsi_tool.specs.declared.running.Outcome.{Outcome}
 use Rattle.iscsi_tool.specs.declared.running.Outcome.TheVariants as outcome
-use Rattle.iscsi_words.specs.declared.nbd_storage.NbdFault.{NbdFault}
-use Rattle.iscsi_words.specs.declared.storage.ImageFault.{ImageFault}
-use Rattle.iscsi_words.specs.declared.storage.Storage.{Storage}
-use Rattle.iscsi_words.specs.declared.storage.Storage.TheVariants as storage
+use Rattle.iscsi_serve_words.specs.declared.command_line.LineFault.{LineFault}
+use Rattle.iscsi_serve_words.specs.declared.storage.Storage.{Storage}
+use Rattle.iscsi_serve_words.specs.Words.{words_status}
+use Rattle.iscsi_disk_service.specs.declared.storing.DiskFault.{DiskFault}
+use Rattle.iscsi_disk_service.specs.Disks.{EndsStorage, disk_status}
 use Rattle.iscsi_words.specs.declared.telling.Telling.{Telling}
 use Rattle.iscsi_comparison.specs.declared.files.Comparison.{Comparison}
 use Rattle.iscsi_words.specs.declared.words.Job.{Job}
 use Rattle.iscsi_words.specs.declared.words.Job.TheVariants as job
-use Rattle.iscsi_words.specs.declared.words.LineFault.{LineFault}
-use Rattle.iscsi_words.specs.declared.words.LineFault.TheVariants as line
 use Rattle.iscsi_tool.specs.Captures.{WritesCapture}
 use Rattle.iscsi_tool.specs.CaptureComparisons.{ComparesCaptures}
 use Rattle.iscsi_tool.specs.Telling.{Tells}
@@ -34,11 +33,6 @@ use Rattle.iscsi_filters.specs.Filters.{exit_status}
 use Rattle.iscsi_words.specs.Jobs.{IsJob}
 use Rattle.iscsi_tool.specs.Filtering.{Filters}
 
--- The exit status of words that ask for no job: 2, and 3 for memory.
-abbrev pub words_status : LineFault → ℕ
-words_status line.NoMemory = 3
-words_status (line.Usage text) = 2
-
 -- The exit status of an outcome: 0 if the job is done, 1 if two streams differ, else that of the
 -- fault.
 abbrev pub outcome_status : Outcome → ℕ
@@ -46,9 +40,8 @@ outcome_status outcome.Done = 0
 outcome_status outcome.Differ = 1
 outcome_status (outcome.Words fault) = words_status fault
 outcome_status (outcome.Filter fault) = exit_status fault
+outcome_status (outcome.Service fault) = disk_status fault
 outcome_status (outcome.Session fault) = session_status fault
-outcome_status (outcome.Image image fault) = 4
-outcome_status (outcome.Nbd export fault) = 4
 outcome_status (outcome.Comparison comparison fault) = fault_status fault
 outcome_status (outcome.Capture job fault) = capture_status fault
 outcome_status (outcome.CaptureComparison comparison fault) = capture_status fault.fault
@@ -58,7 +51,12 @@ abbrev pub of_filter : Result (Unit {0}) ToolFault → Outcome
 of_filter (Ok done) = outcome.Done
 of_filter (Err fault) = outcome.Filter fault
 
--- The outcome of a service or of a loop.
+-- The outcome of a service.
+abbrev pub of_service : Result (Unit {0}) DiskFault → Outcome
+of_service (Ok done) = outcome.Done
+of_service (Err fault) = outcome.Service fault
+
+-- The outcome of a loop.
 abbrev pub of_session : Result (Unit {0}) ServeFault → Outcome
 of_session (Ok done) = outcome.Done
 of_session (Err fault) = outcome.Session fault
@@ -113,14 +111,8 @@ EndsComparison comparison ends =
 -- A service ended so: as its sessions did, or since this very image or export could
 -- not be served.
 abbrev pub EndsService : Storage → Outcome → Type 0
-EndsService (storage.Memory blocks) ends =
-    (said : Result (Unit {0}) ServeFault) × (ends ≡ of_session said)
-EndsService (storage.Image image) ends =
-    ((said : Result (Unit {0}) ServeFault) × (ends ≡ of_session said))
-    ⊎ ((fault : ImageFault) × (ends ≡ outcome.Image image fault))
-EndsService (storage.Nbd export) ends =
-    ((said : Result (Unit {0}) ServeFault) × (ends ≡ of_session said))
-    ⊎ ((fault : NbdFault) × (ends ≡ outcome.Nbd export fault))
+EndsService storage ends = (said : Result (Unit {0}) DiskFault) × EndsStorage storage said
+    × (ends ≡ of_service said)
 
 -- A job ended so, with this read from the standard input and this written to the standard output.
 -- A service touches neither by itself, and a job over a capture reads a file of the process.

@@ -1,13 +1,12 @@
 //! The body of the program: it runs the job that words ask for. One file, since each job ends in
 //! one of the same outcomes.
 
-ghost use Rattle.std.specs.Prelude.{◌≡◌, ◌<◌, ◌≤◌, ℕ, List, IfOk, IfErr};
+ghost use Rattle.std.specs.Prelude.{◌≡◌, ℕ, List, IfOk, IfErr};
 ghost use Rattle.std.specs.Io.KnownBytes.{Appends, Consumes};
-ghost use Rattle.scsi_disk.specs.Disk.{most_blocks};
 ghost use Rattle.iscsi_tool.specs.declared.running.Outcome.{Outcome};
-ghost use Rattle.iscsi_words.specs.Jobs.{CanServe, IsJob};
-ghost use Rattle.iscsi_words.specs.Storage.{IsStorage};
-ghost use Rattle.iscsi_tool.specs.Running.{EndsComparison, EndsService, Runs, RunsWords, of_capture, of_captures, of_comparison, of_filter, of_session, outcome_status, words_status};
+ghost use Rattle.iscsi_serve_words.specs.Words.{words_status};
+ghost use Rattle.iscsi_words.specs.Jobs.{IsJob};
+ghost use Rattle.iscsi_tool.specs.Running.{EndsComparison, Runs, RunsWords, of_capture, of_captures, of_comparison, of_filter, of_service, of_session, outcome_status};
 
 use crate::capture_comparing::run_comparison;
 use crate::capturing::run_capture;
@@ -16,25 +15,17 @@ use crate::telling::run_telling;
 use iscsi_captures::CapturesFault;
 use iscsi_compare::Verdict;
 use iscsi_comparison::{Comparison, ComparisonFault};
+use iscsi_disk_service::{DiskFault, serve_storage};
 use iscsi_filters::status;
 use iscsi_loop::run_loop;
-use iscsi_server::{serve_at_once, serve_memory_at_once};
-use iscsi_service::{ServeFault, serve};
+use iscsi_serve_words::{LineFault, read_command_line};
+use iscsi_serving::ServeFault;
 use iscsi_stream::ToolFault;
-use iscsi_words::{
-    CaptureComparison, CaptureComparisonFault, CaptureJob, Image, ImageFault, Job, LineFault,
-    NbdExport, NbdFault, Service, Storage, read_words,
-};
-use scsi_disk::{BlockStore, SparseStore};
-use std::alloc::Global;
+use iscsi_words::{CaptureComparison, CaptureComparisonFault, CaptureJob, Job, read_words};
 use std::convert::AsStr;
 use std::io;
-use std::io::{ErrorKind, Read, Write};
+use std::io::{Read, Write};
 use std::process::ExitCode;
-
-/// The line for words that are not UTF-8.
-const NOT_UTF8: &str =
-    "error: the words are not all UTF-8\n\nFor more information, try '--help'.\n";
 
 /// How a run of the program ends.
 #[derive(Debug, Drop)]
@@ -47,12 +38,10 @@ pub enum Outcome<'a> {
     Words(LineFault),
     /// A filter stopped.
     Filter(ToolFault),
-    /// A service or a loop stopped.
+    /// A service stopped.
+    Service(DiskFault<'a>),
+    /// A loop stopped.
     Session(ServeFault),
-    /// The image could not be served.
-    Image(Image<'a>, ImageFault),
-    /// The export could not be served.
-    Nbd(NbdExport<'a>, NbdFault),
     /// A comparison stopped.
     Comparison(Comparison<'a>, ComparisonFault),
     /// A job over a capture stopped.
@@ -71,11 +60,10 @@ impl Outcome<'_> {
         match self {
             Outcome::Done => 0,
             Outcome::Differ => 1,
-            Outcome::Words(fault) => words_status(fault),
+            Outcome::Words(fault) => fault.status(),
             Outcome::Filter(fault) => status(fault),
+            Outcome::Service(fault) => fault.status(),
             Outcome::Session(fault) => fault.status(),
-            Outcome::Image(_, fault) => fault.status(),
-            Outcome::Nbd(_, fault) => fault.status(),
             Outcome::Comparison(_, fault) => fault.status(),
             Outcome::Capture(_, fault) => fault.status(),
             Outcome::CaptureComparison(_, fault) => fault.status(),
@@ -83,50 +71,19 @@ impl Outcome<'_> {
     }
 
     // Writes what there is to say: the usage, or the fault's line. The line of a fault of an input
-    // or of an image names the file.
+    // names the file.
     fn tell<E: Write>(&self, w: &mut E) -> io::Result<()> {
         match self {
             Outcome::Done | Outcome::Differ => Ok(()),
-            Outcome::Words(fault) => tell_words(fault, w),
+            Outcome::Words(fault) => fault.tell(w),
             Outcome::Filter(fault) => writeln!(w, "{fault}"),
+            Outcome::Service(fault) => fault.tell(w),
             Outcome::Session(fault) => writeln!(w, "{fault}"),
-            Outcome::Image(image, fault) => {
-                let name = image.path;
-                writeln!(w, "{name}: {fault}")
-            }
-            Outcome::Nbd(export, fault) => tell_nbd(*export, *fault, w),
             Outcome::Comparison(comparison, fault) => comparison.tell(*fault, w),
             Outcome::Capture(job, fault) => tell_capture(*job, *fault, w),
             Outcome::CaptureComparison(comparison, fault) => tell_captures(*comparison, *fault, w),
         }
     }
-}
-
-// The exit status of words that ask for no job or for help, or that could not be read.
-fn words_status(fault: &LineFault) -> u8
-    ensures status { result ≡ words_status fault.now }
-{
-    match fault {
-        LineFault::Usage(_) => 2,
-        LineFault::NoMemory => 3,
-    }
-}
-
-// Writes why words are refused, or the help.
-fn tell_words<E: Write>(fault: &LineFault, w: &mut E) -> io::Result<()> {
-    match fault {
-        LineFault::Usage(text) => write!(w, "{text}"),
-        LineFault::NoMemory => writeln!(w, "memory"),
-    }
-}
-
-// Writes the line of an export that is not served, if it was not written before.
-fn tell_nbd<E: Write>(export: NbdExport<'_>, fault: NbdFault, w: &mut E) -> io::Result<()> {
-    if fault.is_told() {
-        return Ok(());
-    }
-    let word = export.word;
-    writeln!(w, "{word}: {fault}")
 }
 
 // Writes the line of a job over a capture that stopped.
@@ -153,7 +110,7 @@ fn tell_captures<E: Write>(
 /// Runs the program: the words of the command line, over the standard streams. It ends as
 /// `run_read` does.
 pub fn run_program(rt: &HostRuntime) -> ExitCode {
-    let words = words_of(rt);
+    let words = read_command_line(rt);
     let mut input = rt.stdin();
     let mut output = rt.stdout();
     let mut errors = rt.stderr();
@@ -180,30 +137,9 @@ pub fn run_read<R: Read, W: Write, E: Write>(
     match words {
         Ok(words) => run_words(rt, words.as_slice(), r, w, errors),
         Err(fault) => {
-            let _ = tell_words(fault, errors);
-            words_status(fault)
+            let _ = fault.tell(errors);
+            fault.status()
         }
-    }
-}
-
-// The words of the command line, without the program's name.
-fn words_of(rt: &HostRuntime) -> Result<Vec<String>, LineFault> {
-    let alloc = rt.alloc();
-    let words = match std::env::args(rt) {
-        Ok(words) => words,
-        Err(error) => return Err(unread_words(alloc, &error)),
-    };
-    Ok(words.skip(1).collect(alloc)?)
-}
-
-// Why there are no words to judge: memory ran out, or one of them is not UTF-8.
-fn unread_words(alloc: Global, error: &io::Error) -> LineFault {
-    if matches!(error.kind(), ErrorKind::OutOfMemory) {
-        return LineFault::NoMemory;
-    }
-    match String::from_str(alloc, NOT_UTF8) {
-        Ok(text) => LineFault::Usage(text),
-        Err(_) => LineFault::NoMemory,
     }
 }
 
@@ -274,7 +210,7 @@ fn run_job<'a, R: Read, W: Write>(
 {
     match job {
         Job::Filter(filter) => filtered(run_filter(rt.alloc(), filter, r, w)),
-        Job::Serve { storage, service } => serve_storage(rt, storage, service),
+        Job::Serve { storage, service } => served(serve_storage(rt, storage, service)),
         Job::Loop { blocks, piece } => ended(run_loop(rt, blocks, piece, r, w)),
         Job::Compare(comparison) => compare(rt, comparison, r, w),
         Job::Tell(telling) => filtered(run_telling(rt.alloc(), telling, r, w)),
@@ -305,7 +241,17 @@ fn captured(job: CaptureJob<'_>, said: Result<(), CapturesFault>) -> Outcome<'_>
     }
 }
 
-// The outcome of a run over sockets.
+// The outcome of a service.
+fn served(said: Result<(), DiskFault<'_>>) -> Outcome<'_>
+    ensures outcome { result ≡ of_service said }
+{
+    match said {
+        Ok(()) => Outcome::Done,
+        Err(fault) => Outcome::Service(fault),
+    }
+}
+
+// The outcome of a loop.
 fn ended<'a>(said: Result<(), ServeFault>) -> Outcome<'a>
     ensures outcome { result ≡ of_session said }
 {
@@ -338,60 +284,6 @@ fn compared_captures(
         Ok(Verdict::Differ { .. }) => Outcome::Differ,
         Err(fault) => Outcome::CaptureComparison(comparison, fault),
     }
-}
-
-// Serves a disk, over what it is kept in.
-#[tactic(auto, using(crate::proofs::RunningLemmas::can_be_opened))]
-fn serve_storage<'a>(rt: &HostRuntime, storage: Storage<'a>, service: Service<'_>) -> Outcome<'a>
-    requires storage { IsStorage storage }
-    requires service { CanServe service }
-    ensures ends { EndsService storage.entry result }
-{
-    match storage {
-        Storage::Memory { blocks } => ended(serve_memory(rt, service, blocks)),
-        Storage::Image(image) => match image.open(rt) {
-            Ok(mut store) => ended(serve_store(rt, service, &mut store)),
-            Err(fault) => Outcome::Image(image, fault),
-        },
-        Storage::Nbd(export) => match export.open(rt) {
-            Ok(mut store) => ended(serve_store(rt, service, &mut store)),
-            Err(fault) => Outcome::Nbd(export, fault),
-        },
-    }
-}
-
-// Serves a disk in memory.
-fn serve_memory(rt: &HostRuntime, service: Service<'_>, blocks: u64) -> Result<(), ServeFault>
-    requires service { CanServe service }
-    requires some { 0 < blocks }
-    requires few { blocks ≤ most_blocks }
-{
-    match service {
-        Service::InTurn { port, sessions } => {
-            let mut store = SparseStore::new(rt.alloc(), blocks);
-            serve(rt, port, &mut store, count_of(sessions))
-        }
-        Service::AtOnce(options) => serve_memory_at_once(rt, options, blocks),
-    }
-}
-
-// Serves a store.
-fn serve_store<S: BlockStore>(
-    rt: &HostRuntime,
-    service: Service<'_>,
-    store: &mut S,
-) -> Result<(), ServeFault>
-    requires service { CanServe service }
-{
-    match service {
-        Service::InTurn { port, sessions } => serve(rt, port, store, count_of(sessions)),
-        Service::AtOnce(options) => serve_at_once(rt, options, store),
-    }
-}
-
-// How many connections are served; any number is more than there will ever be.
-fn count_of(sessions: Option<u16>) -> u64 {
-    sessions.map_or(u64::MAX, u64::from)
 }
 
 // Compares a file with another one, or with what a reader gives.

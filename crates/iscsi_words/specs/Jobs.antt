@@ -1,16 +1,14 @@
 -- Which jobs can be run: the numbers of each are in their ranges.
 use Rattle.std.specs.Prelude.{◌≤◌, ◌<◌}
 use Rattle.scsi_disk.specs.Disk.{most_blocks}
-use Rattle.iscsi_serving.specs.Options.{AreLimits, IsMemory, IsService}
+use Rattle.iscsi_serve_words.specs.Services.{CanServe}
+use Rattle.iscsi_serve_words.specs.Storage.{IsStorage}
 use Rattle.iscsi_words.specs.declared.capture_words.CaptureWork.{CaptureWork}
 use Rattle.iscsi_words.specs.declared.capture_words.CaptureWork.TheVariants as capture
 use Rattle.iscsi_words.specs.declared.filter.Work.{Work}
 use Rattle.iscsi_words.specs.declared.filter.Work.TheVariants.{Answer}
 use Rattle.iscsi_words.specs.declared.words.Job.{Job}
 use Rattle.iscsi_words.specs.declared.words.Job.TheVariants as job
-use Rattle.iscsi_words.specs.declared.words.Service.{Service}
-use Rattle.iscsi_words.specs.declared.words.Service.TheVariants as service
-use Rattle.iscsi_words.specs.Storage.{IsStorage}
 
 -- The disk of a target that answers a capture has 1 to 2^40 blocks.
 abbrev pub CanWork : CaptureWork → Type 0
@@ -21,13 +19,6 @@ CanWork _ = Unit {0}
 abbrev pub HasDisk : Work → Type 0
 HasDisk (Answer blocks) = (0 < blocks) × (blocks ≤ most_blocks)
 HasDisk _ = Unit {0}
-
--- A service of several sessions at a time has from 1 to 64 of them, and a target's name. A limit of
--- time is 1 second at least, and a disk in memory has room for some blocks.
-abbrev pub CanServe : Service → Type 0
-CanServe (service.InTurn port sessions) = Unit {0}
-CanServe (service.AtOnce options) =
-    IsService options × AreLimits options.limits × IsMemory options.memory
 
 -- The disk of a job's target has 1 to 2^40 blocks, but for that of an image that is there, and a piece
 -- 1 to 4096 bytes.

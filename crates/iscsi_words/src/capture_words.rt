@@ -4,13 +4,15 @@ ghost use Rattle.std.specs.Prelude.{◌<◌, ◌≤◌, IfOk, IfSome};
 ghost use Rattle.iscsi_words.specs.Jobs.{CanWork, IsJob};
 
 use crate::capture_comparing::{CaptureComparison, STDIN, named};
-use crate::disk_size::{bad_size, needed_blocks};
 use crate::telling::form_of;
-use crate::words::{Job, LineFault, bad_number, file, flag, valued, with_word};
+use crate::words::Job;
 use clap::{ArgMatches, Command};
 use iscsi_captures::{CapturesFault, End, Wanted};
 use iscsi_comparison::Sameness;
 use iscsi_explain::Form;
+use iscsi_serve_words::{
+    LineFault, bad_number, bad_size, file, flag, needed_blocks, valued, with_word,
+};
 use std::alloc::{AllocError, Global};
 
 /// What is done with a capture.

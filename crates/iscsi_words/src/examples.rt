@@ -1,16 +1,5 @@
 //! What stands below the words on each page of help: examples, and what a reader has to know first.
 
-/// Below the commands.
-pub(crate) const PROGRAM: &str =
-    "show, normalise, answer and loop read standard input. Without a command, lanthovur runs\n\
-    'normalise --hex'. Each command has its own help, such as 'lanthovur serve --help'.\n\
-    \n\
-    Examples:\n  \
-    ./lanthovur serve --size 32M\n      \
-    Serve a disk of 32 MiB in memory, on port 3260 of 127.0.0.1\n  \
-    ./lanthovur show --hex < docs/session/initiator.hex\n      \
-    Print the PDUs of a captured session";
-
 pub(crate) const SHOW: &str = "The stream comes from standard input, unless a capture is named.\n\
     \n\
     Examples:\n  \
@@ -42,22 +31,6 @@ pub(crate) const ANSWER: &str =
     Examples:\n  \
     ./lanthovur answer --size 1M < initiator.bin > target.bin\n  \
     ./lanthovur answer --blocks 2048 --hex < initiator.hex";
-
-pub(crate) const SERVE: &str =
-    "Warning: there is no authentication. Anyone who can reach the port can read and write the disk.\n\
-    \n\
-    A disk in memory needs a size, and so does --create. An existing image, or an export, has its own.\n\
-    'listening' is printed once initiators can connect. The disk is unit 0 (LUN 0) of the target.\n\
-    \n\
-    Examples:\n  \
-    ./lanthovur serve --size 32M\n      \
-    Serve 32 MiB of memory. For QEMU it is iscsi://127.0.0.1:3260/iqn.2026-01.example:disk/0\n  \
-    ./lanthovur serve --file disk.img --create --size 1G\n      \
-    Create the image disk.img of 1 GiB, and serve it\n  \
-    ./lanthovur serve --file disk.img --at-once 8 --listen 0.0.0.0\n      \
-    Serve the image again, on all IPv4 addresses, to up to 8 sessions at a time\n  \
-    ./lanthovur serve --nbd 127.0.0.1:10809/disk\n      \
-    Serve the export 'disk' of an NBD server, such as qemu-nbd";
 
 pub(crate) const LOOP: &str =
     "Each line of the script is a command, such as 'write 0 8 5a' or 'read 0 1'. All commands stand in\n\

@@ -1,8 +1,8 @@
 //! The words for lines with notes, and for JSON.
 
-use crate::words::{flag, with_word};
 use clap::{ArgMatches, Command};
 use iscsi_explain::Form;
+use iscsi_serve_words::{flag, with_word};
 use std::alloc::{AllocError, Global};
 
 /// A stream that is shown in another form than by plain lines.

@@ -11,34 +11,19 @@ use crate::capture_words::{
     CaptureJob, answered_job, asks_for_capture, compared_job, connections_of, connections_program,
     normalised_job, shown_job, with_capture_words, with_initiator_words, with_two_captures,
 };
-use crate::disk_size::{bad_size, needed_blocks, with_size};
 use crate::examples;
 use crate::filter::{Filter, Work};
-use crate::serve_words::{serve_program, service_of};
-use crate::storage::Storage;
 use crate::telling::{Telling, form_of, with_form_words};
-use clap::error::ErrorKind;
-use clap::{Arg, ArgAction, ArgMatches, Command, Error};
+use clap::{ArgMatches, Command, Error};
 use iscsi_comparison::{Comparison, Sameness};
 use iscsi_explain::Form;
-use iscsi_serving::{LONGEST_PIECE, Options};
-use std::alloc::{AllocError, AllocFailed, Global};
+use iscsi_options::LONGEST_PIECE;
+use iscsi_serve_words::{
+    LineFault, ServeJob, Service, Storage, bad_number, bad_size, bad_value, bare_command, file,
+    flag, needed_blocks, serve_program, service_of, usage, valued, with_size,
+};
+use std::alloc::{AllocError, Global};
 use std::convert::AsStr;
-use thiserror::Error;
-
-/// How a disk is served.
-#[derive(Clone, Copy, Debug, PartialEq, Eq)]
-pub enum Service<'a> {
-    /// On 127.0.0.1, to one connection after another.
-    InTurn {
-        /// The port; 0 is one that the system picks.
-        port: u16,
-        /// How many connections are served; none: any number.
-        sessions: Option<u16>,
-    },
-    /// In several sessions at a time.
-    AtOnce(Options<'a>),
-}
 
 /// What the words ask for.
 #[derive(Clone, Copy, Debug, PartialEq, Eq)]
@@ -67,30 +52,6 @@ pub enum Job<'a> {
     Capture(CaptureJob<'a>),
     /// Whether a direction of each of two captures has the same meaning.
     CompareCaptures(CaptureComparison<'a>),
-}
-
-/// Why words are refused.
-#[derive(Debug, Drop, Error)]
-pub enum LineFault {
-    /// Memory ran out.
-    #[error("memory")]
-    NoMemory,
-    /// The words are no job; the text says why and what would be one, or is the help that was asked
-    /// for.
-    #[error("{0}")]
-    Usage(String),
-}
-
-impl From<AllocError> for LineFault {
-    fn from(_e: AllocError) -> LineFault {
-        LineFault::NoMemory
-    }
-}
-
-impl<T: Drop> From<AllocFailed<T>> for LineFault {
-    fn from(_e: AllocFailed<T>) -> LineFault {
-        LineFault::NoMemory
-    }
 }
 
 /// The word of a job.
@@ -127,24 +88,6 @@ const UNASKED: Job<'static> = Job::Filter(Filter {
     hex: true,
 });
 
-fn usage(alloc: Global, error: Error) -> LineFault {
-    if matches!(error.kind(), ErrorKind::OutOfMemory) {
-        return LineFault::NoMemory;
-    }
-    match format!(in alloc; "{error}") {
-        Ok(text) => LineFault::Usage(text),
-        Err(_) => LineFault::NoMemory,
-    }
-}
-
-// A word that may stand there or not.
-pub(crate) fn flag<'a>(alloc: Global, name: &'a str, help: &'a str) -> Arg<'a> {
-    Arg::new(alloc, name)
-        .long(name)
-        .action(ArgAction::SetTrue)
-        .help(help)
-}
-
 // A program whose input may be hex text.
 fn program<'a>(alloc: Global, name: &'a str, about: &'a str) -> Result<Command<'a>, AllocError> {
     Command::new(alloc, name)
@@ -179,28 +122,6 @@ fn normalise_program<'a>(alloc: Global) -> Result<Command<'a>, AllocError> {
         "Read one text of keys, such as that of a login, instead of a stream",
     ))?;
     with_capture_words(alloc, program)
-}
-
-// With one more word, if it could be made.
-pub(crate) fn with_word<'a>(
-    program: Command<'a>,
-    word: Result<Arg<'a>, AllocError>,
-) -> Result<Command<'a>, AllocError> {
-    program.arg(word?)
-}
-
-// A word with a value.
-pub(crate) fn valued<'a>(alloc: Global, name: &'a str, value: &'a str, help: &'a str) -> Arg<'a> {
-    Arg::new(alloc, name)
-        .long(name)
-        .value_name(value)
-        .action(ArgAction::Set)
-        .help(help)
-}
-
-// The name of a file.
-pub(crate) fn file<'a>(alloc: Global, name: &'a str, help: &'a str) -> Arg<'a> {
-    Arg::new(alloc, name).action(ArgAction::Set).help(help)
 }
 
 fn answer_program<'a>(alloc: Global) -> Result<Command<'a>, AllocError> {
@@ -252,18 +173,6 @@ fn compare_program<'a>(alloc: Global) -> Result<Command<'a>, AllocError> {
         "Let tags, session ids and serial numbers differ, as in two runs of one job",
     ))?;
     with_two_captures(alloc, program)
-}
-
-// The program, without the words of its jobs.
-fn bare_command<'a>(alloc: Global) -> Result<Command<'a>, AllocError> {
-    Command::new(alloc, "lanthovur")
-        .about("Serve iSCSI disks, and show, normalise, compare and answer iSCSI streams")
-        .after_help(examples::PROGRAM)
-        .no_binary_name(true)
-        .disable_version_flag(true)
-        .disable_help_subcommand(true)
-        .subcommand_required(true)
-        .bin_name("lanthovur")
 }
 
 // With the words of one more job, if they could be made.
@@ -352,7 +261,10 @@ fn job_of<'a>(alloc: Global, matches: &ArgMatches<'a>) -> Result<Job<'a>, LineFa
         Some(JobWord::Compare) => comparison_of(alloc, asked),
         Some(JobWord::Connections) => Ok(connections_of(asked)),
         Some(JobWord::Answer) => answer_of(alloc, asked),
-        Some(JobWord::Serve) => service_of(alloc, asked),
+        Some(JobWord::Serve) => {
+            let ServeJob { storage, service } = service_of(alloc, asked)?;
+            Ok(Job::Serve { storage, service })
+        }
         Some(JobWord::Loop) => loop_of(alloc, asked),
         None => Err(no_job(alloc)),
     }
@@ -468,31 +380,3 @@ fn piece_of(digits: &str) -> Option<u32>
 }
 
 const BAD_PIECE: &str = "is no number of bytes: '--piece <k>' takes a number from 1 to 4096";
-
-// The usage error for a word whose value is wrong: the text says what it is not, and what was meant.
-pub(crate) fn bad_value(
-    alloc: Global,
-    program: Result<Command<'_>, AllocError>,
-    value: &str,
-    text: &str,
-) -> LineFault {
-    match format!(in alloc; "'{value}' {text}") {
-        Ok(text) => bad_number(alloc, program, text.as_str()),
-        Err(_) => LineFault::NoMemory,
-    }
-}
-
-// The usage error for words that are a job's and ask for none.
-pub(crate) fn bad_number(
-    alloc: Global,
-    program: Result<Command<'_>, AllocError>,
-    text: &str,
-) -> LineFault {
-    let Ok(mut program) = program else {
-        return LineFault::NoMemory;
-    };
-    match program.error(ErrorKind::ValueValidation, text) {
-        Ok(error) => usage(alloc, error),
-        Err(_) => LineFault::NoMemory,
-    }
-}

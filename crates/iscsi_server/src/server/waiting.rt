@@ -6,7 +6,8 @@ ghost use Rattle.iscsi_serving.specs.Faults.{EndsService};
 use super::Server;
 use crate::system::LISTENER;
 use iscsi_login::Phase;
-use iscsi_serving::{ServeFault, sooner};
+use iscsi_options::sooner;
+use iscsi_serving::ServeFault;
 use std::time::{Duration, Instant};
 
 impl<'a> Server<'a> {

@@ -2,6 +2,7 @@
 //! rows.
 
 use crate::asserts::same;
+use iscsi_serve_words::read_serve_words;
 use iscsi_tool::{LineFault, read_words};
 use std::alloc::{AllocError, Global};
 use std::process::Abort;
@@ -701,8 +702,33 @@ fn words_of<'a>(alloc: Global, line: &'a str) -> Result<Vec<&'a str>, AllocError
         .collect(alloc)
 }
 
-// What the words of a line come to: the job, or the text that says why they are none.
+// What the words of a line come to: the job, or the text that says why they are none. The program of `serve`
+// alone has to say the same of its words.
 fn said_of(rt: &impl Abort, alloc: Global, line: &str) -> String {
+    let said = said_of_all(rt, alloc, line);
+    if line.starts_with("serve") {
+        let alone = said_of_serve(rt, alloc, line);
+        same(rt, &alone.as_str(), &said.as_str(), &line);
+    }
+    said
+}
+
+// What they come to in the program of `serve` alone.
+fn said_of_serve(rt: &impl Abort, alloc: Global, line: &str) -> String {
+    let words = words_of(alloc, line).expect(rt, line);
+    match read_serve_words(alloc, words.as_slice()) {
+        Ok(job) => {
+            let storage = job.storage;
+            let service = job.service;
+            format!(in alloc; "Serve {{ storage: {storage:?}, service: {service:?} }}").expect(rt, line)
+        }
+        Err(LineFault::Usage(text)) => text,
+        Err(LineFault::NoMemory) => panic!(rt; "memory"),
+    }
+}
+
+// What they come to in the whole program.
+fn said_of_all(rt: &impl Abort, alloc: Global, line: &str) -> String {
     let words = words_of(alloc, line).expect(rt, line);
     match read_words(alloc, words.as_slice()) {
         Ok(job) => format!(in alloc; "{job:?}").expect(rt, line),

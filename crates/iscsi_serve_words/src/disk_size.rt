@@ -3,7 +3,7 @@
 ghost use Rattle.std.specs.Prelude.{◌<◌, ◌≤◌, IfOk, IfSome};
 ghost use Rattle.scsi_disk.specs.Disk.{most_blocks};
 
-use crate::words::{LineFault, bad_number, bad_value, valued};
+use crate::command_line::{LineFault, bad_number, bad_value, valued};
 use clap::{ArgMatches, Command};
 use scsi_disk::MOST_BLOCKS;
 use std::alloc::{AllocError, Global};
@@ -33,7 +33,7 @@ const NO_SIZE: &str =
 
 /// Why words give no disk size.
 #[derive(Clone, Copy)]
-pub(crate) enum SizeFault<'a> {
+pub enum SizeFault<'a> {
     /// The value of `--blocks` is no number of blocks.
     Blocks(&'a str),
     /// The value of `--size` is no size.
@@ -44,11 +44,8 @@ pub(crate) enum SizeFault<'a> {
     Neither,
 }
 
-/// Adds the two words to a program.
-pub(crate) fn with_size<'a>(
-    alloc: Global,
-    program: Command<'a>,
-) -> Result<Command<'a>, AllocError> {
+/// A program with these two words. The error is want of memory.
+pub fn with_size<'a>(alloc: Global, program: Command<'a>) -> Result<Command<'a>, AllocError> {
     program
         .arg(valued(
             alloc,
@@ -65,7 +62,7 @@ pub(crate) fn with_size<'a>(
 }
 
 /// The number of blocks that the words give, if one of them is there.
-pub(crate) fn said_blocks<'a>(asked: &ArgMatches<'a>) -> Result<Option<u64>, SizeFault<'a>>
+pub fn said_blocks<'a>(asked: &ArgMatches<'a>) -> Result<Option<u64>, SizeFault<'a>>
     ensures range { IfOk result (λ said. IfSome said (λ n. (0 < n) × (n ≤ most_blocks))) }
 {
     match (asked.get_str("blocks"), asked.get_str("size")) {
@@ -83,7 +80,7 @@ pub(crate) fn said_blocks<'a>(asked: &ArgMatches<'a>) -> Result<Option<u64>, Siz
 }
 
 /// The number of blocks, where one of the words has to be there.
-pub(crate) fn needed_blocks<'a>(asked: &ArgMatches<'a>) -> Result<u64, SizeFault<'a>>
+pub fn needed_blocks<'a>(asked: &ArgMatches<'a>) -> Result<u64, SizeFault<'a>>
     ensures range { IfOk result (λ n. (0 < n) × (n ≤ most_blocks)) }
 {
     match said_blocks(asked) {
@@ -94,7 +91,7 @@ pub(crate) fn needed_blocks<'a>(asked: &ArgMatches<'a>) -> Result<u64, SizeFault
 }
 
 /// The usage error for words that give no disk size.
-pub(crate) fn bad_size(
+pub fn bad_size(
     alloc: Global,
     program: Result<Command<'_>, AllocError>,
     fault: SizeFault<'_>,

@@ -3,7 +3,7 @@
 ghost use Rattle.std.specs.Prelude.{◌≡◌, IfOk, IfErr};
 ghost use Rattle.scsi_file.specs.FileStore.{medium_of};
 ghost use Rattle.scsi_file.specs.HostFile.{blocks_of};
-ghost use Rattle.iscsi_words.specs.Storage.{HasAsked, CanBeOpened, IsOther};
+ghost use Rattle.iscsi_serve_words.specs.Storage.{HasAsked, CanBeOpened, IsOther};
 
 use crate::nbd_storage::NbdExport;
 use scsi_disk::BlockStore;
@@ -62,7 +62,7 @@ impl ImageFault {
 
 impl From<OpenFault> for ImageFault {
     ghost use Rattle.std.specs.Prelude.{◌≡◌};
-    ghost use Rattle.iscsi_words.specs.declared.storage.ImageFault.TheVariants as image;
+    ghost use Rattle.iscsi_serve_words.specs.declared.storage.ImageFault.TheVariants as image;
 
     ghost from_gives = { λ fault e. e ≡ image.Open fault };
 

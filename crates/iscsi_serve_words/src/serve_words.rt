@@ -4,23 +4,49 @@
 ghost use Rattle.std.specs.Prelude.{◌≡◌, ◌<◌, ◌≤◌, IfOk, IfSome};
 ghost use Rattle.scsi_disk.specs.Disk.{most_blocks};
 ghost use Rattle.iscsi_login.specs.Name.{IsName};
-ghost use Rattle.iscsi_serving.specs.Options.{AreOffered, IsMemory, longest_asked};
-ghost use Rattle.iscsi_words.specs.Jobs.{IsJob};
-ghost use Rattle.iscsi_words.specs.Storage.{IsStorage};
+ghost use Rattle.iscsi_options.specs.Options.{AreOffered, IsMemory, longest_asked};
+ghost use Rattle.iscsi_serve_words.specs.Services.{IsServeJob};
+ghost use Rattle.iscsi_serve_words.specs.Storage.{IsStorage};
 
+use crate::command_line::{
+    LineFault, bad_number, bad_value, bare_command, flag, usage, valued, with_word,
+};
 use crate::disk_size::{SizeFault, bad_size, said_blocks, with_size};
 use crate::examples;
 use crate::nbd_storage::export_of;
 use crate::storage::{Image, Origin, Storage};
-use crate::words::{Job, LineFault, Service, bad_number, bad_value, flag, valued, with_word};
 use clap::{Arg, ArgMatches, Command};
 use iscsi_login::{Preferences, is_name};
-use iscsi_serving::{
+use iscsi_options::{
     LEAST_MEMORY, LOGIN_WITHIN, LONGEST_ASKED, Limits, MEMORY, MOST_AT_ONCE, MOST_MEMORY, Options,
     SHORTEST_ASKED,
 };
 use std::alloc::{AllocError, Global};
+use std::convert::AsStr;
 use std::net::{IpAddr, Ipv4Addr};
+
+/// How a disk is served.
+#[derive(Clone, Copy, Debug, PartialEq, Eq)]
+pub enum Service<'a> {
+    /// On 127.0.0.1, to one connection after another.
+    InTurn {
+        /// The port; 0 is one that the system picks.
+        port: u16,
+        /// How many connections are served; none: any number.
+        sessions: Option<u16>,
+    },
+    /// In several sessions at a time.
+    AtOnce(Options<'a>),
+}
+
+/// What the words of `serve` ask for.
+#[derive(Clone, Copy, Debug, PartialEq, Eq)]
+pub struct ServeJob<'a> {
+    /// What the disk is kept in.
+    pub storage: Storage<'a>,
+    /// How it is served.
+    pub service: Service<'a>,
+}
 
 /// The target's name, if none is asked for.
 const NAME: &str = "iqn.2026-01.example:disk";
@@ -69,8 +95,8 @@ const BAD_FIRST_BURST: &str =
     "is no number of bytes: '--first-burst <N>' takes a number from 512 to 1048576, and at most \
     that of '--burst'";
 
-/// The words of `serve`, with their help.
-pub(crate) fn serve_program<'a>(alloc: Global) -> Result<Command<'a>, AllocError> {
+/// The words of `serve`, with their help. The error is want of memory.
+pub fn serve_program<'a>(alloc: Global) -> Result<Command<'a>, AllocError> {
     let program = Command::new(alloc, "serve")
         .about("Serve a disk to iSCSI initiators, from memory, an image or an NBD server")
         .after_help(examples::SERVE)
@@ -200,15 +226,41 @@ fn option<'a>(
     valued(alloc, name, value, help).requires_arg("at-once")
 }
 
-/// The service that the words of `serve` ask for.
-pub(crate) fn service_of<'a>(alloc: Global, asked: &ArgMatches<'a>) -> Result<Job<'a>, LineFault>
-    ensures disk { IfOk result IsJob }
+/// The service that a command line asks for whose first word is `serve`. Words that are none, and those
+/// that ask for help, return `Usage` with the text to print; `NoMemory` comes if memory ran out.
+pub fn read_serve_words<'a, S: AsStr>(
+    alloc: Global,
+    words: &'a [S],
+) -> Result<ServeJob<'a>, LineFault>
+    // Each number is in its range.
+    ensures range { IfOk result IsServeJob }
+{
+    let command = with_serve(alloc)?;
+    let matches = match command.try_get_matches_from(words) {
+        Ok(matches) => matches,
+        Err(error) => return Err(usage(alloc, error)),
+    };
+    match matches.subcommand() {
+        Some((_, asked)) => service_of(alloc, asked),
+        None => Err(bad_number(alloc, bare_command(alloc), "the words name no job")),
+    }
+}
+
+// The program whose only command is `serve`.
+fn with_serve<'a>(alloc: Global) -> Result<Command<'a>, AllocError> {
+    bare_command(alloc)?.subcommand(serve_program(alloc)?)
+}
+
+/// The service that the words of `serve` ask for. `Usage` comes for a value that is none, and for words
+/// that do not go together; `NoMemory` if memory ran out.
+pub fn service_of<'a>(alloc: Global, asked: &ArgMatches<'a>) -> Result<ServeJob<'a>, LineFault>
+    ensures range { IfOk result IsServeJob }
 {
     let port = port_of(alloc, asked)?;
     let storage = storage_of(alloc, asked)?;
     let sessions = sessions_of(alloc, asked)?;
     let Some(digits) = asked.get_str("at-once") else {
-        return Ok(Job::Serve {
+        return Ok(ServeJob {
             storage,
             service: Service::InTurn { port, sessions },
         });
@@ -234,7 +286,7 @@ pub(crate) fn service_of<'a>(alloc: Global, asked: &ArgMatches<'a>) -> Result<Jo
         print_port: asked.get_flag("print-port"),
         log: asked.get_flag("log"),
     };
-    Ok(Job::Serve {
+    Ok(ServeJob {
         storage,
         service: Service::AtOnce(options),
     })

@@ -1,14 +1,14 @@
 -- What a served disk is kept in, and what an image has that was opened.
 use Rattle.std.specs.Prelude.{◌≡◌, ◌≢◌, ◌≤◌, ◌<◌, ℕ, Option, Some, None, IfSome}
 use Rattle.scsi_disk.specs.Disk.{most_blocks}
-use Rattle.iscsi_words.specs.declared.storage.Origin.{Origin}
-use Rattle.iscsi_words.specs.declared.storage.Origin.TheVariants as origin
-use Rattle.iscsi_words.specs.declared.storage.Storage.{Storage}
-use Rattle.iscsi_words.specs.declared.storage.Storage.TheVariants as storage
-use Rattle.iscsi_words.specs.declared.nbd_storage.NbdFault.{NbdFault}
-use Rattle.iscsi_words.specs.declared.nbd_storage.NbdFault.TheVariants as nbd
-use Rattle.iscsi_words.specs.declared.storage.ImageFault.{ImageFault}
-use Rattle.iscsi_words.specs.declared.storage.ImageFault.TheVariants as image
+use Rattle.iscsi_serve_words.specs.declared.storage.Origin.{Origin}
+use Rattle.iscsi_serve_words.specs.declared.storage.Origin.TheVariants as origin
+use Rattle.iscsi_serve_words.specs.declared.storage.Storage.{Storage}
+use Rattle.iscsi_serve_words.specs.declared.storage.Storage.TheVariants as storage
+use Rattle.iscsi_serve_words.specs.declared.nbd_storage.NbdFault.{NbdFault}
+use Rattle.iscsi_serve_words.specs.declared.nbd_storage.NbdFault.TheVariants as nbd
+use Rattle.iscsi_serve_words.specs.declared.storage.ImageFault.{ImageFault}
+use Rattle.iscsi_serve_words.specs.declared.storage.ImageFault.TheVariants as image
 
 -- An image that is made has 1 to 2^40 blocks, and so has one that is found, if a number is said.
 abbrev pub IsOrigin : Origin → Type 0

@@ -1,29 +1,12 @@
 -- How long a peer may keep its seat.
-use Rattle.std.specs.Prelude.{ℕ, Bool, false, ◌*◌, ◌-◌, Option, Some, None, min, nat_le, ◌||◌, if◌then◌else◌}
+use Rattle.std.specs.Prelude.{ℕ, ◌*◌, ◌-◌, Option, Some, None, min}
 use Rattle.iscsi_login.specs.declared.phase.Phase.{Phase}
 use Rattle.iscsi_login.specs.declared.phase.Phase.TheVariants as phase
-use Rattle.iscsi_serving.specs.declared.limits.Limits.{Limits}
-use Rattle.iscsi_serving.specs.declared.session_end.SessionEnd.{SessionEnd}
-use Rattle.iscsi_serving.specs.declared.session_end.SessionEnd.TheVariants as ends
-
--- There is a limit, and n seconds reach it.
-abbrev pub is_passed : Option ℕ → ℕ → Bool
-is_passed (Some limit) seconds = nat_le limit seconds
-is_passed None seconds = false
+use Rattle.iscsi_options.specs.declared.limits.Limits.{Limits}
 
 -- A peer takes none of the last answers of a closed session for n seconds at most.
 abbrev pub last_write : ℕ
 last_write = 30
-
--- Why a session is ended that was accepted, and had its last byte, n seconds ago.
-abbrev pub broken_limit : Limits → Phase → ℕ → ℕ → Option SessionEnd
-broken_limit limits phase.Login accepted silent =
-    if is_passed limits.login_within accepted then Some ends.LoginTooLate
-    else if is_passed limits.idle silent then Some ends.Idle else None
-broken_limit limits phase.Full accepted silent =
-    if is_passed limits.idle silent then Some ends.Idle else None
-broken_limit limits phase.Closed accepted silent =
-    if is_passed limits.idle silent || nat_le last_write silent then Some ends.Idle else None
 
 -- How many nanoseconds are left of a limit in seconds after n; no limit is never over.
 abbrev pub left_of : Option ℕ → ℕ → Option ℕ

@@ -3,8 +3,8 @@ use Rattle.std.specs.Prelude.{◌<◌, ◌≤◌, ℕ, IfSome}
 use Rattle.iscsi_login.specs.Name.{IsName}
 use Rattle.iscsi_login.specs.Negotiation.{IsInRange}
 use Rattle.iscsi_login.specs.declared.preferences.Preferences.{Preferences}
-use Rattle.iscsi_serving.specs.declared.limits.Limits.{Limits}
-use Rattle.iscsi_serving.specs.declared.options.Options.{Options}
+use Rattle.iscsi_options.specs.declared.limits.Limits.{Limits}
+use Rattle.iscsi_options.specs.declared.options.Options.{Options}
 
 -- the longest segment and burst that may be asked for, in bytes (own rule)
 abbrev pub longest_asked : ℕ

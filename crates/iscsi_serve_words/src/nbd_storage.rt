@@ -4,7 +4,7 @@ ghost use Rattle.std.specs.Prelude.{◌≡◌, IfErr, IfOk, IfSome};
 ghost use Rattle.scsi_file.specs.FileStore.{medium_of};
 ghost use Rattle.nbd_client.specs.Ended.{line_of};
 ghost use Rattle.nbd_client.specs.Tcp.{blocks_of};
-ghost use Rattle.iscsi_words.specs.Storage.{IsAsked, IsOtherExport};
+ghost use Rattle.iscsi_serve_words.specs.Storage.{IsAsked, IsOtherExport};
 
 use libc::net::{POLLOUT, poll};
 use libc::types::pollfd;

@@ -2,14 +2,13 @@
 
 ghost use Rattle.std.specs.Prelude.{◌≡◌, option_map};
 ghost use Rattle.std.specs.Duration.{as_nanos};
-ghost use Rattle.iscsi_serving.specs.Limits.{broken_limit, is_passed, left_of, shorter, time_left};
+ghost use Rattle.iscsi_options.specs.Limits.{left_of, shorter, time_left};
 
-use crate::session_end::SessionEnd;
 use iscsi_login::Phase;
 use std::time::Duration;
 
-/// For how many seconds a peer may take none of the last answers of a closed session.
-const LAST_WRITE: u64 = 30;
+/// For how many seconds a peer may take none of the last answers of a closed session (own rule).
+pub const LAST_WRITE: u64 = 30;
 
 /// For how many seconds a connection may keep its seat without a login, if no other time is asked for.
 pub const LOGIN_WITHIN: u16 = 30;
@@ -24,23 +23,8 @@ pub struct Limits {
 }
 
 impl Limits {
-    /// Why a session in this phase is ended, by the whole seconds since its connection was accepted
-    /// and since its last byte. `None` if it goes on. A late login is told before a silence; a
-    /// closed session whose last answers aren't taken is ended after 30 seconds in any case (own
-    /// rule).
-    pub fn broken(&self, phase: Phase, accepted: u64, silent: u64) -> Option<SessionEnd>
-        ensures broken { result ≡ broken_limit self.now phase accepted silent }
-    {
-        let is_idle = is_over(self.idle, silent);
-        match phase {
-            Phase::Login if is_over(self.login_within, accepted) => Some(SessionEnd::LoginTooLate),
-            Phase::Login | Phase::Full if is_idle => Some(SessionEnd::Idle),
-            Phase::Closed if is_idle || LAST_WRITE <= silent => Some(SessionEnd::Idle),
-            Phase::Login | Phase::Full | Phase::Closed => None,
-        }
-    }
-
-    /// How long such a session goes on if no byte comes; `None` if for ever.
+    /// How long a session in this phase goes on if no byte comes, by the times since its connection was
+    /// accepted and since its last byte; `None` if for ever.
     pub fn time_left(&self, phase: Phase, accepted: Duration, silent: Duration) -> Option<Duration>
         ensures left { option_map as_nanos result
             ≡ time_left self.now phase (as_nanos accepted) (as_nanos silent) }
@@ -51,16 +35,6 @@ impl Limits {
             Phase::Full => idle,
             Phase::Closed => sooner(idle, left(Some(LAST_WRITE), silent)),
         }
-    }
-}
-
-// Whether there is a limit, and `n` seconds reach it.
-fn is_over(limit: Option<u16>, seconds: u64) -> bool
-    ensures { result ≡ is_passed limit seconds }
-{
-    match limit {
-        Some(limit) => u64::from(limit) <= seconds,
-        None => false,
     }
 }
 

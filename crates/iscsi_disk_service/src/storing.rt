@@ -1,0 +1,128 @@
+//! A disk, served over what it is kept in.
+
+ghost use Rattle.std.specs.Prelude.{◌≡◌, ◌<◌, ◌≤◌};
+ghost use Rattle.scsi_disk.specs.Disk.{most_blocks};
+ghost use Rattle.iscsi_serve_words.specs.declared.storage.Storage.{Storage};
+ghost use Rattle.iscsi_serve_words.specs.Services.{CanServe};
+ghost use Rattle.iscsi_serve_words.specs.Storage.{IsStorage};
+ghost use Rattle.iscsi_disk_service.specs.Disks.{EndsStorage, disk_status};
+
+use iscsi_serve_words::{Image, ImageFault, NbdExport, NbdFault, Service, Storage};
+use iscsi_server::{serve_at_once, serve_memory_at_once};
+use iscsi_service::serve;
+use iscsi_serving::ServeFault;
+use scsi_disk::{BlockStore, SparseStore};
+use std::io::{self, Write};
+
+/// Why the service of a disk stopped.
+#[derive(Debug, Drop)]
+pub enum DiskFault<'a> {
+    /// The service stopped.
+    Session(ServeFault),
+    /// The image could not be served.
+    Image(Image<'a>, ImageFault),
+    /// The export could not be served.
+    Nbd(NbdExport<'a>, NbdFault),
+}
+
+impl DiskFault<'_> {
+    /// The exit status of the fault: that of the service, or 4 for an image and an export.
+    pub fn status(&self) -> u8
+        ensures status { result ≡ disk_status self.now }
+    {
+        match self {
+            DiskFault::Session(fault) => fault.status(),
+            DiskFault::Image(_, fault) => fault.status(),
+            DiskFault::Nbd(_, fault) => fault.status(),
+        }
+    }
+
+    /// Writes the fault's line, which names the image or the export. The line of an export is left out
+    /// if it was written before.
+    pub fn tell<E: Write>(&self, w: &mut E) -> io::Result<()> {
+        match self {
+            DiskFault::Session(fault) => writeln!(w, "{fault}"),
+            DiskFault::Image(image, fault) => {
+                let name = image.path;
+                writeln!(w, "{name}: {fault}")
+            }
+            DiskFault::Nbd(export, fault) => {
+                if fault.is_told() {
+                    return Ok(());
+                }
+                let word = export.word;
+                writeln!(w, "{word}: {fault}")
+            }
+        }
+    }
+}
+
+/// Serves a disk, over what it is kept in, until its service ends. `Image` and `Nbd` come if the image
+/// or the export is not opened, `Session` as the service gives it.
+#[tactic(auto, using(crate::proofs::OpenLemmas::can_be_opened))]
+pub fn serve_storage<'a>(
+    rt: &HostRuntime,
+    storage: Storage<'a>,
+    service: Service<'_>,
+) -> Result<(), DiskFault<'a>>
+    requires storage { IsStorage storage }
+    requires service { CanServe service }
+    // An image or an export that is blamed is the one that was asked for.
+    ensures ends { EndsStorage storage.entry result }
+{
+    match storage {
+        Storage::Memory { blocks } => ended(serve_memory(rt, service, blocks)),
+        Storage::Image(image) => match image.open(rt) {
+            Ok(mut store) => ended(serve_store(rt, service, &mut store)),
+            Err(fault) => Err(DiskFault::Image(image, fault)),
+        },
+        Storage::Nbd(export) => match export.open(rt) {
+            Ok(mut store) => ended(serve_store(rt, service, &mut store)),
+            Err(fault) => Err(DiskFault::Nbd(export, fault)),
+        },
+    }
+}
+
+// The end of a service.
+fn ended<'a>(said: Result<(), ServeFault>) -> Result<(), DiskFault<'a>>
+    ensures ends { (storage : Storage) → EndsStorage storage result }
+{
+    match said {
+        Ok(()) => Ok(()),
+        Err(fault) => Err(DiskFault::Session(fault)),
+    }
+}
+
+// Serves a disk in memory.
+fn serve_memory(rt: &HostRuntime, service: Service<'_>, blocks: u64) -> Result<(), ServeFault>
+    requires service { CanServe service }
+    requires some { 0 < blocks }
+    requires few { blocks ≤ most_blocks }
+{
+    match service {
+        Service::InTurn { port, sessions } => {
+            let mut store = SparseStore::new(rt.alloc(), blocks);
+            serve(rt, port, &mut store, count_of(sessions))
+        }
+        Service::AtOnce(options) => serve_memory_at_once(rt, options, blocks),
+    }
+}
+
+// Serves a store.
+fn serve_store<S: BlockStore>(
+    rt: &HostRuntime,
+    service: Service<'_>,
+    store: &mut S,
+) -> Result<(), ServeFault>
+    requires service { CanServe service }
+{
+    match service {
+        Service::InTurn { port, sessions } => serve(rt, port, store, count_of(sessions)),
+        Service::AtOnce(options) => serve_at_once(rt, options, store),
+    }
+}
+
+// How many connections are served; any number is more than there will ever be.
+fn count_of(sessions: Option<u16>) -> u64 {
+    sessions.map_or(u64::MAX, u64::from)
+}

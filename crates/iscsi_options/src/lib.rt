@@ -1,0 +1,12 @@
+//! What a service of a disk is asked for: where it listens, how many sessions it takes, and how long a
+//! peer may keep its seat.
+#![tactic(auto)]
+
+mod limits;
+mod options;
+
+pub use limits::{LAST_WRITE, LOGIN_WITHIN, Limits, sooner};
+pub use options::{
+    LEAST_MEMORY, LONGEST_ASKED, LONGEST_PIECE, MEMORY, MOST_AT_ONCE, MOST_MEMORY, Options,
+    SHORTEST_ASKED,
+};

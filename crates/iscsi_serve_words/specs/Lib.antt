@@ -1,0 +1,3 @@
+pub mod Services
+pub mod Storage
+pub mod Words

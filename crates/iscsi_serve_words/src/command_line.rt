@@ -1,0 +1,163 @@
+//! What the words of all commands share: how a word is declared, and why words are refused.
+
+ghost use Rattle.std.specs.Prelude.{◌≡◌};
+ghost use Rattle.iscsi_serve_words.specs.Words.{words_status};
+
+use crate::examples;
+use clap::error::ErrorKind;
+use clap::{Arg, ArgAction, Command, Error};
+use std::alloc::{AllocError, AllocFailed, Global};
+use std::io::{self, Write};
+use thiserror::Error;
+
+/// The line for words that are not UTF-8.
+const NOT_UTF8: &str =
+    "error: the words are not all UTF-8\n\nFor more information, try '--help'.\n";
+
+/// Why words are refused.
+#[derive(Debug, Drop, Error)]
+pub enum LineFault {
+    /// Memory ran out.
+    #[error("memory")]
+    NoMemory,
+    /// The words are no job; the text says why and what would be one, or is the help that was asked
+    /// for.
+    #[error("{0}")]
+    Usage(String),
+}
+
+impl From<AllocError> for LineFault {
+    fn from(_e: AllocError) -> LineFault {
+        LineFault::NoMemory
+    }
+}
+
+impl<T: Drop> From<AllocFailed<T>> for LineFault {
+    fn from(_e: AllocFailed<T>) -> LineFault {
+        LineFault::NoMemory
+    }
+}
+
+impl LineFault {
+    /// The exit status of words that ask for no job or for help, 2; 3 if memory ran out.
+    pub fn status(&self) -> u8
+        ensures status { result ≡ words_status self.now }
+    {
+        match self {
+            LineFault::Usage(_) => 2,
+            LineFault::NoMemory => 3,
+        }
+    }
+
+    /// Writes why the words are refused, or the help.
+    pub fn tell<E: Write>(&self, w: &mut E) -> io::Result<()> {
+        match self {
+            LineFault::Usage(text) => write!(w, "{text}"),
+            LineFault::NoMemory => writeln!(w, "memory"),
+        }
+    }
+}
+
+/// The words of the command line, without the program's name. `Usage` if one of them is not UTF-8,
+/// `NoMemory` if memory ran out.
+pub fn read_command_line(rt: &HostRuntime) -> Result<Vec<String>, LineFault> {
+    let alloc = rt.alloc();
+    let words = match std::env::args(rt) {
+        Ok(words) => words,
+        Err(error) => return Err(unread(alloc, &error)),
+    };
+    Ok(words.skip(1).collect(alloc)?)
+}
+
+// Why there are no words to judge: memory ran out, or one of them is not UTF-8.
+fn unread(alloc: Global, error: &io::Error) -> LineFault {
+    if matches!(error.kind(), io::ErrorKind::OutOfMemory) {
+        return LineFault::NoMemory;
+    }
+    match String::from_str(alloc, NOT_UTF8) {
+        Ok(text) => LineFault::Usage(text),
+        Err(_) => LineFault::NoMemory,
+    }
+}
+
+/// The fault of words that clap refuses, or whose help was asked for: `NoMemory` if memory ran out
+/// then, or for the text.
+pub fn usage(alloc: Global, error: Error) -> LineFault {
+    if matches!(error.kind(), ErrorKind::OutOfMemory) {
+        return LineFault::NoMemory;
+    }
+    match format!(in alloc; "{error}") {
+        Ok(text) => LineFault::Usage(text),
+        Err(_) => LineFault::NoMemory,
+    }
+}
+
+/// The program, without the words of its jobs. The error is want of memory.
+pub fn bare_command<'a>(alloc: Global) -> Result<Command<'a>, AllocError> {
+    Command::new(alloc, "lanthovur")
+        .about("Serve iSCSI disks, and show, normalise, compare and answer iSCSI streams")
+        .after_help(examples::PROGRAM)
+        .no_binary_name(true)
+        .disable_version_flag(true)
+        .disable_help_subcommand(true)
+        .subcommand_required(true)
+        .bin_name("lanthovur")
+}
+
+/// A word that may stand there or not.
+pub fn flag<'a>(alloc: Global, name: &'a str, help: &'a str) -> Arg<'a> {
+    Arg::new(alloc, name)
+        .long(name)
+        .action(ArgAction::SetTrue)
+        .help(help)
+}
+
+/// A program with one more word, if it could be made. The error is want of memory.
+pub fn with_word<'a>(
+    program: Command<'a>,
+    word: Result<Arg<'a>, AllocError>,
+) -> Result<Command<'a>, AllocError> {
+    program.arg(word?)
+}
+
+/// A word with a value.
+pub fn valued<'a>(alloc: Global, name: &'a str, value: &'a str, help: &'a str) -> Arg<'a> {
+    Arg::new(alloc, name)
+        .long(name)
+        .value_name(value)
+        .action(ArgAction::Set)
+        .help(help)
+}
+
+/// The name of a file, without a word before it.
+pub fn file<'a>(alloc: Global, name: &'a str, help: &'a str) -> Arg<'a> {
+    Arg::new(alloc, name).action(ArgAction::Set).help(help)
+}
+
+/// The usage error for a word whose value is wrong: the text says what it is not, and what was meant.
+pub fn bad_value(
+    alloc: Global,
+    program: Result<Command<'_>, AllocError>,
+    value: &str,
+    text: &str,
+) -> LineFault {
+    match format!(in alloc; "'{value}' {text}") {
+        Ok(text) => bad_number(alloc, program, text.as_str()),
+        Err(_) => LineFault::NoMemory,
+    }
+}
+
+/// The usage error for words that are a job's and ask for none.
+pub fn bad_number(
+    alloc: Global,
+    program: Result<Command<'_>, AllocError>,
+    text: &str,
+) -> LineFault {
+    let Ok(mut program) = program else {
+        return LineFault::NoMemory;
+    };
+    match program.error(ErrorKind::ValueValidation, text) {
+        Ok(error) => usage(alloc, error),
+        Err(_) => LineFault::NoMemory,
+    }
+}
