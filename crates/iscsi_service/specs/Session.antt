@@ -1,10 +1,10 @@
 -- A target's session over a stream: what it leaves, and where it ends (RFC 7143, sections 6 and
 -- 11).
 use Rattle.std.specs.Prelude.{◌≡◌, ◌⊎◌, ◌≤◌, ◌<◌, ℕ, true, false, List, [], ◌∷◌, ◌++◌, length, take, min, Option, Some, None, Result, Ok, Err, codes}
-use Rattle.std.specs.Io.KnownBytes.{Consumes, IsAtEnd}
+use Rattle.std.specs.Io.KnownBytes.{Appends, Consumes, IsAtEnd}
 use Rattle.scsi_disk.specs.Disk.{Disk}
 use Rattle.iscsi_pdu.specs.declared.head.Head.{Head}
-use Rattle.iscsi_pdu.specs.Meaning.{IsHeader, fault_of}
+use Rattle.iscsi_pdu.specs.Meaning.{AreBytes, IsHeader, fault_of}
 use Rattle.iscsi_stream.specs.declared.fault.StreamFault.{StreamFault}
 use Rattle.iscsi_stream.specs.declared.fault.StreamFault.TheVariants as stream
 use Rattle.iscsi_stream.specs.Segment.{no_login}
@@ -220,3 +220,35 @@ pub record SentBefore (all : Exchange) (store : Store) (kept : ℕ → List ℕ 
 abbrev pub EndsWell : Settings → Disk → Option (List ℕ) → Option (List ℕ) → Type 0
 EndsWell settings disk before after =
     IsAtEnd after ⊎ ((read : List ℕ) × Consumes before after read × IsOver settings disk read)
+
+-- ---- a session over a stream
+
+-- What is around a session at a moment: what may still be read and what was written, as far as these
+-- are known, the store, and what a crash leaves of each of its blocks.
+pub record Around : Type 1 where
+  pub remaining : Option (List ℕ)
+  pub contents : Option (List ℕ)
+  pub store : Store
+  pub kept : ℕ → List ℕ → Type 0
+
+-- These four together.
+abbrev pub around : Option (List ℕ) → Option (List ℕ) → Store → (ℕ → List ℕ → Type 0) → Around
+around remaining contents store kept =
+    record { remaining = remaining; contents = contents; store = store; kept = kept }
+
+-- A session has read this and written that, and ended so. A crash leaves each block as before, or as
+-- a command of a PDU of what was read leaves it.
+abbrev pub ServesStream : Settings → Result (Unit {0}) SessionFault → Around → Around → Type 0
+ServesStream settings result old new = (read : List ℕ) × (written : List ℕ)
+    × Consumes old.remaining new.remaining read
+    × Appends old.contents new.contents written × AreBytes written
+    × (new.store.failures ≡ old.store.failures
+    → Serves settings old.store.disk result read new.store.disk written
+    × EndsBy settings old.store.disk result read)
+    × CrashesFed (opening_connection settings 1) old.store read new.store old.kept new.kept
+
+-- The last answers that a session has written left this store, of which a crash leaves that.
+abbrev pub WroteBefore : Settings → Around → Store → (ℕ → List ℕ → Type 0) → Around → Type 0
+WroteBefore settings old store kept new = (read : List ℕ) × (written : List ℕ)
+    × Consumes old.remaining new.remaining read × Appends old.contents new.contents written
+    × SentBefore (exchange settings old.store read written) store kept new.store new.kept

@@ -12,7 +12,7 @@ ghost use Rattle.iscsi_target.specs.Feed.{opening_connection};
 ghost use Rattle.iscsi_target.specs.Crash.{CrashesFed};
 ghost use Rattle.iscsi_target.specs.Inside.{store_of};
 ghost use Rattle.iscsi_serving.specs.Executed.{HasExecuted};
-ghost use Rattle.iscsi_service.specs.Session.{target_settings, Comes, EndsBy, EndsCut, EndsWell, SentBefore, Serves, ServesAll, exchange};
+ghost use Rattle.iscsi_service.specs.Session.{target_settings, Comes, EndsCut, EndsWell, ServesAll, ServesStream, WroteBefore, around};
 ghost use Rattle.iscsi_service.specs.SessionSteps.{Goes, ClosesBy, Breaks, HoldsBack, LeftLast, Syncs, service};
 
 use crate::session_fault::SessionFault;
@@ -73,15 +73,11 @@ pub fn serve_stream<S: BlockStore, R: Read, W: Write>(
 ) -> Result<(), SessionFault>
     // Come what may, a crash leaves each block as before, or as a command of a PDU of what was read
     // leaves it.
-    ensures serves { (read : List ℕ) × (written : List ℕ)
-        × Consumes (R.remaining r.old) (R.remaining r.new) read
-        × Appends (W.contents w.old) (W.contents w.new) written × AreBytes written
-        × (S.failures store.new ≡ S.failures store.old
-        → Serves config (S.disk store.old) result read (S.disk store.new) written
-        × EndsBy config (S.disk store.old) result read)
-        × CrashesFed (opening_connection config 1)
-        (store_of (S.disk store.old) (S.failures store.old)) read
-        (store_of (S.disk store.new) (S.failures store.new)) (S.kept store.old) (S.kept store.new) }
+    ensures serves { ServesStream config result
+        (around (R.remaining r.old) (W.contents w.old)
+        (store_of (S.disk store.old) (S.failures store.old)) (S.kept store.old))
+        (around (R.remaining r.new) (W.contents w.new)
+        (store_of (S.disk store.new) (S.failures store.new)) (S.kept store.new)) }
     // What was written and what is stored are what the PDUs before the first fault lead to: a function
     // of the settings, the blocks and their meanings alone.
     ensures answered { S.failures store.new ≡ S.failures store.old
@@ -99,13 +95,12 @@ pub fn serve_stream<S: BlockStore, R: Read, W: Write>(
         → S.synced store.new ≡ true }
     // Where one failed, the last answers that were written left a store that was synced.
     ensures unsent { result ≡ Err SessionFault.Sync → S.synced store.old ≡ true
-        → (then : S) × (S.synced then ≡ true) × (read : List ℕ) × (written : List ℕ)
-        × Consumes (R.remaining r.old) (R.remaining r.new) read
-        × Appends (W.contents w.old) (W.contents w.new) written
-        × SentBefore
-        (exchange config (store_of (S.disk store.old) (S.failures store.old)) read written)
+        → (then : S) × (S.synced then ≡ true) × WroteBefore config
+        (around (R.remaining r.old) (W.contents w.old)
+        (store_of (S.disk store.old) (S.failures store.old)) (S.kept store.old))
         (store_of (S.disk then) (S.failures then)) (S.kept then)
-        (store_of (S.disk store.new) (S.failures store.new)) (S.kept store.new) }
+        (around (R.remaining r.new) (W.contents w.new)
+        (store_of (S.disk store.new) (S.failures store.new)) (S.kept store.new)) }
     ensures end { S.failures store.new ≡ S.failures store.old → OnOk result
         (EndsWell config (S.disk store.old) (R.remaining r.old) (R.remaining r.new)) }
     // A PDU is called cut where the reader has told its end.
@@ -126,28 +121,23 @@ pub(crate) fn serve_reads<S: BlockStore, R: Read, W: Write>(
 ) -> Result<(), SessionFault>
     requires some { 0 < length buffer.old }
     requires range { IsInRange config.preferences }
-    ensures serves { (read : List ℕ) × (written : List ℕ)
-        × Consumes (R.remaining r.old) (R.remaining r.new) read
-        × Appends (W.contents w.old) (W.contents w.new) written × AreBytes written
-        × (S.failures store.new ≡ S.failures store.old
-        → Serves config (S.disk store.old) result read (S.disk store.new) written
-        × EndsBy config (S.disk store.old) result read)
-        × CrashesFed (opening_connection config 1)
-        (store_of (S.disk store.old) (S.failures store.old)) read
-        (store_of (S.disk store.new) (S.failures store.new)) (S.kept store.old) (S.kept store.new) }
+    ensures serves { ServesStream config result
+        (around (R.remaining r.old) (W.contents w.old)
+        (store_of (S.disk store.old) (S.failures store.old)) (S.kept store.old))
+        (around (R.remaining r.new) (W.contents w.new)
+        (store_of (S.disk store.new) (S.failures store.new)) (S.kept store.new)) }
     ensures blocks { HasExecuted (S.disk store.old) (S.disk store.new) }
     ensures lasts { S.failures store.new ≡ 0
         → Lasts (S.synced store.new) (S.disk store.new) (S.kept store.new) }
     ensures synced { S.synced store.old ≡ true → result ≢ Err SessionFault.Sync
         → S.synced store.new ≡ true }
     ensures unsent { result ≡ Err SessionFault.Sync → S.synced store.old ≡ true
-        → (then : S) × (S.synced then ≡ true) × (read : List ℕ) × (written : List ℕ)
-        × Consumes (R.remaining r.old) (R.remaining r.new) read
-        × Appends (W.contents w.old) (W.contents w.new) written
-        × SentBefore
-        (exchange config (store_of (S.disk store.old) (S.failures store.old)) read written)
+        → (then : S) × (S.synced then ≡ true) × WroteBefore config
+        (around (R.remaining r.old) (W.contents w.old)
+        (store_of (S.disk store.old) (S.failures store.old)) (S.kept store.old))
         (store_of (S.disk then) (S.failures then)) (S.kept then)
-        (store_of (S.disk store.new) (S.failures store.new)) (S.kept store.new) }
+        (around (R.remaining r.new) (W.contents w.new)
+        (store_of (S.disk store.new) (S.failures store.new)) (S.kept store.new)) }
     ensures end { S.failures store.new ≡ S.failures store.old → OnOk result
         (EndsWell config (S.disk store.old) (R.remaining r.old) (R.remaining r.new)) }
     ensures cut { EndsCut result (R.remaining r.new) }
