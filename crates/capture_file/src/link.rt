@@ -1,17 +1,16 @@
 //! What the header of a link says is inside (the registry of LINKTYPE values; IEEE 802.3, 802.1Q).
 
-ghost use Rattle.std.specs.Prelude.{◌≤◌};
+ghost use Rattle.std.specs.Prelude.{◌≡◌, ◌+◌, ◌≤◌};
+ghost use Rattle.capture_file.specs.Links.{network_at, behind_tags, behind_cooked, behind_family, is_ip, is_tag};
 
 use crate::fault::PacketFault;
 use crate::numbers::{Order, u16_at, u32_at};
 
-/// The EtherType of IPv4.
-const IP_4: u16 = 0x0800;
-/// The EtherType of IPv6.
-const IP_6: u16 = 0x86dd;
-
 /// How many bytes stand before the IP packet; `None` where another protocol is inside.
-pub(crate) fn before_network(link: u16, packet: &[u8]) -> Result<Option<usize>, PacketFault> {
+#[tactic(auto, unfolding(crate::specs::Links::network_at))]
+pub(crate) fn before_network(link: u16, packet: &[u8]) -> Result<Option<usize>, PacketFault>
+    ensures { result ≡ network_at link packet.now }
+{
     match link {
         1 => ethernet(packet),
         113 => cooked(packet, 14, 16),
@@ -23,38 +22,64 @@ pub(crate) fn before_network(link: u16, packet: &[u8]) -> Result<Option<usize>, 
 }
 
 // Ethernet (1), with up to four VLAN tags of 4 bytes.
-fn ethernet(packet: &[u8]) -> Result<Option<usize>, PacketFault> {
+#[tactic(auto, using(crate::proofs::Headers::tags))]
+fn ethernet(packet: &[u8]) -> Result<Option<usize>, PacketFault>
+    ensures { result ≡ behind_tags 5 12 packet.now }
+{
     let mut at: usize = 12;
     for _ in 0..5u8 {
         if packet.len() < 2 || at > packet.len() - 2 {
             return Err(PacketFault::Cut);
         }
-        match u16_at(Order::Big, packet, at) {
-            IP_4 | IP_6 => return Ok(Some(at + 2)),
-            0x8100 | 0x88a8 | 0x9100 => at += 4,
-            _ => return Ok(None),
+        let kind = u16_at(Order::Big, packet, at);
+        if is_ip(kind) {
+            return Ok(Some(at + 2));
         }
+        if !is_tag(kind) {
+            return Ok(None);
+        }
+        at += 4;
     }
     Ok(None)
 }
 
+// The EtherTypes of IPv4 and IPv6.
+#[tactic(auto, unfolding(crate::specs::Links::is_ip))]
+fn is_ip(kind: u16) -> bool
+    ensures { result ≡ is_ip kind }
+{
+    kind == 0x0800 || kind == 0x86dd
+}
+
+// The EtherTypes of VLAN tags.
+#[tactic(auto, unfolding(crate::specs::Links::is_tag))]
+fn is_tag(kind: u16) -> bool
+    ensures { result ≡ is_tag kind }
+{
+    kind == 0x8100 || kind == 0x88a8 || kind == 0x9100
+}
+
 // Linux's cooked headers, of version 1 (113) and 2 (276): where the EtherType stands, and how long
 // the header is.
-fn cooked(packet: &[u8], at: usize, length: usize) -> Result<Option<usize>, PacketFault>
+fn cooked(packet: &[u8], at: usize, header: usize) -> Result<Option<usize>, PacketFault>
     requires { at ≤ 14 }
+    ensures { at + 2 ≤ header → result ≡ behind_cooked at header packet.now }
 {
-    if packet.len() < length || packet.len() < at + 2 {
+    if packet.len() < header || packet.len() < at + 2 {
         return Err(PacketFault::Cut);
     }
-    match u16_at(Order::Big, packet, at) {
-        IP_4 | IP_6 => Ok(Some(length)),
-        _ => Ok(None),
+    if is_ip(u16_at(Order::Big, packet, at)) {
+        Ok(Some(header))
+    } else {
+        Ok(None)
     }
 }
 
 // The loopback of BSD (0, 108): a protocol family in four bytes, in either order. It is 2 for IPv4,
 // and 24, 28 or 30 for IPv6.
-fn loopback(packet: &[u8]) -> Result<Option<usize>, PacketFault> {
+fn loopback(packet: &[u8]) -> Result<Option<usize>, PacketFault>
+    ensures { result ≡ behind_family packet.now }
+{
     if packet.len() < 4 {
         return Err(PacketFault::Cut);
     }

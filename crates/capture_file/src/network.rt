@@ -1,8 +1,8 @@
 //! IP packets: addresses, and the segment inside (RFC 791, section 3.1; RFC 8200, sections 3
 //! and 4).
 
-ghost use Rattle.std.specs.Prelude.{◌≡◌, ◌≤◌, min, length, slice_range, IfOk, IfSome};
-ghost use Rattle.capture_file.specs.Packets.{IsVersion4};
+ghost use Rattle.std.specs.Prelude.{◌≡◌, ◌≤◌, min, length, slice_range};
+ghost use Rattle.capture_file.specs.Internet.{plain_carried, inside, inside_4, inside_6, tcp_at, behind_extension};
 
 use crate::fault::PacketFault;
 use crate::numbers::{Order, u16_at};
@@ -41,10 +41,13 @@ pub(crate) struct Carried<'a> {
 /// What the IP packet carries for TCP; `None` where it is no packet that a receiver takes, or has
 /// another protocol. The original length counts where the packet says none, as packets do that were
 /// longer than 65,535 bytes on a card that cuts them up.
+#[tactic(auto, unfolding(crate::specs::Internet::inside))]
 pub(crate) fn tcp_inside<'a>(
     packet: &'a [u8],
     original: usize,
-) -> Result<Option<Carried<'a>>, PacketFault> {
+) -> Result<Option<Carried<'a>>, PacketFault>
+    ensures { plain_carried result ≡ inside original packet.now }
+{
     if original == 0 {
         return Ok(None);
     }
@@ -59,8 +62,9 @@ pub(crate) fn tcp_inside<'a>(
 }
 
 // An IPv4 packet (RFC 791, section 3.1). What its length leaves over is padding.
+#[tactic(auto, unfolding(crate::specs::Internet::inside_4))]
 fn version_4<'a>(packet: &'a [u8], original: usize) -> Result<Option<Carried<'a>>, PacketFault>
-    ensures { IfOk result (λ found. IfSome found (IsVersion4 packet.now original)) }
+    ensures { plain_carried result ≡ inside_4 original packet.now }
 {
     if packet.len() < 20 {
         return Err(PacketFault::Cut);
@@ -101,9 +105,11 @@ fn within(bytes: &[u8], from: usize, to: usize) -> &[u8]
     &bytes[from..to.min(bytes.len())]
 }
 
-// An IPv6 packet (RFC 8200, section 3), with up to eight extension headers of the types 0, 43, 44
-// and 60 (section 4).
-fn version_6<'a>(packet: &'a [u8], original: usize) -> Result<Option<Carried<'a>>, PacketFault> {
+// An IPv6 packet (RFC 8200, section 3).
+#[tactic(auto, unfolding(crate::specs::Internet::inside_6))]
+fn version_6<'a>(packet: &'a [u8], original: usize) -> Result<Option<Carried<'a>>, PacketFault>
+    ensures { plain_carried result ≡ inside_6 original packet.now }
+{
     if packet.len() < 40 {
         return Err(PacketFault::Cut);
     }
@@ -112,26 +118,38 @@ fn version_6<'a>(packet: &'a [u8], original: usize) -> Result<Option<Carried<'a>
     if total > original {
         return Ok(None);
     }
+    let Some(at) = tcp_behind(packet, packet[6])? else {
+        return Ok(None);
+    };
+    if total < at {
+        return Ok(None);
+    }
+    if packet.len() < at {
+        return Err(PacketFault::Cut);
+    }
     let mut source = [0u8; 16];
     source.copy_from_slice(&packet[8..24]);
     let mut destination = [0u8; 16];
     destination.copy_from_slice(&packet[24..40]);
-    let mut next = packet[6];
+    Ok(Some(Carried {
+        source: Address::V6(source),
+        destination: Address::V6(destination),
+        length: total - at,
+        bytes: within(packet, at, total),
+    }))
+}
+
+// Where the header of TCP is, if the first one behind that of IPv6 has this type. Up to seven
+// extension headers of the types 0, 43, 44 and 60 stand before it (section 4).
+#[tactic(auto, using(crate::proofs::Headers::headers))]
+fn tcp_behind(packet: &[u8], first: u8) -> Result<Option<usize>, PacketFault>
+    ensures { result ≡ tcp_at 8 first 40 packet.now }
+{
+    let mut next = first;
     let mut at: usize = 40;
     for _ in 0..8u8 {
         if next == 6 {
-            if total < at {
-                return Ok(None);
-            }
-            if packet.len() < at {
-                return Err(PacketFault::Cut);
-            }
-            return Ok(Some(Carried {
-                source: Address::V6(source),
-                destination: Address::V6(destination),
-                length: total - at,
-                bytes: within(packet, at, total),
-            }));
+            return Ok(Some(at));
         }
         let Some((kind, behind)) = behind_header(packet, next, at)? else {
             return Ok(None);
@@ -144,7 +162,10 @@ fn version_6<'a>(packet: &'a [u8], original: usize) -> Result<Option<Carried<'a>
 
 // What follows an extension header of this type, and where; `None` for another type. A fragment
 // header of a whole packet is one, too.
-fn behind_header(packet: &[u8], next: u8, at: usize) -> Result<Option<(u8, usize)>, PacketFault> {
+#[tactic(auto, unfolding(crate::specs::Internet::behind_extension))]
+fn behind_header(packet: &[u8], next: u8, at: usize) -> Result<Option<(u8, usize)>, PacketFault>
+    ensures { result ≡ behind_extension next at packet.now }
+{
     if next != 0 && next != 43 && next != 44 && next != 60 {
         return Ok(None);
     }

@@ -1,7 +1,8 @@
 //! The TCP segment of a packet.
 
-ghost use Rattle.std.specs.Prelude.{IfOk, IfSome};
-ghost use Rattle.capture_file.specs.Packets.{IsTcp};
+ghost use Rattle.std.specs.Prelude.{◌≡◌};
+ghost use Rattle.capture_file.specs.Internet.{inside_of};
+ghost use Rattle.capture_file.specs.Segments.{plain_segment, segment_in, tcp_segment};
 
 use crate::fault::PacketFault;
 use crate::link::before_network;
@@ -39,7 +40,10 @@ pub struct Segment<'a> {
 ///
 /// `Link` comes for a link type that is not read, and `Cut` if the capture does not have all
 /// headers up to that of TCP. `Fragment` comes for a fragment of an IP packet with TCP.
-pub fn segment_of<'a>(packet: Packet<'a>) -> Result<Option<Segment<'a>>, PacketFault> {
+#[tactic(auto, unfolding(crate::specs::Segments::segment_in))]
+pub fn segment_of<'a>(packet: Packet<'a>) -> Result<Option<Segment<'a>>, PacketFault>
+    ensures exact { plain_segment result ≡ segment_in packet.entry }
+{
     let Some(before) = before_network(packet.link, packet.bytes)? else {
         return Ok(None);
     };
@@ -54,8 +58,9 @@ pub fn segment_of<'a>(packet: Packet<'a>) -> Result<Option<Segment<'a>>, PacketF
 }
 
 // The segment that a packet has for TCP (RFC 9293, section 3.1); `None` where no segment can be so.
+#[tactic(auto, unfolding(crate::specs::Segments::tcp_segment))]
 fn tcp<'a>(carried: Carried<'a>) -> Result<Option<Segment<'a>>, PacketFault>
-    ensures { IfOk result (λ found. IfSome found (IsTcp carried.entry)) }
+    ensures { plain_segment result ≡ tcp_segment (inside_of carried.entry) }
 {
     let bytes = carried.bytes;
     if bytes.len() < 20 {
