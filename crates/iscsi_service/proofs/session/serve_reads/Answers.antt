@@ -205,7 +205,7 @@ returns-in_err-serve_piece-clause-unsent g c =
     let m = session_last c.args.config c.requires.range first c.loop-out.target c.serve_piece.new.target (store_of (g.S.BlockStore.disk l.0) (g.S.BlockStore.failures l.0)) store
     after r0 r1 r2 w0 w1 w2 (g.S.BlockStore.kept c.args.store.now) (g.S.BlockStore.kept c.loop-out.store) (g.S.BlockStore.kept l.0)
     (g.S.BlockStore.kept c.serve_piece.new.store) piece c.loop-out.invariant.1 (rw c.in-Some.is at c.in_ok-n.ensures.piece).2 l.2 in
-    (l.0, l.1, m.0, m.1, m.2, m.3, m.4))
+    (l.0, l.1, m))
 
 pub returns-in_err-n-clause-cut : goal.returns-in_err-n-clause-cut
 returns-in_err-n-clause-cut g c =
