@@ -2,7 +2,6 @@
 
 ghost use Rattle.std.specs.Prelude.{◌≡◌, ◌<◌, ◌≤◌};
 ghost use Rattle.scsi_disk.specs.Disk.{most_blocks};
-ghost use Rattle.iscsi_serve_words.specs.declared.storage.Storage.{Storage};
 ghost use Rattle.iscsi_serve_words.specs.Services.{CanServe};
 ghost use Rattle.iscsi_serve_words.specs.Storage.{IsStorage};
 ghost use Rattle.iscsi_disk_service.specs.Disks.{EndsStorage, disk_status};
@@ -71,25 +70,24 @@ pub fn serve_storage<'a>(
     ensures ends { EndsStorage storage.entry result }
 {
     match storage {
-        Storage::Memory { blocks } => ended(serve_memory(rt, service, blocks)),
+        Storage::Memory { blocks } => match serve_memory(rt, service, blocks) {
+            Ok(()) => Ok(()),
+            Err(fault) => Err(DiskFault::Session(fault)),
+        },
         Storage::Image(image) => match image.open(rt) {
-            Ok(mut store) => ended(serve_store(rt, service, &mut store)),
+            Ok(mut store) => match serve_store(rt, service, &mut store) {
+                Ok(()) => Ok(()),
+                Err(fault) => Err(DiskFault::Session(fault)),
+            },
             Err(fault) => Err(DiskFault::Image(image, fault)),
         },
         Storage::Nbd(export) => match export.open(rt) {
-            Ok(mut store) => ended(serve_store(rt, service, &mut store)),
+            Ok(mut store) => match serve_store(rt, service, &mut store) {
+                Ok(()) => Ok(()),
+                Err(fault) => Err(DiskFault::Session(fault)),
+            },
             Err(fault) => Err(DiskFault::Nbd(export, fault)),
         },
-    }
-}
-
-// The end of a service.
-fn ended<'a>(said: Result<(), ServeFault>) -> Result<(), DiskFault<'a>>
-    ensures ends { (storage : Storage) → EndsStorage storage result }
-{
-    match said {
-        Ok(()) => Ok(()),
-        Err(fault) => Err(DiskFault::Session(fault)),
     }
 }
 
