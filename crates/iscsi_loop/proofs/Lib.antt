@@ -4,3 +4,5 @@ pub mod HistoryLemmas
 pub mod PairStepLemmas
 pub mod RequestLemmas
 pub mod OnDiskLaw
+pub mod DeclaredLemmas
+pub mod BlameLemmas

@@ -276,15 +276,19 @@ performs old handed settled t u before after out request done s is on given = λ
     takes_on settled u after request done blocks past given
     (on blocks (past ++ request ∷ []) (outcomes_on blocks past) (submits_on old handed t before out request s is blocks past (outcomes_on blocks past) h))
 
+-- a login begins
+pub login_begins : (old started_ : initiator.Connection) (t : target.Connection) (before : Disk) (out : List ℕ) (blocks : ℕ)
+    → ends_of old t before [] [] ≡ new_ends blocks → initiator.Starts (Ok tt) old started_ [] out → AreOneDisk blocks [] (ends_of started_ t before out [])
+login_begins old started_ t before out blocks new s =
+    let first : initiator.Starts (Ok tt) (initiator.opening_connection initiator_settings) started_ [] out =
+    subst (λ (i : initiator.Connection). initiator.Starts (Ok tt) i started_ [] out) (ap (λ (e : Ends). e.initiator) new) s in
+    subst (λ (d : Disk). AreOneDisk blocks [] (ends_of started_ t d out [])) (sym (ap (λ (e : Ends). e.disk) new))
+    (subst (λ (x : target.Connection). AreOneDisk blocks [] (ends_of started_ x (zeros blocks) out [])) (sym (ap (λ (e : Ends). e.target) new))
+    (starts blocks started_ out first))
+
 -- a login
 pub logs_in : (old started_ settled : initiator.Connection) (t u : target.Connection) (before after : Disk) (out : List ℕ) (blocks : ℕ)
     → ends_of old t before [] [] ≡ new_ends blocks → initiator.Starts (Ok tt) old started_ [] out
     → GoOn (ends_of started_ t before out []) (ends_of settled u after [] []) → AreOneDisk blocks [] (ends_of settled u after [] [])
 logs_in old started_ settled t u before after out blocks new s on =
-    let first : initiator.Starts (Ok tt) (initiator.opening_connection initiator_settings) started_ [] out =
-    subst (λ (i : initiator.Connection). initiator.Starts (Ok tt) i started_ [] out) (ap (λ (e : Ends). e.initiator) new) s in
-    let here : AreOneDisk blocks [] (ends_of started_ t before out []) =
-    subst (λ (d : Disk). AreOneDisk blocks [] (ends_of started_ t d out [])) (sym (ap (λ (e : Ends). e.disk) new))
-    (subst (λ (x : target.Connection). AreOneDisk blocks [] (ends_of started_ x (zeros blocks) out [])) (sym (ap (λ (e : Ends). e.target) new))
-    (starts blocks started_ out first)) in
-    on blocks [] (outcomes_on blocks []) here
+    on blocks [] (outcomes_on blocks []) (login_begins old started_ t before out blocks new s)

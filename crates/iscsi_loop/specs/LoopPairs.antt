@@ -10,7 +10,7 @@ use Rattle.iscsi_initiator.specs.declared.request.Done.{Done}
 use Rattle.iscsi_initiator.specs.declared.request.Request.{Request}
 use Rattle.iscsi_pair.specs.World.{World, Opening, Event, new_pair}
 use Rattle.iscsi_pair.specs.LocalDisk.{local}
-use Rattle.iscsi_pair.specs.Served.{RunsServed, requests_of, disk_after, disk_outcomes}
+use Rattle.iscsi_pair.specs.Served.{EndsInLogout, RunsServed, requests_of, disk_after, disk_outcomes}
 use Rattle.iscsi_loop.specs.declared.command.Command.{Command}
 use Rattle.iscsi_serving.specs.declared.fault.ServeFault.{ServeFault}
 use Rattle.iscsi_loop.specs.Commands.{request_of}
@@ -18,6 +18,7 @@ use Rattle.iscsi_loop.specs.Script.{IsScript}
 use Rattle.iscsi_service.specs.Session.{target_settings}
 use Rattle.iscsi_loop.specs.Reports.{report}
 use Rattle.iscsi_loop.specs.Looping.{initiator_settings, reports, transcript, up_to_logout}
+use Rattle.iscsi_loop.specs.LoopSteps.{BlamesNoEnd}
 
 -- A carrier returns what was written to it.
 abbrev pub IsFaithful : (List ℕ → List ℕ → Type 0) → Type 0
@@ -79,6 +80,11 @@ abbrev pub GoOn : Ends → Ends → Type 0
 GoOn old new = (blocks : ℕ) (requests : List Request) (outcomes : List Done)
     → HaveServed blocks requests outcomes old → HaveServed blocks requests outcomes new
 
+-- Whatever the ends had served before, the fault is neither end's.
+abbrev pub IsBlameless : Ends → ServeFault → Type 0
+IsBlameless old fault = (blocks : ℕ) (requests : List Request) (outcomes : List Done)
+    → HaveServed blocks requests outcomes old → BlamesNoEnd fault
+
 -- ---- one local disk
 
 -- The outcomes of requests on one local disk of n blocks of 00 (section 4.2).
@@ -93,6 +99,14 @@ outcome_on blocks past request =
 -- The ends have served these requests as one local disk does, and nothing is on its way.
 abbrev pub AreOneDisk : ℕ → List Request → Ends → Type 0
 AreOneDisk blocks requests ends = HaveServed blocks requests (outcomes_on blocks requests) ends
+
+-- So they have, and the last of the requests is no logout: the session goes on.
+abbrev pub AreOpen : ℕ → List Request → Ends → Type 0
+AreOpen blocks requests ends = AreOneDisk blocks requests ends × (¬ EndsInLogout requests)
+
+-- The ends have served some requests as one local disk does, and nothing is on its way.
+abbrev pub AreSomeDisk : ℕ → Ends → Type 0
+AreSomeDisk blocks ends = (requests : List Request) × AreOneDisk blocks requests ends
 
 -- A request's outcome is that of one local disk, and so are all with it.
 abbrev pub Performs : Ends → Request → Done → Ends → Type 0

@@ -30,6 +30,17 @@ IsOfSession serve.Read = ⊥
 IsOfSession serve.Sync = ⊥
 IsOfSession serve.Write = ⊥
 
+-- A fault that is neither end's.
+abbrev pub BlamesNoEnd : ServeFault → Type 0
+BlamesNoEnd (serve.Target fault) = ⊥
+BlamesNoEnd (serve.Initiator fault) = ⊥
+BlamesNoEnd serve.NoMemory = Unit {0}
+BlamesNoEnd (serve.Script n) = Unit {0}
+BlamesNoEnd serve.Network = Unit {0}
+BlamesNoEnd serve.Read = Unit {0}
+BlamesNoEnd serve.Write = Unit {0}
+BlamesNoEnd serve.Sync = Unit {0}
+
 -- A request that is refused counts as handed to a closed session, but where memory ran out.
 abbrev pub refusal_fault : SubmitFault → ServeFault
 refusal_fault refusals.NoMemory = serve.NoMemory

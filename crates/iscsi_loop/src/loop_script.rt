@@ -12,12 +12,12 @@ ghost use Rattle.iscsi_initiator.specs.declared.request.Request.{Request};
 ghost use Rattle.iscsi_serving.specs.declared.fault.ServeFault.TheVariants as serve;
 ghost use Rattle.iscsi_loop.specs.Reports.{report};
 ghost use Rattle.iscsi_loop.specs.Commands.{request_of};
-ghost use Rattle.iscsi_loop.specs.Script.{IsScript};
+ghost use Rattle.iscsi_loop.specs.Script.{AreInRange, IsInRange, IsScript};
 ghost use Rattle.iscsi_stream.specs.Normalising.{WroteFront};
 ghost use Rattle.iscsi_loop.specs.Looping.{initiator_settings, Loops, ReadsFirst};
 ghost use Rattle.scsi_disk.specs.Sparse.{disk_in};
-ghost use Rattle.iscsi_loop.specs.LoopPairs.{AreOneDisk, GoOn, IsFaithful, LoopsOnDisk, Performs, WritesLine, WritesOnDisk, asked, ends_of, new_ends};
-ghost use Rattle.iscsi_loop.specs.LoopSteps.{Continues, Fails, IsOfSession, Runs, Stops, refusal_fault};
+ghost use Rattle.iscsi_loop.specs.LoopPairs.{AreOneDisk, AreOpen, AreSomeDisk, GoOn, IsBlameless, IsFaithful, LoopsOnDisk, Performs, WritesLine, WritesOnDisk, asked, ends_of, new_ends};
+ghost use Rattle.iscsi_loop.specs.LoopSteps.{BlamesNoEnd, Continues, Fails, IsOfSession, Runs, Stops, refusal_fault};
 
 use crate::carrier::Carrier;
 use crate::command::Command;
@@ -101,6 +101,8 @@ pub fn run_over<C: Carrier, R: Read, W: Write>(
         × Consumes (R.remaining r.old) (R.remaining r.new) script
         × Appends (W.contents w.old) (W.contents w.new) written
         × LoopsOnDisk blocks result script written }
+    // Over such a connection no fault is one of an end.
+    ensures blameless { IsFaithful C.carries → IfErr result BlamesNoEnd }
 {
     let commands = read_script(rt.alloc(), r)?;
     let mut ends = LoopbackSession::open(rt.alloc(), blocks, piece as usize)?;
@@ -123,6 +125,9 @@ fn run_session<C: Carrier, W: Write>(
         ≡ new_ends blocks → IsScript script commands.items → (written : List ℕ)
         × Appends (W.contents w.old) (W.contents w.new) written
         × LoopsOnDisk blocks result script written }
+    ensures blameless { IsFaithful C.carries → (blocks : ℕ)
+        → ends_of ends.old.initiator ends.old.target (disk_in ends.old.store) [] []
+        ≡ new_ends blocks → AreInRange commands.items → IfErr result BlamesNoEnd }
 {
     let mut carrier = C::open(rt)?;
     ends.log_in(&mut carrier)?;
@@ -146,6 +151,13 @@ fn run_commands<C: Carrier, W: Write>(
     ensures served { IsFaithful C.carries → (blocks : ℕ) → AreOneDisk blocks []
         (ends_of ends.old.initiator ends.old.target (disk_in ends.old.store) [] [])
         → WritesOnDisk blocks commands.items result (W.contents w.old) (W.contents w.new) }
+    ensures stands { IsFaithful C.carries → (blocks : ℕ) → AreOneDisk blocks []
+        (ends_of ends.old.initiator ends.old.target (disk_in ends.old.store) [] [])
+        → OnOk result (AreSomeDisk blocks
+        (ends_of ends.new.initiator ends.new.target (disk_in ends.new.store) [] [])) }
+    ensures blameless { IsFaithful C.carries → (blocks : ℕ) → AreOneDisk blocks []
+        (ends_of ends.old.initiator ends.old.target (disk_in ends.old.store) [] [])
+        → AreInRange commands.items → IfErr result BlamesNoEnd }
 {
     for command in commands {
         let is_logout = command.is_logout();
@@ -176,6 +188,10 @@ fn run_command<C: Carrier, W: Write>(
         → WritesLine result (asked blocks past (request_of command))
         (ends_of ends.new.initiator ends.new.target (disk_in ends.new.store) [] [])
         (W.contents w.old) (W.contents w.new) }
+    ensures blameless { IsFaithful C.carries → (blocks : ℕ) (past : List Request)
+        → AreOpen blocks past
+        (ends_of ends.old.initiator ends.old.target (disk_in ends.old.store) [] [])
+        → IsInRange command → IfErr result BlamesNoEnd }
 {
     let alloc = ends.alloc;
     let done = ends.perform(carrier, command)?;
@@ -218,6 +234,7 @@ impl LoopbackSession {
             ends.initiator ≡ opening_connection initiator_settings) }
         ensures new { IfOk result (λ ends.
             ends_of ends.initiator ends.target (disk_in ends.store) [] [] ≡ new_ends blocks) }
+        ensures blameless { IfErr result BlamesNoEnd }
         ensures err { IfErr result IsOfSession }
     {
         // What may fail comes first, so that no end has to be let go.
@@ -240,6 +257,9 @@ impl LoopbackSession {
             → ends_of self.old.initiator self.old.target (disk_in self.old.store) [] []
             ≡ new_ends blocks → OnOk result (AreOneDisk blocks []
             (ends_of self.new.initiator self.new.target (disk_in self.new.store) [] [])) }
+        ensures blameless { IsFaithful C.carries → (blocks : ℕ)
+            → ends_of self.old.initiator self.old.target (disk_in self.old.store) [] []
+            ≡ new_ends blocks → IfErr result BlamesNoEnd }
         ensures err { IfErr result IsOfSession }
     {
         let mut out = Vec::new(self.alloc);
@@ -259,6 +279,10 @@ impl LoopbackSession {
             (ends_of self.old.initiator self.old.target (disk_in self.old.store) [] [])
             (request_of command) done
             (ends_of self.new.initiator self.new.target (disk_in self.new.store) [] [])) }
+        ensures blameless { IsFaithful C.carries → (blocks : ℕ) (past : List Request)
+            → AreOpen blocks past
+            (ends_of self.old.initiator self.old.target (disk_in self.old.store) [] [])
+            → IsInRange command → IfErr result BlamesNoEnd }
         ensures err { IfErr result IsOfSession }
     {
         let request = command.into_request(self.alloc)?;
@@ -281,6 +305,8 @@ impl LoopbackSession {
         ensures served { IsFaithful C.carries → OnOk result (GoOn
             (ends_of self.old.initiator self.old.target (disk_in self.old.store) requests.items [])
             (ends_of self.new.initiator self.new.target (disk_in self.new.store) [] [])) }
+        ensures blameless { IsFaithful C.carries → IfErr result (IsBlameless
+            (ends_of self.old.initiator self.old.target (disk_in self.old.store) requests.items [])) }
         ensures err { IfErr result IsOfSession }
     {
         let mut requests = requests;
@@ -305,6 +331,8 @@ impl LoopbackSession {
             (ends_of self.old.initiator self.old.target (disk_in self.old.store) requests.now [])
             (ends_of self.new.initiator self.new.target (disk_in self.new.store) []
             answers.items)) }
+        ensures blameless { IsFaithful C.carries → IfErr result (IsBlameless
+            (ends_of self.old.initiator self.old.target (disk_in self.old.store) requests.now [])) }
         ensures err { IfErr result IsOfSession }
     {
         let mut answers = Vec::new(self.alloc);
@@ -334,6 +362,8 @@ impl LoopbackSession {
             (ends_of self.old.initiator self.old.target (disk_in self.old.store) [] answers.now)
             (ends_of self.new.initiator self.new.target (disk_in self.new.store)
             requests.items [])) }
+        ensures blameless { IsFaithful C.carries → IfErr result (IsBlameless
+            (ends_of self.old.initiator self.old.target (disk_in self.old.store) [] answers.now)) }
         ensures err { IfErr result IsOfSession }
     {
         let mut requests = Vec::new(self.alloc);
@@ -351,6 +381,8 @@ impl LoopbackSession {
 
     // Ends the target's stream, unless the session was closed before.
     fn finish(&mut self) -> Result<(), ServeFault>
+        ensures blameless { IfErr result (IsBlameless
+            (ends_of self.old.initiator self.old.target (disk_in self.old.store) [] [])) }
         ensures err { IfErr result IsOfSession }
     {
         if self.target.phase() != Phase::Closed {

@@ -1,7 +1,7 @@
 //! A connection of this process to itself.
 
-ghost use Rattle.std.specs.Prelude.{IfErr};
-ghost use Rattle.iscsi_loop.specs.LoopSteps.{IsOfSession};
+ghost use Rattle.std.specs.Prelude.{◌≡◌, IfErr};
+ghost use Rattle.iscsi_serving.specs.declared.fault.ServeFault.TheVariants as serve;
 
 use crate::carrier::Carrier;
 use iscsi_serving::ServeFault;
@@ -82,7 +82,7 @@ fn carry(
     piece: &[u8],
     read: &mut [u8],
 ) -> Result<(), ServeFault>
-    ensures err { IfErr result IsOfSession }
+    ensures err { IfErr result (λ fault. fault ≡ serve.Network) }
 {
     if write_fully(&mut from, piece).is_err() {
         return Err(ServeFault::Network);

@@ -7,6 +7,7 @@ use Rattle.iscsi_loop.specs.Commands.{request_of}
 use Rattle.iscsi_loop.specs.LoopPairs.{ends_of}
 use Rattle.iscsi_serving.specs.declared.fault.ServeFault.TheVariants as serve
 use Rattle.iscsi_stream.specs.Normalising.{WroteFront}
+use Rattle.iscsi_loop.proofs.BlameLemmas.{write_blameless}
 use Rattle.iscsi_loop.proofs.OnDiskLaw.{line_written, no_line}
 use Rattle.iscsi_loop.proofs.loop_script.run_command.Goals as goal
 
@@ -36,3 +37,11 @@ returns-in_err-done-clause-served g c = λ faithful blocks past one.
     let after = c.perform.new.self in
     rw p.1 (no_line p.0 blocks past (request_of c.args.command) (ends_of after.initiator after.target (disk_in after.store) [] [])
     (g.W.Write.contents c.args.w.now))
+
+pub returns-in_err-done-clause-blameless : goal.returns-in_err-done-clause-blameless
+returns-in_err-done-clause-blameless g c = λ faithful blocks past goes_on range.
+    let p = err_from_is_err_and c.from_residual.result c.from_residual.ensures.1 in
+    rw (p.1, p.2) (c.in_err-done.ensures.blameless faithful blocks past goes_on range)
+
+pub returns-clause-blameless : goal.returns-clause-blameless
+returns-clause-blameless g c = λ faithful blocks past goes_on range. write_blameless c.write_line.result _ c.write_line.ensures.err

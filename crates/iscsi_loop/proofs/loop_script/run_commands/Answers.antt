@@ -1,9 +1,12 @@
-use Rattle.std.proofs.Common.{◌≡◌, [], ◌∷◌, List, length, refl, sym, ap, subst, ◌∙◌, arith}
+use Rattle.std.proofs.Common.{◌≡◌, [], ◌∷◌, ◌++◌, List, length, map, refl, sym, ap, subst, ◌∙◌, arith}
 use Rattle.std.proofs.lemmas.Result.{err_from_is_err_and}
 use Rattle.std.specs.Vec.Iter.{into_iter_items}
 use Rattle.iscsi_loop.specs.declared.command.Command.{Command}
+use Rattle.iscsi_loop.specs.Commands.{is_logout, request_of}
 use Rattle.iscsi_loop.specs.Looping.{up_to_logout}
-use Rattle.iscsi_loop.proofs.HistoryLemmas.{DoneSoFar, done_none, done_more, done_all, done_stops, goes_on, ends_at}
+use Rattle.iscsi_loop.specs.Script.{AreInRange}
+use Rattle.iscsi_loop.proofs.BlameLemmas.{open_front}
+use Rattle.iscsi_loop.proofs.HistoryLemmas.{DoneSoFar, done_none, done_more, done_all, done_stops, goes_on, ends_at, left_at, left_by}
 use Rattle.scsi_disk.specs.Sparse.{disk_in}
 use Rattle.iscsi_loop.specs.LoopPairs.{ends_of}
 use Rattle.iscsi_loop.proofs.OnDiskLaw.{OnDiskSoFar, on_none, on_more, on_stops, on_all}
@@ -26,6 +29,7 @@ loop-command-init g c =
           (g.W.Write.contents c.args.w.now) (g.W.Write.contents c.args.w.now)) (sym gives.0)
           (on_none blocks c.args.commands.items (ends_of c.args.ends.now.initiator c.args.ends.now.target (disk_in c.args.ends.now.store) [] [])
           (g.W.Write.contents c.args.w.now) one),
+      λ ranges. subst AreInRange (sym gives.0) ranges,
     )
 
 pub returns-in_err-run_command-clause-err : goal.returns-in_err-run_command-clause-err
@@ -95,6 +99,7 @@ loop-command-preserved g c =
           (g.W.Write.contents c.run_command.new.w)
           (at.invariant.2 faithful blocks one) steps (λ past before. c.in_ok-run_command.ensures.served faithful blocks past before) more
           (goes_on x more (sym c.is_logout-is_logout.ensures ∙ c.if-is_logout.false)),
+      λ ranges. (subst AreInRange steps (at.invariant.3 ranges)).1,
     )
 
 pub returns-clause-runs : goal.returns-clause-runs
@@ -111,3 +116,38 @@ returns-clause-served g c = λ faithful blocks one.
     on_all blocks c.args.commands.items (into_iter_items at.command-iterator) (ends_of at.ends.initiator at.ends.target (disk_in at.ends.store) [] [])
     (g.W.Write.contents c.args.w.now) (g.W.Write.contents at.w) (at.invariant.2 faithful blocks one)
     (nothing_left (into_iter_items at.command-iterator) (sym at.invariant.1 ∙ none.0))
+
+pub returns-in_err-run_command-clause-blameless : goal.returns-in_err-run_command-clause-blameless
+returns-in_err-run_command-clause-blameless g c = λ faithful blocks one ranges.
+    let p = err_from_is_err_and c.from_residual.result c.from_residual.ensures.1 in
+    let at = c.loop-command in
+    let x = c.in-Some.command in
+    let more = into_iter_items c.next.new.self in
+    let steps : into_iter_items at.command-iterator ≡ x ∷ more = c.in-Some.ensures.steps.0 in
+    let d = at.invariant.2 faithful blocks one in
+    let left : List Command = up_to_logout (left_by (is_logout x) more) in
+    let runs : up_to_logout c.args.commands.items ≡ d.front ++ x ∷ left =
+    d.runs ∙ ap (λ (cs : List Command). d.front ++ up_to_logout cs) steps
+    ∙ ap (λ (cs : List Command). d.front ++ cs) (left_at (is_logout x) x more refl) in
+    rw (p.1, p.2) (c.in_err-run_command.ensures.blameless faithful blocks (map request_of d.front)
+    (d.one, open_front c.args.commands.items d.front left x runs) (subst AreInRange steps (at.invariant.3 ranges)).0)
+
+pub returns-then-is_logout-clause-stands : goal.returns-then-is_logout-clause-stands
+returns-then-is_logout-clause-stands g c = λ faithful blocks one.
+    let at = c.loop-command in
+    let x = c.in-Some.command in
+    let more = into_iter_items c.next.new.self in
+    let after = c.run_command.new.ends in
+    let next = on_more blocks c.args.commands.items (into_iter_items at.command-iterator) more x
+    (ends_of at.ends.initiator at.ends.target (disk_in at.ends.store) [] [])
+    (ends_of after.initiator after.target (disk_in after.store) [] [])
+    (g.W.Write.contents c.args.w.now) (g.W.Write.contents at.w) (g.W.Write.contents c.run_command.new.w)
+    (at.invariant.2 faithful blocks one) c.in-Some.ensures.steps.0
+    (λ past before. c.in_ok-run_command.ensures.served faithful blocks past before) []
+    (ends_at x more (sym c.is_logout-is_logout.ensures ∙ c.if-is_logout.true)) in
+    (map request_of next.front, next.one)
+
+pub returns-clause-stands : goal.returns-clause-stands
+returns-clause-stands g c = λ faithful blocks one.
+    let d = c.loop-command.invariant.2 faithful blocks one in
+    (map request_of d.front, d.one)

@@ -1,6 +1,7 @@
 use Rattle.std.proofs.Common.{◌≡◌, ℕ, [], length}
 use Rattle.std.specs.Vec.Iter.{into_iter_items, into_iter_len}
 use Rattle.scsi_disk.specs.Sparse.{disk_in}
+use Rattle.iscsi_loop.specs.Script.{AreInRange}
 use Rattle.iscsi_loop.specs.LoopPairs.{AreOneDisk, IsFaithful, ends_of}
 use Rattle.iscsi_loop.proofs.HistoryLemmas.{DoneSoFar}
 use Rattle.iscsi_loop.proofs.OnDiskLaw.{OnDiskSoFar}
@@ -14,3 +15,4 @@ invariant-loop-command g l = DoneSoFar l.fn.commands.items (into_iter_items l.co
     (disk_in l.initial.ends.store) [] [])
     → OnDiskSoFar blocks l.fn.commands.items (into_iter_items l.command-iterator) (ends_of l.ends.initiator l.ends.target (disk_in l.ends.store) [] [])
     (g.W.Write.contents l.initial.w) (g.W.Write.contents l.w))
+    × (AreInRange l.fn.commands.items → AreInRange (into_iter_items l.command-iterator))

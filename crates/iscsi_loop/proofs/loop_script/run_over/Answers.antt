@@ -1,6 +1,7 @@
 use Rattle.std.proofs.Common.{[], inl, refl}
 use Rattle.std.proofs.KnownBytes.{Appends-nil}
 use Rattle.std.proofs.lemmas.Result.{err_from_is_err_and}
+use Rattle.iscsi_loop.proofs.BlameLemmas.{script_blameless}
 use Rattle.iscsi_loop.proofs.HistoryLemmas.{script_stops, script_read, session_ends}
 use Rattle.iscsi_loop.proofs.loop_script.run_over.Goals as goal
 
@@ -11,6 +12,7 @@ returns-in_err-commands g c =
     record {
       loops = rw (p.1, p.2) (e.0, [], e.1, Appends-nil (g.W.Write.contents c.args.w.now), script_stops _ e.0 e.2, script_read _ e.0 _ e.2);
       on_disk = λ faithful. rw p.1 (e.0, [], e.1, Appends-nil (g.W.Write.contents c.args.w.now), inl refl);
+      blameless = λ faithful. rw (p.1, p.2) (script_blameless _ e.0 e.2);
     }
 
 pub returns-in_err-ends : goal.returns-in_err-ends
@@ -21,6 +23,7 @@ returns-in_err-ends g c =
     record {
       loops = rw (p.1, p.2) (k.0, [], k.1, Appends-nil (g.W.Write.contents c.args.w.now), s.0, s.1);
       on_disk = λ faithful. rw p.1 (k.0, [], k.1, Appends-nil (g.W.Write.contents c.args.w.now), inl refl);
+      blameless = λ faithful. rw (p.1, p.2) c.in_err-ends.ensures.blameless;
     }
 
 pub returns : goal.returns
@@ -32,4 +35,5 @@ returns g c =
       on_disk = λ faithful.
           let d = c.run_session.ensures.on_disk faithful c.args.blocks k.0 c.in_ok-ends.ensures.new k.3 in
           (k.0, d.0, k.1, d.1, d.2);
+      blameless = λ faithful. c.run_session.ensures.blameless faithful c.args.blocks c.in_ok-ends.ensures.new c.in_ok-commands.ensures.ranges;
     }

@@ -1,7 +1,11 @@
-use Rattle.std.proofs.Common.{[], inl, refl}
+use Rattle.std.proofs.Common.{[], inl, refl, sym, subst}
 use Rattle.std.specs.Prelude.{Err}
 use Rattle.std.proofs.KnownBytes.{Appends-nil}
 use Rattle.std.proofs.lemmas.Result.{err_from_is_err_and}
+use Rattle.scsi_disk.specs.Sparse.{disk_in}
+use Rattle.iscsi_loop.specs.LoopPairs.{ends_of}
+use Rattle.iscsi_loop.specs.LoopSteps.{BlamesNoEnd, IsOfSession}
+use Rattle.iscsi_loop.proofs.BlameLemmas.{blameless_at}
 use Rattle.iscsi_loop.proofs.HistoryLemmas.{session_ends, login_stops, commands_stop, commands_end}
 use Rattle.iscsi_loop.proofs.OnDiskLaw.{login_stops_on, commands_stop_on, commands_end_on}
 use Rattle.iscsi_loop.proofs.loop_script.run_session.Goals as goal
@@ -11,9 +15,10 @@ returns-in_err-carrier g c =
     let p = err_from_is_err_and c.from_residual.result c.from_residual.ensures.1 in
     record {
       loops = λ script left is end. rw (p.1, p.2) (
-          let s = session_ends _ script left c.in_err-carrier.ensures.err end in
+          let s = session_ends _ script left (subst IsOfSession (sym c.in_err-carrier.ensures.err) tt) end in
           ([], Appends-nil (g.W.Write.contents c.args.w.now), s.0, s.1));
       on_disk = λ faithful blocks script new is. rw p.1 ([], Appends-nil (g.W.Write.contents c.args.w.now), inl refl);
+      blameless = λ faithful blocks new ranges. rw (p.1, p.2) (subst BlamesNoEnd (sym c.in_err-carrier.ensures.err) tt);
     }
 
 pub returns-in_err-log_in : goal.returns-in_err-log_in
@@ -24,6 +29,7 @@ returns-in_err-log_in g c =
           let s = session_ends _ script left c.in_err-log_in.ensures.err end in
           ([], Appends-nil (g.W.Write.contents c.args.w.now), s.0, s.1));
       on_disk = λ faithful blocks script new is. rw p.1 ([], Appends-nil (g.W.Write.contents c.args.w.now), inl refl);
+      blameless = λ faithful blocks new ranges. rw (p.1, p.2) (c.in_err-log_in.ensures.blameless faithful blocks new);
     }
 
 pub returns-in_err-write_line : goal.returns-in_err-write_line
@@ -35,6 +41,7 @@ returns-in_err-write_line g c =
     record {
       loops = λ script left is end. rw (p.1, p.2) (login_stops _ script commands before after left is end c.in_err-write_line.ensures.err);
       on_disk = λ faithful blocks script new is. rw p.1 (login_stops_on p.0 blocks script commands before after is c.in_err-write_line.ensures.err.1);
+      blameless = λ faithful blocks new ranges. rw (p.1, p.2) (subst BlamesNoEnd (sym c.in_err-write_line.ensures.err.0) tt);
     }
 
 pub returns-in_err-run_commands : goal.returns-in_err-run_commands
@@ -50,6 +57,9 @@ returns-in_err-run_commands g c =
       on_disk = λ faithful blocks script new is.
           let one = c.in_ok-log_in.ensures.served faithful blocks new in
           rw p.1 (commands_stop_on p.0 blocks script commands before between after is line (c.in_err-run_commands.ensures.served faithful blocks one));
+      blameless = λ faithful blocks new ranges.
+          let one = c.in_ok-log_in.ensures.served faithful blocks new in
+          rw (p.1, p.2) (c.in_err-run_commands.ensures.blameless faithful blocks one ranges);
     }
 
 pub returns-in_err-close : goal.returns-in_err-close
@@ -62,11 +72,12 @@ returns-in_err-close g c =
     let line = c.in_ok-write_line.ensures.ok in
     record {
       loops = λ script left is end. rw (p.1, p.2) (commands_end (Err c.in_err-close.field-0.0) script commands before between after left
-          c.in_err-close.ensures.err is end line
+          (subst IsOfSession (sym c.in_err-close.ensures.err) tt) is end line
           c.in_ok-run_commands.ensures.runs);
       on_disk = λ faithful blocks script new is.
           let one = c.in_ok-log_in.ensures.served faithful blocks new in
           rw p.1 (commands_end_on (Err p.0) blocks script commands before between after is line (c.in_ok-run_commands.ensures.served faithful blocks one));
+      blameless = λ faithful blocks new ranges. rw (p.1, p.2) (subst BlamesNoEnd (sym c.in_err-close.ensures.err) tt);
     }
 
 pub returns : goal.returns
@@ -82,4 +93,9 @@ returns g c =
       on_disk = λ faithful blocks script new is.
           let one = c.in_ok-log_in.ensures.served faithful blocks new in
           commands_end_on c.finish.result blocks script commands before between after is line (c.in_ok-run_commands.ensures.served faithful blocks one);
+      blameless = λ faithful blocks new ranges.
+          let one = c.in_ok-log_in.ensures.served faithful blocks new in
+          let last = c.run_commands.new.ends in
+          blameless_at c.finish.result (ends_of last.initiator last.target (disk_in last.store) [] []) blocks c.finish.ensures.blameless
+          (c.in_ok-run_commands.ensures.stands faithful blocks one);
     }
