@@ -243,7 +243,7 @@ fn captured(job: CaptureJob<'_>, said: Result<(), CapturesFault>) -> Outcome<'_>
 
 // The outcome of a service.
 fn served(said: Result<(), DiskFault<'_>>) -> Outcome<'_>
-    ensures outcome { result ≡ of_service said }
+    ensures outcome { result ≡ of_service said.entry }
 {
     match said {
         Ok(()) => Outcome::Done,
