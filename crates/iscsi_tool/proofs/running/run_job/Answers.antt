@@ -9,7 +9,7 @@ returns-in-Serve g c = record {
     [],
     Consumes-nil (g.R.Read.remaining c.args.r.now),
     Appends-nil (g.W.Write.contents c.args.w.now),
-    rw c.in-Serve.is (c.serve_storage.ensures.ends, refl, refl),
+    rw c.in-Serve.is ((_, c.serve_storage.ensures.ends, c.served.ensures.outcome), refl, refl),
   );
 }
 
