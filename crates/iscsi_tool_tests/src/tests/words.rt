@@ -720,7 +720,9 @@ fn said_of_serve(rt: &impl Abort, alloc: Global, line: &str) -> String {
         Ok(job) => {
             let storage = job.storage;
             let service = job.service;
-            format!(in alloc; "Serve {{ storage: {storage:?}, service: {service:?} }}").expect(rt, line)
+            format!(in alloc; "Serve {{ storage: {storage:?}, service: {service:?} }}").expect(
+                rt, line,
+            )
         }
         Err(LineFault::Usage(text)) => text,
         Err(LineFault::NoMemory) => panic!(rt; "memory"),
