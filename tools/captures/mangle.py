@@ -153,10 +153,11 @@ def changed(packets, kinds, chance):
         packets = list(cut(packets, chance, "overlap" in kinds))
     if "repeat" in kinds:
         packets = repeated(packets, chance)
-    if "keepalive" in kinds:
-        packets = list(kept_alive(packets, chance))
     if "reorder" in kinds:
         packets = reordered(packets, chance)
+    # Its byte is not that of the stream, and a system sends it only behind that byte.
+    if "keepalive" in kinds:
+        packets = list(kept_alive(packets, chance))
     if "drop" in kinds:
         packets = without(packets, int(kinds["drop"]))
     if "conflict" in kinds:
