@@ -119,10 +119,22 @@ def repeated(packets, chance):
 
 
 def kept_alive(packets, chance):
+    """A keepalive repeats the last byte as a zero. A system sends it only where all bytes up to there have arrived."""
+    ends, waiting = {}, {}
     for packet in packets:
         yield packet
-        if packet.data and chance.random() < 0.3:
-            yield packet.copy(sequence=packet.sequence + len(packet.data) - 1, data=b"\0")
+        key = packet.source, packet.source_port, packet.destination, packet.destination_port
+        if packet.flags & SYN or key not in ends:
+            ends[key], waiting[key] = (packet.sequence + bool(packet.flags & SYN)) % 2**32, []
+        if not packet.data:
+            continue
+        waiting[key].append((packet.sequence, len(packet.data)))
+        while begun := [it for it in waiting[key] if (ends[key] - it[0]) % 2**32 < 2**31]:
+            for at, length in begun:
+                ends[key] = (ends[key] + max(0, length - (ends[key] - at) % 2**32)) % 2**32
+                waiting[key].remove((at, length))
+        if not waiting[key] and (packet.sequence + len(packet.data)) % 2**32 == ends[key] and chance.random() < 0.3:
+            yield packet.copy(sequence=ends[key] - 1, data=b"\0")
 
 
 def reordered(packets, chance):
@@ -155,7 +167,7 @@ def changed(packets, kinds, chance):
         packets = repeated(packets, chance)
     if "reorder" in kinds:
         packets = reordered(packets, chance)
-    # Its byte is not that of the stream, and a system sends it only behind that byte.
+    # The byte of a keepalive is not that of the stream, so it comes when that is known.
     if "keepalive" in kinds:
         packets = list(kept_alive(packets, chance))
     if "drop" in kinds:
