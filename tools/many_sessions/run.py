@@ -377,6 +377,26 @@ def other_name(program, room):
     return seen == (b"listening\n", 0, (b"", b""), 0) or seen
 
 
+def inquires(url, initiator):
+    """Whether an INQUIRY of this initiator is answered."""
+    words = ["iscsi-inq", "-i", initiator, url]
+    return subprocess.run(words, stdout=subprocess.DEVNULL, stderr=subprocess.DEVNULL, timeout=SECONDS).returncode == 0
+
+
+def lists(program, *words):
+    """Whether a service that lists two initiators serves both, and refuses a third and a part of a name."""
+    listed = ["--initiator", "iqn.2026-01.example:a", "--initiator", "iqn.2026-01.example:b"]
+    with Service(program, 4, *listed, *words) as service:
+        served = [inquires(service.url, f"iqn.2026-01.example:{name}") for name in ["c", "a", "", "b"]]
+    return served
+
+
+def listed_initiators(program, room):
+    """Initiators that are listed, and others, one after another and several at a time."""
+    seen = [lists(program), lists(program, "--at-once", "2")]
+    return seen == [[False, True, False, True]] * 2 or seen
+
+
 CASES = [
     (two_perf, ["iscsi-perf"]),
     (two_halves, ["qemu-img"]),
@@ -393,6 +413,7 @@ CASES = [
     (same_port, []),
     (as_before, []),
     (other_name, ["iscsi-inq"]),
+    (listed_initiators, ["iscsi-inq"]),
 ]
 
 

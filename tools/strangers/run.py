@@ -437,6 +437,29 @@ def has_urgent_data(program):
         return goes_on(service)
 
 
+def status_of(port, initiator):
+    """The status, class and detail, of a login of this initiator."""
+    with connect(port) as peer:
+        text = f"InitiatorName={initiator}\0TargetName={NAME}\0"
+        peer.sendall(pdu(0x43, text.encode(), p1=b"\x87", p24=number(1)))
+        return peer.recv(4096)[36:38].hex()
+
+
+def lists_initiators(program):
+    # The sessions are those of a and b, and another login of c would end neither.
+    names = [f"iqn.2026-01.example:{name}" for name in "abc"]
+    words = [word for name in names for word in ["--initiator", name]]
+    with Service(program, "--blocks", "8", *words) as service:
+        seen = [status_of(service.port, name) for name in [*names[2:], "iqn.2026-01.example:d", "iqn.2026-01.example:", ""]]
+        return seen == ["0000", "0202", "0202", "0207"] and goes_on(service)
+
+
+def lists_initiators_in_turn(program):
+    process, port = in_turn(program, "--sessions", "2", "--initiator", "iqn.2026-01.example:a")
+    seen = [status_of(port, f"iqn.2026-01.example:{name}") for name in "ba"]
+    return seen == ["0202", "0000"] and (process.communicate(timeout=SECONDS)[1], process.returncode) == (b"", 0)
+
+
 ROWS = [
     *((f"accept: {error}", lambda program, error=error: fails_to_accept(program, error, [b""])) for error in OF_A_CONNECTION),
     *((f"accept: {error}", lambda program, error=error: fails_to_accept(program, error, [NO_ROOM_LINE])) for error in NO_ROOM),
@@ -461,6 +484,8 @@ ROWS = [
     ("a peer that takes all memory", has_little_memory),
     ("a limit of file sizes", has_a_limit_of_file_sizes),
     ("urgent data", has_urgent_data),
+    ("initiators that are listed", lists_initiators),
+    ("initiators that are listed, in turn", lists_initiators_in_turn),
 ]
 
 

@@ -6,11 +6,15 @@ ghost use Rattle.iscsi_serve_words.specs.Services.{CanServe};
 ghost use Rattle.iscsi_serve_words.specs.Storage.{IsStorage};
 ghost use Rattle.iscsi_disk_service.specs.Disks.{EndsStorage, disk_status};
 
-use iscsi_serve_words::{Image, ImageFault, NbdExport, NbdFault, Service, Storage};
+use iscsi_options::Options;
+use iscsi_serve_words::{
+    Image, ImageFault, NbdExport, NbdFault, Service, Storage, read_initiators,
+};
 use iscsi_server::{serve_at_once, serve_memory_at_once};
 use iscsi_service::serve;
 use iscsi_serving::ServeFault;
 use scsi_disk::{BlockStore, SparseStore};
+use std::convert::AsStr;
 use std::io::{self, Write};
 
 /// Why the service of a disk stopped.
@@ -56,11 +60,13 @@ impl DiskFault<'_> {
     }
 }
 
-/// Serves a disk, over what it is kept in, until its service ends. `Image` and `Nbd` come if the image
-/// or the export is not opened, `Session` as the service gives it.
-#[tactic(auto, using(crate::proofs::OpenLemmas::can_be_opened))]
-pub fn serve_storage<'a>(
+/// Serves a disk, over what it is kept in, until its service ends. Disk and service come from these
+/// words, the first of which is `serve`. If the words list initiators, no other one may log in.
+/// `Image` and `Nbd` come if the image or the export is not opened, `Session` as the service gives it,
+/// and if there is no memory for the list.
+pub fn serve_storage<'a, S: AsStr>(
     rt: &HostRuntime,
+    words: &[S],
     storage: Storage<'a>,
     service: Service<'_>,
 ) -> Result<(), DiskFault<'a>>
@@ -69,20 +75,48 @@ pub fn serve_storage<'a>(
     // An image or an export that is blamed is the one that was asked for.
     ensures ends { EndsStorage storage.entry result }
 {
+    match read_initiators(rt.alloc(), words) {
+        Ok(initiators) => serve_to(rt, storage, service, listed(&initiators)),
+        // The words were read before, so that nothing but memory is wanting.
+        Err(_) => Err(DiskFault::Session(ServeFault::NoMemory)),
+    }
+}
+
+// The names that are listed, if there is one.
+fn listed<'a>(initiators: &'a Vec<&'a [u8]>) -> Option<&'a [&'a [u8]]> {
+    if initiators.is_empty() {
+        None
+    } else {
+        Some(initiators.as_slice())
+    }
+}
+
+// Serves a disk to the initiators of these names, or to everybody.
+#[tactic(auto, using(crate::proofs::OpenLemmas::can_be_opened))]
+fn serve_to<'a>(
+    rt: &HostRuntime,
+    storage: Storage<'a>,
+    service: Service<'_>,
+    initiators: Option<&[&[u8]]>,
+) -> Result<(), DiskFault<'a>>
+    requires storage { IsStorage storage }
+    requires service { CanServe service }
+    ensures ends { EndsStorage storage.entry result }
+{
     match storage {
-        Storage::Memory { blocks } => match serve_memory(rt, service, blocks) {
+        Storage::Memory { blocks } => match serve_memory(rt, service, initiators, blocks) {
             Ok(()) => Ok(()),
             Err(fault) => Err(DiskFault::Session(fault)),
         },
         Storage::Image(image) => match image.open(rt) {
-            Ok(mut store) => match serve_store(rt, service, &mut store) {
+            Ok(mut store) => match serve_store(rt, service, initiators, &mut store) {
                 Ok(()) => Ok(()),
                 Err(fault) => Err(DiskFault::Session(fault)),
             },
             Err(fault) => Err(DiskFault::Image(image, fault)),
         },
         Storage::Nbd(export) => match export.open(rt) {
-            Ok(mut store) => match serve_store(rt, service, &mut store) {
+            Ok(mut store) => match serve_store(rt, service, initiators, &mut store) {
                 Ok(()) => Ok(()),
                 Err(fault) => Err(DiskFault::Session(fault)),
             },
@@ -92,7 +126,12 @@ pub fn serve_storage<'a>(
 }
 
 // Serves a disk in memory.
-fn serve_memory(rt: &HostRuntime, service: Service<'_>, blocks: u64) -> Result<(), ServeFault>
+fn serve_memory(
+    rt: &HostRuntime,
+    service: Service<'_>,
+    initiators: Option<&[&[u8]]>,
+    blocks: u64,
+) -> Result<(), ServeFault>
     requires service { CanServe service }
     requires some { 0 < blocks }
     requires few { blocks ≤ most_blocks }
@@ -100,9 +139,15 @@ fn serve_memory(rt: &HostRuntime, service: Service<'_>, blocks: u64) -> Result<(
     match service {
         Service::InTurn { port, sessions } => {
             let mut store = SparseStore::new(rt.alloc(), blocks);
-            serve(rt, port, &mut store, count_of(sessions))
+            serve(rt, port, &mut store, count_of(sessions), initiators)
         }
-        Service::AtOnce(options) => serve_memory_at_once(rt, options, blocks),
+        Service::AtOnce(options) => {
+            let options = Options {
+                initiators,
+                ..options
+            };
+            serve_memory_at_once(rt, options, blocks)
+        }
     }
 }
 
@@ -110,13 +155,22 @@ fn serve_memory(rt: &HostRuntime, service: Service<'_>, blocks: u64) -> Result<(
 fn serve_store<S: BlockStore>(
     rt: &HostRuntime,
     service: Service<'_>,
+    initiators: Option<&[&[u8]]>,
     store: &mut S,
 ) -> Result<(), ServeFault>
     requires service { CanServe service }
 {
     match service {
-        Service::InTurn { port, sessions } => serve(rt, port, store, count_of(sessions)),
-        Service::AtOnce(options) => serve_at_once(rt, options, store),
+        Service::InTurn { port, sessions } => {
+            serve(rt, port, store, count_of(sessions), initiators)
+        }
+        Service::AtOnce(options) => {
+            let options = Options {
+                initiators,
+                ..options
+            };
+            serve_at_once(rt, options, store)
+        }
     }
 }
 

@@ -14,5 +14,8 @@ pub use command_line::{
 };
 pub use disk_size::{SizeFault, bad_size, needed_blocks, with_size};
 pub use nbd_storage::{FaultLine, NbdExport, NbdFault};
-pub use serve_words::{ServeJob, Service, read_serve_words, serve_program, service_of};
+pub use serve_words::{
+    MOST_INITIATORS, ServeJob, Service, read_initiators, read_serve_words, serve_program,
+    service_of,
+};
 pub use storage::{Image, ImageFault, Origin, Storage};

@@ -9,7 +9,7 @@ ghost use Rattle.iscsi_serve_words.specs.Services.{IsServeJob};
 ghost use Rattle.iscsi_serve_words.specs.Storage.{IsStorage};
 
 use crate::command_line::{
-    LineFault, bad_number, bad_value, bare_command, flag, usage, valued, with_word,
+    LineFault, bad_number, bad_value, bare_command, flag, repeated, usage, valued, with_word,
 };
 use crate::disk_size::{SizeFault, bad_size, said_blocks, with_size};
 use crate::examples;
@@ -48,6 +48,9 @@ pub struct ServeJob<'a> {
     pub service: Service<'a>,
 }
 
+/// The most names of initiators that may be listed (own rule).
+pub const MOST_INITIATORS: usize = 64;
+
 /// The target's name, if none is asked for.
 const NAME: &str = "iqn.2026-01.example:disk";
 
@@ -65,6 +68,11 @@ const BAD_LISTEN: &str =
     "is no address: '--listen <ADDR>' takes an IPv4 or IPv6 address (default 127.0.0.1)";
 
 const BAD_NAME: &str = "is no name: '--name <IQN>' takes 1 to 223 bytes, each from '!' to '~'";
+
+const BAD_INITIATOR: &str =
+    "is no name: '--initiator <IQN>' takes 1 to 223 bytes, each from '!' to '~'";
+
+const MANY_INITIATORS: &str = "is one name too many: '--initiator <IQN>' may stand 64 times";
 
 const BAD_IDLE: &str = "is no number of seconds: '--idle <S>' takes a number from 1 to 65535";
 
@@ -118,6 +126,12 @@ pub fn serve_program<'a>(alloc: Global) -> Result<Command<'a>, AllocError> {
             "sessions",
             "n",
             "Stop after n connections, or with --at-once after n logins (default never)",
+        ))?
+        .arg(repeated(
+            alloc,
+            "initiator",
+            "IQN",
+            "Let in only the initiator of this name; may be repeated, up to 64 times",
         ))?;
     with_options(alloc, program)
 }
@@ -235,15 +249,55 @@ pub fn read_serve_words<'a, S: AsStr>(
     // Each number is in its range.
     ensures range { IfOk result IsServeJob }
 {
-    let command = with_serve(alloc)?;
-    let matches = match command.try_get_matches_from(words) {
-        Ok(matches) => matches,
-        Err(error) => return Err(usage(alloc, error)),
-    };
+    let matches = matches_of(alloc, words)?;
     match matches.subcommand() {
         Some((_, asked)) => service_of(alloc, asked),
-        None => Err(bad_number(alloc, bare_command(alloc), "the words name no job")),
+        None => Err(no_service(alloc)),
     }
+}
+
+/// The names of the initiators that may log in, of a command line whose first word is `serve`; an empty
+/// list lets in everybody. Words that `read_serve_words` refuses are refused in the same way.
+pub fn read_initiators<'a, S: AsStr>(
+    alloc: Global,
+    words: &'a [S],
+) -> Result<Vec<&'a [u8]>, LineFault> {
+    let matches = matches_of(alloc, words)?;
+    match matches.subcommand() {
+        Some((_, asked)) => initiators_of(alloc, asked),
+        None => Err(no_service(alloc)),
+    }
+}
+
+// What clap makes of the words of a command line whose first word is `serve`.
+fn matches_of<'a, S: AsStr>(alloc: Global, words: &'a [S]) -> Result<ArgMatches<'a>, LineFault> {
+    match with_serve(alloc)?.try_get_matches_from(words) {
+        Ok(matches) => Ok(matches),
+        Err(error) => Err(usage(alloc, error)),
+    }
+}
+
+// The refusal of words that name no command.
+fn no_service(alloc: Global) -> LineFault {
+    bad_number(alloc, bare_command(alloc), "the words name no job")
+}
+
+// The names of the initiators that may log in. Each is a name, and there are 64 of them at most.
+fn initiators_of<'a>(alloc: Global, asked: &ArgMatches<'a>) -> Result<Vec<&'a [u8]>, LineFault> {
+    let mut initiators = Vec::new(alloc);
+    let Some(names) = asked.get_strs("initiator") else {
+        return Ok(initiators);
+    };
+    for name in names {
+        if !is_name(name.as_bytes()) {
+            return Err(refused(alloc, name, BAD_INITIATOR));
+        }
+        if initiators.len() == MOST_INITIATORS {
+            return Err(refused(alloc, name, MANY_INITIATORS));
+        }
+        initiators.push(name.as_bytes())?;
+    }
+    Ok(initiators)
 }
 
 // The program whose only command is `serve`.
@@ -251,14 +305,16 @@ fn with_serve<'a>(alloc: Global) -> Result<Command<'a>, AllocError> {
     bare_command(alloc)?.subcommand(serve_program(alloc)?)
 }
 
-/// The service that the words of `serve` ask for. `Usage` comes for a value that is none, and for words
-/// that do not go together; `NoMemory` if memory ran out.
+/// The service that the words of `serve` ask for, without the names of initiators, which
+/// `read_initiators` gives. `Usage` comes for a value that is none, and for words that do not go
+/// together; `NoMemory` if memory ran out.
 pub fn service_of<'a>(alloc: Global, asked: &ArgMatches<'a>) -> Result<ServeJob<'a>, LineFault>
     ensures range { IfOk result IsServeJob }
 {
     let port = port_of(alloc, asked)?;
     let storage = storage_of(alloc, asked)?;
     let sessions = sessions_of(alloc, asked)?;
+    initiators_of(alloc, asked)?;
     let Some(digits) = asked.get_str("at-once") else {
         return Ok(ServeJob {
             storage,
@@ -280,6 +336,7 @@ pub fn service_of<'a>(alloc: Global, asked: &ArgMatches<'a>) -> Result<ServeJob<
         sessions,
         at_once,
         name,
+        initiators: None,
         limits,
         preferences,
         memory: memory_of(alloc, asked)?,

@@ -61,6 +61,13 @@ const LOGOUT_AT_ONCE: &str =
 const LEFT_AT_ONCE: &str =
     "26800000 00000000 00000000 00000000 00000002 00000000 00000002 00000001 00000008 00000000 00000000 00000000";
 
+// A login of another initiator, with its refusal.
+const STRANGER: &str =
+    "43870000 0000006e 40000002 00000000 00000000 00000000 00000001 00000000 00000000 00000000 00000000 00000000 'AuthMethod=None|InitiatorName=iqn.2026-01.example:hose|SessionType=Normal|TargetName=iqn.2026-01.example:disk|";
+
+const REFUSED: &str =
+    "23040000 00000000 40000002 00000000 00000000 00000000 00000000 00000001 00000008 02020000 00000000 00000000";
+
 /// What clients do one after another: the client, its requests, the answers.
 type Rows<'a> = &'a [(usize, &'static str, &'static str)];
 
@@ -73,6 +80,7 @@ fn options(sessions: u16, at_once: u16, idle: u16) -> Options<'static> {
         sessions: Some(sessions),
         at_once,
         name: b"iqn.2026-01.example:disk",
+        initiators: None,
         limits: Limits {
             idle: Some(idle),
             login_within: None,
@@ -252,6 +260,22 @@ const FAULT: Rows<'static> = &[
 #[test]
 fn a_fault_ends_its_session_alone(rt: HostRuntime) {
     check(&rt, &rt, options(1, 2, 5), FAULT, "a fault");
+}
+
+/// One initiator is let in, and another one is not; its seat is free then.
+const LISTED: Rows<'static> = &[
+    (1, STRANGER, REFUSED),
+    (0, LOGIN, LOGIN_1),
+    (0, LOGOUT_AT_ONCE, LEFT_AT_ONCE),
+];
+
+#[test]
+fn listed_initiators(rt: HostRuntime) {
+    let asked = Options {
+        initiators: Some(&[b"iqn.2026-01.example:host"]),
+        ..options(1, 2, 5)
+    };
+    check(&rt, &rt, asked, LISTED, "an initiator that is listed");
 }
 
 /// One session at a time: the second one has its turns when the first one is over.

@@ -1,8 +1,10 @@
 //! A target's service on a socket: one connection after another, over one store.
 
-ghost use Rattle.std.specs.Prelude.{◌≡◌, ◌≢◌, ◌⊎◌, ◌<◌, ℕ, List, true, length, Err, IfOk, IfErr};
+ghost use Rattle.std.specs.Prelude.{◌≡◌, ◌≢◌, ◌⊎◌, ◌<◌, ℕ, List, true, length, map, Err, IfOk, IfErr};
+ghost use Rattle.std.specs.Option.{option_map};
 ghost use Rattle.iscsi_serving.specs.Executed.{HasExecuted};
 ghost use Rattle.iscsi_serving.specs.Faults.{EndsService};
+ghost use Rattle.iscsi_service.specs.Session.{target_settings};
 ghost use Rattle.iscsi_service.specs.Serving.{ServesOne};
 
 use crate::session::{configuration, serve_reads};
@@ -116,7 +118,8 @@ impl Write for Answers<'_> {
 }
 
 /// Listens on 127.0.0.1, prints `listening`, and serves `n` connections, one after another,
-/// over one store. Port 0 is one that the system picks.
+/// over one store. Port 0 is one that the system picks. Where names are given, no initiator but
+/// those of these names may log in.
 ///
 /// A session that ends with a fault has the fault's line on standard error, and the next one is
 /// served. Only being out of memory and a fault of the network end the service; `Write` is returned
@@ -127,13 +130,14 @@ pub fn serve<S: BlockStore>(
     port: u16,
     store: &mut S,
     sessions: u64,
+    initiators: Option<&[&[u8]]>,
 ) -> Result<(), ServeFault>
     // Whatever comes of it, the blocks are those that commands left.
     ensures blocks { HasExecuted (S.disk store.old) (S.disk store.new) }
     ensures ends { IfErr result (λ fault. EndsService fault ⊎ (fault ≡ ServeFault.Write)) }
 {
     let listener = listen(rt, port)?;
-    serve_connections(rt, &listener, store, sessions)
+    serve_connections(rt, &listener, store, sessions, initiators)
 }
 
 // A listener, which is announced. It alone returns Write.
@@ -155,20 +159,27 @@ fn listen(rt: &HostRuntime, port: u16) -> Result<TcpListener, ServeFault>
 /// A session that ends with a fault has the fault's line on standard error, and the next one is
 /// served. Only being out of memory and a fault of the network end the service.
 ///
-/// Each session is that of `serve_one`, with the target of the programs (`configuration`).
+/// Each session is that of `serve_one`, with the target of the programs (`configuration`). Where names
+/// are given, no initiator but those of these names may log in.
 #[tactic(auto, using(crate::proofs::SessionReadInvariant::none_executed))]
 pub fn serve_connections<S: BlockStore>(
     rt: &HostRuntime,
     listener: &TcpListener,
     store: &mut S,
     sessions: u64,
+    initiators: Option<&[&[u8]]>,
 ) -> Result<(), ServeFault>
     ensures blocks { HasExecuted (S.disk store.old) (S.disk store.new) }
     ensures ends { IfErr result EndsService }
 {
     let alloc = rt.alloc();
     for _ in 0..sessions {
-        match serve_one(alloc, listener, store, configuration(alloc)?) {
+        match serve_one(
+            alloc,
+            listener,
+            store,
+            configuration_for(alloc, initiators)?,
+        ) {
             Ok(()) => {}
             Err(fault @ (ServeFault::NoMemory | ServeFault::Network)) => return Err(fault),
             Err(fault) => {
@@ -177,4 +188,17 @@ pub fn serve_connections<S: BlockStore>(
         }
     }
     Ok(())
+}
+
+// The target of the programs, which lets in initiators of these names, or everybody.
+fn configuration_for(alloc: Global, initiators: Option<&[&[u8]]>) -> Result<Config, AllocError>
+    ensures settings { IfOk result (λ config. config ≡ record target_settings {
+      access = record { names = option_map (λ names. map (λ name. name.now) names.now) initiators.entry };
+    }) }
+{
+    let config = configuration(alloc)?;
+    match initiators {
+        Some(names) => config.with_names(alloc, names),
+        None => Ok(config),
+    }
 }

@@ -189,15 +189,16 @@ fn run<'a, S: AsStr, R: Read, W: Write>(
         × RunsWords words.now result read written }
 {
     match read_words(rt.alloc(), words) {
-        Ok(job) => run_job(rt, job, r, w),
+        Ok(job) => run_job(rt, words, job, r, w),
         Err(fault) => Outcome::Words(fault),
     }
 }
 
-// How a job ends.
+// How a job ends that these words ask for.
 #[tactic(auto, using(crate::proofs::RunningLemmas::reads_nothing, crate::proofs::RunningLemmas::writes_nothing))]
-fn run_job<'a, R: Read, W: Write>(
+fn run_job<'a, S: AsStr, R: Read, W: Write>(
     rt: &HostRuntime,
+    words: &[S],
     job: Job<'a>,
     r: &mut R,
     w: &mut W,
@@ -210,7 +211,7 @@ fn run_job<'a, R: Read, W: Write>(
 {
     match job {
         Job::Filter(filter) => filtered(run_filter(rt.alloc(), filter, r, w)),
-        Job::Serve { storage, service } => served(serve_storage(rt, storage, service)),
+        Job::Serve { storage, service } => served(serve_storage(rt, words, storage, service)),
         Job::Loop { blocks, piece } => ended(run_loop(rt, blocks, piece, r, w)),
         Job::Compare(comparison) => compare(rt, comparison, r, w),
         Job::Tell(telling) => filtered(run_telling(rt.alloc(), telling, r, w)),

@@ -160,7 +160,13 @@ impl<'a> Server<'a> {
         };
         self.last_number = number;
         let options = self.options;
-        let Ok(config) = configuration(alloc, options.name, number, options.preferences) else {
+        let Ok(config) = configuration(
+            alloc,
+            options.name,
+            number,
+            options.preferences,
+            options.initiators,
+        ) else {
             return;
         };
         let Some(seat) = self.seat(config) else {

@@ -156,7 +156,7 @@ fn connections_one_after_another(rt: HostRuntime) {
         initiators.push(initiator).expect(&rt, "an initiator");
     }
     let mut store = SparseStore::new(alloc, 8);
-    let ended = serve_connections(&rt, &listener, &mut store, 3);
+    let ended = serve_connections(&rt, &listener, &mut store, 3, None);
     same(
         &rt,
         &line_of(&rt, alloc, ended).as_str(),
@@ -172,7 +172,7 @@ fn connections_one_after_another(rt: HostRuntime) {
 #[test]
 fn no_connection_is_served(rt: HostRuntime) {
     let mut store = SparseStore::new(rt.alloc(), 1);
-    let served = serve(&rt, 0, &mut store, 0);
+    let served = serve(&rt, 0, &mut store, 0, None);
     same(
         &rt,
         &line_of(&rt, rt.alloc(), served).as_str(),

@@ -2,7 +2,7 @@
 //! rows.
 
 use crate::asserts::same;
-use iscsi_serve_words::read_serve_words;
+use iscsi_serve_words::{read_initiators, read_serve_words};
 use iscsi_tool::{LineFault, read_words};
 use std::alloc::{AllocError, Global};
 use std::process::Abort;
@@ -74,27 +74,27 @@ const JOBS: &[(&str, &str)] = &[
     ),
     (
         "serve --port 1 --sessions 2 --file d --at-once 3",
-        "Serve { storage: Image(Image { path: \"d\", origin: Found { blocks: None } }), service: AtOnce(Options { listen: 127.0.0.1, port: 1, sessions: Some(2), at_once: 3, name: [105, 113, 110, 46, 50, 48, 50, 54, 45, 48, 49, 46, 101, 120, 97, 109, 112, 108, 101, 58, 100, 105, 115, 107], limits: Limits { idle: None, login_within: Some(30) }, preferences: Preferences { initial_r2t: false, immediate_data: true, max_burst: 262144, first_burst: 65536, time2wait: 2, time2retain: 20, max_recv: 8192 }, memory: 268435456, print_port: false, log: false }) }",
+        "Serve { storage: Image(Image { path: \"d\", origin: Found { blocks: None } }), service: AtOnce(Options { listen: 127.0.0.1, port: 1, sessions: Some(2), at_once: 3, name: [105, 113, 110, 46, 50, 48, 50, 54, 45, 48, 49, 46, 101, 120, 97, 109, 112, 108, 101, 58, 100, 105, 115, 107], initiators: None, limits: Limits { idle: None, login_within: Some(30) }, preferences: Preferences { initial_r2t: false, immediate_data: true, max_burst: 262144, first_burst: 65536, time2wait: 2, time2retain: 20, max_recv: 8192 }, memory: 268435456, print_port: false, log: false }) }",
     ),
     (
         "serve --port 1 --file d --at-once 3",
-        "Serve { storage: Image(Image { path: \"d\", origin: Found { blocks: None } }), service: AtOnce(Options { listen: 127.0.0.1, port: 1, sessions: None, at_once: 3, name: [105, 113, 110, 46, 50, 48, 50, 54, 45, 48, 49, 46, 101, 120, 97, 109, 112, 108, 101, 58, 100, 105, 115, 107], limits: Limits { idle: None, login_within: Some(30) }, preferences: Preferences { initial_r2t: false, immediate_data: true, max_burst: 262144, first_burst: 65536, time2wait: 2, time2retain: 20, max_recv: 8192 }, memory: 268435456, print_port: false, log: false }) }",
+        "Serve { storage: Image(Image { path: \"d\", origin: Found { blocks: None } }), service: AtOnce(Options { listen: 127.0.0.1, port: 1, sessions: None, at_once: 3, name: [105, 113, 110, 46, 50, 48, 50, 54, 45, 48, 49, 46, 101, 120, 97, 109, 112, 108, 101, 58, 100, 105, 115, 107], initiators: None, limits: Limits { idle: None, login_within: Some(30) }, preferences: Preferences { initial_r2t: false, immediate_data: true, max_burst: 262144, first_burst: 65536, time2wait: 2, time2retain: 20, max_recv: 8192 }, memory: 268435456, print_port: false, log: false }) }",
     ),
     (
         "serve --port 1 --sessions 2 --file d --at-once 3 --name n --segment 131072 --burst 131072",
-        "Serve { storage: Image(Image { path: \"d\", origin: Found { blocks: None } }), service: AtOnce(Options { listen: 127.0.0.1, port: 1, sessions: Some(2), at_once: 3, name: [110], limits: Limits { idle: None, login_within: Some(30) }, preferences: Preferences { initial_r2t: false, immediate_data: true, max_burst: 131072, first_burst: 65536, time2wait: 2, time2retain: 20, max_recv: 131072 }, memory: 268435456, print_port: false, log: false }) }",
+        "Serve { storage: Image(Image { path: \"d\", origin: Found { blocks: None } }), service: AtOnce(Options { listen: 127.0.0.1, port: 1, sessions: Some(2), at_once: 3, name: [110], initiators: None, limits: Limits { idle: None, login_within: Some(30) }, preferences: Preferences { initial_r2t: false, immediate_data: true, max_burst: 131072, first_burst: 65536, time2wait: 2, time2retain: 20, max_recv: 131072 }, memory: 268435456, print_port: false, log: false }) }",
     ),
     (
         "serve --port 1 --sessions 2 --file d --at-once 3 --name n --burst 512 --segment 1048576 --idle 1 --login-within 65535",
-        "Serve { storage: Image(Image { path: \"d\", origin: Found { blocks: None } }), service: AtOnce(Options { listen: 127.0.0.1, port: 1, sessions: Some(2), at_once: 3, name: [110], limits: Limits { idle: Some(1), login_within: Some(65535) }, preferences: Preferences { initial_r2t: false, immediate_data: true, max_burst: 512, first_burst: 512, time2wait: 2, time2retain: 20, max_recv: 1048576 }, memory: 268435456, print_port: false, log: false }) }",
+        "Serve { storage: Image(Image { path: \"d\", origin: Found { blocks: None } }), service: AtOnce(Options { listen: 127.0.0.1, port: 1, sessions: Some(2), at_once: 3, name: [110], initiators: None, limits: Limits { idle: Some(1), login_within: Some(65535) }, preferences: Preferences { initial_r2t: false, immediate_data: true, max_burst: 512, first_burst: 512, time2wait: 2, time2retain: 20, max_recv: 1048576 }, memory: 268435456, print_port: false, log: false }) }",
     ),
     (
         "serve --port 1 --sessions 2 --file d --at-once 3 --name n --first-burst 262144 --no-login-limit",
-        "Serve { storage: Image(Image { path: \"d\", origin: Found { blocks: None } }), service: AtOnce(Options { listen: 127.0.0.1, port: 1, sessions: Some(2), at_once: 3, name: [110], limits: Limits { idle: None, login_within: None }, preferences: Preferences { initial_r2t: false, immediate_data: true, max_burst: 262144, first_burst: 262144, time2wait: 2, time2retain: 20, max_recv: 8192 }, memory: 268435456, print_port: false, log: false }) }",
+        "Serve { storage: Image(Image { path: \"d\", origin: Found { blocks: None } }), service: AtOnce(Options { listen: 127.0.0.1, port: 1, sessions: Some(2), at_once: 3, name: [110], initiators: None, limits: Limits { idle: None, login_within: None }, preferences: Preferences { initial_r2t: false, immediate_data: true, max_burst: 262144, first_burst: 262144, time2wait: 2, time2retain: 20, max_recv: 8192 }, memory: 268435456, print_port: false, log: false }) }",
     ),
     (
         "serve --port 1 --sessions 2 --blocks 8 --at-once 3 --name n --memory 32768 --log",
-        "Serve { storage: Memory { blocks: 8 }, service: AtOnce(Options { listen: 127.0.0.1, port: 1, sessions: Some(2), at_once: 3, name: [110], limits: Limits { idle: None, login_within: Some(30) }, preferences: Preferences { initial_r2t: false, immediate_data: true, max_burst: 262144, first_burst: 65536, time2wait: 2, time2retain: 20, max_recv: 8192 }, memory: 32768, print_port: false, log: true }) }",
+        "Serve { storage: Memory { blocks: 8 }, service: AtOnce(Options { listen: 127.0.0.1, port: 1, sessions: Some(2), at_once: 3, name: [110], initiators: None, limits: Limits { idle: None, login_within: Some(30) }, preferences: Preferences { initial_r2t: false, immediate_data: true, max_burst: 262144, first_burst: 65536, time2wait: 2, time2retain: 20, max_recv: 8192 }, memory: 32768, print_port: false, log: true }) }",
     ),
     (
         "serve --size 32M",
@@ -263,6 +263,13 @@ const EXPORT: &str =
     "is no export: '--nbd <SERVER>' takes HOST:PORT/EXPORT, such as 127.0.0.1:10809/disk; without \
     :PORT it is port 10809, without /EXPORT the server's default export\n\nUsage: ";
 
+const INITIATOR: &str =
+    "is no name: '--initiator <IQN>' takes 1 to 223 bytes, each from '!' to '~'\n\n\
+    Usage: lanthovur serve ";
+
+const MOST_INITIATORS: &str = "is one name too many: '--initiator <IQN>' may stand 64 times\n\n\
+    Usage: lanthovur serve ";
+
 /// Words with a value that is refused, in which `''` is an empty word; the value; what follows it.
 const BAD_VALUES: &[(&str, &str, &str)] = &[
     ("answer --blocks 0", "0", BLOCKS),
@@ -276,6 +283,17 @@ const BAD_VALUES: &[(&str, &str, &str)] = &[
         BLOCKS,
     ),
     ("serve --port 65536 --blocks 1 --sessions 1", "65536", PORT),
+    ("serve --blocks 1 --initiator ''", "", INITIATOR),
+    (
+        "serve --blocks 1 --initiator a --initiator café",
+        "café",
+        INITIATOR,
+    ),
+    (
+        "serve --blocks 1 --at-once 1 --initiator café",
+        "café",
+        INITIATOR,
+    ),
     ("serve --port +1 --blocks 1 --sessions 1", "+1", PORT),
     ("serve --port '' --blocks 1 --sessions 1", "", PORT),
     ("serve --port 0x10 --blocks 1 --sessions 1", "0x10", PORT),
@@ -749,6 +767,56 @@ fn words_that_are_a_job(rt: HostRuntime) {
     for (line, job) in JOBS {
         check_job(&rt, rt.alloc(), line, job);
     }
+}
+
+/// Words of a service, and the names of initiators that they list.
+const LISTED: &[(&str, &[&[u8]])] = &[
+    ("serve --blocks 1", &[]),
+    ("serve --blocks 1 --initiator a", &[b"a"]),
+    (
+        "serve --initiator=b --blocks 1 --initiator a",
+        &[b"b", b"a"],
+    ),
+    (
+        "serve --blocks 1 --initiator a --at-once 1 --initiator=iqn.2026-01.example:b=c",
+        &[b"a", b"iqn.2026-01.example:b=c"],
+    ),
+    (
+        "serve --blocks 1 --initiator a --name b --at-once 1 --initiator a",
+        &[b"a", b"a"],
+    ),
+];
+
+fn check_listed(rt: &impl Abort, alloc: Global, line: &str, names: &[&[u8]]) {
+    let words = words_of(alloc, line).expect(rt, line);
+    let said = read_initiators(alloc, words.as_slice()).expect(rt, line);
+    same(rt, &said.as_slice(), &names, &line);
+}
+
+#[test]
+fn words_that_list_initiators(rt: HostRuntime) {
+    for (line, names) in LISTED {
+        check_listed(&rt, rt.alloc(), line, names);
+    }
+}
+
+// The words of a service that lists an initiator so many times.
+fn listing(rt: &impl Abort, alloc: Global, count: usize) -> String {
+    let mut line = String::from_str(alloc, "serve --blocks 1").expect(rt, "memory");
+    for _ in 0..count {
+        line.push_str(" --initiator n").expect(rt, "memory");
+    }
+    line
+}
+
+/// A service lists 64 initiators, and no more.
+#[test]
+fn the_most_initiators(rt: HostRuntime) {
+    let name: &[u8] = b"n";
+    let most = listing(&rt, rt.alloc(), 64);
+    check_listed(&rt, rt.alloc(), most.as_str(), &[name; 64]);
+    let more = listing(&rt, rt.alloc(), 65);
+    check_value(&rt, rt.alloc(), more.as_str(), "n", MOST_INITIATORS);
 }
 
 fn check_refused(rt: &impl Abort, alloc: Global, line: &str, text: &str) {
