@@ -1,5 +1,6 @@
 pub mod Ended
 pub mod Handshaking
+pub mod Heard
 pub mod Judging
 pub mod Served
 pub mod Serving

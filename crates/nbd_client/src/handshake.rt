@@ -1,9 +1,10 @@
 //! The handshake: a greeting, the option GO, and its answers.
 
-ghost use Rattle.std.specs.Prelude.{◌<◌, ◌≤◌, length, IfOk, OnOk};
+ghost use Rattle.std.specs.Prelude.{◌≡◌, ◌<◌, ◌≤◌, length, Ok, IfErr, IfOk, OnOk};
 ghost use Rattle.scsi_disk.specs.Disk.{most_blocks};
 ghost use Rattle.std.specs.Io.KnownBytes.{Appends};
 ghost use Rattle.nbd_client.specs.Handshaking.{asked_first};
+ghost use Rattle.nbd_client.specs.Heard.{Answered, Hears, IsUnjudged, Judges, Refuses, export_after, sizes_after};
 
 use crate::export::{ExportFault, judge};
 use crate::fault::Lost;
@@ -64,12 +65,20 @@ pub enum HandshakeFault {
 }
 
 impl From<AllocError> for HandshakeFault {
+    ghost use Rattle.nbd_client.specs.Heard.{IsUnjudged};
+
+    ghost from_gives = { λ _ fault. IsUnjudged fault };
+
     fn from(_: AllocError) -> HandshakeFault {
         HandshakeFault::NoMemory
     }
 }
 
 impl From<io::Error> for HandshakeFault {
+    ghost use Rattle.nbd_client.specs.Heard.{IsUnjudged};
+
+    ghost from_gives = { λ _ fault. IsUnjudged fault };
+
     fn from(error: io::Error) -> HandshakeFault {
         HandshakeFault::Lost(Lost::from(error))
     }
@@ -95,6 +104,11 @@ pub fn negotiate<R: Read, W: Write>(
         (Appends (W.contents writer.old) (W.contents writer.new) (asked_first name.now)) }
     ensures some { IfOk result (λ blocks. 0 < blocks) }
     ensures few { IfOk result (λ blocks. blocks ≤ most_blocks) }
+    // The export is the one that the server's answers say, with the sizes that they say.
+    ensures opened { IfOk result (λ blocks.
+        Judges (R.remaining reader.old) (R.remaining reader.new) (Ok blocks)) }
+    ensures refused { IfErr result
+        (Refuses (R.remaining reader.old) (R.remaining reader.new)) }
 {
     let mut greeting = [0; 18];
     reader.read_exact(&mut greeting)?;
@@ -113,7 +127,11 @@ pub fn negotiate<R: Read, W: Write>(
 
 // What the answers to GO say, up to the last one. A server that says no sizes takes requests of 1 byte
 // to 32 MiB.
-fn answers<R: Read>(alloc: Global, reader: &mut R) -> Result<(Export, BlockSizes), HandshakeFault> {
+fn answers<R: Read>(alloc: Global, reader: &mut R) -> Result<(Export, BlockSizes), HandshakeFault>
+    ensures said { IfOk result (λ said.
+        Answered (R.remaining reader.old) (R.remaining reader.new) said.0 said.1) }
+    ensures unjudged { IfErr result IsUnjudged }
+{
     let mut export = None;
     let mut sizes = BlockSizes {
         minimum: 1,
@@ -128,16 +146,40 @@ fn answers<R: Read>(alloc: Global, reader: &mut R) -> Result<(Export, BlockSizes
                     None => Err(HandshakeFault::NoSize),
                 };
             }
-            Some(Info::Export(said)) => export = Some(said),
-            Some(Info::BlockSizes(said)) => sizes = said,
-            Some(Info::Other(_)) => (),
+            Some(said) => {
+                export = export_after(said, export);
+                sizes = sizes_after(said, sizes);
+            }
         }
     }
     Err(HandshakeFault::NoSize)
 }
 
+// The export that was said last.
+fn export_after(said: Info, before: Option<Export>) -> Option<Export>
+    ensures { result ≡ export_after said before }
+{
+    match said {
+        Info::Export(export) => Some(export),
+        Info::BlockSizes(_) | Info::Other(_) => before,
+    }
+}
+
+// The sizes that were said last.
+fn sizes_after(said: Info, before: BlockSizes) -> BlockSizes
+    ensures { result ≡ sizes_after said before }
+{
+    match said {
+        Info::BlockSizes(sizes) => sizes,
+        Info::Export(_) | Info::Other(_) => before,
+    }
+}
+
 // What an answer to GO says; nothing, if it is the last.
-fn answer<R: Read>(alloc: Global, reader: &mut R) -> Result<Option<Info>, HandshakeFault> {
+fn answer<R: Read>(alloc: Global, reader: &mut R) -> Result<Option<Info>, HandshakeFault>
+    ensures said { IfOk result (Hears (R.remaining reader.old) (R.remaining reader.new)) }
+    ensures unjudged { IfErr result IsUnjudged }
+{
     let mut head = [0; 20];
     reader.read_exact(&mut head)?;
     let head = match read_option_head(&head) {
@@ -164,7 +206,9 @@ fn answer<R: Read>(alloc: Global, reader: &mut R) -> Result<Option<Info>, Handsh
 }
 
 // Why an answer that is neither ACK nor INFO is none to go on with ("Option reply types").
-fn refusal(answer: u32) -> HandshakeFault {
+fn refusal(answer: u32) -> HandshakeFault
+    ensures { IsUnjudged result }
+{
     match answer {
         0x8000_0001 => HandshakeFault::NoGo,
         0x8000_0005 => HandshakeFault::WantsTls,
