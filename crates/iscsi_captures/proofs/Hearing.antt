@@ -1,7 +1,7 @@
 -- What a segment adds to the direction that is wanted.
 use Rattle.std.proofs.Common.{◌≡◌, ℕ, Bool, true, false, List, [], refl, sym, ap, ◌∙◌, subst}
 use Rattle.std.proofs.lemmas.Bool.{eqb-true, eqb-false}
-use Rattle.std.specs.Prelude.{◌≢◌, ◌==◌, ◌&&◌, if◌then◌else◌, slice_get, IfSome, IfOk, Some, None, Option, Result, Ok, Err}
+use Rattle.std.specs.Prelude.{◌≢◌, ◌==◌, ◌&&◌, if◌then◌else◌, slice_get, IfSome, IfOk, IfErr, Some, None, Option, Result, Ok, Err}
 use Rattle.iscsi_captures.specs.declared.connections.Connection.{Connection}
 use Rattle.iscsi_captures.specs.declared.ends.Side.TheVariants.{Lower, Upper}
 use Rattle.iscsi_captures.specs.declared.captured.Wanted.{Wanted}
@@ -9,6 +9,9 @@ use Rattle.iscsi_captures.specs.declared.ends.Side.{Side}
 use Rattle.iscsi_captures.specs.declared.heard.Heard.{Heard}
 use Rattle.iscsi_captures.specs.Directions.{HearsWanted, IsFor, IsMeant, is_side, other_side}
 use Rattle.iscsi_captures.specs.Following.{Hears, KeepsAll, Table}
+use Rattle.iscsi_captures.specs.Giving.{IfCut}
+use Rattle.iscsi_captures.specs.declared.fault.CapturesFault.{CapturesFault}
+use Rattle.iscsi_captures.specs.declared.fault.CapturesFault.TheVariants as faults
 
 -- a segment, and what is given up after it
 heard_so : (old : Table) (heard : Heard) (wanted : Wanted) (number : ℕ) (taken new : Table)
@@ -53,6 +56,20 @@ heard_none old heard wanted number taken new before more given is list b g f l h
     subst (λ (x : List ℕ). HearsWanted old heard wanted new x) (sym g)
     (heard_other old heard wanted number taken new more (subst P b hears) last keeps
     (subst Q l (subst R f for)))
+
+-- the same, where nothing was kept before and all is kept
+pub heard_all : (old : Table) (heard : Heard) (wanted : Wanted) (number : ℕ) (taken new : Table)
+    (before more : List ℕ) (fault : CapturesFault) (at packet : ℕ) (list : List Connection)
+    → before ≡ [] → fault ≡ faults.Cut at packet → list ≡ new.connections
+    → Hears old heard number taken before more → new.last ≡ taken.last
+    → KeepsAll taken.connections new.connections
+    → IfCut fault (IsFor list number heard wanted true) → HearsWanted old heard wanted new more
+heard_all old heard wanted number taken new before more fault at packet list b f l hears last keeps for =
+    let P : List ℕ → Type 0 = λ x. Hears old heard number taken x more in
+    let Q : List Connection → Type 0 = λ x. IsFor x number heard wanted true in
+    let R : CapturesFault → Type 0 = λ x. IfCut x (IsFor list number heard wanted true) in
+    heard_wanted old heard wanted number taken new more (subst P b hears) last keeps
+    (subst Q l (subst R f for))
 
 -- ---- whether a segment is of the direction that is wanted
 
@@ -115,3 +132,35 @@ pub one_result : {E : Type 0} (list : List Connection) (number : ℕ) (heard : H
 one_result list number heard wanted connection (Ok is) found same h =
     one_there list number heard wanted connection is h.0 found same h.1 h.2
 one_result list number heard wanted connection (Err e) found same h = tt
+
+-- what a fault of bytes that were not captured says, and what follows from it
+cut_then : (fault : CapturesFault) (P Q : Type 0) → (P → Q) → IfCut fault P → IfCut fault Q
+cut_then faults.NoMemory P Q g h = tt
+cut_then faults.Read P Q g h = tt
+cut_then faults.Write P Q g h = tt
+cut_then (faults.Format a) P Q g h = tt
+cut_then (faults.Length a) P Q g h = tt
+cut_then (faults.Truncated a) P Q g h = tt
+cut_then (faults.Link a b c) P Q g h = tt
+cut_then (faults.Interface a) P Q g h = tt
+cut_then (faults.Fragment a b) P Q g h = tt
+cut_then (faults.Cut a b) P Q g h = g h
+cut_then (faults.Gap a b c) P Q g h = tt
+cut_then (faults.Conflict a b c) P Q g h = tt
+cut_then (faults.Long a) P Q g h = tt
+cut_then (faults.Stream a b) P Q g h = tt
+cut_then (faults.Protocol a b) P Q g h = tt
+cut_then (faults.Begun a) P Q g h = tt
+cut_then (faults.NoConnection a) P Q g h = tt
+
+pub one_cut : {T : Type 0} (list : List Connection) (number : ℕ) (heard : Heard) (wanted : Wanted)
+    (connection : Connection) (result : Result T CapturesFault)
+    → slice_get list number ≡ Some connection → number ≡ wanted.connection
+    → IfErr result (λ fault. IfCut fault ((side : Side) × IsMeant connection wanted.end side
+    × (true ≡ is_side side heard.said.side)))
+    → IfErr result (λ fault. IfCut fault (IsFor list number heard wanted true))
+one_cut list number heard wanted connection (Ok is) found same h = tt
+one_cut list number heard wanted connection (Err fault) found same h =
+    cut_then fault ((side : Side) × IsMeant connection wanted.end side
+    × (true ≡ is_side side heard.said.side)) (IsFor list number heard wanted true)
+    (λ p. one_there list number heard wanted connection true p.0 found same p.1 p.2) h

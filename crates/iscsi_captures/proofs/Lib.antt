@@ -6,3 +6,4 @@ pub mod Hearing
 pub mod Listed
 pub mod Shown
 pub mod Keeping
+pub mod Reading

@@ -6,3 +6,4 @@ pub mod Private
 pub mod Directions
 pub mod Listing
 pub mod Written
+pub mod Giving

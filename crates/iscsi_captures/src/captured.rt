@@ -3,8 +3,12 @@
 //! `normalise` and `show` take a reader, so their contracts hold of a captured direction. They
 //! write the canonical stream, or the lines, of the bytes that they read.
 
-ghost use Rattle.std.specs.Prelude.{◌≡◌, ◌≤◌, ◌<◌, ◌^◌, length, IfOk, OnOk, IfSome};
+ghost use Rattle.std.specs.Prelude.{◌≡◌, ◌≤◌, ◌<◌, ◌^◌, ◌⊎◌, ℕ, List, [], Option, None, Some, true, false, min, drop, take, length, IfOk, IfErr, OnOk, OnErr, IfSome, IsSome};
+ghost use Rattle.std.specs.Io.{ReadsAtMost};
+ghost use Rattle.std.specs.Io.KnownBytes.{IsAtEnd, ReadConsumes};
 ghost use Rattle.iscsi_captures.specs.Directions.{HearsWanted, IsFor, IsMeant, is_side};
+ghost use Rattle.iscsi_captures.specs.Following.{Table};
+ghost use Rattle.iscsi_captures.specs.Giving.{AddsSome, HasEnded, IfCut, IsDirectionFault, IsFaultOf, IsWhole, ReadsOn, WasRead, unread};
 ghost use Rattle.iscsi_captures.specs.declared.ends.Side.{Side};
 
 use crate::belonging::Start;
@@ -16,6 +20,7 @@ use crate::half::Stop;
 use crate::heard::{Heard, heard_of};
 use std::alloc::{AllocError, Global};
 use std::io::{self, ErrorKind, Read};
+use std::marker::Model;
 
 /// The end of a connection whose bytes are wanted.
 #[derive(Clone, Copy, Debug, PartialEq, Eq)]
@@ -49,13 +54,31 @@ pub struct Captured<'a, R: Read> {
     fault: Option<CapturesFault>,
 }
 
+impl<'a, R: Read> Model for Captured<'a, R> {
+    ghost use Rattle.std.specs.Prelude.{drop};
+    ghost use Rattle.iscsi_captures.specs.Giving.{Listening};
+
+    ghost Value = { Listening };
+
+    ghost view = { λ c. record {
+      connections = c.connections;
+      wanted = c.wanted;
+      known = drop c.given c.out.items;
+      ended = c.ended;
+      fault = c.fault;
+      left = R.remaining c.source.now;
+    } };
+}
+
 impl<'a, R: Read> Captured<'a, R> {
     /// A direction of which nothing was read. It takes the memory of a file's buffer.
     pub fn new(
         alloc: Global,
         source: &'a mut R,
         wanted: Wanted,
-    ) -> Result<Captured<'a, R>, AllocError> {
+    ) -> Result<Captured<'a, R>, AllocError>
+        ensures new { IfOk result (λ captured. captured ≡ unread wanted (R.remaining source.old)) }
+    {
         Ok(Captured {
             source,
             file: CaptureFile::new(alloc)?,
@@ -69,67 +92,109 @@ impl<'a, R: Read> Captured<'a, R> {
     }
 
     /// Why the direction was not read to its end.
-    pub fn fault(&self) -> Option<CapturesFault> {
+    pub fn fault(&self) -> Option<CapturesFault>
+        ensures { result ≡ self.now.fault }
+    {
         self.fault
     }
 
     /// Which direction it is.
-    pub fn wanted(&self) -> Wanted {
+    pub fn wanted(&self) -> Wanted
+        ensures { result ≡ self.now.wanted }
+    {
         self.wanted
     }
 
     // Gives bytes that are known, as many as there is room for, and says how many.
     fn give(&mut self, buf: &mut [u8]) -> usize
-        ensures { result ≤ length buf.new }
+        ensures count { result ≡ min (length self.old.known) (length buf.old) }
+        ensures within { result ≤ length buf.new }
+        ensures bytes { take result buf.new ≡ take result self.old.known }
+        ensures rest { self.new ≡ record self.old { known = drop result self.old.known } }
     {
         let Some(rest) = self.out.get(self.given..) else {
             return 0;
         };
         let count = rest.len().min(buf.len());
         buf[..count].copy_from_slice(&rest[..count]);
-        self.given = self.given.saturating_add(count);
+        self.given += count;
         count
     }
 
-    // Reads on, until more bytes are known or the direction ends.
-    fn advance(&mut self) {
+    // Reads on if no byte is known, until one is or the direction ends. After 2^64 - 1 steps a read
+    // counts as failed.
+    fn advance(&mut self)
+        ensures reads { ReadsOn self.old self.new [] }
+        ensures stops { (0 < length self.new.known) ⊎ ((self.new.ended ≡ true) ⊎ IsSome self.new.fault) }
+    {
+        if self.given < self.out.len() {
+            return;
+        }
         self.out.clear();
         self.given = 0;
-        for _ in 0..u64::MAX {
+        for turn in 0..u64::MAX {
             if self.ended || self.fault.is_some() || !self.out.is_empty() {
                 return;
             }
-            if let Err(fault) = self.step() {
-                self.fault = Some(fault);
+            match step(
+                &mut self.file,
+                self.source,
+                &mut self.connections,
+                self.wanted,
+                &mut self.out,
+            ) {
+                Ok(more) => self.ended = !more,
+                Err(fault) => self.fault = Some(fault),
             }
         }
-    }
-
-    // One step of the file.
-    fn step(&mut self) -> Result<(), CapturesFault> {
-        match self.file.step(self.source)? {
-            Stood::Other => Ok(()),
-            Stood::Packet(packet) => {
-                hear(&mut self.connections, packet, self.wanted, &mut self.out)
-            }
-            Stood::End => {
-                self.ended = true;
-                at_end(&self.connections, self.wanted)
-            }
-        }
+        self.fault = Some(self.fault.unwrap_or(CapturesFault::Read));
     }
 }
 
 impl<R: Read> Read for Captured<'_, R> {
-    fn read(&mut self, buf: &mut [u8]) -> io::Result<usize> {
-        if self.given >= self.out.len() {
-            self.advance();
-        }
+    fn read(&mut self, buf: &mut [u8]) -> io::Result<usize>
+        ensures bound { ReadsAtMost result buf.new }
+        ensures bytes { ReadConsumes None None result buf.new }
+        ensures gives { IfOk result (λ n. ReadsOn self.old self.new (take n buf.new)) }
+        ensures ends { IfOk result (λ n. n ≡ 0 → 0 < length buf.old → HasEnded self.new) }
+        ensures fails { OnErr result (ReadsOn self.old self.new [] × IsSome self.new.fault) }
+    {
+        self.advance();
         let count = self.give(buf);
         if count == 0 && self.fault.is_some() {
             return Err(ErrorKind::InvalidData.into());
         }
         Ok(count)
+    }
+}
+
+// One step of the file; says whether it goes on. In `out` stays what the step adds to the direction
+// that is wanted.
+fn step<R: Read>(
+    file: &mut CaptureFile,
+    source: &mut R,
+    connections: &mut Connections,
+    wanted: Wanted,
+    out: &mut Vec<u8>,
+) -> Result<bool, CapturesFault>
+    ensures reads { WasRead (R.remaining source.old) (R.remaining source.new) }
+    ensures on { OnOk result (AddsSome wanted connections.old connections.new out.new.items) }
+    ensures end { IfOk result (λ more. more ≡ false → (out.new.items ≡ [])
+        × IsAtEnd (R.remaining source.new) × IsWhole connections.new wanted) }
+    ensures err { OnErr result ((table : Table) × AddsSome wanted connections.old table out.new.items) }
+    ensures fault { IfErr result (IsFaultOf wanted.connection (R.remaining source.new)) }
+{
+    out.clear();
+    match file.step(source)? {
+        Stood::Other => Ok(true),
+        Stood::Packet(packet) => {
+            hear(connections, packet, wanted, out)?;
+            Ok(true)
+        }
+        Stood::End => {
+            at_end(connections, wanted)?;
+            Ok(false)
+        }
     }
 }
 
@@ -139,7 +204,11 @@ fn hear(
     packet: Numbered<'_>,
     wanted: Wanted,
     out: &mut Vec<u8>,
-) -> Result<(), CapturesFault> {
+) -> Result<(), CapturesFault>
+    ensures ok { OnOk result (AddsSome wanted connections.old connections.new out.new.items) }
+    ensures err { OnErr result ((table : Table) × AddsSome wanted connections.old table out.new.items) }
+    ensures fault { IfErr result (IsDirectionFault wanted.connection) }
+{
     out.clear();
     let Some(segment) = packet.segment()? else {
         return Ok(());
@@ -161,9 +230,17 @@ fn hear_segment(
     requires { length heard.now.bytes.now < 2 ^ 32 }
     ensures hears { OnOk result (HearsWanted connections.old heard.now wanted connections.new
         out.new.items) }
+    ensures err { OnErr result ((table : Table) × AddsSome wanted connections.old table out.new.items) }
+    ensures fault { IfErr result (IsDirectionFault wanted.connection) }
 {
     out.clear();
-    let number = connections.take(*heard, out)?;
+    let number = match connections.take(*heard, out) {
+        Ok(number) => number,
+        Err(fault) => {
+            out.clear();
+            return Err(fault);
+        }
+    };
     connections.keep_within();
     match is_wanted(connections.list(), number, heard, at, wanted) {
         Ok(true) => Ok(()),
@@ -188,7 +265,9 @@ fn is_wanted(
     at: u64,
     wanted: Wanted,
 ) -> Result<bool, CapturesFault>
-    ensures { IfOk result (λ is. IsFor list.now number heard.now wanted is) }
+    ensures is { IfOk result (λ is. IsFor list.now number heard.now wanted is) }
+    ensures cut { IfErr result (λ fault. IfCut fault (IsFor list.now number heard.now wanted true)) }
+    ensures fault { IfErr result (IsDirectionFault wanted.connection) }
 {
     let Some(connection) = list.get(number) else {
         return Ok(false);
@@ -206,8 +285,11 @@ fn heard_of_wanted(
     at: u64,
     wanted: Wanted,
 ) -> Result<bool, CapturesFault>
-    ensures { IfOk result (λ is. (side : Side) × IsMeant connection.now wanted.end side
+    ensures is { IfOk result (λ is. (side : Side) × IsMeant connection.now wanted.end side
         × (is ≡ is_side side heard.now.said.side)) }
+    ensures cut { IfErr result (λ fault. IfCut fault ((side : Side)
+        × IsMeant connection.now wanted.end side × (true ≡ is_side side heard.now.said.side))) }
+    ensures fault { IfErr result (IsDirectionFault wanted.connection) }
 {
     let number = wanted.connection;
     if connection.opener.is_none() && heard.said.some {
@@ -243,7 +325,11 @@ fn side_of(connection: &Connection, end: End) -> Side
 }
 
 // What is wrong with the direction where the capture ends.
-fn at_end(connections: &Connections, wanted: Wanted) -> Result<(), CapturesFault> {
+fn at_end(connections: &Connections, wanted: Wanted) -> Result<(), CapturesFault>
+    ensures whole { OnOk result (IsWhole connections.now wanted) }
+    ensures fault { IfErr result (λ fault. (left : Option (List ℕ)) → IsAtEnd left
+        → IsFaultOf wanted.connection left fault) }
+{
     let connection = wanted.connection;
     let Some(found) = connections.list().get(connection) else {
         return Err(CapturesFault::NoConnection { connection });
@@ -255,7 +341,10 @@ fn at_end(connections: &Connections, wanted: Wanted) -> Result<(), CapturesFault
 }
 
 /// The fault of a direction that is not followed further.
-pub(crate) fn stop_fault(connection: usize, stop: Stop) -> CapturesFault {
+pub(crate) fn stop_fault(connection: usize, stop: Stop) -> CapturesFault
+    ensures of { IsDirectionFault connection result }
+    ensures uncut { IfCut result ⊥ }
+{
     match stop {
         Stop::Gap(offset, packet) => CapturesFault::Gap {
             connection,

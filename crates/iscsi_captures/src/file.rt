@@ -1,5 +1,8 @@
 //! A capture file of any length, packet by packet.
 
+ghost use Rattle.std.specs.Prelude.{ℕ, List, Option, IfOk, IfErr};
+ghost use Rattle.iscsi_captures.specs.Giving.{IsEndOf, IsFileFault, IsSegmentOf, WasRead};
+
 use crate::fault::CapturesFault;
 use crate::window::Window;
 use capture_file::{Capture, CaptureFault, Packet, PacketFault, Segment, Step, segment_of};
@@ -68,15 +71,24 @@ impl CaptureFile {
     ///
     /// `Format`, `Length`, `Interface` and `NoMemory` come as in `Capture::step`. `Truncated` comes
     /// if the file ends within a record or block, with the place where that begins, and `Read` if a
-    /// read fails. After a fault
-    /// the same call may be made again, and nothing is said of what it returns.
-    pub fn step<R: Read>(&mut self, file: &mut R) -> Result<Stood<'_>, CapturesFault> {
+    /// read fails. After a fault the same call may be made again, and nothing is said of what it
+    /// returns.
+    pub fn step<R: Read>(&mut self, file: &mut R) -> Result<Stood<'_>, CapturesFault>
+        ensures reads { WasRead (R.remaining file.old) (R.remaining file.new) }
+        ensures end { IfOk result (IsEndOf (R.remaining file.new)) }
+        ensures fault { IfErr result (IsFileFault (R.remaining file.new)) }
+    {
         self.window.give_up(self.taken);
         self.taken = 0;
         match self.window.fill(file, self.needed) {
             Err(_) => return Err(CapturesFault::Read),
             Ok(true) => {}
-            Ok(false) => return self.ended(),
+            Ok(false) => {
+                return match self.begun() {
+                    Some(at) => Err(CapturesFault::Truncated { at }),
+                    None => Ok(Stood::End),
+                };
+            }
         }
         if self.skip > 0 {
             self.pass();
@@ -85,17 +97,15 @@ impl CaptureFile {
         self.stand()
     }
 
-    // The file has no more bytes.
-    fn ended(&self) -> Result<Stood<'_>, CapturesFault> {
+    // Where the record or block begins of which a part was read; `None` if there is none.
+    fn begun(&self) -> Option<u64> {
         if self.skip > 0 {
-            return Err(CapturesFault::Truncated { at: self.skipped });
+            return Some(self.skipped);
         }
         if self.window.bytes().is_empty() {
-            return Ok(Stood::End);
+            return None;
         }
-        Err(CapturesFault::Truncated {
-            at: self.window.at(),
-        })
+        Some(self.window.at())
     }
 
     // Passes over bytes without a packet, as far as they are at hand.
@@ -106,7 +116,10 @@ impl CaptureFile {
     }
 
     // What stands at the first byte at hand.
-    fn stand(&mut self) -> Result<Stood<'_>, CapturesFault> {
+    fn stand(&mut self) -> Result<Stood<'_>, CapturesFault>
+        ensures on { (left : Option (List ℕ)) → IfOk result (IsEndOf left) }
+        ensures fault { (left : Option (List ℕ)) → IfErr result (IsFileFault left) }
+    {
         let at = self.window.at();
         self.needed = 1;
         match self.capture.step(self.window.bytes()) {
@@ -134,7 +147,9 @@ impl CaptureFile {
 }
 
 // The fault of a file at this offset.
-fn file_fault(fault: CaptureFault, at: u64) -> CapturesFault {
+fn file_fault(fault: CaptureFault, at: u64) -> CapturesFault
+    ensures { (left : Option (List ℕ)) → IsFileFault left result }
+{
     match fault {
         CaptureFault::NoMemory => CapturesFault::NoMemory,
         CaptureFault::Format => CapturesFault::Format { at },
@@ -146,7 +161,9 @@ fn file_fault(fault: CaptureFault, at: u64) -> CapturesFault {
 impl<'a> Numbered<'a> {
     /// The TCP segment of the packet; `None` if it has none that a receiver takes. The faults are
     /// those of `segment_of`, with their place.
-    pub fn segment(&self) -> Result<Option<Segment<'a>>, CapturesFault> {
+    pub fn segment(&self) -> Result<Option<Segment<'a>>, CapturesFault>
+        ensures exact { IsSegmentOf self.now result }
+    {
         let packet = self.number;
         let at = self.at;
         match segment_of(self.packet) {

@@ -1,7 +1,8 @@
 //! One direction of a connection, as far as it is followed.
 
-ghost use Rattle.std.specs.Prelude.{◌≡◌, ◌<◌, ◌^◌, OnOk, IfErr, IsSome, length, None, Some};
+ghost use Rattle.std.specs.Prelude.{◌≡◌, ◌<◌, ◌^◌, OnOk, IfErr, IsSome, IsTrue, ◌↔◌, length, None, Some};
 ghost use Rattle.iscsi_captures.specs.Following.{HalfTakes, given_up, opened, unheard};
+ghost use Rattle.iscsi_captures.specs.Giving.{stop_at_end};
 ghost use Rattle.iscsi_captures.specs.declared.fault.CapturesFault.TheVariants.{NoMemory};
 
 use crate::belonging::Start;
@@ -161,7 +162,9 @@ impl Half {
     }
 
     /// Whether its first byte is that of a login request (RFC 7143, section 11.12).
-    pub fn is_login(&self) -> bool {
+    pub fn is_login(&self) -> bool
+        ensures { IsTrue result ↔ (self.now.first_byte ≡ Some 67) }
+    {
         self.first_byte == Some(0x43)
     }
 
@@ -173,7 +176,9 @@ impl Half {
     }
 
     /// Why the direction was not followed to its end, where the capture ends here.
-    pub fn stopped(&self) -> Option<Stop> {
+    pub fn stopped(&self) -> Option<Stop>
+        ensures { result ≡ stop_at_end self.now.stop self.now }
+    {
         match self.stop {
             Some(stop) => Some(stop),
             None => {

@@ -1,6 +1,8 @@
 //! A file through a buffer of fixed length.
 
-ghost use Rattle.std.specs.Prelude.{◌≤◌};
+ghost use Rattle.std.specs.Prelude.{◌≡◌, ◌≤◌, ◌<◌, false, IfOk, vec_len};
+ghost use Rattle.std.specs.Io.KnownBytes.{IsAtEnd};
+ghost use Rattle.iscsi_captures.specs.Giving.{WasRead};
 
 use std::alloc::{AllocError, Global};
 use std::io::Read;
@@ -19,7 +21,6 @@ pub(crate) struct Window {
     from: usize,
     to: usize,
     at: u64,
-    ended: bool,
     ghost ordered: { from ≤ to },
     ghost within: { to ≤ buffer.len },
 }
@@ -33,7 +34,6 @@ impl Window {
             from: 0,
             to: 0,
             at: 0,
-            ended: false,
         })
     }
 
@@ -58,26 +58,27 @@ impl Window {
     }
 
     /// Reads on until this many bytes are at hand. Returns `false` if the file has no more, and
-    /// then all that it has are at hand.
-    pub(crate) fn fill<R: Read>(
-        &mut self,
-        file: &mut R,
-        needed: usize,
-    ) -> Result<bool, ReadFailed> {
+    /// then all that it has are at hand. More than the buffer holds count as a read that failed.
+    pub(crate) fn fill<R: Read>(&mut self, file: &mut R, needed: usize) -> Result<bool, ReadFailed>
+        ensures reads { WasRead (R.remaining file.old) (R.remaining file.new) }
+        ensures end { IfOk result (λ more. more ≡ false → IsAtEnd (R.remaining file.new)) }
+    {
         if self.to - self.from >= needed {
             return Ok(true);
         }
         self.move_front();
-        for _ in 0..u64::MAX {
+        for turn in 0..u64::MAX {
             if self.to >= needed {
                 return Ok(true);
             }
-            if self.ended || self.to == self.buffer.len() {
+            if self.to == self.buffer.len() {
+                return Err(ReadFailed);
+            }
+            if self.read(file)? == 0 {
                 return Ok(false);
             }
-            self.read(file)?;
         }
-        Ok(false)
+        Err(ReadFailed)
     }
 
     // Moves the bytes at hand to the front of the buffer.
@@ -89,17 +90,17 @@ impl Window {
         self.to = to - from;
     }
 
-    // Reads once, after the bytes at hand.
-    fn read<R: Read>(&mut self, file: &mut R) -> Result<(), ReadFailed> {
+    // Reads once, after the bytes at hand, and says how many came: none at the end of the file.
+    fn read<R: Read>(&mut self, file: &mut R) -> Result<usize, ReadFailed>
+        requires room { self.old.to < vec_len self.old.buffer }
+        ensures reads { WasRead (R.remaining file.old) (R.remaining file.new) }
+        ensures end { IfOk result (λ n. n ≡ 0 → IsAtEnd (R.remaining file.new)) }
+    {
         let to = self.to;
         match file.read(&mut self.buffer[to..]) {
-            Ok(0) => {
-                self.ended = true;
-                Ok(())
-            }
             Ok(n) => {
                 self.to = to + n;
-                Ok(())
+                Ok(n)
             }
             Err(_) => Err(ReadFailed),
         }
