@@ -7,3 +7,4 @@ pub mod Listed
 pub mod Shown
 pub mod Keeping
 pub mod Reading
+pub mod Counting

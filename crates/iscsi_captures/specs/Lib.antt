@@ -7,3 +7,4 @@ pub mod Directions
 pub mod Listing
 pub mod Written
 pub mod Giving
+pub mod Waiting

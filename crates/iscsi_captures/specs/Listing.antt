@@ -11,8 +11,8 @@ use Rattle.iscsi_captures.specs.declared.ends.Side.TheVariants.{Lower, Upper}
 use Rattle.iscsi_captures.specs.declared.half.Half.{Half}
 use Rattle.iscsi_captures.specs.declared.fault.CapturesFault.{CapturesFault}
 use Rattle.iscsi_captures.specs.declared.fault.CapturesFault.TheVariants as faults
-use Rattle.iscsi_stream.specs.Normalising.{WroteFront}
 use Rattle.iscsi_captures.specs.Directions.{IsMeant, other_side}
+use Rattle.iscsi_captures.specs.Written.{WroteLess}
 
 -- the text goes on
 abbrev pub GoesOn : List ℕ → List ℕ → Type 0
@@ -54,9 +54,9 @@ WroteLines old new = (connections : List Connection) × (lines : List ℕ)
     × AreLinesFrom 0 connections lines × Appends old new lines
 
 -- What is written of a capture, by how that ends: the lines of its connections. Where memory ran out
--- this is nothing or all of them, and where a write failed a part.
+-- this is nothing or all of them, and where a write failed a front that is not all.
 abbrev pub Lists : Result (Unit {0}) CapturesFault → Option (List ℕ) → Option (List ℕ) → Type 0
 Lists (Err faults.NoMemory) old new = Keeps old new ⊎ WroteLines old new
 Lists (Err faults.Write) old new = (connections : List Connection) × (lines : List ℕ)
-    × AreLinesFrom 0 connections lines × WroteFront old new lines
+    × AreLinesFrom 0 connections lines × WroteLess old new lines
 Lists _ old new = WroteLines old new

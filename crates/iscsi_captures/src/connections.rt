@@ -1,8 +1,9 @@
 //! The connections of a capture.
 
-ghost use Rattle.std.specs.Prelude.{◌≡◌, ◌≢◌, ◌<◌, ◌+◌, ◌^◌, ℕ, OnOk, IfOk, IfErr, IfSome, length, max, slice_get, None, Some, [], ◌∷◌, ◌++◌};
+ghost use Rattle.std.specs.Prelude.{◌≡◌, ◌≢◌, ◌<◌, ◌≤◌, ◌+◌, ◌-◌, ◌^◌, ℕ, OnOk, IfOk, IfErr, IfSome, IsSome, length, max, min, slice_get, None, Some, [], ◌∷◌, ◌++◌};
 ghost use Rattle.iscsi_captures.specs.Following.{Hears, Keeps, KeepsAll, Steps, no_connections, unheard};
 ghost use Rattle.iscsi_captures.specs.Listing.{sent_at};
+ghost use Rattle.iscsi_captures.specs.Waiting.{larger_at, most_waiting, waiting_at, waiting_in, waiting_in_all};
 ghost use Rattle.iscsi_captures.specs.declared.connections.Connection.{Connection};
 ghost use Rattle.iscsi_captures.specs.declared.fault.CapturesFault.TheVariants.{NoMemory};
 
@@ -41,7 +42,8 @@ pub struct Connections {
     alloc: Global,
     last: HashMap<Ends, Last>,
     list: Vec<Connection>,
-    waiting: usize,
+    // how much waits in all directions together; `None` where that is to be counted anew
+    waiting: Option<usize>,
 }
 
 impl Model for Connections {
@@ -50,6 +52,10 @@ impl Model for Connections {
     ghost Value = { Table };
 
     ghost view = { λ c. record { last = c.last.entries; connections = c.list.items } };
+
+    ghost use Rattle.iscsi_captures.specs.Waiting.{IsCounted};
+
+    ghost invariant = { λ c. IsCounted c.waiting c.list.items };
 }
 
 impl Connection {
@@ -86,12 +92,12 @@ impl Connection {
         }
     }
 
-    // Follows the direction no further in which more waits, if any does, and says how much that was.
+    // Follows the direction no further in which more waits, if any does.
     #[tactic(auto, using(crate::proofs::Keeping::may_stay, crate::proofs::Keeping::may_end))]
-    fn give_up(&mut self) -> usize
+    fn give_up(&mut self)
         ensures keeps { Keeps self.old self.new }
+        ensures less { 0 < waiting_in self.old → waiting_in self.new < waiting_in self.old }
     {
-        let before = self.waiting();
         if self.lower.waiting >= self.upper.waiting {
             if self.lower.waiting > 0 {
                 self.lower.give_up();
@@ -99,12 +105,13 @@ impl Connection {
         } else {
             self.upper.give_up();
         }
-        before.saturating_sub(self.waiting())
     }
 
     // How much waits in its two directions.
-    fn waiting(&self) -> usize {
-        self.lower.waiting.saturating_add(self.upper.waiting)
+    fn waiting(&self) -> usize
+        ensures { result ≡ waiting_in self.now }
+    {
+        self.lower.waiting as usize + self.upper.waiting as usize
     }
 
     /// Who began it: the sender of the SYN, or the receiver of a SYN with ACK. Without a SYN it is
@@ -219,7 +226,7 @@ impl Connections {
             alloc,
             last: HashMap::new(alloc),
             list: Vec::new(alloc),
-            waiting: 0,
+            waiting: Some(0),
         }
     }
 
@@ -243,32 +250,71 @@ impl Connections {
     {
         let count = self.list.len();
         let number = place(&mut self.last, count, heard.ends, heard.said)?;
+        let waiting = self.waiting.take();
         let before = waiting_of(&self.list, number);
         hear(self.alloc, &mut self.list, number, &heard, out)?;
         let after = waiting_of(&self.list, number);
-        self.waiting = self.waiting.saturating_sub(before).saturating_add(after);
+        self.waiting = waiting_after(waiting, before, after);
         Ok(number)
     }
 
     /// Follows directions no further, each that with most, until no more waits in all of them
-    /// together than 64 MiB.
-    #[tactic(auto, using(crate::proofs::Keeping::keeps_same, crate::proofs::Keeping::keeps_then))]
+    /// together than 64 MiB. If no more does, all stay as they are.
     pub fn keep_within(&mut self)
         ensures last { self.new.last ≡ self.old.last }
         ensures keeps { KeepsAll self.old.connections self.new.connections }
+        ensures within { waiting_in_all self.new.connections ≤ most_waiting }
+        ensures kept { waiting_in_all self.old.connections ≤ most_waiting → self.new ≡ self.old }
     {
-        for turn in 0..MOST_CONNECTIONS {
-            if self.waiting <= MOST_WAITING {
+        if let Some(waiting) = self.waiting {
+            if waiting <= MOST_WAITING {
                 return;
             }
-            let freed = give_up_most(&mut self.list);
-            self.waiting = self.waiting.saturating_sub(freed);
         }
+        self.waiting = Some(give_up_until_within(&mut self.list));
     }
 }
 
+// Follows directions no further, each that with most, until no more waits than may, and says how
+// much does.
+#[tactic(auto, using(crate::proofs::Keeping::keeps_same, crate::proofs::Keeping::keeps_then))]
+fn give_up_until_within(list: &mut Vec<Connection>) -> usize
+    ensures keeps { KeepsAll list.old.items list.new.items }
+    ensures count { result ≡ waiting_in_all list.new.items }
+    ensures within { result ≤ most_waiting }
+    ensures kept { waiting_in_all list.old.items ≤ most_waiting → list.new.items ≡ list.old.items }
+{
+    let mut waiting = waiting_in(list);
+    while waiting > MOST_WAITING {
+        give_up_most(list);
+        waiting = waiting_in(list);
+    }
+    waiting
+}
+
+// How much waits in all of these, or 2^64 - 1 if that is more.
+fn waiting_in(list: &[Connection]) -> usize
+    ensures { result ≡ min (waiting_in_all list.now) (2 ^ 64 - 1) }
+{
+    let mut waiting: usize = 0;
+    for connection in list {
+        waiting = waiting.saturating_add(connection.waiting());
+    }
+    waiting
+}
+
+// How much waits in all connections, after one of them had so much before and has so much now;
+// `None` where that was not counted.
+fn waiting_after(waiting: Option<usize>, before: usize, after: usize) -> Option<usize>
+    ensures { IfSome result (λ n. IfSome waiting (λ all. n + before ≡ all + after) × IsSome waiting) }
+{
+    waiting?.checked_sub(before)?.checked_add(after)
+}
+
 // How much waits in the connection with this number.
-fn waiting_of(list: &[Connection], number: usize) -> usize {
+fn waiting_of(list: &[Connection], number: usize) -> usize
+    ensures { result ≡ waiting_at (slice_get list.now number) }
+{
     match list.get(number) {
         Some(connection) => connection.waiting(),
         None => 0,
@@ -276,27 +322,48 @@ fn waiting_of(list: &[Connection], number: usize) -> usize {
 }
 
 // The number of the connection with the direction in which most waits.
-fn most_waiting(list: &[Connection]) -> usize {
-    let mut most: usize = 0;
+fn most_waiting(list: &[Connection]) -> usize
+    ensures { (k : ℕ) → larger_at (slice_get list.now k) ≤ larger_at (slice_get list.now result) }
+{
     let mut number: usize = 0;
-    for (k, connection) in list.iter().enumerate() {
-        let waiting = connection.lower.waiting.max(connection.upper.waiting);
-        if waiting > most {
-            most = waiting;
-            number = k;
-        }
+    for k in 0..list.len() {
+        number = larger_of(list, number, k);
     }
     number
 }
 
-// Follows the direction no further in which most waits, and says how much that was.
+// That one of two connections with the direction in which more waits.
+fn larger_of(list: &[Connection], first: usize, second: usize) -> usize
+    ensures first { larger_at (slice_get list.now first) ≤ larger_at (slice_get list.now result) }
+    ensures second { larger_at (slice_get list.now second) ≤ larger_at (slice_get list.now result) }
+{
+    if larger_in(list, first) < larger_in(list, second) {
+        second
+    } else {
+        first
+    }
+}
+
+// How much waits in that direction of a connection in which more does.
+fn larger_in(list: &[Connection], number: usize) -> u32
+    ensures { result ≡ larger_at (slice_get list.now number) }
+{
+    match list.get(number) {
+        Some(connection) => connection.lower.waiting.max(connection.upper.waiting),
+        None => 0,
+    }
+}
+
+// Follows the direction no further in which most waits.
 #[tactic(auto, using(crate::proofs::Keeping::keeps_same, crate::proofs::Keeping::keeps_one))]
-fn give_up_most(list: &mut Vec<Connection>) -> usize
+fn give_up_most(list: &mut Vec<Connection>)
     ensures keeps { KeepsAll list.old.items list.new.items }
+    ensures less { 0 < waiting_in_all list.old.items
+        → waiting_in_all list.new.items < waiting_in_all list.old.items }
 {
     let most = most_waiting(list);
     let Some(connection) = list.get_mut(most) else {
-        return 0;
+        return;
     };
-    connection.give_up()
+    connection.give_up();
 }

@@ -39,7 +39,7 @@ pub struct Half {
     /// The first byte of its stream, once it is known.
     pub first_byte: Option<u8>,
     /// How much came since a byte is missing, by the count of `WAITING`; 0 where none is.
-    pub waiting: usize,
+    pub waiting: u32,
     /// The packet that came first since then.
     pub waits_from: u64,
     /// The first packet of which bytes were not captured; 0: there was none.
@@ -126,8 +126,8 @@ impl Half {
         if self.waiting == 0 {
             self.waits_from = heard.packet;
         }
-        let cost = heard.bytes.len().saturating_add(64);
-        self.waiting = self.waiting.saturating_add(cost).min(WAITING);
+        let cost = heard.bytes.len().saturating_add(64).min(WAITING) as u32;
+        self.waiting = self.waiting.saturating_add(cost).min(WAITING as u32);
     }
 
     // Follows the direction no further.

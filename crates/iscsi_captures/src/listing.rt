@@ -1,8 +1,10 @@
 //! A line for each connection of a capture.
 
-ghost use Rattle.std.specs.Prelude.{◌≡◌, ℕ, List, ◌++◌, IfOk, OnOk, string_bytes};
+ghost use Rattle.std.specs.Prelude.{◌≡◌, ℕ, List, ◌++◌, Option, IfOk, IfErr, OnOk, OnErr, string_bytes};
 ghost use Rattle.std.specs.Io.KnownBytes.{Appends};
+ghost use Rattle.iscsi_captures.specs.Giving.{IsFileFault};
 ghost use Rattle.iscsi_captures.specs.Listing.{AreLinesFrom, GoesOn, IsLineOf, Lists};
+ghost use Rattle.iscsi_captures.specs.Written.{WroteLess};
 
 use crate::connections::{Connection, Connections};
 use crate::fault::CapturesFault;
@@ -10,7 +12,6 @@ use crate::file::{CaptureFile, Numbered, Stood};
 use crate::half::{Half, Stop};
 use crate::heard::heard_of;
 use crate::talk::is_begun;
-use iscsi_stream::{ToolFault, write_fully};
 use std::alloc::{AllocError, Global};
 use std::io::{Read, Write};
 
@@ -34,18 +35,44 @@ pub fn list_connections<R: Read, W: Write>(
     let Ok(lines) = lines_of(alloc, connections.list()) else {
         return Err(CapturesFault::NoMemory);
     };
-    match write_fully(w, lines.as_bytes()) {
+    match write_lines(w, lines.as_bytes()) {
         Ok(()) => read,
         Err(_) => Err(CapturesFault::Write),
     }
 }
 
-// Reads a capture to its end.
+// A write failed, or took no byte.
+#[derive(Drop)]
+struct WriteFailed;
+
+// Writes all of the lines. If a write fails, not all of them were written.
+fn write_lines<W: Write>(w: &mut W, lines: &[u8]) -> Result<(), WriteFailed>
+    ensures ok { OnOk result (Appends (W.contents w.old) (W.contents w.new) lines.now) }
+    ensures err { OnErr result (WroteLess (W.contents w.old) (W.contents w.new) lines.now) }
+{
+    let mut rest = lines;
+    while !rest.is_empty() {
+        match w.write(rest) {
+            Err(_) => return Err(WriteFailed),
+            Ok(n) => {
+                if n == 0 {
+                    return Err(WriteFailed);
+                }
+                rest = &rest[n..];
+            }
+        }
+    }
+    Ok(())
+}
+
+// Reads a capture to its end. After 2^64 - 1 steps a read counts as failed.
 fn read_all<R: Read>(
     alloc: Global,
     source: &mut R,
     connections: &mut Connections,
-) -> Result<(), CapturesFault> {
+) -> Result<(), CapturesFault>
+    ensures fault { IfErr result (IsFileFault (R.remaining source.new)) }
+{
     let mut file = CaptureFile::new(alloc)?;
     let mut out = Vec::new(alloc);
     for _ in 0..u64::MAX {
@@ -55,7 +82,7 @@ fn read_all<R: Read>(
             Stood::End => return Ok(()),
         }
     }
-    Ok(())
+    Err(CapturesFault::Read)
 }
 
 // Takes a packet, whose bytes are not wanted.
@@ -63,7 +90,9 @@ fn hear(
     connections: &mut Connections,
     packet: Numbered<'_>,
     out: &mut Vec<u8>,
-) -> Result<(), CapturesFault> {
+) -> Result<(), CapturesFault>
+    ensures fault { (left : Option (List ℕ)) → IfErr result (IsFileFault left) }
+{
     match packet.segment() {
         Ok(Some(segment)) => {
             out.clear();
