@@ -76,33 +76,34 @@ pub fn serve_storage<'a, S: AsStr>(
     ensures ends { EndsStorage storage.entry result }
 {
     match read_initiators(rt.alloc(), words) {
-        Ok(initiators) => serve_to(rt, storage, service, listed(&initiators)),
+        Ok(initiators) => serve_to(rt, storage, service, initiators.as_slice()),
         // The words were read before, so that nothing but memory is wanting.
         Err(_) => Err(DiskFault::Session(ServeFault::NoMemory)),
     }
 }
 
 // The names that are listed, if there is one.
-fn listed<'a>(initiators: &'a Vec<&'a [u8]>) -> Option<&'a [&'a [u8]]> {
+fn listed<'a>(initiators: &'a [&'a [u8]]) -> Option<&'a [&'a [u8]]> {
     if initiators.is_empty() {
         None
     } else {
-        Some(initiators.as_slice())
+        Some(initiators)
     }
 }
 
-// Serves a disk to the initiators of these names, or to everybody.
+// Serves a disk to the initiators of these names, or to everybody if there is none.
 #[tactic(auto, using(crate::proofs::OpenLemmas::can_be_opened))]
 fn serve_to<'a>(
     rt: &HostRuntime,
     storage: Storage<'a>,
     service: Service<'_>,
-    initiators: Option<&[&[u8]]>,
+    initiators: &[&[u8]],
 ) -> Result<(), DiskFault<'a>>
     requires storage { IsStorage storage }
     requires service { CanServe service }
     ensures ends { EndsStorage storage.entry result }
 {
+    let initiators = listed(initiators);
     match storage {
         Storage::Memory { blocks } => match serve_memory(rt, service, initiators, blocks) {
             Ok(()) => Ok(()),
