@@ -1,7 +1,7 @@
 //! A line for each connection of a capture.
 
 ghost use Rattle.std.specs.Prelude.{◌≡◌, ℕ, List, ◌++◌, Option, IfOk, IfErr, OnOk, OnErr, string_bytes};
-ghost use Rattle.std.specs.Io.KnownBytes.{Appends};
+ghost use Rattle.std.specs.Io.KnownBytes.{Appends, IsAtEnd};
 ghost use Rattle.iscsi_captures.specs.Giving.{IsFileFault};
 ghost use Rattle.iscsi_captures.specs.Listing.{AreLinesFrom, GoesOn, IsLineOf, Lists};
 ghost use Rattle.iscsi_captures.specs.Written.{WroteLess};
@@ -29,6 +29,7 @@ pub fn list_connections<R: Read, W: Write>(
     ensures moves { (written : List ℕ)
         × Appends (W.contents w.old) (W.contents w.new) written }
     ensures lists { Lists result (W.contents w.old) (W.contents w.new) }
+    ensures end { OnOk result (IsAtEnd (R.remaining source.new)) }
 {
     let mut connections = Connections::new(alloc);
     let read = read_all(alloc, source, &mut connections);
@@ -72,6 +73,7 @@ fn read_all<R: Read>(
     connections: &mut Connections,
 ) -> Result<(), CapturesFault>
     ensures fault { IfErr result (IsFileFault (R.remaining source.new)) }
+    ensures end { OnOk result (IsAtEnd (R.remaining source.new)) }
 {
     let mut file = CaptureFile::new(alloc)?;
     let mut out = Vec::new(alloc);
