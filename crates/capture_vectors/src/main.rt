@@ -12,7 +12,7 @@ use crate::row::{Row, row_of};
 use crate::streams::stream_is_so;
 use crate::table::Half;
 use capture_file::PacketFault;
-use std::alloc::Global;
+use std::alloc::{AllocError, Global};
 use std::process::ExitCode;
 use std::{fs, io};
 use tcp_streams::SegmentFault;
@@ -35,22 +35,36 @@ fn main(rt: HostRuntime) -> io::Result<ExitCode> {
     Ok(ExitCode::from(if not_so == 0 { 0 } else { 1 }))
 }
 
-// Whether the row is so, with all bytes at hand, and with as few as the reader asks for.
+// Whether the row is so.
 fn is_so(rt: &HostRuntime, row: Row<'_>) -> io::Result<bool> {
     let file = fs::read(rt, row.file)?;
     if row.connection == "-" {
-        return file_is_so(rt.alloc(), &file, row);
+        return Ok(file_is_so(rt.alloc(), &file, row)?);
     }
     let stream = fs::read(rt, row.stream)?;
-    let at_once = read(rt.alloc(), &file, false);
-    if !direction_is_so(rt.alloc(), &at_once, &stream, row)? {
-        return Ok(false);
-    }
-    let sparing = read(rt.alloc(), &file, true);
-    if !direction_is_so(rt.alloc(), &sparing, &stream, row)? {
-        return Ok(false);
-    }
-    stream_is_so(rt.alloc(), &file, &stream, row)
+    stream_rows_are_so(rt.alloc(), &file, &stream, row)
+}
+
+// Whether the row of a direction is so, with all bytes at hand, with as few as the reader asks for,
+// and as a reader gives it.
+fn stream_rows_are_so(alloc: Global, file: &[u8], stream: &[u8], row: Row<'_>) -> io::Result<bool> {
+    Ok(
+        reads_so(alloc, file, stream, row, false)?
+            && reads_so(alloc, file, stream, row, true)?
+            && stream_is_so(alloc, file, stream, row)?,
+    )
+}
+
+// Whether the row of a direction is so, with all bytes at hand or with few.
+fn reads_so(
+    alloc: Global,
+    file: &[u8],
+    stream: &[u8],
+    row: Row<'_>,
+    sparing: bool,
+) -> Result<bool, AllocError> {
+    let contents = read(alloc, file, sparing);
+    direction_is_so(alloc, &contents, stream, row)
 }
 
 // Whether a value has this text.
@@ -59,15 +73,10 @@ fn is_number(value: u64, text: &str) -> bool {
 }
 
 // Whether a file has the packets, connections and fault of its row.
-fn file_is_so(alloc: Global, file: &[u8], row: Row<'_>) -> io::Result<bool> {
+fn file_is_so(alloc: Global, file: &[u8], row: Row<'_>) -> Result<bool, AllocError> {
     let read = read(alloc, file, true);
     let connections = read.table.connections.len() as u64;
-    let fault = match read.fault {
-        None => format!(in alloc; "-")?,
-        Some((packet, PacketFault::Fragment)) => format!(in alloc; "fragment:{packet}")?,
-        Some((packet, PacketFault::Cut)) => format!(in alloc; "cut:{packet}")?,
-        Some((packet, PacketFault::Link(link))) => format!(in alloc; "link {link}:{packet}")?,
-    };
+    let fault = fault_of(alloc, read.fault)?;
     Ok(
         read.whole
             && is_number(read.packets, row.end)
@@ -76,13 +85,23 @@ fn file_is_so(alloc: Global, file: &[u8], row: Row<'_>) -> io::Result<bool> {
     )
 }
 
+// The first packet without a segment, or `-`.
+fn fault_of(alloc: Global, fault: Option<(u64, PacketFault)>) -> Result<String, AllocError> {
+    match fault {
+        None => String::from_str(alloc, "-"),
+        Some((packet, PacketFault::Fragment)) => format!(in alloc; "fragment:{packet}"),
+        Some((packet, PacketFault::Cut)) => format!(in alloc; "cut:{packet}"),
+        Some((packet, PacketFault::Link(link))) => format!(in alloc; "link {link}:{packet}"),
+    }
+}
+
 // Whether a direction has the bytes and the remark of its row.
 fn direction_is_so(
     alloc: Global,
     read: &Contents,
     stream: &[u8],
     row: Row<'_>,
-) -> io::Result<bool> {
+) -> Result<bool, AllocError> {
     let Ok(k) = usize::from_str_radix(row.connection, 10) else {
         return Ok(false);
     };
@@ -105,13 +124,12 @@ fn direction_is_so(
 }
 
 // The remark on a direction: its fault, a gap, or `-`.
-fn remark_of(alloc: Global, half: &Half) -> io::Result<String> {
-    let remark = match half.fault {
-        Some(SegmentFault::Conflict(at)) => format!(in alloc; "conflict:{at}")?,
-        Some(fault) => format!(in alloc; "{fault}")?,
-        None if half.cut => format!(in alloc; "cut")?,
-        None if half.has_gap() => format!(in alloc; "gap")?,
-        None => format!(in alloc; "-")?,
-    };
-    Ok(remark)
+fn remark_of(alloc: Global, half: &Half) -> Result<String, AllocError> {
+    match half.fault {
+        Some(SegmentFault::Conflict(at)) => format!(in alloc; "conflict:{at}"),
+        Some(fault) => format!(in alloc; "{fault}"),
+        None if half.cut => String::from_str(alloc, "cut"),
+        None if half.has_gap() => String::from_str(alloc, "gap"),
+        None => String::from_str(alloc, "-"),
+    }
 }

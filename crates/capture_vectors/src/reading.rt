@@ -26,33 +26,33 @@ pub fn read(alloc: Global, file: &[u8], sparing: bool) -> Contents {
         whole: false,
     };
     let mut capture = Capture::new(alloc);
+    read.whole = read_all(&mut capture, &mut read, file, sparing);
+    read
+}
+
+// Reads to the end of the file, and says whether it came there.
+fn read_all(capture: &mut Capture, read: &mut Contents, file: &[u8], sparing: bool) -> bool {
+    let fewest: usize = if sparing { 1 } else { usize::MAX };
     let mut rest = file;
-    let mut shown: usize = if sparing { 1 } else { usize::MAX };
+    let mut shown = fewest;
     for _ in 0..file.len().saturating_mul(2) {
         if rest.is_empty() {
-            read.whole = true;
-            return read;
+            return true;
         }
-        match step_once(&mut capture, &mut read, first(rest, shown)) {
-            Went::Failed => return read,
-            Went::More(needed) => {
-                if needed > rest.len() {
-                    return read;
-                }
-                shown = needed;
-            }
+        match step_once(capture, read, first(rest, shown)) {
+            Went::Failed => return false,
+            Went::More(needed) if needed > rest.len() => return false,
+            Went::More(needed) => shown = needed,
             Went::Past(count) => {
                 let Some(behind) = rest.get(count..) else {
-                    return read;
+                    return false;
                 };
                 rest = behind;
-                if sparing {
-                    shown = 1;
-                }
+                shown = fewest;
             }
         }
     }
-    read
+    false
 }
 
 // The first bytes, at most `count`.

@@ -13,7 +13,7 @@ use crate::heard::Said;
 use std::collections::HashMap;
 
 /// Where the stream of a direction begins: the number of its first byte.
-#[derive(Clone, Copy, Debug, PartialEq, Eq)]
+#[derive(Clone, Copy)]
 pub enum Start {
     /// Nothing was heard of it.
     Unknown,
@@ -24,7 +24,7 @@ pub enum Start {
 }
 
 /// The last connection with its two ends.
-#[derive(Clone, Copy, Debug, PartialEq, Eq)]
+#[derive(Clone, Copy)]
 pub struct Last {
     /// Its number.
     pub number: usize,

@@ -6,11 +6,12 @@ ghost use Rattle.iscsi_captures.specs.Faults.{fault_status};
 
 use iscsi_stream::StreamFault;
 use std::alloc::{AllocError, AllocFailed};
+use std::fmt::{self, Debug, Formatter, Write};
 use thiserror::Error;
 
 /// Why a job over a capture stops. `at` is the number of file bytes before a record or block, and
 /// packets count from 1.
-#[derive(Clone, Copy, Debug, PartialEq, Eq, Error)]
+#[derive(Clone, Copy, PartialEq, Eq, Error)]
 pub enum CapturesFault {
     /// Memory ran out, or there are more than 65,536 connections.
     #[error("memory")]
@@ -115,6 +116,12 @@ impl CapturesFault {
             CapturesFault::Read | CapturesFault::Write => 4,
             _ => 1,
         }
+    }
+}
+
+impl Debug for CapturesFault {
+    fn fmt<W: Write>(&self, f: &mut Formatter<W>) -> fmt::Result {
+        write!(f, "CapturesFault({self})")
     }
 }
 

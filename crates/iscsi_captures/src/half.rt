@@ -15,7 +15,7 @@ use tcp_streams::{Direction, SegmentFault};
 pub const WAITING: usize = 1_048_576;
 
 /// Why a direction is not followed further. A packet is told by its number, from 1.
-#[derive(Clone, Copy, Debug, PartialEq, Eq)]
+#[derive(Clone, Copy)]
 pub enum Stop {
     /// The byte at this offset is missing; the packet is the first one that waits behind it.
     Gap(u64, u64),

@@ -7,7 +7,7 @@ use crate::ends::{Ends, Side, ends_of};
 use capture_file::{LONGEST, Segment};
 
 /// What a segment says of its direction.
-#[derive(Clone, Copy, Debug, PartialEq, Eq)]
+#[derive(Clone, Copy)]
 pub struct Said {
     /// Which end sent it.
     pub side: Side,

@@ -21,7 +21,7 @@ use std::alloc::{AllocError, Global};
 const MOST_PENDING: usize = 65_536;
 
 /// Whether a connection is shown.
-#[derive(Clone, Copy, Debug, PartialEq, Eq)]
+#[derive(Clone, Copy, PartialEq, Eq)]
 pub(crate) enum Standing {
     /// The initiator's first byte is not known yet.
     Undecided,

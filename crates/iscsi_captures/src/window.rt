@@ -11,7 +11,7 @@ use std::io::Read;
 const BUFFER: usize = 4_194_304;
 
 /// A read failed.
-#[derive(Clone, Copy, Debug, PartialEq, Eq)]
+#[derive(Clone, Copy)]
 pub(crate) struct ReadFailed;
 
 /// The part of a file that is at hand: the bytes from `from` to `to` of the buffer.

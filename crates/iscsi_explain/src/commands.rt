@@ -1,6 +1,6 @@
 //! SCSI commands by their names, and what they are for (SPC-4, SBC-3).
 
-use scsi_cdb::Cdb;
+use scsi_cdb::{Cdb, Transfer10, Transfer16};
 use std::alloc::{AllocError, Global};
 
 // The name of an operation code, for commands whose block has no logical block address here.
@@ -38,8 +38,8 @@ fn plain_name(code: u8) -> Option<&'static str> {
     Some(name)
 }
 
-// The name of an operation code whose block of 10 bytes has an address and a number of blocks.
-fn name_of_10(code: u8) -> Option<&'static str> {
+// The name of an operation code whose block has an address and a number of blocks.
+fn name_of_transfer(code: u8) -> Option<&'static str> {
     let name = match code {
         0x28 => "READ(10)",
         0x2a => "WRITE(10)",
@@ -48,26 +48,6 @@ fn name_of_10(code: u8) -> Option<&'static str> {
         0x34 => "PRE-FETCH(10)",
         0x35 => "SYNCHRONIZE CACHE(10)",
         0x41 => "WRITE SAME(10)",
-        _ => return None,
-    };
-    Some(name)
-}
-
-// The same of a block of 12 bytes.
-fn name_of_12(code: u8) -> Option<&'static str> {
-    let name = match code {
-        0xa8 => "READ(12)",
-        0xaa => "WRITE(12)",
-        0xae => "WRITE AND VERIFY(12)",
-        0xaf => "VERIFY(12)",
-        _ => return None,
-    };
-    Some(name)
-}
-
-// The same of a block of 16 bytes.
-fn name_of_16(code: u8) -> Option<&'static str> {
-    let name = match code {
         0x88 => "READ(16)",
         0x8a => "WRITE(16)",
         0x8e => "WRITE AND VERIFY(16)",
@@ -75,6 +55,10 @@ fn name_of_16(code: u8) -> Option<&'static str> {
         0x90 => "PRE-FETCH(16)",
         0x91 => "SYNCHRONIZE CACHE(16)",
         0x93 => "WRITE SAME(16)",
+        0xa8 => "READ(12)",
+        0xaa => "WRITE(12)",
+        0xae => "WRITE AND VERIFY(12)",
+        0xaf => "VERIFY(12)",
         _ => return None,
     };
     Some(name)
@@ -89,35 +73,41 @@ pub(crate) fn command_words(alloc: Global, cdb: &Cdb) -> Result<String, AllocErr
             page,
             ..
         } => format!(in alloc; "INQUIRY page={page:02x}"),
-        Cdb::Capacity16 { .. } => String::from_str(alloc, "READ CAPACITY(16)"),
-        Cdb::Read10(at) | Cdb::Write10(at) => {
-            let (lba, blocks) = (at.logical_block_address, at.blocks);
-            let name = if matches!(cdb, Cdb::Read10(_)) {
-                "READ(10)"
-            } else {
-                "WRITE(10)"
-            };
-            format!(in alloc; "{name} lba={lba} blocks={blocks}")
-        }
-        Cdb::Read16(at) | Cdb::Write16(at) => {
-            let (lba, blocks) = (at.logical_block_address, at.blocks);
-            let name = if matches!(cdb, Cdb::Read16(_)) {
-                "READ(16)"
-            } else {
-                "WRITE(16)"
-            };
-            format!(in alloc; "{name} lba={lba} blocks={blocks}")
-        }
+        Cdb::Read10(at) => short_transfer(alloc, "READ(10)", at),
+        Cdb::Write10(at) => short_transfer(alloc, "WRITE(10)", at),
+        Cdb::Read16(at) => long_transfer(alloc, "READ(16)", at),
+        Cdb::Write16(at) => long_transfer(alloc, "WRITE(16)", at),
         Cdb::SyncCache10(at) => {
             let (lba, blocks) = (at.logical_block_address, at.blocks);
-            format!(in alloc; "SYNCHRONIZE CACHE(10) lba={lba} blocks={blocks}")
+            transfer(alloc, "SYNCHRONIZE CACHE(10)", lba as u64, blocks as u64)
         }
+        Cdb::Capacity16 { .. } => String::from_str(alloc, "READ CAPACITY(16)"),
         Cdb::TestUnitReady { .. } => String::from_str(alloc, "TEST UNIT READY"),
         Cdb::Inquiry { .. } => String::from_str(alloc, "INQUIRY"),
         Cdb::Capacity10 { .. } => String::from_str(alloc, "READ CAPACITY(10)"),
         Cdb::ReportLuns { .. } => String::from_str(alloc, "REPORT LUNS"),
         Cdb::Unknown(block) => other_words(alloc, block),
     }
+}
+
+// A command by its name, its first block and its number of blocks.
+fn transfer(alloc: Global, name: &str, lba: u64, blocks: u64) -> Result<String, AllocError> {
+    format!(in alloc; "{name} lba={lba} blocks={blocks}")
+}
+
+// The same of a READ(10) or a WRITE(10).
+fn short_transfer(alloc: Global, name: &str, at: &Transfer10) -> Result<String, AllocError> {
+    transfer(
+        alloc,
+        name,
+        at.logical_block_address as u64,
+        at.blocks as u64,
+    )
+}
+
+// The same of a READ(16) or a WRITE(16).
+fn long_transfer(alloc: Global, name: &str, at: &Transfer16) -> Result<String, AllocError> {
+    transfer(alloc, name, at.logical_block_address, at.blocks as u64)
 }
 
 // The number that bytes are, the highest first.
@@ -132,25 +122,33 @@ fn number_of(bytes: &[u8]) -> u64 {
 // What a command asks for that the target of this program does not have.
 fn other_words(alloc: Global, block: &[u8; 16]) -> Result<String, AllocError> {
     let code = block[0];
-    if let Some(name) = name_of_10(code) {
-        let (lba, blocks) = (number_of(&block[2..6]), number_of(&block[7..9]));
-        return format!(in alloc; "{name} lba={lba} blocks={blocks}");
+    if let Some(name) = name_of_transfer(code) {
+        let (lba, blocks) = extent_of(block);
+        return transfer(alloc, name, lba, blocks);
     }
-    if let Some(name) = name_of_12(code) {
-        let (lba, blocks) = (number_of(&block[2..6]), number_of(&block[6..10]));
-        return format!(in alloc; "{name} lba={lba} blocks={blocks}");
+    match code {
+        0x08 => short_words(alloc, "READ(6)", block),
+        0x0a => short_words(alloc, "WRITE(6)", block),
+        0x89 => {
+            let lba = number_of(&block[2..10]);
+            transfer(alloc, "COMPARE AND WRITE", lba, block[13] as u64)
+        }
+        _ => plain_words(alloc, code),
     }
-    if let Some(name) = name_of_16(code) {
-        let (lba, blocks) = (number_of(&block[2..10]), number_of(&block[10..14]));
-        return format!(in alloc; "{name} lba={lba} blocks={blocks}");
+}
+
+// The first block and the number of blocks. The first three bits of the code tell how long the
+// block is, and so where these stand.
+fn extent_of(block: &[u8; 16]) -> (u64, u64) {
+    match block[0] / 0x20 {
+        4 => (number_of(&block[2..10]), number_of(&block[10..14])),
+        5 => (number_of(&block[2..6]), number_of(&block[6..10])),
+        _ => (number_of(&block[2..6]), number_of(&block[7..9])),
     }
-    if code == 0x89 {
-        let (lba, blocks) = (number_of(&block[2..10]), block[13]);
-        return format!(in alloc; "COMPARE AND WRITE lba={lba} blocks={blocks}");
-    }
-    if code == 0x08 || code == 0x0a {
-        return short_words(alloc, block);
-    }
+}
+
+// A command without an address, by its operation code.
+fn plain_words(alloc: Global, code: u8) -> Result<String, AllocError> {
     match plain_name(code) {
         Some(name) => String::from_str(alloc, name),
         None => format!(in alloc; "operation code {code:02x}"),
@@ -158,13 +156,8 @@ fn other_words(alloc: Global, block: &[u8; 16]) -> Result<String, AllocError> {
 }
 
 // READ(6) and WRITE(6): an address of 21 bits, and a number of blocks of which 0 means 256.
-fn short_words(alloc: Global, block: &[u8; 16]) -> Result<String, AllocError> {
-    let name = if block[0] == 0x08 {
-        "READ(6)"
-    } else {
-        "WRITE(6)"
-    };
+fn short_words(alloc: Global, name: &str, block: &[u8; 16]) -> Result<String, AllocError> {
     let lba = number_of(&block[1..4]) % 0x20_0000;
-    let blocks: u16 = if block[4] == 0 { 256 } else { block[4] as u16 };
-    format!(in alloc; "{name} lba={lba} blocks={blocks}")
+    let blocks = if block[4] == 0 { 256 } else { block[4] as u64 };
+    transfer(alloc, name, lba, blocks)
 }

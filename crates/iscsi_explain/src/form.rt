@@ -4,7 +4,7 @@ ghost use Rattle.std.specs.Prelude.{◌≡◌, ◌++◌, ◌∷◌, [], IfOk, On
 ghost use Rattle.iscsi_pdu.specs.Meaning.{Fits};
 ghost use Rattle.iscsi_explain.specs.Forms.{IsEntry, IsObject, IsText, printable};
 
-use crate::notes::notes_of;
+use crate::notes::all_notes;
 use crate::objects::object_of;
 use crate::stamp::Stamp;
 use crate::writing::{printed, write_notes};
@@ -106,21 +106,6 @@ fn explained_of(
     let notes = all_notes(alloc, stamp, pdu)?;
     write_notes(alloc, &notes, &mut entry)?;
     Ok(entry)
-}
-
-// The notes of a PDU, that of the time from its request last.
-fn all_notes(
-    alloc: Global,
-    stamp: Option<Stamp>,
-    pdu: &Pdu<'_>,
-) -> Result<Vec<String>, AllocError> {
-    let mut notes = notes_of(alloc, pdu)?;
-    if let Some(stamp) = stamp {
-        if let Some(note) = stamp.elapsed_note(alloc)? {
-            notes.push(note)?;
-        }
-    }
-    Ok(notes)
 }
 
 // The object of a PDU, as a line.

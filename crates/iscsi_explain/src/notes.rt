@@ -6,7 +6,9 @@ use crate::iscsi_words::{
     stage_words, task_response_words,
 };
 use crate::sense::{sense_words, status_words};
-use iscsi_pdu::{Head, LoginResponse, Pdu, ScsiResponse};
+use crate::stamp::Stamp;
+use iscsi_pdu::{Head, LoginRequest, LoginResponse, Pdu, ScsiResponse};
+use scsi_cdb::Cdb;
 use std::alloc::{AllocError, Global};
 
 /// The notes of a PDU, one for each thing that people look up. They give a SCSI command by its
@@ -17,39 +19,56 @@ use std::alloc::{AllocError, Global};
 /// is the backslash.
 pub fn notes_of(alloc: Global, pdu: &Pdu<'_>) -> Result<Vec<String>, AllocError> {
     let mut notes = Vec::new(alloc);
-    match pdu.head {
-        Head::ScsiCommand(h) => notes.push(command_words(alloc, &h.cdb)?)?,
-        Head::ScsiResponse(h) => response_notes(alloc, &h, pdu.bytes, &mut notes)?,
-        Head::DataIn(h) => status_note(alloc, h.status, &mut notes)?,
-        Head::LoginRequest(h) => {
-            stage_note(alloc, h.current_stage, h.next_stage, &mut notes)?;
-            key_notes(alloc, pdu.bytes, &mut notes)?;
-        }
-        Head::LoginResponse(h) => login_notes(alloc, &h, pdu.bytes, &mut notes)?,
-        Head::TextRequest(_) | Head::TextResponse(_) => key_notes(alloc, pdu.bytes, &mut notes)?,
-        Head::TaskRequest(h) => named(alloc, "function", function_words(h.function), &mut notes)?,
-        Head::TaskResponse(h) => {
-            named(
-                alloc,
-                "response",
-                task_response_words(h.response),
-                &mut notes,
-            )?
-        }
-        Head::LogoutRequest(h) => named(alloc, "reason", logout_words(h.reason), &mut notes)?,
-        Head::LogoutResponse(h) => {
-            named(
-                alloc,
-                "response",
-                logout_response_words(h.response),
-                &mut notes,
-            )?
-        }
-        Head::AsyncMessage(h) => named(alloc, "event", event_words(h.async_event), &mut notes)?,
-        Head::Reject(h) => named(alloc, "reason", reject_words(h.reason), &mut notes)?,
-        Head::NopOut(_) | Head::NopIn(_) | Head::DataOut(_) | Head::ReadyToTransfer(_) => {}
+    add_notes(alloc, pdu, &mut notes)?;
+    Ok(notes)
+}
+
+/// The notes of a PDU, that of the time from its request last.
+pub(crate) fn all_notes(
+    alloc: Global,
+    stamp: Option<Stamp>,
+    pdu: &Pdu<'_>,
+) -> Result<Vec<String>, AllocError> {
+    let mut notes = notes_of(alloc, pdu)?;
+    if let Some(stamp) = stamp {
+        add_elapsed(alloc, &stamp, &mut notes)?;
     }
     Ok(notes)
+}
+
+// Appends how long the request took, if this is its response.
+fn add_elapsed(alloc: Global, stamp: &Stamp, notes: &mut Vec<String>) -> Result<(), AllocError> {
+    match stamp.elapsed_note(alloc)? {
+        Some(note) => Ok(notes.push(note)?),
+        None => Ok(()),
+    }
+}
+
+// Appends the notes of a PDU.
+fn add_notes(alloc: Global, pdu: &Pdu<'_>, notes: &mut Vec<String>) -> Result<(), AllocError> {
+    match &pdu.head {
+        Head::ScsiCommand(h) => command_note(alloc, &h.cdb, notes),
+        Head::ScsiResponse(h) => response_notes(alloc, h, pdu.bytes, notes),
+        Head::DataIn(h) => status_note(alloc, h.status, notes),
+        Head::LoginRequest(h) => request_notes(alloc, h, pdu.bytes, notes),
+        Head::LoginResponse(h) => login_notes(alloc, h, pdu.bytes, notes),
+        Head::TextRequest(_) | Head::TextResponse(_) => key_notes(alloc, pdu.bytes, notes),
+        Head::TaskRequest(h) => named(alloc, "function", function_words(h.function), notes),
+        Head::TaskResponse(h) => named(alloc, "response", task_response_words(h.response), notes),
+        Head::LogoutRequest(h) => named(alloc, "reason", logout_words(h.reason), notes),
+        Head::LogoutResponse(h) => {
+            named(alloc, "response", logout_response_words(h.response), notes)
+        }
+        Head::AsyncMessage(h) => named(alloc, "event", event_words(h.async_event), notes),
+        Head::Reject(h) => named(alloc, "reason", reject_words(h.reason), notes),
+        Head::NopOut(_) | Head::NopIn(_) | Head::DataOut(_) | Head::ReadyToTransfer(_) => Ok(()),
+    }
+}
+
+// Appends what a command asks for.
+fn command_note(alloc: Global, cdb: &Cdb, notes: &mut Vec<String>) -> Result<(), AllocError> {
+    let note = command_words(alloc, cdb)?;
+    Ok(notes.push(note)?)
 }
 
 // Appends a note of a name and words.
@@ -105,14 +124,23 @@ fn stage_note(
     notes: &mut Vec<String>,
 ) -> Result<(), AllocError> {
     let from = stage_words(current);
-    let note = match next {
-        Some(next) => {
-            let to = stage_words(next);
-            format!(in alloc; "stage {from}, next {to}")?
-        }
-        None => format!(in alloc; "stage {from}")?,
+    let Some(next) = next else {
+        return named(alloc, "stage", from, notes);
     };
+    let to = stage_words(next);
+    let note = format!(in alloc; "stage {from}, next {to}")?;
     Ok(notes.push(note)?)
+}
+
+// Appends what a Login Request says.
+fn request_notes(
+    alloc: Global,
+    head: &LoginRequest,
+    segment: &[u8],
+    notes: &mut Vec<String>,
+) -> Result<(), AllocError> {
+    stage_note(alloc, head.current_stage, head.next_stage, notes)?;
+    key_notes(alloc, segment, notes)
 }
 
 // Appends what a Login Response says.

@@ -4,7 +4,7 @@ ghost use Rattle.std.specs.Prelude.{◌≡◌, IfOk};
 ghost use Rattle.iscsi_pdu.specs.Meaning.{Fits};
 ghost use Rattle.iscsi_explain.specs.Forms.{IsObject};
 
-use crate::notes::notes_of;
+use crate::notes::all_notes;
 use crate::stamp::{Origin, Stamp, seconds};
 use iscsi_pdu::Pdu;
 use iscsi_stream::show_line;
@@ -25,18 +25,46 @@ pub(crate) fn object_of(
     requires { Fits pdu.now.head }
     ensures object { IfOk result (λ bytes. IsObject bytes.items) }
 {
-    let mut line = Vec::new(alloc);
-    show_line(place, pdu, &mut line)?;
     let mut map = Map::new(alloc);
-    put_words(alloc, &line, &mut map)?;
-    put(alloc, &mut map, "place", number(alloc, place)?)?;
+    put_members(alloc, explained, stamp, place, pdu, &mut map)?;
+    Value::Object(map).to_vec(alloc)
+}
+
+// Puts all that the object of a PDU has.
+fn put_members(
+    alloc: Global,
+    explained: bool,
+    stamp: Option<Stamp>,
+    place: u64,
+    pdu: &Pdu<'_>,
+    map: &mut Map<String, Value>,
+) -> Result<(), AllocError>
+    requires { Fits pdu.now.head }
+{
+    put_line(alloc, place, pdu, map)?;
     if let Some(stamp) = stamp {
-        put_stamp(alloc, &stamp, &mut map)?;
+        put_stamp(alloc, &stamp, map)?;
     }
     if explained {
-        put_notes(alloc, stamp, pdu, &mut map)?;
+        put_notes(alloc, stamp, pdu, map)
+    } else {
+        Ok(())
     }
-    Value::Object(map).to_vec(alloc)
+}
+
+// Puts what the line of a PDU says.
+fn put_line(
+    alloc: Global,
+    place: u64,
+    pdu: &Pdu<'_>,
+    map: &mut Map<String, Value>,
+) -> Result<(), AllocError>
+    requires { Fits pdu.now.head }
+{
+    let mut line = Vec::new(alloc);
+    show_line(place, pdu, &mut line)?;
+    put_words(alloc, str::from_utf8(&line).unwrap_or(""), map)?;
+    put_number(alloc, map, "place", place)
 }
 
 // Puts a member.
@@ -51,50 +79,50 @@ fn put(
     Ok(())
 }
 
-// A number that a reader keeps exactly, or its digits.
-fn number(alloc: Global, value: u64) -> Result<Value, AllocError> {
-    if value < 9_007_199_254_740_992 {
-        return Ok(Value::from(value));
-    }
-    Ok(Value::String(format!(in alloc; "{value}")?))
+// Puts a text.
+fn put_text(
+    alloc: Global,
+    map: &mut Map<String, Value>,
+    name: &str,
+    text: &str,
+) -> Result<(), AllocError> {
+    let text = String::from_str(alloc, text)?;
+    put(alloc, map, name, Value::String(text))
 }
 
-// Puts what the words of a line say: its place, its kind, and then a name and a value each.
-fn put_words(alloc: Global, line: &[u8], map: &mut Map<String, Value>) -> Result<(), AllocError> {
-    for (k, word) in line
-        .split(|byte| *byte == b' ' || *byte == b'\n')
-        .enumerate()
-    {
-        if k == 1 {
-            put(alloc, map, "kind", Value::String(text_of(alloc, word)?))?;
-        } else if k > 1 && !word.is_empty() {
-            put_field(alloc, word, map)?;
-        }
+// Puts a number that a reader keeps exactly, or its digits.
+fn put_number(
+    alloc: Global,
+    map: &mut Map<String, Value>,
+    name: &str,
+    value: u64,
+) -> Result<(), AllocError> {
+    if value < 9_007_199_254_740_992 {
+        return put(alloc, map, name, Value::from(value));
+    }
+    let digits = format!(in alloc; "{value}")?;
+    put(alloc, map, name, Value::String(digits))
+}
+
+// Puts what the words of a line say behind its place: its kind, and then a name and a value each.
+fn put_words(alloc: Global, line: &str, map: &mut Map<String, Value>) -> Result<(), AllocError> {
+    let mut words = line.split_whitespace();
+    let _place = words.next();
+    put_text(alloc, map, "kind", words.next().unwrap_or(""))?;
+    for word in words {
+        put_field(alloc, word, map)?;
     }
     Ok(())
-}
-
-// The text of ASCII bytes.
-fn text_of(alloc: Global, bytes: &[u8]) -> Result<String, AllocError> {
-    let mut text = String::with_capacity(alloc, bytes.len())?;
-    for byte in bytes {
-        text.push(*byte as char)?;
-    }
-    Ok(text)
 }
 
 // Puts a field that a word of a line is: its name, `=`, and its digits.
-fn put_field(alloc: Global, word: &[u8], map: &mut Map<String, Value>) -> Result<(), AllocError> {
-    let mut parts = word.splitn(2, |byte| *byte == b'=');
-    let name = text_of(alloc, parts.next().unwrap_or(&[]))?;
-    let digits = parts.next().unwrap_or(&[]);
-    let value = match name.as_str() {
-        "data" => number(alloc, value_of(digits, 10))?,
-        "lun" | "isid" | "cdb" => Value::String(text_of(alloc, digits)?),
-        _ => number(alloc, value_of(digits, 16))?,
-    };
-    drop(map.insert(name, value)?);
-    Ok(())
+fn put_field(alloc: Global, word: &str, map: &mut Map<String, Value>) -> Result<(), AllocError> {
+    let (name, digits) = word.split_once('=').unwrap_or((word, ""));
+    match name {
+        "data" => put_number(alloc, map, name, value_of(digits.as_bytes(), 10)),
+        "lun" | "isid" | "cdb" => put_text(alloc, map, name, digits),
+        _ => put_number(alloc, map, name, value_of(digits.as_bytes(), 16)),
+    }
 }
 
 // The number that lower hex digits or decimal ones spell.
@@ -117,20 +145,25 @@ fn put_stamp(alloc: Global, stamp: &Stamp, map: &mut Map<String, Value>) -> Resu
         Origin::Initiator => "initiator",
         Origin::Target => "target",
     };
-    put(
-        alloc,
-        map,
-        "connection",
-        number(alloc, stamp.connection as u64)?,
-    )?;
-    put(alloc, map, "from", Value::try_from_str(alloc, origin)?)?;
-    let time = seconds(alloc, stamp.nanoseconds, stamp.precise)?;
-    put(alloc, map, "time", Value::String(time))?;
-    let Some(since) = stamp.since_request else {
-        return Ok(());
-    };
-    let since = seconds(alloc, since, stamp.precise)?;
-    put(alloc, map, "after", Value::String(since))
+    put_number(alloc, map, "connection", stamp.connection as u64)?;
+    put_text(alloc, map, "from", origin)?;
+    put_time(alloc, map, "time", stamp.nanoseconds, stamp.precise)?;
+    match stamp.since_request {
+        Some(since) => put_time(alloc, map, "after", since, stamp.precise),
+        None => Ok(()),
+    }
+}
+
+// Puts a time in seconds.
+fn put_time(
+    alloc: Global,
+    map: &mut Map<String, Value>,
+    name: &str,
+    nanoseconds: u64,
+    precise: bool,
+) -> Result<(), AllocError> {
+    let time = seconds(alloc, nanoseconds, precise)?;
+    put(alloc, map, name, Value::String(time))
 }
 
 // Puts the notes.
@@ -140,14 +173,7 @@ fn put_notes(
     pdu: &Pdu<'_>,
     map: &mut Map<String, Value>,
 ) -> Result<(), AllocError> {
-    let mut list = Vec::new(alloc);
-    for note in notes_of(alloc, pdu)? {
-        list.push(Value::String(note))?;
-    }
-    if let Some(stamp) = stamp {
-        if let Some(note) = stamp.elapsed_note(alloc)? {
-            list.push(Value::String(note))?;
-        }
-    }
-    put(alloc, map, "explain", Value::Array(list))
+    let notes = all_notes(alloc, stamp, pdu)?;
+    let values = notes.into_iter().map(Value::String).collect(alloc)?;
+    put(alloc, map, "explain", Value::Array(values))
 }

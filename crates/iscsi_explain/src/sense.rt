@@ -41,31 +41,31 @@ fn key_words(key: u8) -> &'static str {
 
 // The words of an additional sense code and its qualifier; none for those that disks seldom send.
 fn code_words(code: u8, qualifier: u8) -> &'static str {
-    match (code, qualifier) {
-        (0x00, 0x00) => ", NO ADDITIONAL SENSE INFORMATION",
-        (0x04, 0x00) => ", LOGICAL UNIT NOT READY, CAUSE NOT REPORTABLE",
-        (0x04, 0x01) => ", LOGICAL UNIT IS IN PROCESS OF BECOMING READY",
-        (0x04, 0x02) => ", LOGICAL UNIT NOT READY, INITIALIZING COMMAND REQUIRED",
-        (0x0c, 0x00) => ", WRITE ERROR",
-        (0x11, 0x00) => ", UNRECOVERED READ ERROR",
-        (0x1a, 0x00) => ", PARAMETER LIST LENGTH ERROR",
-        (0x1d, 0x00) => ", MISCOMPARE DURING VERIFY OPERATION",
-        (0x20, 0x00) => ", INVALID COMMAND OPERATION CODE",
-        (0x21, 0x00) => ", LOGICAL BLOCK ADDRESS OUT OF RANGE",
-        (0x24, 0x00) => ", INVALID FIELD IN CDB",
-        (0x25, 0x00) => ", LOGICAL UNIT NOT SUPPORTED",
-        (0x26, 0x00) => ", INVALID FIELD IN PARAMETER LIST",
-        (0x27, 0x00) => ", WRITE PROTECTED",
-        (0x28, 0x00) => ", NOT READY TO READY CHANGE, MEDIUM MAY HAVE CHANGED",
-        (0x29, 0x00) => ", POWER ON, RESET, OR BUS DEVICE RESET OCCURRED",
-        (0x2a, 0x01) => ", MODE PARAMETERS CHANGED",
-        (0x2a, 0x09) => ", CAPACITY DATA HAS CHANGED",
-        (0x2c, 0x00) => ", COMMAND SEQUENCE ERROR",
-        (0x2f, 0x00) => ", COMMANDS CLEARED BY ANOTHER INITIATOR",
-        (0x3a, 0x00) => ", MEDIUM NOT PRESENT",
-        (0x3f, 0x0e) => ", REPORTED LUNS DATA HAS CHANGED",
-        (0x44, 0x00) => ", INTERNAL TARGET FAILURE",
-        (0x49, 0x00) => ", INVALID MESSAGE ERROR",
+    match u16::from_be_bytes([code, qualifier]) {
+        0x0000 => ", NO ADDITIONAL SENSE INFORMATION",
+        0x0400 => ", LOGICAL UNIT NOT READY, CAUSE NOT REPORTABLE",
+        0x0401 => ", LOGICAL UNIT IS IN PROCESS OF BECOMING READY",
+        0x0402 => ", LOGICAL UNIT NOT READY, INITIALIZING COMMAND REQUIRED",
+        0x0c00 => ", WRITE ERROR",
+        0x1100 => ", UNRECOVERED READ ERROR",
+        0x1a00 => ", PARAMETER LIST LENGTH ERROR",
+        0x1d00 => ", MISCOMPARE DURING VERIFY OPERATION",
+        0x2000 => ", INVALID COMMAND OPERATION CODE",
+        0x2100 => ", LOGICAL BLOCK ADDRESS OUT OF RANGE",
+        0x2400 => ", INVALID FIELD IN CDB",
+        0x2500 => ", LOGICAL UNIT NOT SUPPORTED",
+        0x2600 => ", INVALID FIELD IN PARAMETER LIST",
+        0x2700 => ", WRITE PROTECTED",
+        0x2800 => ", NOT READY TO READY CHANGE, MEDIUM MAY HAVE CHANGED",
+        0x2900 => ", POWER ON, RESET, OR BUS DEVICE RESET OCCURRED",
+        0x2a01 => ", MODE PARAMETERS CHANGED",
+        0x2a09 => ", CAPACITY DATA HAS CHANGED",
+        0x2c00 => ", COMMAND SEQUENCE ERROR",
+        0x2f00 => ", COMMANDS CLEARED BY ANOTHER INITIATOR",
+        0x3a00 => ", MEDIUM NOT PRESENT",
+        0x3f0e => ", REPORTED LUNS DATA HAS CHANGED",
+        0x4400 => ", INTERNAL TARGET FAILURE",
+        0x4900 => ", INVALID MESSAGE ERROR",
         _ => "",
     }
 }
@@ -74,12 +74,23 @@ fn code_words(code: u8, qualifier: u8) -> &'static str {
 /// hex. The data stand behind a length of two bytes, as a SCSI Response has them (RFC 7143, section
 /// 11.4.7.2). None where there are no such data.
 pub(crate) fn sense_words(alloc: Global, segment: &[u8]) -> Result<Option<String>, AllocError> {
-    let (key, code, qualifier) = match segment.get(2).copied() {
-        Some(0x70 | 0x71) if segment.len() >= 16 => (segment[4] % 16, segment[14], segment[15]),
-        Some(0x72 | 0x73) if segment.len() >= 6 => (segment[3] % 16, segment[4], segment[5]),
-        _ => return Ok(None),
+    let Some((key, code, qualifier)) = sense_of(segment) else {
+        return Ok(None);
     };
     let (first, second) = (key_words(key), code_words(code, qualifier));
     let words = format!(in alloc; "sense {first} {code:02x}/{qualifier:02x}{second}")?;
     Ok(Some(words))
+}
+
+// The key of sense data, the additional code, and its qualifier.
+fn sense_of(segment: &[u8]) -> Option<(u8, u8, u8)> {
+    match segment.get(2).copied() {
+        Some(0x70 | 0x71) if segment.len() >= 16 => {
+            Some((segment[4] % 16, segment[14], segment[15]))
+        }
+        Some(0x72 | 0x73) if segment.len() >= 6 => {
+            Some((segment[3] % 16, segment[4], segment[5]))
+        }
+        _ => None,
+    }
 }
