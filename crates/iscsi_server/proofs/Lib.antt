@@ -1,2 +1,3 @@
+pub mod GivingLemmas
 pub mod RoomLemmas
 pub mod RunningLemmas

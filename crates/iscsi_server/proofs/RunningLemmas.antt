@@ -1,5 +1,5 @@
 -- What happens in the hall of a service, one thing behind the other.
-use Rattle.std.proofs.Common.{◌≡◌, ◌<◌, ◌≤◌, ◌+◌, ◌-◌, ℕ, zero, suc, Bool, true, false, ◌==◌, if◌then◌else◌, List, [], ◌∷◌, ◌++◌, length, Option, None, Some, refl, sym, ap, subst, ◌∙◌, arith}
+use Rattle.std.proofs.Common.{◌≡◌, ◌<◌, ◌≤◌, ◌+◌, ◌-◌, ℕ, zero, suc, Bool, true, false, if◌then◌else◌, List, [], ◌∷◌, ◌++◌, length, Option, None, Some, refl, sym, ap, subst, ◌∙◌, arith}
 use Rattle.std.proofs.Common.{get_or, replicate, set}
 use Rattle.std.proofs.lemmas.Bool.{ltb-true, ltb-false}
 use Rattle.std.proofs.lemmas.List.{get_or_past, length-set, set-get_or}
@@ -14,14 +14,17 @@ use Rattle.iscsi_target.specs.State.{Machine, opening}
 use Rattle.iscsi_target.specs.Feed.{Store}
 use Rattle.iscsi_target.specs.Inside.{store_of}
 use Rattle.iscsi_serving.specs.Executed.{HasExecuted}
-use Rattle.iscsi_hall.specs.Seats.{Hall, Seat, opening_seat, seat_at, waiting_at, with_seat, Changes}
+use Rattle.iscsi_hall.specs.Seats.{FinishesAt, Hall, Seat, opening_seat, may_take_at, received, seat_at, waiting_at, with_seat, with_sent, Changes}
 use Rattle.iscsi_hall.specs.Seats.{Takes as TakesAtSeat}
 use Rattle.iscsi_hall.specs.Turns.{Event, Comes, Ends, Goes, Syncs, Takes, Happens, HappensIn, Runs, Seats, SameMachines, TakesTurn}
 use Rattle.iscsi_hall.specs.Turns.{Session, Stays, events_of, executed_in, machine_in, machines}
 use Rattle.iscsi_hall.proofs.SeatLemmas.{changed_other, some_within, taken_within}
 use Rattle.iscsi_hall.proofs.RunLemmas.{own_session, runs_append, runs_lead, runs_none, runs_one}
 pub use Rattle.iscsi_serving.proofs.ExecutedLemmas.{none_executed}
-use Rattle.iscsi_server.specs.Running.{IsAmong, IsOfSession, OthersAreKept, RunsAt, RunsFew, RunsIdle, RunsIdleAt, RunsWithin, Served, below, no_sessions, only, taken_at, taken_by}
+use Rattle.iscsi_server.specs.declared.budget.Budget.{Budget}
+use Rattle.iscsi_server.specs.Giving.{Gives, most_given}
+use Rattle.iscsi_server.specs.Running.{InTurns, IsAmong, IsOfSession, OthersAreKept, RunsAt, RunsFew, RunsIdle, RunsIdleAt, RunsInTurns, RunsWithin, Served, TurnOf, TurnsAt, below, most_taken, no_sessions, only, taken_at, taken_by}
+use Rattle.iscsi_server.proofs.GivingLemmas.{comes_kept, goes_kept, none_gives, none_kept, same_kept, sent_gives, silent_gives, then_gives, then_kept, turn_gives, waits_less, waits_same}
 
 all_append : (P : Event → Type 0) (es fs : List Event) → AllByRecursion P es → AllByRecursion P fs → AllByRecursion P (es ++ fs)
 all_append P [] fs p q = q
@@ -34,11 +37,6 @@ taken_append k [] fs = omega arith
 taken_append k (e ∷ es) fs = omega (arith, taken_append k es fs)
 
 -- at one seat, by whether another one lies before or behind it
-only_zero : (a b : Bool) → (if a then 0 else if b then 0 else 0) ≤ 0
-only_zero true b = omega arith
-only_zero false true = omega arith
-only_zero false false = omega arith
-
 only_most : (a b : Bool) (n most : ℕ) → n ≤ most → (if a then 0 else if b then 0 else n) ≤ (if a then 0 else if b then 0 else most)
 only_most true b n most le = omega arith
 only_most false true n most le = omega arith
@@ -103,54 +101,40 @@ then_few f g most a b c s t u le p q = (
   λ k. omega (arith, taken_append k p.1 q.1, p.4 k, q.4 k, le k),
 )
 
--- a seat more had its turn
-pub next_few : (i n : ℕ) (a b c : Hall) (s t u : Store) → RunsFew (below i n) a s b t → RunsFew (only i n) b t c u
-    → RunsFew (below (i + 1) n) a s c u
-next_few i n a b c s t u p q =
-    let next : suc i ≡ i + 1 = omega arith in
-    then_few (below i n) (only i n) (below (i + 1) n) a b c s t u
-    (λ k. subst (λ (j : ℕ). below i n k + only i n k ≤ below j n k) next (below_next i n k)) p q
-
--- all seats had their turns
-pub below_few : (i n : ℕ) (old new : Hall) (before after : Store) → RunsFew (below i n) old before new after
-    → RunsFew (λ k. n) old before new after
-unfolding RunsFew
-below_few i n old new before after p = (
-  p.0,
-  p.1,
-  p.2,
-  p.3,
-  λ k. omega (arith, p.4 k, below_most (nat_lt k i) n),
-)
-
 pub none_idle : (hall : Hall) → RunsIdle hall hall
 unfolding RunsIdle
-none_idle hall = λ store. none_few (λ k. 0) hall store
+none_idle hall = (none_kept hall, λ store. none_few (λ k. 0) hall store)
 
 pub then_idle : (a b c : Hall) → RunsIdle a b → RunsIdle b c → RunsIdle a c
 unfolding RunsIdle
-then_idle a b c p q =
-    λ store. then_few (λ k. 0) (λ k. 0) (λ k. 0) a b c store store store (λ k. omega arith) (p store) (q store)
+then_idle a b c p q = (
+  then_kept a b c p.0 q.0,
+  λ store. then_few (λ k. 0) (λ k. 0) (λ k. 0) a b c store store store (λ k. omega arith) (p.1 store) (q.1 store),
+)
 
 pub idle_few : (most : ℕ → ℕ) (a b c : Hall) (s t : Store) → RunsIdle a b → RunsFew most b s c t → RunsFew most a s c t
 unfolding RunsIdle
-idle_few most a b c s t p q = then_few (λ k. 0) most most a b c s s t (λ k. omega arith) (p s) q
+idle_few most a b c s t p q = then_few (λ k. 0) most most a b c s s t (λ k. omega arith) (p.1 s) q
 
 pub few_idle : (most : ℕ → ℕ) (a b c : Hall) (s t : Store) → RunsFew most a s b t → RunsIdle b c → RunsFew most a s c t
 unfolding RunsIdle
-few_idle most a b c s t p q = then_few most (λ k. 0) most a b c s t t (λ k. omega arith) p (q t)
+few_idle most a b c s t p q = then_few most (λ k. 0) most a b c s t t (λ k. omega arith) p (q.1 t)
 
 -- a session comes
 comes_idle : (old new : Hall) (place : ℕ) (settings : Settings) → position is_none old.seats ≡ Some place
     → new ≡ with_seat old place (Some (opening_seat settings)) → HappensIn (Comes place settings) old new → RunsIdle old new
 unfolding RunsIdle RunsFew
-comes_idle old new place settings first is h = λ store. (
-  ap (λ (x : Hall). length x.seats) is ∙ length-set old.seats place (Some (opening_seat settings)),
-  Comes place settings ∷ [],
-  ((position-Some is_none old.seats place None first).0, tt),
-  runs_one (machines old) (machines new) store store (Comes place settings) (h store),
-  λ k. omega arith,
-)
+comes_idle old new place settings first is h =
+    let within : place < length old.seats = (position-Some is_none old.seats place None first).0 in (
+      comes_kept place old new settings within is,
+      λ store. (
+        ap (λ (x : Hall). length x.seats) is ∙ length-set old.seats place (Some (opening_seat settings)),
+        Comes place settings ∷ [],
+        (within, tt),
+        runs_one (machines old) (machines new) store store (Comes place settings) (h store),
+        λ k. omega arith,
+      ),
+    )
 
 -- a session gets a seat, or none is free
 pub seat_idle : (old new : Hall) (settings : Settings) (result : Option ℕ) → result ≡ position is_none old.seats
@@ -169,21 +153,27 @@ outside_is old new place le is =
 goes_if : (b : Bool) (old new : Hall) (place : ℕ) → nat_lt place (length old.seats) ≡ b → new ≡ with_seat old place None
     → HappensIn (Goes place) old new → RunsIdle old new
 unfolding RunsIdle RunsFew
-goes_if true old new place lt is h = λ store. (
-  ap (λ (x : Hall). length x.seats) is ∙ length-set old.seats place None,
-  Goes place ∷ [],
-  (ltb-true place (length old.seats) lt, tt),
-  runs_one (machines old) (machines new) store store (Goes place) (h store),
-  λ k. omega arith,
-)
+goes_if true old new place lt is h =
+    let within : place < length old.seats = ltb-true place (length old.seats) lt in (
+      goes_kept place old new within is,
+      λ store. (
+        ap (λ (x : Hall). length x.seats) is ∙ length-set old.seats place None,
+        Goes place ∷ [],
+        (within, tt),
+        runs_one (machines old) (machines new) store store (Goes place) (h store),
+        λ k. omega arith,
+      ),
+    )
 goes_if false old new place lt is h =
-    let same : new.seats ≡ old.seats = outside_is old new place (ltb-false place (length old.seats) lt) is in
-    λ store. (
-      ap (λ (x : List (Option Seat)). length x) same,
-      [],
-      tt,
-      runs_none (machines old) (machines new) store (λ k. ap (λ (x : List (Option Seat)). machine_in (get_or x k None)) same),
-      λ k. omega arith,
+    let same : new.seats ≡ old.seats = outside_is old new place (ltb-false place (length old.seats) lt) is in (
+      same_kept old new same,
+      λ store. (
+        ap (λ (x : List (Option Seat)). length x) same,
+        [],
+        tt,
+        runs_none (machines old) (machines new) store (λ k. ap (λ (x : List (Option Seat)). machine_in (get_or x k None)) same),
+        λ k. omega arith,
+      ),
     )
 
 pub goes_idle : (old new : Hall) (place : ℕ) → new ≡ with_seat old place None → HappensIn (Goes place) old new → RunsIdle old new
@@ -198,68 +188,67 @@ runs_executed old new before after counted failures r =
 
 -- ---- at one seat
 
-pub none_at : (seat n : ℕ) (hall : Hall) (store : Store) → RunsAt seat n n hall store hall store
+pub none_at : (seat : ℕ) (had : Budget) (hall : Hall) (store : Store) → RunsAt seat had had hall store hall store
 unfolding RunsAt
-none_at seat n hall store = (
+none_at seat had hall store = (
   λ k ne. refl,
   refl,
   [],
   tt,
   runs_none (machines hall) (machines hall) store (λ k. refl),
-  λ k. omega arith,
+  ((λ k. omega arith), none_gives seat had.given hall hall refl),
 )
 
-pub then_at : (seat had mid left : ℕ) (a b c : Hall) (s t u : Store) → RunsAt seat had mid a s b t → RunsAt seat mid left b t c u
-    → RunsAt seat had left a s c u
+pub then_at : (seat : ℕ) (had mid left : Budget) (a b c : Hall) (s t u : Store) → 0 < mid.given → RunsAt seat had mid a s b t
+    → RunsAt seat mid left b t c u → RunsAt seat had left a s c u
 unfolding RunsAt
-then_at seat had mid left a b c s t u p q = (
+then_at seat had mid left a b c s t u some p q = (
   λ k ne. q.0 k ne ∙ p.0 k ne,
   q.1 ∙ p.1,
   p.2 ++ q.2,
   all_append (IsOfSession seat (length a.seats)) p.2 q.2 p.3 (subst (λ (n : ℕ). AllByRecursion (IsOfSession seat n) q.2) p.1 q.3),
   runs_append (machines a) (machines b) (machines c) s t u p.2 q.2 p.4 q.4,
-  λ k. omega (arith, taken_append k p.2 q.2, p.5 k, q.5 k),
+  (
+    (λ k. omega (arith, taken_append k p.2 q.2, p.5.0 k, q.5.0 k)),
+    then_gives seat had.given mid.given left.given a b c p.2 q.2 some p.5.1 q.5.1,
+  ),
 )
 
--- the session takes no more, though it might
-pub spent_at : (seat had left : ℕ) (old new : Hall) (before after : Store) → RunsAt seat had left old before new after
-    → RunsAt seat had 0 old before new after
-unfolding RunsAt
+-- the turn is over, though it might do more
+pub spent_at : (seat : ℕ) (had left : Budget) (old new : Hall) (before after : Store) → RunsAt seat had left old before new after
+    → TurnsAt seat had old before new after
+unfolding RunsAt TurnsAt
 spent_at seat had left old new before after p = (
   p.0,
   p.1,
   p.2,
   p.3,
   p.4,
-  λ k. omega (arith, p.5 k, only_zero (nat_lt k seat) (nat_lt seat k)),
+  ((λ k. omega (arith, p.5.0 k)), p.5.1.most),
 )
 
 all_among : (seat count : ℕ) (es : List Event) → AllByRecursion (IsOfSession seat count) es → AllByRecursion (IsAmong count) es
 all_among seat count [] p = tt
 all_among seat count (e ∷ es) p = (p.0.1, all_among seat count es p.1)
 
-at_few : (seat had left most : ℕ) (old new : Hall) (before after : Store) → had ≤ most → RunsAt seat had left old before new after
-    → RunsFew (only seat most) old before new after
-unfolding RunsAt RunsFew
-at_few seat had left most old new before after le p = (
+at_few : (seat most : ℕ) (budget : Budget) (old new : Hall) (before after : Store) → budget.pdus ≤ most
+    → TurnsAt seat budget old before new after → RunsFew (only seat most) old before new after
+unfolding TurnsAt RunsFew
+at_few seat most budget old new before after le p = (
   p.1,
   p.2,
   all_among seat (length old.seats) p.2 p.3,
   p.4,
-  λ k. omega (arith, p.5 k, only_most (nat_lt k seat) (nat_lt seat k) had most le),
+  λ k. omega (arith, p.5.0 k, only_most (nat_lt k seat) (nat_lt seat k) budget.pdus most le),
 )
-
-pub at_idle : (seat had left most : ℕ) (a b c : Hall) (s t : Store) → had ≤ most → RunsAt seat had left a s b t → RunsIdle b c
-    → RunsFew (only seat most) a s c t
-at_idle seat had left most a b c s t le p q = few_idle (only seat most) a b c s t (at_few seat had left most a b s t le p) q
 
 pub none_idle_at : (seat : ℕ) (hall : Hall) → RunsIdleAt seat hall hall
 unfolding RunsIdleAt
-none_idle_at seat hall = λ store n. none_at seat n hall store
+none_idle_at seat hall = λ store had. none_at seat had hall store
 
-pub idle_at : (seat n : ℕ) (old new : Hall) (store : Store) → RunsIdleAt seat old new → RunsAt seat n n old store new store
+pub idle_at : (seat : ℕ) (had : Budget) (old new : Hall) (store : Store) → RunsIdleAt seat old new → RunsAt seat had had old store new store
 unfolding RunsIdleAt
-idle_at seat n old new store p = p store n
+idle_at seat had old new store p = p store had
 
 changed_length : (seat : ℕ) (old new : Hall) (P : Seat → Seat → Type 0) → Changes seat old new P → length new.seats ≡ length old.seats
 changed_length seat old new P c = ap (λ (x : List (Option Seat)). length x) c.now ∙ length-set old.seats seat (Some c.after)
@@ -271,65 +260,175 @@ changed_others : (seat : ℕ) (old new : Hall) (P : Seat → Seat → Type 0) �
 changed_others seat old new P c = λ k ne. changed_other seat k old new (Some c.after) ne c.now
 
 -- an event that changes one seat
-changed_at : (seat had left : ℕ) (old new : Hall) (before after : Store) (P : Seat → Seat → Type 0) (e : Event) → Changes seat old new P
+changed_at : (seat : ℕ) (had left : Budget) (old new : Hall) (before after : Store) (P : Seat → Seat → Type 0) (e : Event) → Changes seat old new P
     → IsOfSession seat (length old.seats) e → Happens (machines old) before e (machines new) after
-    → ((k : ℕ) → taken_by k e + only seat left k ≤ only seat had k) → RunsAt seat had left old before new after
+    → ((k : ℕ) → taken_by k e + only seat left.pdus k ≤ only seat had.pdus k) → Gives seat had.given left.given old (e ∷ []) new
+    → RunsAt seat had left old before new after
 unfolding RunsAt
-changed_at seat had left old new before after P e c is h few = (
+changed_at seat had left old new before after P e c is h few gives = (
   changed_others seat old new P c,
   changed_length seat old new P c,
   e ∷ [],
   (is, tt),
   runs_one (machines old) (machines new) before after e h,
-  λ k. omega (arith, few k),
+  ((λ k. omega (arith, few k)), gives),
 )
 
--- a turn
-pub turn_at : (seat had : ℕ) (old new : Hall) (before after : Store) (result : Result ℕ TargetFault) → 0 < had
-    → TakesAtSeat seat old before result new after → TakesTurn seat old before result new after
-    → RunsAt seat had (had - 1) old before new after
-turn_at seat had old new before after result some c h =
+-- a PDU
+pub turn_at : (seat : ℕ) (had left : Budget) (old new : Hall) (before after : Store) (result : Result ℕ TargetFault) → 0 < had.pdus
+    → left.pdus ≡ had.pdus - 1 → left.given ≡ had.given → may_take_at (seat_at old seat) ≡ true
+    → TakesAtSeat seat old before result new after → TakesTurn seat old before result new after → RunsAt seat had left old before new after
+turn_at seat had left old new before after result some one same may c h =
     let within : seat < length old.seats = some_within old.seats seat c.before c.was in
-    changed_at seat had (had - 1) old new before after _ (Takes h.turn) c
+    changed_at seat had left old new before after _ (Takes h.turn) c
     (h.seat_is, subst (λ (k : ℕ). k < length old.seats) (sym h.seat_is) within, tt) h.is_turn
-    (λ k. subst (λ (s : ℕ). only s 1 k + only seat (had - 1) k ≤ only seat had k) (sym h.seat_is)
-    (only_less (nat_lt k seat) (nat_lt seat k) had some))
+    (λ k. subst (λ (n : ℕ). taken_by k (Takes h.turn) + only seat n k ≤ only seat had.pdus k) (sym one)
+    (subst (λ (s : ℕ). only s 1 k + only seat (had.pdus - 1) k ≤ only seat had.pdus k) (sym h.seat_is)
+    (only_less (nat_lt k seat) (nat_lt seat k) had.pdus some)))
+    (subst (λ (n : ℕ). Gives seat had.given n old (Takes h.turn ∷ []) new) (sym same)
+    (turn_gives seat had.given old new before after result h may))
 
 -- a sync, where something waits at the seat
 waits_taken : (o : Option Seat) → 0 < length (waiting_at o) → is_some o ≡ true
 waits_taken None lt = absurd (omega (arith, lt))
 waits_taken (Some s) lt = refl
 
-pub sync_at : (seat n : ℕ) (hall : Hall) (before after : Store) → 0 < length (waiting_at (seat_at hall seat))
-    → Happens (machines hall) before (Syncs seat) (machines hall) after → RunsAt seat n n hall before hall after
+pub sync_at : (seat : ℕ) (had : Budget) (hall : Hall) (before after : Store) → 0 < length (waiting_at (seat_at hall seat))
+    → Happens (machines hall) before (Syncs seat) (machines hall) after → RunsAt seat had had hall before hall after
 unfolding RunsAt
-sync_at seat n hall before after waits h = (
+sync_at seat had hall before after waits h = (
   λ k ne. refl,
   refl,
   Syncs seat ∷ [],
   ((refl, taken_within hall.seats seat (waits_taken (seat_at hall seat) waits), tt), tt),
   runs_one (machines hall) (machines hall) before after (Syncs seat) h,
-  λ k. omega arith,
+  ((λ k. omega arith), silent_gives seat had.given hall hall (Syncs seat) refl refl),
 )
 
--- what changes no session
-pub same_at : (seat : ℕ) (old new : Hall) (P : Seat → Seat → Type 0) → Changes seat old new P → SameMachines old new → RunsIdleAt seat old new
+-- a write behind it
+pub write_at : (seat count : ℕ) (had left : Budget) (old new : Hall) (before after : Store) → left.pdus ≡ had.pdus → left.given ≡ had.given - count
+    → Changes seat old new (λ was now. now ≡ with_sent count was) → SameMachines old new
+    → Happens (machines old) before (Syncs seat) (machines old) after → RunsAt seat had left old before new after
+write_at seat count had left old new before after pdus given c same h =
+    changed_at seat had left old new before after _ (Syncs seat) c (refl, changed_within seat old new _ c, tt) (same, h.1, h.2)
+    (λ k. subst (λ (n : ℕ). 0 + only seat n k ≤ only seat had.pdus k) (sym pdus) (omega arith))
+    (sent_gives seat count had.given left.given old new (Syncs seat) refl (waits_less seat count old new c) given)
+
+-- what changes no session, and leaves what waits
+same_at : (seat : ℕ) (old new : Hall) (P : Seat → Seat → Type 0) (c : Changes seat old new P) → SameMachines old new
+    → c.after.waiting ≡ c.before.waiting → RunsIdleAt seat old new
 unfolding RunsIdleAt RunsAt
-same_at seat old new P c same = λ store n. (
+same_at seat old new P c same waits = λ store had. (
   changed_others seat old new P c,
   changed_length seat old new P c,
   [],
   tt,
   runs_none (machines old) (machines new) store same,
-  λ k. omega arith,
+  ((λ k. omega arith), none_gives seat had.given old new (waits_same seat old new P c waits)),
 )
 
+-- a read
+pub receive_at : (seat : ℕ) (piece : List ℕ) (old new : Hall) → Changes seat old new (λ was now. now ≡ received piece was)
+    → SameMachines old new → RunsIdleAt seat old new
+receive_at seat piece old new c same = same_at seat old new _ c same (ap (λ (s : Seat). s.waiting) c.does)
+
+-- a write of which nothing went
+pub unsent_at : (seat : ℕ) (old new : Hall) → Changes seat old new (λ was now. now ≡ with_sent 0 was) → SameMachines old new
+    → RunsIdleAt seat old new
+unsent_at seat old new c same = same_at seat old new _ c same (ap (λ (s : Seat). s.waiting) c.does)
+
 -- the end of a stream
-pub ends_at : (seat : ℕ) (old new : Hall) (P : Seat → Seat → Type 0) → Changes seat old new P → HappensIn (Ends seat) old new → RunsIdleAt seat old new
+pub ends_at : (seat : ℕ) (old new : Hall) (result : Result (Unit {0}) TargetFault)
+    → Changes seat old new (λ was now. FinishesAt was result now) → HappensIn (Ends seat) old new → RunsIdleAt seat old new
 unfolding RunsIdleAt
-ends_at seat old new P c h =
-    λ store n. changed_at seat n n old new store store P (Ends seat) c (refl, changed_within seat old new P c, tt) (h store)
-    (λ k. omega arith)
+ends_at seat old new result c h =
+    λ store had. changed_at seat had had old new store store _ (Ends seat) c (refl, changed_within seat old new _ c, tt) (h store)
+    (λ k. omega arith) (silent_gives seat had.given old new (Ends seat) refl (waits_same seat old new _ c c.does.waiting))
+
+-- ---- at one seat after another
+
+none_turns_at : (seat : ℕ) (budget : Budget) (hall : Hall) (store : Store) → TurnsAt seat budget hall store hall store
+unfolding TurnsAt
+none_turns_at seat budget hall store = (
+  λ k ne. refl,
+  refl,
+  [],
+  tt,
+  runs_none (machines hall) (machines hall) store (λ k. refl),
+  ((λ k. omega arith), omega arith),
+)
+
+-- nobody is at the seat
+pub none_turn : (seat : ℕ) (budget : Budget) (hall : Hall) (store : Store) → TurnOf seat budget hall store hall store
+unfolding TurnOf
+none_turn seat budget hall store = (hall, none_turns_at seat budget hall store, none_idle hall)
+
+pub idle_turn : (seat : ℕ) (budget : Budget) (a b c : Hall) (s t : Store) → TurnsAt seat budget a s b t → RunsIdle b c
+    → TurnOf seat budget a s c t
+unfolding TurnOf
+idle_turn seat budget a b c s t p q = (b, p, q)
+
+turn_few : (seat most : ℕ) (budget : Budget) (old new : Hall) (before after : Store) → budget.pdus ≤ most
+    → TurnOf seat budget old before new after → RunsFew (only seat most) old before new after
+unfolding TurnOf
+turn_few seat most budget old new before after le p =
+    few_idle (only seat most) old p.0 new before after (at_few seat most budget old p.0 before after le p.1) p.2
+
+in_turns_few : (n : ℕ) (old new : Hall) (before after : Store) → InTurns n old before new after
+    → RunsFew (below n most_taken) old before new after
+unfolding InTurns
+in_turns_few zero old new before after p =
+    subst (λ (t : Store). RunsFew (below 0 most_taken) old before new t) (sym p.1)
+    (idle_few (below 0 most_taken) old new new before before p.0 (none_few (below 0 most_taken) new before))
+in_turns_few (suc n) old new before after p =
+    then_few (below n most_taken) (only n most_taken) (below (suc n) most_taken) old p.0 new before p.1 after (below_next n most_taken)
+    (in_turns_few n old p.0 before p.1 p.4) (turn_few n most_taken p.2 p.0 new p.1 after p.3.0 p.5)
+
+below_few : (i n : ℕ) (old new : Hall) (before after : Store) → RunsFew (below i n) old before new after
+    → RunsFew (λ k. n) old before new after
+unfolding RunsFew
+below_few i n old new before after p = (
+  p.0,
+  p.1,
+  p.2,
+  p.3,
+  λ k. omega (arith, p.4 k, below_most (nat_lt k i) n),
+)
+
+-- no seat had a turn
+pub none_in_turns : (hall : Hall) (store : Store) → InTurns 0 hall store hall store
+unfolding InTurns
+none_in_turns hall store = (none_idle hall, refl)
+
+-- a seat more had its turn
+pub next_turns : (n : ℕ) (budget : Budget) (a b c : Hall) (s t u : Store) → budget.pdus ≤ most_taken → budget.given ≤ most_given
+    → InTurns n a s b t → TurnOf n budget b t c u → InTurns (n + 1) a s c u
+unfolding InTurns
+next_turns n budget a b c s t u few much p q =
+    let next : suc n ≡ n + 1 = omega arith in
+    subst (λ (j : ℕ). InTurns j a s c u) next (b, t, budget, (few, much), p, q)
+
+idle_in_turns : (n : ℕ) (a b c : Hall) (s t : Store) → RunsIdle a b → InTurns n b s c t → InTurns n a s c t
+unfolding InTurns
+idle_in_turns zero a b c s t p q = (then_idle a b c p q.0, q.1)
+idle_in_turns (suc n) a b c s t p q = (q.0, q.1, q.2, q.3, idle_in_turns n a b q.0 s q.1 p q.4, q.5)
+
+-- all seats had their turns
+pub all_turns : (n : ℕ) (old new : Hall) (before after : Store) → InTurns n old before new after → RunsInTurns old before new after
+unfolding RunsInTurns
+all_turns n old new before after p = (n, p)
+
+pub all_few : (n : ℕ) (old new : Hall) (before after : Store) → InTurns n old before new after
+    → RunsFew (λ k. most_taken) old before new after
+all_few n old new before after p = below_few n most_taken old new before after (in_turns_few n old new before after p)
+
+pub none_turns : (hall : Hall) (store : Store) → RunsInTurns hall store hall store
+unfolding RunsInTurns
+none_turns hall store = (0, none_in_turns hall store)
+
+pub idle_turns : (a b c : Hall) (s t : Store) → RunsIdle a b → RunsInTurns b s c t → RunsInTurns a s c t
+unfolding RunsInTurns
+idle_turns a b c s t p q = (q.0, idle_in_turns q.0 a b c s t p q.1)
 
 -- ---- from free seats on
 

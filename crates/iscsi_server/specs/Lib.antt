@@ -1,3 +1,4 @@
+pub mod Giving
 pub mod Limited
 pub mod Moving
 pub mod Room

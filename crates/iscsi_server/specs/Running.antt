@@ -1,9 +1,11 @@
 -- What happens in the hall of a service, as events of that hall (RFC 7143, section 4.2).
-use Rattle.std.specs.Prelude.{◌≡◌, ◌<◌, ◌≤◌, ℕ, ◌+◌, true, false, ◌==◌, nat_lt, if◌then◌else◌, List, [], ◌∷◌, length, None}
+use Rattle.std.specs.Prelude.{◌≡◌, ◌<◌, ◌≤◌, ℕ, zero, suc, ◌+◌, true, false, ◌==◌, nat_lt, if◌then◌else◌, List, [], ◌∷◌, length, None}
 use Rattle.std.specs.List.{AllByRecursion}
 use Rattle.iscsi_target.specs.Feed.{Store}
 use Rattle.iscsi_hall.specs.Seats.{Hall, seat_at}
 use Rattle.iscsi_hall.specs.Turns.{Event, Comes, Ends, Goes, KeepsSession, Runs, Seats, Syncs, Takes, machines, seat_of}
+use Rattle.iscsi_server.specs.declared.budget.Budget.{Budget}
+use Rattle.iscsi_server.specs.Giving.{Gives, GivesNothing, given_at, most_given, most_waiting}
 
 -- ---- how much is taken
 
@@ -51,9 +53,10 @@ RunsFew most old before new after = (length new.seats ≡ length old.seats)
     × Runs (machines old) before es (machines new) after
     × ((k : ℕ) → taken_at k es ≤ most k)
 
--- Some events do so whatever the store, leave it as it is, and take no PDU.
+-- Some events do so whatever the store, leave it as it is, take no PDU, and give no peer anything.
 unfoldable pub RunsIdle : Hall → Hall → Type 0
-RunsIdle old new = (store : Store) → RunsFew (λ k. 0) old store new store
+RunsIdle old new =
+    GivesNothing old new × ((store : Store) → RunsFew (λ k. 0) old store new store)
 
 -- ---- at one seat
 
@@ -66,18 +69,55 @@ abbrev pub IsOfSession : ℕ → ℕ → Event → Type 0
 IsOfSession seat count e = (seat_of e ≡ seat) × IsAmong count e × KeepsSession true e
 
 -- Some events of the session at one seat lead from a hall and its store to another one, which has
--- as many seats. Every other seat is as it was. Before them the session might take `had` PDUs, and
--- may take `left` behind them.
-unfoldable pub RunsAt : ℕ → ℕ → ℕ → Hall → Store → Hall → Store → Type 0
-RunsAt seat had left old before new after = OthersAreKept seat old new
+-- as many seats. Every other seat is as it was, and P holds of the events.
+abbrev pub HappensAt : ℕ → Hall → Store → (List Event → Type 0) → Hall → Store → Type 0
+HappensAt seat old before P new after = OthersAreKept seat old new
     × (length new.seats ≡ length old.seats)
     × (es : List Event) × AllByRecursion (IsOfSession seat (length old.seats)) es
     × Runs (machines old) before es (machines new) after
-    × ((k : ℕ) → taken_at k es + only seat left k ≤ only seat had k)
+    × P es
 
--- Some events of that session do so whatever the store, leave it as it is, and take no PDU.
+-- Some events of the session at one seat do so. Before them its turn might do as much as `had`
+-- says, and may do as much as `left` says behind them.
+unfoldable pub RunsAt : ℕ → Budget → Budget → Hall → Store → Hall → Store → Type 0
+RunsAt seat had left old before new after = HappensAt seat old before
+    (λ es. ((k : ℕ) → taken_at k es + only seat left.pdus k ≤ only seat had.pdus k)
+    × Gives seat had.given left.given old es new)
+    new after
+
+-- Some events of that session do so whatever the store, leave it as it is, take no PDU, and give
+-- the peer nothing.
 unfoldable pub RunsIdleAt : ℕ → Hall → Hall → Type 0
-RunsIdleAt seat old new = (store : Store) (n : ℕ) → RunsAt seat n n old store new store
+RunsIdleAt seat old new = (store : Store) (had : Budget) → RunsAt seat had had old store new store
+
+-- A turn of the session at one seat. It takes as many PDUs at most as its budget says. It gives
+-- the peer as many bytes at most in all writes but the last one, and in that one what waited.
+unfoldable pub TurnsAt : ℕ → Budget → Hall → Store → Hall → Store → Type 0
+TurnsAt seat budget old before new after = HappensAt seat old before
+    (λ es. ((k : ℕ) → taken_at k es ≤ only seat budget.pdus k)
+    × (given_at seat old es new ≤ budget.given + most_waiting seat old es))
+    new after
+
+-- ---- at one seat after another
+
+-- A seat has such a turn, and then sessions come and go.
+unfoldable pub TurnOf : ℕ → Budget → Hall → Store → Hall → Store → Type 0
+TurnOf seat budget old before new after =
+    (left : Hall) × TurnsAt seat budget old before left after × RunsIdle left new
+
+-- A budget is no more than eight PDUs and 262,144 bytes.
+abbrev pub IsSmall : Budget → Type 0
+IsSmall budget = (budget.pdus ≤ most_taken) × (budget.given ≤ most_given)
+
+-- Sessions come and go, and then each of the first n seats has such a turn, one after another.
+unfoldable pub InTurns : ℕ → Hall → Store → Hall → Store → Type 0
+InTurns zero old before new after = RunsIdle old new × (after ≡ before)
+InTurns (suc n) old before new after = (met : Hall) × (now : Store) × (budget : Budget)
+    × IsSmall budget × InTurns n old before met now × TurnOf n budget met now new after
+
+-- Seats have such turns, each of them one at most.
+unfoldable pub RunsInTurns : Hall → Store → Hall → Store → Type 0
+RunsInTurns old before new after = (n : ℕ) × InTurns n old before new after
 
 -- ---- from free seats on
 

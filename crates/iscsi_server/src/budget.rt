@@ -45,7 +45,8 @@ impl Budget {
 
     /// Whether the turn is over.
     pub fn is_spent(&self) -> bool
-        ensures going { result ≡ false → 0 < self.now.pdus }
+        ensures pdus { result ≡ false → 0 < self.now.pdus }
+        ensures given { result ≡ false → 0 < self.now.given }
     {
         self.pdus == 0 || self.taken == 0 || self.given == 0
     }

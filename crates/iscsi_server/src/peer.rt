@@ -3,7 +3,7 @@
 ghost use Rattle.std.specs.Prelude.{◌≡◌, ◌<◌, length, is_some, true};
 ghost use Rattle.iscsi_target.specs.Inside.{store_of};
 ghost use Rattle.iscsi_hall.specs.Seats.{may_read_at, may_take_at, seat_at, waiting_at};
-ghost use Rattle.iscsi_server.specs.Running.{RunsAt, RunsIdleAt};
+ghost use Rattle.iscsi_server.specs.Running.{RunsAt, RunsIdleAt, TurnsAt};
 
 use crate::budget::Budget;
 use crate::connection::{Connection, Moved};
@@ -77,8 +77,9 @@ impl Peer {
         buffer: &mut [u8; MOST_READ],
         budget: Budget,
     ) -> bool
-        // It takes as many PDUs at most as the budget says.
-        ensures runs { RunsAt seat budget.pdus 0
+        // It takes as many PDUs at most as the budget says. It gives as many bytes at most in all
+        // writes but the last one, which gives no more than what waited.
+        ensures runs { TurnsAt seat budget
             hall.old (store_of (S.disk store.old) (S.failures store.old))
             hall.new (store_of (S.disk store.new) (S.failures store.new)) }
         ensures seats { length hall.new.seats ≡ length hall.old.seats }
@@ -129,7 +130,7 @@ impl Peer {
         left: &mut Budget,
     ) -> Step
         requires some { 0 < left.old.pdus }
-        ensures runs { RunsAt seat left.old.pdus left.new.pdus
+        ensures runs { RunsAt seat left.old left.new
             hall.old (store_of (S.disk store.old) (S.failures store.old))
             hall.new (store_of (S.disk store.new) (S.failures store.new)) }
         ensures seats { length hall.new.seats ≡ length hall.old.seats }
@@ -155,7 +156,7 @@ impl Peer {
         left: &mut Budget,
     ) -> Step
         requires some { 0 < length (waiting_at (seat_at hall.old seat)) }
-        ensures runs { RunsAt seat left.old.pdus left.new.pdus
+        ensures runs { RunsAt seat left.old left.new
             hall.old (store_of (S.disk store.old) (S.failures store.old))
             hall.new (store_of (S.disk store.new) (S.failures store.new)) }
         ensures seats { length hall.new.seats ≡ length hall.old.seats }
@@ -192,7 +193,7 @@ impl Peer {
     ) -> Step
         requires may { may_take_at (seat_at hall.old seat) ≡ true }
         requires some { 0 < left.old.pdus }
-        ensures runs { RunsAt seat left.old.pdus left.new.pdus
+        ensures runs { RunsAt seat left.old left.new
             hall.old (store_of (S.disk store.old) (S.failures store.old))
             hall.new (store_of (S.disk store.new) (S.failures store.new)) }
         ensures seats { length hall.new.seats ≡ length hall.old.seats }
@@ -226,7 +227,7 @@ impl Peer {
     )
         requires may { may_take_at (seat_at hall.old seat) ≡ true }
         requires some { 0 < left.old.pdus }
-        ensures runs { RunsAt seat left.old.pdus left.new.pdus
+        ensures runs { RunsAt seat left.old left.new
             hall.old (store_of (S.disk store.old) (S.failures store.old))
             hall.new (store_of (S.disk store.new) (S.failures store.new)) }
         ensures seats { length hall.new.seats ≡ length hall.old.seats }
@@ -241,7 +242,7 @@ impl Peer {
     }
 
     // Reads what came.
-    #[tactic(auto, using(crate::proofs::RunningLemmas::none_idle_at, crate::proofs::RunningLemmas::same_at))]
+    #[tactic(auto, using(crate::proofs::RunningLemmas::none_idle_at))]
     fn read(
         &mut self,
         hall: &mut Hall,

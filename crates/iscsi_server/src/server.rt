@@ -5,7 +5,7 @@ ghost use Rattle.iscsi_target.specs.Inside.{store_of};
 ghost use Rattle.iscsi_serving.specs.Executed.{HasExecuted};
 ghost use Rattle.iscsi_serving.specs.Faults.{EndsService};
 ghost use Rattle.iscsi_serving.specs.declared.fault.ServeFault.TheVariants as serve;
-ghost use Rattle.iscsi_server.specs.Running.{RunsFew, RunsWithin, most_taken};
+ghost use Rattle.iscsi_server.specs.Running.{RunsFew, RunsInTurns, RunsWithin, most_taken};
 ghost use Rattle.iscsi_server.specs.Serving.{has_all, IsDone, IsEmpty};
 
 mod admitting;
@@ -145,7 +145,7 @@ impl<'a> Server<'a> {
     /// on. A connection that the system does not watch, or for which there is no memory, is closed.
     /// If the system has no room for connections, nobody is accepted until a seat gets free or a
     /// second is over. Only the system's refusing to wait or to tell the time (`Network`) is returned.
-    #[tactic(auto, using(crate::proofs::RunningLemmas::none_few, crate::proofs::RunningLemmas::none_runs, crate::proofs::RunningLemmas::idle_few, crate::proofs::RunningLemmas::few_runs, crate::proofs::RunningLemmas::none_executed, crate::proofs::RunningLemmas::runs_executed))]
+    #[tactic(auto, using(crate::proofs::RunningLemmas::none_turns, crate::proofs::RunningLemmas::idle_turns, crate::proofs::RunningLemmas::none_few, crate::proofs::RunningLemmas::none_runs, crate::proofs::RunningLemmas::idle_few, crate::proofs::RunningLemmas::few_runs, crate::proofs::RunningLemmas::none_executed, crate::proofs::RunningLemmas::runs_executed))]
     pub fn turn<S: BlockStore>(&mut self, rt: &HostRuntime, store: &mut S) -> Result<(), ServeFault>
         // Whatever comes of it, it is a run of the hall, of which the laws of `iscsi_hall` speak.
         ensures runs { RunsWithin
@@ -153,6 +153,11 @@ impl<'a> Server<'a> {
             self.new.hall (store_of (S.disk store.new) (S.failures store.new)) }
         // Each seat takes eight PDUs at most: so much the others do between two turns of one.
         ensures few { RunsFew (λ k. most_taken)
+            self.old.hall (store_of (S.disk store.old) (S.failures store.old))
+            self.new.hall (store_of (S.disk store.new) (S.failures store.new)) }
+        // Each seat has one turn at most. All its writes but the last one give the peer 262,144 bytes
+        // at most, and the last one gives no more than what waited.
+        ensures turns { RunsInTurns
             self.old.hall (store_of (S.disk store.old) (S.failures store.old))
             self.new.hall (store_of (S.disk store.new) (S.failures store.new)) }
         // The blocks are those that commands left.

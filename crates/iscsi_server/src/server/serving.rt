@@ -2,7 +2,7 @@
 
 ghost use Rattle.std.specs.Prelude.{◌≡◌, ◌≤◌, length};
 ghost use Rattle.iscsi_target.specs.Inside.{store_of};
-ghost use Rattle.iscsi_server.specs.Running.{RunsFew, RunsIdle, most_taken, only};
+ghost use Rattle.iscsi_server.specs.Running.{RunsFew, RunsIdle, RunsInTurns, TurnOf, most_taken};
 
 use super::Server;
 use crate::budget::Budget;
@@ -13,15 +13,18 @@ use std::time::Instant;
 
 impl<'a> Server<'a> {
     // A turn for each peer.
-    #[tactic(auto, using(crate::proofs::RunningLemmas::none_few, crate::proofs::RunningLemmas::below_few))]
+    #[tactic(auto, using(crate::proofs::RunningLemmas::none_in_turns, crate::proofs::RunningLemmas::all_turns, crate::proofs::RunningLemmas::all_few))]
     pub(super) fn serve_peers<S: BlockStore>(
         &mut self,
         rt: &HostRuntime,
         store: &mut S,
         now: Instant,
     )
-        // Each seat takes a few PDUs at most.
-        ensures runs { RunsFew (λ k. most_taken)
+        // Each seat has a turn, in which it takes a few PDUs at most.
+        ensures turns { RunsInTurns
+            self.old.hall (store_of (S.disk store.old) (S.failures store.old))
+            self.new.hall (store_of (S.disk store.new) (S.failures store.new)) }
+        ensures few { RunsFew (λ k. most_taken)
             self.old.hall (store_of (S.disk store.old) (S.failures store.old))
             self.new.hall (store_of (S.disk store.new) (S.failures store.new)) }
         ensures seats { length self.new.hall.seats ≡ length self.old.hall.seats }
@@ -36,7 +39,7 @@ impl<'a> Server<'a> {
     }
 
     // A turn for the peer of a seat, if there is one.
-    #[tactic(auto, using(crate::proofs::RunningLemmas::none_few, crate::proofs::RunningLemmas::at_idle))]
+    #[tactic(auto, using(crate::proofs::RunningLemmas::none_turn, crate::proofs::RunningLemmas::idle_turn))]
     fn serve_peer<S: BlockStore>(
         &mut self,
         rt: &HostRuntime,
@@ -45,8 +48,7 @@ impl<'a> Server<'a> {
         now: Instant,
         budget: Budget,
     )
-        requires few { budget.pdus ≤ most_taken }
-        ensures runs { RunsFew (only seat most_taken)
+        ensures turn { TurnOf seat budget
             self.old.hall (store_of (S.disk store.old) (S.failures store.old))
             self.new.hall (store_of (S.disk store.new) (S.failures store.new)) }
         ensures seats { length self.new.hall.seats ≡ length self.old.hall.seats }

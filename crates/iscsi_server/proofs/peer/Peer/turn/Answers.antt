@@ -4,34 +4,34 @@ use Rattle.iscsi_server.proofs.RunningLemmas.{spent_at, then_at}
 use Rattle.iscsi_server.proofs.peer.Peer.turn.Goals as goal
 
 pub returns-in-Rests-clause-runs : goal.returns-in-Rests-clause-runs
-returns-in-Rests-clause-runs g c = spent_at c.args.seat c.args.budget.pdus c.step.new.left.pdus c.args.hall.now c.step.new.hall
+returns-in-Rests-clause-runs g c = spent_at c.args.seat c.args.budget c.step.new.left c.args.hall.now c.step.new.hall
     (store_of (g.S.BlockStore.disk c.args.store.now) (g.S.BlockStore.failures c.args.store.now))
     (store_of (g.S.BlockStore.disk c.step.new.store) (g.S.BlockStore.failures c.step.new.store))
-    (then_at c.args.seat c.args.budget.pdus c.loop.left.pdus c.step.new.left.pdus
+    (then_at c.args.seat c.args.budget c.loop.left c.step.new.left
     c.args.hall.now c.loop.hall c.step.new.hall
     (store_of (g.S.BlockStore.disk c.args.store.now) (g.S.BlockStore.failures c.args.store.now))
     (store_of (g.S.BlockStore.disk c.loop.store) (g.S.BlockStore.failures c.loop.store))
     (store_of (g.S.BlockStore.disk c.step.new.store) (g.S.BlockStore.failures c.step.new.store))
-    c.loop.invariant.0 c.in-Rests.ensures.runs)
+    (c.is_spent.ensures.given c.if-is_spent.false) c.loop.invariant.0 c.in-Rests.ensures.runs)
 
 pub returns-in-Over-clause-runs : goal.returns-in-Over-clause-runs
-returns-in-Over-clause-runs g c = spent_at c.args.seat c.args.budget.pdus c.step.new.left.pdus c.args.hall.now c.step.new.hall
+returns-in-Over-clause-runs g c = spent_at c.args.seat c.args.budget c.step.new.left c.args.hall.now c.step.new.hall
     (store_of (g.S.BlockStore.disk c.args.store.now) (g.S.BlockStore.failures c.args.store.now))
     (store_of (g.S.BlockStore.disk c.step.new.store) (g.S.BlockStore.failures c.step.new.store))
-    (then_at c.args.seat c.args.budget.pdus c.loop.left.pdus c.step.new.left.pdus
+    (then_at c.args.seat c.args.budget c.loop.left c.step.new.left
     c.args.hall.now c.loop.hall c.step.new.hall
     (store_of (g.S.BlockStore.disk c.args.store.now) (g.S.BlockStore.failures c.args.store.now))
     (store_of (g.S.BlockStore.disk c.loop.store) (g.S.BlockStore.failures c.loop.store))
     (store_of (g.S.BlockStore.disk c.step.new.store) (g.S.BlockStore.failures c.step.new.store))
-    c.loop.invariant.0 c.in-Over.ensures.runs)
+    (c.is_spent.ensures.given c.if-is_spent.false) c.loop.invariant.0 c.in-Over.ensures.runs)
 
 pub loop-preserved : goal.loop-preserved
 loop-preserved g c = (
-  then_at c.args.seat c.args.budget.pdus c.loop.left.pdus c.step.new.left.pdus
+  then_at c.args.seat c.args.budget c.loop.left c.step.new.left
       c.args.hall.now c.loop.hall c.step.new.hall
       (store_of (g.S.BlockStore.disk c.args.store.now) (g.S.BlockStore.failures c.args.store.now))
       (store_of (g.S.BlockStore.disk c.loop.store) (g.S.BlockStore.failures c.loop.store))
       (store_of (g.S.BlockStore.disk c.step.new.store) (g.S.BlockStore.failures c.step.new.store))
-      c.loop.invariant.0 c.in-Went.ensures.runs,
+      (c.is_spent.ensures.given c.if-is_spent.false) c.loop.invariant.0 c.in-Went.ensures.runs,
   c.in-Went.ensures.seats ∙ c.loop.invariant.1,
 )
