@@ -1,8 +1,7 @@
 -- What a comparison of two captures answers and writes.
 use Rattle.std.specs.Prelude.{◌≡◌, ◌⊎◌, ℕ, List, [], Result, Ok, Err}
-use Rattle.iscsi_compare.specs.declared.fault.CompareFault.{CompareFault}
 use Rattle.iscsi_compare.specs.declared.verdict.Verdict.{Verdict}
-use Rattle.iscsi_compare.specs.Comparing.{Input, Tells}
+use Rattle.iscsi_compare.specs.Comparing.{Input}
 use Rattle.iscsi_comparison.specs.declared.comparing.Sameness.{Sameness}
 use Rattle.iscsi_comparison.specs.declared.comparing.ComparisonFault.{ComparisonFault}
 use Rattle.iscsi_words.specs.declared.capture_comparing.CaptureComparisonFault.{CaptureComparisonFault}
