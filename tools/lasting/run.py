@@ -205,14 +205,27 @@ def one_owner(program, room):
 
 
 def read_only(program, room):
-    """An image on a file system that is mounted to be read alone."""
+    """An image on a file system that is mounted to be read alone; it is served with --read-only."""
     with memory_mounted(room, "size=1m") as place:
         image = f"{place}/image"
         made = refused(program, image, *create(8))
         subprocess.run(["mount", "-o", "remount,ro", place], check=True)
-        seen = [made, refused(program, image), refused(program, f"{place}/other", *create(8))]
-        due = [(b"listening\n", b"", 0), line(image, "may not be written"), line(f"{place}/other", "may not be written")]
+        seen = [made, refused(program, image), refused(program, f"{place}/other", *create(8)), refused(program, image, "--read-only")]
+        due = [(b"listening\n", b"", 0), line(image, "may not be written"), line(f"{place}/other", "may not be written"), (b"listening\n", b"", 0)]
     return seen == due or seen
+
+
+def read_alone(program, room):
+    """Two services share an image with --read-only: each write is refused, and the image stays. Who would write it is refused."""
+    image = noise(f"{room}/image", BLOCKS * BLOCK)
+    held = bytes_of(image)
+    alone = "--read-only"
+    with Service(program, image, alone) as one, Service(program, image, alone, "--at-once", "2") as other:
+        seen = [qemu(service.url, "write -P 7 0 64k") for service in (one, other)]
+        seen += [ran("qemu-img", "compare", "-f", "raw", "-F", "raw", image, service.url)[0] for service in (one, other)]
+        seen.append(refused(program, image))
+    seen.append(bytes_of(image) == held)
+    return seen == [["Permission denied"]] * 2 + [0, 0, line(image, "is in use"), True] or seen
 
 
 def at_once(program, room):
@@ -536,6 +549,7 @@ CASES = [
     opened_again,
     one_owner,
     read_only,
+    read_alone,
     at_once,
     large,
     block_device,

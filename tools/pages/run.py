@@ -57,6 +57,7 @@ GIVEN = {
     ("README.md", "A served disk"): {"source.img": 8},
     ("docs/RECIPES.md", "A disk for other initiators"): {"disk.img": 4},
     ("docs/RECIPES.md", "A disk that lasts"): {"source.img": 32},
+    ("docs/RECIPES.md", "A disk that nobody changes"): {"source.img": 4},
     ("docs/RECIPES.md", "A disk on an NBD server, A plugin and a filter of nbdkit"): {"base.img": 4},
     ("docs/RECIPES.md", "A disk on an NBD server, Two services"): {"disk.img": 4},
     ("docs/RECIPES.md", "Two streams compared"): {
@@ -73,6 +74,7 @@ BEFORE = {
     ("crates/capture_vectors/README.md", ""): "cd crates/capture_vectors",
     ("docs/RECIPES.md", "Hosts with multipath"): "./lanthovur serve --size 1M --sessions 9 & sleep 2; "
     "disk=iscsi://127.0.0.1:3260/iqn.2026-01.example:disk/0",
+    ("docs/RECIPES.md", "A disk that nobody changes"): "cp source.img disk.img",
     ("docs/RECIPES.md", "A disk on an NBD server, A plugin and a filter of nbdkit"):
     "disk=iscsi://127.0.0.1:3260/iqn.2026-01.example:disk/0",
 }

@@ -13,7 +13,7 @@ use iscsi_serve_words::{
 use iscsi_server::{serve_at_once, serve_memory_at_once};
 use iscsi_service::serve;
 use iscsi_serving::ServeFault;
-use scsi_disk::{BlockStore, SparseStore};
+use scsi_disk::{BlockStore, ReadOnly, SparseStore};
 use std::convert::AsStr;
 use std::io::{self, Write};
 
@@ -60,15 +60,16 @@ impl DiskFault<'_> {
     }
 }
 
-/// Serves a disk, over what it is kept in, until its service ends. Disk and service come from these
-/// words, the first of which is `serve`. If the words list initiators, no other one may log in.
-/// `Image` and `Nbd` come if the image or the export is not opened, `Session` as the service gives it,
-/// and if there is no memory for the list.
+/// Serves a disk, over what it is kept in, until its service ends; if it is to be read alone, each write
+/// is refused. Disk and service come from these words, the first of which is `serve`. If the words list
+/// initiators, no other one may log in. `Image` and `Nbd` come if the image or the export is not opened,
+/// `Session` as the service gives it, and if there is no memory for the list.
 pub fn serve_storage<'a, S: AsStr>(
     rt: &HostRuntime,
     words: &[S],
     storage: Storage<'a>,
     service: Service<'_>,
+    read_only: bool,
 ) -> Result<(), DiskFault<'a>>
     requires storage { IsStorage storage }
     requires service { CanServe service }
@@ -76,7 +77,14 @@ pub fn serve_storage<'a, S: AsStr>(
     ensures ends { EndsStorage storage.entry result }
 {
     match read_initiators(rt.alloc(), words) {
-        Ok(initiators) => serve_to(rt, storage, service, initiators.as_slice()),
+        Ok(initiators) => {
+            let listed = listed(initiators.as_slice());
+            if read_only {
+                serve_read_only(rt, storage, service, listed)
+            } else {
+                serve_written(rt, storage, service, listed)
+            }
+        }
         // The words were read before, so that nothing but memory is wanting.
         Err(_) => Err(DiskFault::Session(ServeFault::NoMemory)),
     }
@@ -93,36 +101,66 @@ fn listed<'a>(initiators: &'a [&'a [u8]]) -> Option<&'a [&'a [u8]]> {
 
 // Serves a disk to the initiators of these names, or to everybody if there is none.
 #[tactic(auto, using(crate::proofs::OpenLemmas::can_be_opened))]
-fn serve_to<'a>(
+fn serve_written<'a>(
     rt: &HostRuntime,
     storage: Storage<'a>,
     service: Service<'_>,
-    initiators: &[&[u8]],
+    initiators: Option<&[&[u8]]>,
 ) -> Result<(), DiskFault<'a>>
     requires storage { IsStorage storage }
     requires service { CanServe service }
     ensures ends { EndsStorage storage.entry result }
 {
-    let initiators = listed(initiators);
     match storage {
-        Storage::Memory { blocks } => match serve_memory(rt, service, initiators, blocks) {
-            Ok(()) => Ok(()),
-            Err(fault) => Err(DiskFault::Session(fault)),
-        },
+        Storage::Memory { blocks } => ended(storage, serve_memory(rt, service, initiators, blocks)),
         Storage::Image(image) => match image.open(rt) {
-            Ok(mut store) => match serve_store(rt, service, initiators, &mut store) {
-                Ok(()) => Ok(()),
-                Err(fault) => Err(DiskFault::Session(fault)),
-            },
+            Ok(mut store) => ended(storage, serve_store(rt, service, initiators, &mut store)),
             Err(fault) => Err(DiskFault::Image(image, fault)),
         },
         Storage::Nbd(export) => match export.open(rt) {
-            Ok(mut store) => match serve_store(rt, service, initiators, &mut store) {
-                Ok(()) => Ok(()),
-                Err(fault) => Err(DiskFault::Session(fault)),
-            },
+            Ok(mut store) => ended(storage, serve_store(rt, service, initiators, &mut store)),
             Err(fault) => Err(DiskFault::Nbd(export, fault)),
         },
+    }
+}
+
+// Serves a disk in the same way, of which no block changes.
+fn serve_read_only<'a>(
+    rt: &HostRuntime,
+    storage: Storage<'a>,
+    service: Service<'_>,
+    initiators: Option<&[&[u8]]>,
+) -> Result<(), DiskFault<'a>>
+    requires storage { IsStorage storage }
+    requires service { CanServe service }
+    ensures ends { EndsStorage storage.entry result }
+{
+    match storage {
+        Storage::Memory { blocks } => {
+            let mut store = ReadOnly::new(SparseStore::new(rt.alloc(), blocks));
+            ended(storage, serve_store(rt, service, initiators, &mut store))
+        }
+        Storage::Image(image) => match image.open_read_only(rt) {
+            Ok(mut store) => ended(storage, serve_store(rt, service, initiators, &mut store)),
+            Err(fault) => Err(DiskFault::Image(image, fault)),
+        },
+        Storage::Nbd(export) => match export.open(rt) {
+            Ok(store) => {
+                let mut store = ReadOnly::new(store);
+                ended(storage, serve_store(rt, service, initiators, &mut store))
+            }
+            Err(fault) => Err(DiskFault::Nbd(export, fault)),
+        },
+    }
+}
+
+// How a service ended: by itself, or by a fault of its own.
+fn ended<'a>(storage: Storage<'a>, said: Result<(), ServeFault>) -> Result<(), DiskFault<'a>>
+    ensures ends { EndsStorage storage.entry result }
+{
+    match said {
+        Ok(()) => Ok(()),
+        Err(fault) => Err(DiskFault::Session(fault)),
     }
 }
 

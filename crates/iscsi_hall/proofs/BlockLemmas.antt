@@ -6,7 +6,8 @@ use Rattle.scsi_disk.specs.declared.order.Order.{Order}
 use Rattle.scsi_disk.specs.declared.order.Plan.{Plan}
 use Rattle.scsi_disk.specs.declared.order.Plan.TheVariants.{Refuse, Take, Give}
 use Rattle.scsi_disk.specs.Disk.{Disk, cut, joined, overlaid}
-use Rattle.scsi_disk.specs.Effect.{effect, disk_by, outcome_by, wanted_data}
+use Rattle.scsi_disk.specs.Effect.{effect, disk_by, guarded, outcome_by, wanted_data}
+use Rattle.scsi_disk.proofs.GuardLemmas.{plan_stays}
 use Rattle.scsi_disk.specs.Plan.{plan_of, transfer, is_read}
 use Rattle.iscsi_stream.specs.Pieces.{data_of}
 use Rattle.iscsi_target.specs.State.{Execution}
@@ -38,32 +39,32 @@ later_first : (later earlier : Option (List ℕ)) (d : List ℕ) → unwrap_or (
 later_first None earlier d = refl
 later_first (Some x) earlier d = refl
 
-pub follow_count : (disk last : Disk) (es : List Execution) → Follows disk es last → last.count ≡ disk.count
+pub follow_count : (protected : Bool) (disk last : Disk) (es : List Execution) → Follows protected disk es last → last.count ≡ disk.count
 unfolding Follows
-follow_count disk last [] f = ap (λ (d : Disk). d.count) f
-follow_count disk last (e ∷ es) f =
-    follow_count (effect e.disk e.order (data_of e.pieces)).disk last es f.1 ∙ plan_count (plan_of e.order e.disk.count) e.disk e.order (data_of e.pieces)
+follow_count protected disk last [] f = ap (λ (d : Disk). d.count) f
+follow_count protected disk last (e ∷ es) f =
+    follow_count protected (effect protected e.disk e.order (data_of e.pieces)).disk last es f.1 ∙ plan_count (guarded protected (plan_of e.order e.disk.count)) e.disk e.order (data_of e.pieces)
     ∙ ap (λ (d : Disk). d.count) f.0
 
-pub follow_block : (disk last : Disk) (es : List Execution) → Follows disk es last → (n : ℕ) → last.block n ≡ block_left disk es n
+pub follow_block : (protected : Bool) (disk last : Disk) (es : List Execution) → Follows protected disk es last → (n : ℕ) → last.block n ≡ block_left protected disk es n
 unfolding Follows last_written
-follow_block disk last [] f n = ap (λ (d : Disk). d.block n) f
-follow_block disk last (e ∷ es) f n =
-    let next : Disk = (effect e.disk e.order (data_of e.pieces)).disk in
-    let same : next.count ≡ disk.count = plan_count (plan_of e.order e.disk.count) e.disk e.order (data_of e.pieces) ∙ ap (λ (d : Disk). d.count) f.0 in
-    let first : next.block n ≡ unwrap_or (written_by disk.count e n) (disk.block n) =
-    plan_block (plan_of e.order e.disk.count) e.disk e.order (data_of e.pieces) n
-    ∙ ap (λ (d : Disk). unwrap_or (written_by d.count e n) (d.block n)) f.0 in
-    follow_block next last es f.1 n
-    ∙ ap (λ (c : ℕ). unwrap_or (last_written c es n) (next.block n)) same
-    ∙ ap (λ (b : List ℕ). unwrap_or (last_written disk.count es n) b) first
-    ∙ sym (later_first (last_written disk.count es n) (written_by disk.count e n) (disk.block n))
+follow_block protected disk last [] f n = ap (λ (d : Disk). d.block n) f
+follow_block protected disk last (e ∷ es) f n =
+    let next : Disk = (effect protected e.disk e.order (data_of e.pieces)).disk in
+    let same : next.count ≡ disk.count = plan_count (guarded protected (plan_of e.order e.disk.count)) e.disk e.order (data_of e.pieces) ∙ ap (λ (d : Disk). d.count) f.0 in
+    let first : next.block n ≡ unwrap_or (written_by protected disk.count e n) (disk.block n) =
+    plan_block (guarded protected (plan_of e.order e.disk.count)) e.disk e.order (data_of e.pieces) n
+    ∙ ap (λ (d : Disk). unwrap_or (written_by protected d.count e n) (d.block n)) f.0 in
+    follow_block protected next last es f.1 n
+    ∙ ap (λ (c : ℕ). unwrap_or (last_written protected c es n) (next.block n)) same
+    ∙ ap (λ (b : List ℕ). unwrap_or (last_written protected disk.count es n) b) first
+    ∙ sym (later_first (last_written protected disk.count es n) (written_by protected disk.count e n) (disk.block n))
 
-follow_front : (disk last : Disk) (past : List Execution) (e : Execution) (later : List Execution) → Follows disk (past ++ e ∷ later) last →
-    Follows disk past e.disk
+follow_front : (protected : Bool) (disk last : Disk) (past : List Execution) (e : Execution) (later : List Execution) → Follows protected disk (past ++ e ∷ later) last →
+    Follows protected disk past e.disk
 unfolding Follows
-follow_front disk last [] e later f = f.0
-follow_front disk last (p ∷ past) e later f = (f.0, follow_front (effect p.disk p.order (data_of p.pieces)).disk last past e later f.1)
+follow_front protected disk last [] e later f = f.0
+follow_front protected disk last (p ∷ past) e later f = (f.0, follow_front protected (effect protected p.disk p.order (data_of p.pieces)).disk last past e later f.1)
 
 -- ---- a read
 
@@ -80,12 +81,13 @@ joined_same f g h first zero = refl
 joined_same f g h first (suc count) =
     ap (λ (x : List ℕ). x ++ joined f (first + 1) count) (h first) ∙ ap (λ (x : List ℕ). g first ++ x) (joined_same f g h (first + 1) count)
 
-pub read_bytes : (disk last : Disk) (past later : List Execution) (e : Execution) (length : ℕ) → Follows disk (past ++ e ∷ later) last →
+pub read_bytes : (protected : Bool) (disk last : Disk) (past later : List Execution) (e : Execution) (length : ℕ) → Follows protected disk (past ++ e ∷ later) last →
     is_read e.order.cdb ≡ true → plan_of e.order disk.count ≡ Give length →
-    (effect e.disk e.order (data_of e.pieces)).outcome.bytes
-    ≡ take length (joined (block_left disk past) (transfer e.order.cdb).first (transfer e.order.cdb).count)
-read_bytes disk last past later e length f is p =
-    let front : Follows disk past e.disk = follow_front disk last past e later f in
-    given_bytes (plan_of e.order e.disk.count) length e.disk e.order (ap (λ (c : ℕ). plan_of e.order c) (follow_count disk e.disk past front) ∙ p)
+    (effect protected e.disk e.order (data_of e.pieces)).outcome.bytes
+    ≡ take length (joined (block_left protected disk past) (transfer e.order.cdb).first (transfer e.order.cdb).count)
+read_bytes protected disk last past later e length f is p =
+    let front : Follows protected disk past e.disk = follow_front protected disk last past e later f in
+    given_bytes (guarded protected (plan_of e.order e.disk.count)) length e.disk e.order
+    (plan_stays protected (plan_of e.order e.disk.count) length (ap (λ (c : ℕ). plan_of e.order c) (follow_count protected disk e.disk past front) ∙ p))
     ∙ ap (λ (x : List ℕ). take length x) (if_true (is_read e.order.cdb) _ _ is
-    ∙ joined_same e.disk.block (block_left disk past) (follow_block disk e.disk past front) (transfer e.order.cdb).first (transfer e.order.cdb).count)
+    ∙ joined_same e.disk.block (block_left protected disk past) (follow_block protected disk e.disk past front) (transfer e.order.cdb).first (transfer e.order.cdb).count)

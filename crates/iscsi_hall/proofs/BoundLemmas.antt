@@ -52,21 +52,21 @@ record InSession (es : List Event) (end : Machine) : Type 0 where
   pub keeps : AreFew end.tasks
   pub each : AllByRecursion ExecutesFew es
 
-session_few : (s end : Machine) (es : List Event) → Session s es end → AllByRecursion IsNumbered es → AreFew s.tasks → InSession es end
+session_few : (protected : Bool) (s end : Machine) (es : List Event) → Session protected s es end → AllByRecursion IsNumbered es → AreFew s.tasks → InSession es end
 unfolding Session
-session_few s end [] h all f = record { keeps = subst (λ (x : Machine). AreFew x.tasks) (sym h) f; each = tt }
-session_few s end (Comes k settings ∷ es) h all f = absurd h
-session_few s end (Goes k ∷ es) h all f = absurd h
-session_few s end (Syncs k ∷ es) h all f =
-    let later : InSession es end = session_few s end es h all.1 f in
+session_few protected s end [] h all f = record { keeps = subst (λ (x : Machine). AreFew x.tasks) (sym h) f; each = tt }
+session_few protected s end (Comes k settings ∷ es) h all f = absurd h
+session_few protected s end (Goes k ∷ es) h all f = absurd h
+session_few protected s end (Syncs k ∷ es) h all f =
+    let later : InSession es end = session_few protected s end es h all.1 f in
     record { keeps = later.keeps; each = (omega arith, later.each) }
-session_few s end (Ends k ∷ es) h all f =
-    let later : InSession es end = session_few h.0 end es h.2 all.1 (is_ended_few s h.0 h.1 f) in
+session_few protected s end (Ends k ∷ es) h all f =
+    let later : InSession es end = session_few protected h.0 end es h.2 all.1 (is_ended_few s h.0 h.1 f) in
     record { keeps = later.keeps; each = (omega arith, later.each) }
-session_few s end (Takes t ∷ es) h all f =
-    let own : AtPdus t.messages t.stepped = may_few s t.before.disk t.before.failures h.1.counted t.messages t.stepped h.1.may all.0.0 f in
+session_few protected s end (Takes t ∷ es) h all f =
+    let own : AtPdus t.messages t.stepped = may_few protected s t.before.disk t.before.failures h.1.counted t.messages t.stepped h.1.may all.0.0 f in
     let here : AreFew t.front.machine.tasks = subst (λ (x : Stepped). AreFew x.machine.tasks) (sym all.0.1) own.keeps in
-    let later : InSession es end = session_few h.0 end es h.3 all.1 (is_left_few t.front.machine h.0 h.2 here) in
+    let later : InSession es end = session_few protected h.0 end es h.3 all.1 (is_left_few t.front.machine h.0 h.2 here) in
     let few : length (t.stepped.executed ++ t.front.executed) ≤ 9 * length t.messages =
     subst (λ (x : Stepped). length (t.stepped.executed ++ x.executed) ≤ 9 * length t.messages) (sym all.0.1)
     (subst (λ (xs : List Execution). length xs ≤ 9 * length t.messages) (sym (append-nil t.stepped.executed)) own.each) in
@@ -75,13 +75,13 @@ session_few s end (Takes t ∷ es) h all f =
       each = (subst (λ (ms : List Message). length (t.stepped.executed ++ t.front.executed) ≤ 9 * length ms) (sym (append-nil t.messages)) few, later.each);
     }
 
-pub opening_few : (settings : Settings) (n : ℕ) (end : Machine) (es : List Event) → Session (opening settings n) es end → AllByRecursion IsNumbered es →
+pub opening_few : (protected : Bool) (settings : Settings) (n : ℕ) (end : Machine) (es : List Event) → Session protected (opening settings n) es end → AllByRecursion IsNumbered es →
     length end.tasks ≤ 9
-opening_few settings n end es h all = nine end.tasks (session_few (opening settings n) end es h all no_few).keeps
+opening_few protected settings n end es h all = nine end.tasks (session_few protected (opening settings n) end es h all no_few).keeps
 
-pub opening_executes : (settings : Settings) (n : ℕ) (end : Machine) (es : List Event) → Session (opening settings n) es end → AllByRecursion IsNumbered es →
+pub opening_executes : (protected : Bool) (settings : Settings) (n : ℕ) (end : Machine) (es : List Event) → Session protected (opening settings n) es end → AllByRecursion IsNumbered es →
     AllByRecursion ExecutesFew es
-opening_executes settings n end es h all = (session_few (opening settings n) end es h all no_few).each
+opening_executes protected settings n end es h all = (session_few protected (opening settings n) end es h all no_few).each
 
 -- ---- what waits to be written
 
@@ -101,9 +101,9 @@ may_most (Some s) e =
     (and_left (has_room_at s) (not (is_closed s.connection.machine))
     (and_left (has_room_at s && not (is_closed s.connection.machine)) (not (length s.unfed == 0)) e))
 
-pub turn_waits : (seat : ℕ) (old new : Hall) (before after : Store) (result : Result ℕ TargetFault) (t : TakesTurn seat old before result new after) →
+pub turn_waits : (protected : Bool) (seat : ℕ) (old new : Hall) (before after : Store) (result : Result ℕ TargetFault) (t : TakesTurn protected seat old before result new after) →
     may_take_at (seat_at old seat) ≡ true → length (waiting_at (seat_at new seat)) ≤ 65535 + length (canon (answers_of t.turn))
-turn_waits seat old new before after result t may =
+turn_waits protected seat old new before after result t may =
     let waits : List ℕ = waiting_at (seat_at old seat) in
     let more : List ℕ = canon (answers_of t.turn) in
     let sum : length (waits ++ more) ≡ length waits + length more = length-append waits more in
@@ -139,7 +139,7 @@ sound_few count (Data w ∷ more) o =
     let fits : received w ≤ w.total = o.0.fits in
     (omega (arith, most, fits), sound_few count more o.1)
 
-pub held_few : (settings : Settings) (n count : ℕ) (disk : Disk) (gs : List Group) → HaveCount count gs →
-    AllByRecursion HoldsFew (answers_over (opening settings n) disk gs).machine.tasks
-held_few settings n count disk gs all =
-    sound_few count (answers_over (opening settings n) disk gs).machine.tasks (over_sound count (opening settings n) disk gs all tt)
+pub held_few : (protected : Bool) (settings : Settings) (n count : ℕ) (disk : Disk) (gs : List Group) → HaveCount count gs →
+    AllByRecursion HoldsFew (answers_over protected (opening settings n) disk gs).machine.tasks
+held_few protected settings n count disk gs all =
+    sound_few count (answers_over protected (opening settings n) disk gs).machine.tasks (over_sound protected count (opening settings n) disk gs all tt)

@@ -1,5 +1,5 @@
 -- One session in company: its answers, its order, and what tiles.
-use Rattle.std.proofs.Common.{◌≡◌, ◌<◌, inl, inr, ℕ, ◌^◌, true, false, List, [], ◌∷◌, ◌++◌, refl, sym, ap, subst, ◌∙◌, append-nil, append_assoc, map}
+use Rattle.std.proofs.Common.{Bool, ◌≡◌, ◌<◌, inl, inr, ℕ, ◌^◌, true, false, List, [], ◌∷◌, ◌++◌, refl, sym, ap, subst, ◌∙◌, append-nil, append_assoc, map}
 use Rattle.std.specs.List.{AllByRecursion}
 use Rattle.std.proofs.lemmas.List.{map-append}
 use Rattle.std.proofs.lemmas.Grind.{flat_map-append}
@@ -27,45 +27,45 @@ use Rattle.iscsi_hall.specs.Company.{Group, HaveCount, IsCalm, answers_in, answe
 
 -- ---- StatSN and tags
 
-over_stat_sns : (s : Machine) (disk : Disk) (gs : List Group) → Count s.session.stat_sn (stat_sns (answers_over s disk gs).answers)
-    (answers_over s disk gs).machine.session.stat_sn
+over_stat_sns : (protected : Bool) (s : Machine) (disk : Disk) (gs : List Group) → Count s.session.stat_sn (stat_sns (answers_over protected s disk gs).answers)
+    (answers_over protected s disk gs).machine.session.stat_sn
 unfolding answers_over
-over_stat_sns s disk [] = refl
-over_stat_sns s disk (g ∷ gs) =
-    let first : Stepped = answers s g.0 g.1 in
-    let later : Stepped = answers_over first.machine first.disk gs in
+over_stat_sns protected s disk [] = refl
+over_stat_sns protected s disk (g ∷ gs) =
+    let first : Stepped = answers protected s g.0 g.1 in
+    let later : Stepped = answers_over protected first.machine first.disk gs in
     subst (λ (ns : List ℕ). Count s.session.stat_sn ns later.machine.session.stat_sn)
     (sym (flat_map-append (λ (x : Message). given_number (stat_sn_of x.head)) first.answers later.answers))
     (count_append s.session.stat_sn (stat_sns first.answers) (stat_sns later.answers) first.machine.session.stat_sn later.machine.session.stat_sn
-    (answers_stat_sns s g.0 g.1) (over_stat_sns first.machine first.disk gs))
+    (answers_stat_sns protected s g.0 g.1) (over_stat_sns protected first.machine first.disk gs))
 
-pub over_status : (s : Machine) (disk : Disk) (gs : List Group) → s.session.stat_sn < 2 ^ 32
-    → CountOn s.session.stat_sn (stat_sns (answers_over s disk gs).answers)
-over_status s disk gs lt =
-    count_on s.session.stat_sn (stat_sns (answers_over s disk gs).answers) (answers_over s disk gs).machine.session.stat_sn lt (over_stat_sns s disk gs)
+pub over_status : (protected : Bool) (s : Machine) (disk : Disk) (gs : List Group) → s.session.stat_sn < 2 ^ 32
+    → CountOn s.session.stat_sn (stat_sns (answers_over protected s disk gs).answers)
+over_status protected s disk gs lt =
+    count_on s.session.stat_sn (stat_sns (answers_over protected s disk gs).answers) (answers_over protected s disk gs).machine.session.stat_sn lt (over_stat_sns protected s disk gs)
 
-pub over_tags : (s : Machine) (disk : Disk) (gs : List Group) → response_tags (answers_over s disk gs).answers
-    ≡ map (λ (e : Execution). e.initiator_task_tag) (answers_over s disk gs).executed
+pub over_tags : (protected : Bool) (s : Machine) (disk : Disk) (gs : List Group) → response_tags (answers_over protected s disk gs).answers
+    ≡ map (λ (e : Execution). e.initiator_task_tag) (answers_over protected s disk gs).executed
 unfolding answers_over
-over_tags s disk [] = refl
-over_tags s disk (g ∷ gs) =
-    let first : Stepped = answers s g.0 g.1 in
-    let later : Stepped = answers_over first.machine first.disk gs in
+over_tags protected s disk [] = refl
+over_tags protected s disk (g ∷ gs) =
+    let first : Stepped = answers protected s g.0 g.1 in
+    let later : Stepped = answers_over protected first.machine first.disk gs in
     flat_map-append (λ (x : Message). response_tag x.head) first.answers later.answers
-    ∙ ap (λ (ts : List ℕ). ts ++ response_tags later.answers) (answers_tags s g.0 g.1)
-    ∙ ap (λ (ts : List ℕ). map (λ (e : Execution). e.initiator_task_tag) first.executed ++ ts) (over_tags first.machine first.disk gs)
+    ∙ ap (λ (ts : List ℕ). ts ++ response_tags later.answers) (answers_tags protected s g.0 g.1)
+    ∙ ap (λ (ts : List ℕ). map (λ (e : Execution). e.initiator_task_tag) first.executed ++ ts) (over_tags protected first.machine first.disk gs)
     ∙ sym (map-append (λ (e : Execution). e.initiator_task_tag) first.executed later.executed)
 
 -- ---- a closed session
 
-pub over_closed : (s : Machine) (disk : Disk) (gs : List Group) → is_closed s ≡ true → ((answers_over s disk gs).accepted ≡ [])
-    × ((answers_over s disk gs).executed ≡ []) × (is_closed (answers_over s disk gs).machine ≡ true)
+pub over_closed : (protected : Bool) (s : Machine) (disk : Disk) (gs : List Group) → is_closed s ≡ true → ((answers_over protected s disk gs).accepted ≡ [])
+    × ((answers_over protected s disk gs).executed ≡ []) × (is_closed (answers_over protected s disk gs).machine ≡ true)
 unfolding answers_over
-over_closed s disk [] e = (refl, refl, e)
-over_closed s disk (g ∷ gs) e =
-    subst (λ (r : Stepped). ((then_stepped r (answers_over r.machine r.disk gs)).accepted ≡ [])
-    × ((then_stepped r (answers_over r.machine r.disk gs)).executed ≡ []) × (is_closed (answers_over r.machine r.disk gs).machine ≡ true))
-    (sym (closed_answers s g.0 g.1 e)) (over_closed s g.0 gs e)
+over_closed protected s disk [] e = (refl, refl, e)
+over_closed protected s disk (g ∷ gs) e =
+    subst (λ (r : Stepped). ((then_stepped r (answers_over protected r.machine r.disk gs)).accepted ≡ [])
+    × ((then_stepped r (answers_over protected r.machine r.disk gs)).executed ≡ []) × (is_closed (answers_over protected r.machine r.disk gs).machine ≡ true))
+    (sym (closed_answers protected s g.0 g.1 e)) (over_closed protected s g.0 gs e)
 
 -- ---- the order
 
@@ -96,123 +96,123 @@ open_queues tasks first later q e p = record {
   open_ = p.open_;
 }
 
-over_queue : (s : Machine) (disk : Disk) (gs : List Group) → Queues s.tasks (answers_over s disk gs)
+over_queue : (protected : Bool) (s : Machine) (disk : Disk) (gs : List Group) → Queues s.tasks (answers_over protected s disk gs)
 unfolding answers_over
-over_queue s disk [] = record { more = tasks_open s.tasks; order = append-nil (tasks_open s.tasks); open_ = λ f. refl }
-over_queue s disk (g ∷ gs) =
-    let first : Stepped = answers s g.0 g.1 in
-    let q : Queues s.tasks first = answers_queue s g.0 g.1 in
+over_queue protected s disk [] = record { more = tasks_open s.tasks; order = append-nil (tasks_open s.tasks); open_ = λ f. refl }
+over_queue protected s disk (g ∷ gs) =
+    let first : Stepped = answers protected s g.0 g.1 in
+    let q : Queues s.tasks first = answers_queue protected s g.0 g.1 in
     by_cases (is_closed first.machine)
-    (λ e. let c = over_closed first.machine first.disk gs e in
-    end_queues s.tasks first (answers_over first.machine first.disk gs) q e c.0 c.1 c.2)
-    (λ e. open_queues s.tasks first (answers_over first.machine first.disk gs) q e (over_queue first.machine first.disk gs))
+    (λ e. let c = over_closed protected first.machine first.disk gs e in
+    end_queues s.tasks first (answers_over protected first.machine first.disk gs) q e c.0 c.1 c.2)
+    (λ e. open_queues s.tasks first (answers_over protected first.machine first.disk gs) q e (over_queue protected first.machine first.disk gs))
 
-pub over_in_order : (settings : Settings) (n : ℕ) (disk : Disk) (gs : List Group) → AreInOrder (answers_over (opening settings n) disk gs)
-over_in_order settings n disk gs =
-    let q : Queues [] (answers_over (opening settings n) disk gs) = over_queue (opening settings n) disk gs in
+pub over_in_order : (protected : Bool) (settings : Settings) (n : ℕ) (disk : Disk) (gs : List Group) → AreInOrder (answers_over protected (opening settings n) disk gs)
+over_in_order protected settings n disk gs =
+    let q : Queues [] (answers_over protected (opening settings n) disk gs) = over_queue protected (opening settings n) disk gs in
     record { more = q.more; order = q.order; open_ = q.open_ }
 
 -- ---- what tiles
 
-over_fit : (s : Machine) (disk : Disk) (gs : List Group) → IsFit s → IsFit (answers_over s disk gs).machine
+over_fit : (protected : Bool) (s : Machine) (disk : Disk) (gs : List Group) → IsFit s → IsFit (answers_over protected s disk gs).machine
 unfolding answers_over
-over_fit s disk [] f = f
-over_fit s disk (g ∷ gs) f = over_fit (answers s g.0 g.1).machine (answers s g.0 g.1).disk gs (answers_fit s g.0 g.1 f)
+over_fit protected s disk [] f = f
+over_fit protected s disk (g ∷ gs) f = over_fit protected (answers protected s g.0 g.1).machine (answers protected s g.0 g.1).disk gs (answers_fit protected s g.0 g.1 f)
 
-over_settings : (s : Machine) (disk : Disk) (gs : List Group) → (answers_over s disk gs).machine.session.settings ≡ s.session.settings
+over_settings : (protected : Bool) (s : Machine) (disk : Disk) (gs : List Group) → (answers_over protected s disk gs).machine.session.settings ≡ s.session.settings
 unfolding answers_over
-over_settings s disk [] = refl
-over_settings s disk (g ∷ gs) = over_settings (answers s g.0 g.1).machine (answers s g.0 g.1).disk gs ∙ answers_settings s g.0 g.1
+over_settings protected s disk [] = refl
+over_settings protected s disk (g ∷ gs) = over_settings protected (answers protected s g.0 g.1).machine (answers protected s g.0 g.1).disk gs ∙ answers_settings protected s g.0 g.1
 
-opening_fit : (settings : Settings) (n : ℕ) (disk : Disk) → IsFit (opening settings n)
+opening_fit : (protected : Bool) (settings : Settings) (n : ℕ) (disk : Disk) → IsFit (opening settings n)
 unfolding answers
-opening_fit settings n disk = reached_fit settings n disk []
+opening_fit protected settings n disk = reached_fit protected settings n disk []
 
-pub over_data_in : (settings : Settings) (n : ℕ) (disk now : Disk) (gs : List Group) (m : Message) → IsInRange settings.preferences
-    → TilesDataIn (step (answers_over (opening settings n) disk gs).machine now m)
-over_data_in settings n disk now gs m p =
-    let r : Stepped = answers_over (opening settings n) disk gs in
-    let t : StepTells reliable r.machine m (step r.machine now m) = step_tells reliable now r.machine m in
+pub over_data_in : (protected : Bool) (settings : Settings) (n : ℕ) (disk now : Disk) (gs : List Group) (m : Message) → IsInRange settings.preferences
+    → TilesDataIn protected (step protected (answers_over protected (opening settings n) disk gs).machine now m)
+over_data_in protected settings n disk now gs m p =
+    let r : Stepped = answers_over protected (opening settings n) disk gs in
+    let t : StepTells (reliable protected) r.machine m (step protected r.machine now m) = step_tells (reliable protected) now r.machine m in
     let q : IsInRange r.machine.session.settings.preferences =
-    subst (λ (x : Settings). IsInRange x.preferences) (sym (over_settings (opening settings n) disk gs)) p in
-    gives_tiles (step r.machine now m).answers (step r.machine now m).executed
-    (t.gives q ((over_fit (opening settings n) disk gs (opening_fit settings n disk)).held q))
+    subst (λ (x : Settings). IsInRange x.preferences) (sym (over_settings protected (opening settings n) disk gs)) p in
+    gives_tiles protected (step protected r.machine now m).answers (step protected r.machine now m).executed
+    (t.gives q ((over_fit protected (opening settings n) disk gs (opening_fit protected settings n disk)).held q))
 
-pub over_sound : (count : ℕ) (s : Machine) (disk : Disk) (gs : List Group) → HaveCount count gs → IsSound count s.tasks →
-    IsSound count (answers_over s disk gs).machine.tasks
+pub over_sound : (protected : Bool) (count : ℕ) (s : Machine) (disk : Disk) (gs : List Group) → HaveCount count gs → IsSound count s.tasks →
+    IsSound count (answers_over protected s disk gs).machine.tasks
 unfolding answers_over
-over_sound count s disk [] all o = o
-over_sound count s disk (g ∷ gs) all o =
-    over_sound count (answers s g.0 g.1).machine (answers s g.0 g.1).disk gs all.1
-    (subst (λ (k : ℕ). IsSound k (answers s g.0 g.1).machine.tasks) all.0
-    (answers_sound s g.0 g.1 (subst (λ (k : ℕ). IsSound k s.tasks) (sym all.0) o)))
+over_sound protected count s disk [] all o = o
+over_sound protected count s disk (g ∷ gs) all o =
+    over_sound protected count (answers protected s g.0 g.1).machine (answers protected s g.0 g.1).disk gs all.1
+    (subst (λ (k : ℕ). IsSound k (answers protected s g.0 g.1).machine.tasks) all.0
+    (answers_sound protected s g.0 g.1 (subst (λ (k : ℕ). IsSound k s.tasks) (sym all.0) o)))
 
-pub over_keeps : (settings : Settings) (n : ℕ) (disk now : Disk) (gs : List Group) (m : Message) → HaveCount now.count gs
-    → KeepsWrites now.count (step (answers_over (opening settings n) disk gs).machine now m)
-over_keeps settings n disk now gs m all =
-    step_goes now (answers_over (opening settings n) disk gs).machine m (over_sound now.count (opening settings n) disk gs all tt)
+pub over_keeps : (protected : Bool) (settings : Settings) (n : ℕ) (disk now : Disk) (gs : List Group) (m : Message) → HaveCount now.count gs
+    → KeepsWrites now.count (step protected (answers_over protected (opening settings n) disk gs).machine now m)
+over_keeps protected settings n disk now gs m all =
+    step_goes protected now (answers_over protected (opening settings n) disk gs).machine m (over_sound protected now.count (opening settings n) disk gs all tt)
 
 -- ---- a session of a hall
 
-pub over_joined : (s : Machine) (disk : Disk) (gs : List Group) → joined_stepped (answers_over (joined s) disk gs) ≡ joined_stepped (answers_over s disk gs)
+pub over_joined : (protected : Bool) (s : Machine) (disk : Disk) (gs : List Group) → joined_stepped (answers_over protected (joined s) disk gs) ≡ joined_stepped (answers_over protected s disk gs)
 unfolding answers_over answers
-over_joined s disk [] = answers_joined s disk []
-over_joined s disk (g ∷ gs) =
-    let a : Stepped = answers (joined s) g.0 g.1 in
-    let b : Stepped = answers s g.0 g.1 in
-    let e : joined_stepped a ≡ joined_stepped b = answers_joined s g.0 g.1 in
-    joined_then a (answers_over a.machine a.disk gs)
-    ∙ ap (λ (r : Stepped). then_stepped (joined_stepped a) r) (sym (over_joined a.machine a.disk gs))
-    ∙ ap (λ (r : Stepped). then_stepped r (joined_stepped (answers_over r.machine r.disk gs))) e
-    ∙ ap (λ (r : Stepped). then_stepped (joined_stepped b) r) (over_joined b.machine b.disk gs)
-    ∙ sym (joined_then b (answers_over b.machine b.disk gs))
+over_joined protected s disk [] = answers_joined protected s disk []
+over_joined protected s disk (g ∷ gs) =
+    let a : Stepped = answers protected (joined s) g.0 g.1 in
+    let b : Stepped = answers protected s g.0 g.1 in
+    let e : joined_stepped a ≡ joined_stepped b = answers_joined protected s g.0 g.1 in
+    joined_then a (answers_over protected a.machine a.disk gs)
+    ∙ ap (λ (r : Stepped). then_stepped (joined_stepped a) r) (sym (over_joined protected a.machine a.disk gs))
+    ∙ ap (λ (r : Stepped). then_stepped r (joined_stepped (answers_over protected r.machine r.disk gs))) e
+    ∙ ap (λ (r : Stepped). then_stepped (joined_stepped b) r) (over_joined protected b.machine b.disk gs)
+    ∙ sym (joined_then b (answers_over protected b.machine b.disk gs))
 
-pub closed_quiet : (s end : Machine) (es : List Event) → is_closed s ≡ true → Session s es end → (answers_in es ≡ []) × (groups_in es ≡ [])
+pub closed_quiet : (protected : Bool) (s end : Machine) (es : List Event) → is_closed s ≡ true → Session protected s es end → (answers_in es ≡ []) × (groups_in es ≡ [])
     × (executed_in es ≡ [])
 unfolding Session
-closed_quiet s end [] e h = (refl, refl, refl)
-closed_quiet s end (Comes k settings ∷ es) e h = absurd h
-closed_quiet s end (Goes k ∷ es) e h = absurd h
-closed_quiet s end (Takes t ∷ es) e h = let f : is_closed s ≡ false = h.1.live in absurd (cc (e, f))
-closed_quiet s end (Syncs k ∷ es) e h = closed_quiet s end es e h
-closed_quiet s end (Ends k ∷ es) e h = elim h.1 [
-  | inl same ↦ closed_quiet h.0 end es (ap is_closed same ∙ e) h.2
-  | inr over ↦ closed_quiet h.0 end es (ap is_closed over) h.2
+closed_quiet protected s end [] e h = (refl, refl, refl)
+closed_quiet protected s end (Comes k settings ∷ es) e h = absurd h
+closed_quiet protected s end (Goes k ∷ es) e h = absurd h
+closed_quiet protected s end (Takes t ∷ es) e h = let f : is_closed s ≡ false = h.1.live in absurd (cc (e, f))
+closed_quiet protected s end (Syncs k ∷ es) e h = closed_quiet protected s end es e h
+closed_quiet protected s end (Ends k ∷ es) e h = elim h.1 [
+  | inl same ↦ closed_quiet protected h.0 end es (ap is_closed same ∙ e) h.2
+  | inr over ↦ closed_quiet protected h.0 end es (ap is_closed over) h.2
 ]
 
 -- behind this machine the rest of the session answers so
-abbrev Answers : List Event → Machine → Type 0
-Answers es s = (disk : Disk) → answers_in es ≡ (answers_over s disk (groups_in es)).answers
+abbrev Answers : Bool → List Event → Machine → Type 0
+Answers protected es s = (disk : Disk) → answers_in es ≡ (answers_over protected s disk (groups_in es)).answers
 
-quiet_answers : (s m end : Machine) (es : List Event) → is_closed m ≡ true → Session m es end → Answers es s
+quiet_answers : (protected : Bool) (s m end : Machine) (es : List Event) → is_closed m ≡ true → Session protected m es end → Answers protected es s
 unfolding answers_over
-quiet_answers s m end es e h disk =
-    let q = closed_quiet m end es e h in
-    q.0 ∙ ap (λ (gs : List Group). (answers_over s disk gs).answers) (sym q.1)
+quiet_answers protected s m end es e h disk =
+    let q = closed_quiet protected m end es e h in
+    q.0 ∙ ap (λ (gs : List Group). (answers_over protected s disk gs).answers) (sym q.1)
 
-left_answers : (s m end : Machine) (es : List Event) → IsLeft s m → Session m es end → Answers es m → Answers es s
-left_answers s m end es (inl same) h go disk =
-    go disk ∙ ap (λ (x : Machine). (answers_over x disk (groups_in es)).answers) same
-    ∙ ap (λ (r : Stepped). r.answers) (over_joined s disk (groups_in es))
-left_answers s m end es (inr over) h go disk = quiet_answers s m end es (ap is_closed over) h disk
+left_answers : (protected : Bool) (s m end : Machine) (es : List Event) → IsLeft s m → Session protected m es end → Answers protected es m → Answers protected es s
+left_answers protected s m end es (inl same) h go disk =
+    go disk ∙ ap (λ (x : Machine). (answers_over protected x disk (groups_in es)).answers) same
+    ∙ ap (λ (r : Stepped). r.answers) (over_joined protected s disk (groups_in es))
+left_answers protected s m end es (inr over) h go disk = quiet_answers protected s m end es (ap is_closed over) h disk
 
-ended_answers : (s m end : Machine) (es : List Event) → IsEnded s m → Session m es end → Answers es m → Answers es s
-ended_answers s m end es (inl same) h go disk = go disk ∙ ap (λ (x : Machine). (answers_over x disk (groups_in es)).answers) same
-ended_answers s m end es (inr over) h go disk = quiet_answers s m end es (ap is_closed over) h disk
+ended_answers : (protected : Bool) (s m end : Machine) (es : List Event) → IsEnded s m → Session protected m es end → Answers protected es m → Answers protected es s
+ended_answers protected s m end es (inl same) h go disk = go disk ∙ ap (λ (x : Machine). (answers_over protected x disk (groups_in es)).answers) same
+ended_answers protected s m end es (inr over) h go disk = quiet_answers protected s m end es (ap is_closed over) h disk
 
-pub session_answers : (s end : Machine) (es : List Event) → Session s es end → AllByRecursion IsCalm es → Answers es s
+pub session_answers : (protected : Bool) (s end : Machine) (es : List Event) → Session protected s es end → AllByRecursion IsCalm es → Answers protected es s
 unfolding Session answers_over
-session_answers s end [] h calm disk = refl
-session_answers s end (Comes k settings ∷ es) h calm disk = absurd h
-session_answers s end (Goes k ∷ es) h calm disk = absurd h
-session_answers s end (Syncs k ∷ es) h calm disk = session_answers s end es h calm.1 disk
-session_answers s end (Ends k ∷ es) h calm disk = ended_answers s h.0 end es h.1 h.2 (session_answers h.0 end es h.2 calm.1) disk
-session_answers s end (Takes t ∷ es) h calm disk =
-    let r : Stepped = answers s t.before.disk t.messages in
+session_answers protected s end [] h calm disk = refl
+session_answers protected s end (Comes k settings ∷ es) h calm disk = absurd h
+session_answers protected s end (Goes k ∷ es) h calm disk = absurd h
+session_answers protected s end (Syncs k ∷ es) h calm disk = session_answers protected s end es h calm.1 disk
+session_answers protected s end (Ends k ∷ es) h calm disk = ended_answers protected s h.0 end es h.1 h.2 (session_answers protected h.0 end es h.2 calm.1) disk
+session_answers protected s end (Takes t ∷ es) h calm disk =
+    let r : Stepped = answers protected s t.before.disk t.messages in
     let is : t.stepped ≡ r = h.1.works calm.0.0 in
     let machine : t.front.machine ≡ r.machine = ap (λ (x : Stepped). x.machine) (calm.0.1) ∙ ap (λ (x : Stepped). x.machine) is in
     let own : t.stepped.answers ++ t.front.answers ≡ r.answers =
     ap (λ (x : Stepped). t.stepped.answers ++ x.answers) calm.0.1 ∙ append-nil t.stepped.answers ∙ ap (λ (x : Stepped). x.answers) is in
     ap (λ (ms : List Message). ms ++ answers_in es) own
     ∙ ap (λ (ms : List Message). r.answers ++ ms)
-    (left_answers r.machine h.0 end es (subst (λ (x : Machine). IsLeft x h.0) machine h.2) h.3 (session_answers h.0 end es h.3 calm.1) r.disk)
+    (left_answers protected r.machine h.0 end es (subst (λ (x : Machine). IsLeft x h.0) machine h.2) h.3 (session_answers protected h.0 end es h.3 calm.1) r.disk)

@@ -1,5 +1,5 @@
 -- One session in company: CmdSN counts on.
-use Rattle.std.proofs.Common.{◌≡◌, ◌<◌, ℕ, ◌^◌, true, List, [], ◌∷◌, ◌++◌, refl, sym, ap, subst, ◌∙◌, arith, append_assoc}
+use Rattle.std.proofs.Common.{Bool, ◌≡◌, ◌<◌, ℕ, ◌^◌, true, List, [], ◌∷◌, ◌++◌, refl, sym, ap, subst, ◌∙◌, arith, append_assoc}
 use Rattle.std.specs.List.{AllByRecursion}
 use Rattle.std.proofs.lemmas.Grind.{flat_map-append}
 use Rattle.scsi_disk.specs.Disk.{Disk}
@@ -24,93 +24,93 @@ all_parts : (a b : List Message) → AllByRecursion HasCmdSn (a ++ b) → AllByR
 all_parts [] b all = (tt, all)
 all_parts (m ∷ a) b all = let rest = all_parts a b all.1 in ((all.0, rest.0), rest.1)
 
-over_cmd_sns : (s : Machine) (disk : Disk) (gs : List Group) → s.session.begun ≡ true → s.session.exp_cmd_sn < 2 ^ 32 →
-    AllByRecursion HasCmdSn (messages_in gs) → CountsTo s.session.exp_cmd_sn (cmd_sns (answers_over s disk gs).accepted) (answers_over s disk gs).machine
+over_cmd_sns : (protected : Bool) (s : Machine) (disk : Disk) (gs : List Group) → s.session.begun ≡ true → s.session.exp_cmd_sn < 2 ^ 32 →
+    AllByRecursion HasCmdSn (messages_in gs) → CountsTo s.session.exp_cmd_sn (cmd_sns (answers_over protected s disk gs).accepted) (answers_over protected s disk gs).machine
 unfolding answers_over
-over_cmd_sns s disk [] b lt all = record { next = s.session.exp_cmd_sn; count = refl; fits = lt; live = λ e. (b, refl) }
-over_cmd_sns s disk (g ∷ gs) b lt all =
-    let first : Stepped = answers s g.0 g.1 in
-    let later : Stepped = answers_over first.machine first.disk gs in
+over_cmd_sns protected s disk [] b lt all = record { next = s.session.exp_cmd_sn; count = refl; fits = lt; live = λ e. (b, refl) }
+over_cmd_sns protected s disk (g ∷ gs) b lt all =
+    let first : Stepped = answers protected s g.0 g.1 in
+    let later : Stepped = answers_over protected first.machine first.disk gs in
     let both = all_parts g.1 (messages_in gs) all in
-    let t : CountsTo s.session.exp_cmd_sn (cmd_sns first.accepted) first.machine = answers_cmd_sns s g.0 g.1 b lt both.0 in
+    let t : CountsTo s.session.exp_cmd_sn (cmd_sns first.accepted) first.machine = answers_cmd_sns protected s g.0 g.1 b lt both.0 in
     subst (λ (ns : List ℕ). CountsTo s.session.exp_cmd_sn ns later.machine)
     (sym (flat_map-append (λ (x : Message). given_number (cmd_sn_of x.head)) first.accepted later.accepted))
     (by_cases (is_closed first.machine)
-    (λ e. let over = over_closed first.machine first.disk gs e in
+    (λ e. let over = over_closed protected first.machine first.disk gs e in
     counts_out s.session.exp_cmd_sn (cmd_sns first.accepted) (cmd_sns later.accepted) first.machine later.machine over.2 (ap cmd_sns over.0) t)
     (λ e. counts_on s.session.exp_cmd_sn (cmd_sns first.accepted) (cmd_sns later.accepted) first.machine later.machine e t
-    (over_cmd_sns first.machine first.disk gs (t.live e).0 (subst (λ (k : ℕ). k < 2 ^ 32) (sym (t.live e).1) t.fits) both.1)))
+    (over_cmd_sns protected first.machine first.disk gs (t.live e).0 (subst (λ (k : ℕ). k < 2 ^ 32) (sym (t.live e).1) t.fits) both.1)))
 
 -- messages and then groups, as one
-behind_count : (s : Machine) (disk : Disk) (ms : List Message) (gs : List Group) (n : ℕ) → s.session.begun ≡ true → s.session.exp_cmd_sn ≡ n → n < 2 ^ 32 →
+behind_count : (protected : Bool) (s : Machine) (disk : Disk) (ms : List Message) (gs : List Group) (n : ℕ) → s.session.begun ≡ true → s.session.exp_cmd_sn ≡ n → n < 2 ^ 32 →
     AllByRecursion HasCmdSn (ms ++ messages_in gs) →
-    CountOn n (cmd_sns (then_stepped (answers s disk ms) (answers_over (answers s disk ms).machine (answers s disk ms).disk gs)).accepted)
+    CountOn n (cmd_sns (then_stepped (answers protected s disk ms) (answers_over protected (answers protected s disk ms).machine (answers protected s disk ms).disk gs)).accepted)
 unfolding answers_over
-behind_count s disk ms gs n b same lt all =
-    let r : Stepped = answers_over s disk ((disk, ms) ∷ gs) in
+behind_count protected s disk ms gs n b same lt all =
+    let r : Stepped = answers_over protected s disk ((disk, ms) ∷ gs) in
     let low : s.session.exp_cmd_sn < 2 ^ 32 = subst (λ (k : ℕ). k < 2 ^ 32) (sym same) lt in
     let c : CountsTo n (cmd_sns r.accepted) r.machine = subst (λ (k : ℕ). CountsTo k (cmd_sns r.accepted) r.machine) same
-    (over_cmd_sns s disk ((disk, ms) ∷ gs) b low all) in
+    (over_cmd_sns protected s disk ((disk, ms) ∷ gs) b low all) in
     count_on n (cmd_sns r.accepted) c.next lt c.count
 
 nothing_counts : (n : ℕ) (ms : List Message) → ms ≡ [] → CountOn n (cmd_sns ms)
 nothing_counts n ms e = subst (λ (xs : List Message). CountOn n (cmd_sns xs)) (sym e) (λ k le. absurd (omega (arith, le)))
 
-closed_accepts : (s : Machine) (disk : Disk) (ms : List Message) (gs : List Group) → is_closed s ≡ true →
-    (then_stepped (answers s disk ms) (answers_over (answers s disk ms).machine (answers s disk ms).disk gs)).accepted ≡ []
+closed_accepts : (protected : Bool) (s : Machine) (disk : Disk) (ms : List Message) (gs : List Group) → is_closed s ≡ true →
+    (then_stepped (answers protected s disk ms) (answers_over protected (answers protected s disk ms).machine (answers protected s disk ms).disk gs)).accepted ≡ []
 unfolding answers_over
-closed_accepts s disk ms gs e = (over_closed s disk ((disk, ms) ∷ gs) e).0
+closed_accepts protected s disk ms gs e = (over_closed protected s disk ((disk, ms) ∷ gs) e).0
 
 -- behind the first PDU that came
-abbrev Behind : Disk → List Message → List Group → ℕ → Stepped → Type 0
-Behind disk ms gs first r = CountOn first (cmd_sns (then_stepped r
-    (then_stepped (answers r.machine r.disk ms) (answers_over (answers r.machine r.disk ms).machine (answers r.machine r.disk ms).disk gs))).accepted)
+abbrev Behind : Bool → Disk → List Message → List Group → ℕ → Stepped → Type 0
+Behind protected disk ms gs first r = CountOn first (cmd_sns (then_stepped r
+    (then_stepped (answers protected r.machine r.disk ms) (answers_over protected (answers protected r.machine r.disk ms).machine (answers protected r.machine r.disk ms).disk gs))).accepted)
 
-behind_login : (settings : Settings) (n : ℕ) (disk : Disk) (m : Message) (ms : List Message) (gs : List Group) (h : LoginPdu) (head : Head) →
+behind_login : (protected : Bool) (settings : Settings) (n : ℕ) (disk : Disk) (m : Message) (ms : List Message) (gs : List Group) (h : LoginPdu) (head : Head) →
     head ≡ LoginRequest h → h.cmd_sn < 2 ^ 32 → AllByRecursion HasCmdSn (ms ++ messages_in gs) →
-    Behind disk ms gs h.cmd_sn (on disk [] (login_in (opening_session settings n) head m.segment))
-behind_login settings n disk m ms gs h head k lt all =
+    Behind protected disk ms gs h.cmd_sn (on disk [] (login_in (opening_session settings n) head m.segment))
+behind_login protected settings n disk m ms gs h head k lt all =
     let c : IsReply (numbered (opening_session settings n) h) (login_request (opening_session settings n) h m.segment) =
     request_reply (opening_session settings n) h m.segment in
-    subst (λ (x : Head). Behind disk ms gs h.cmd_sn (on disk [] (login_in (opening_session settings n) x m.segment))) (sym k)
+    subst (λ (x : Head). Behind protected disk ms gs h.cmd_sn (on disk [] (login_in (opening_session settings n) x m.segment))) (sym k)
     (let after : Machine = (on disk [] (login_request (opening_session settings n) h m.segment)).machine in
-    by_cases (is_closed after) (λ e. nothing_counts h.cmd_sn _ (closed_accepts after disk ms gs e))
-    (λ e. behind_count after disk ms gs h.cmd_sn (c.live e).0 (c.live e).1 lt all))
+    by_cases (is_closed after) (λ e. nothing_counts h.cmd_sn _ (closed_accepts protected after disk ms gs e))
+    (λ e. behind_count protected after disk ms gs h.cmd_sn (c.live e).0 (c.live e).1 lt all))
 
-behind_first : (settings : Settings) (n : ℕ) (disk : Disk) (m : Message) (ms : List Message) (gs : List Group) (h : LoginPdu) →
+behind_first : (protected : Bool) (settings : Settings) (n : ℕ) (disk : Disk) (m : Message) (ms : List Message) (gs : List Group) (h : LoginPdu) →
     m.head ≡ LoginRequest h → h.cmd_sn < 2 ^ 32 → AllByRecursion HasCmdSn (ms ++ messages_in gs) →
-    Behind disk ms gs h.cmd_sn (step (opening settings n) disk m)
-behind_first settings n disk m ms gs h k lt all =
+    Behind protected disk ms gs h.cmd_sn (step protected (opening settings n) disk m)
+behind_first protected settings n disk m ms gs h k lt all =
     by_cases (is_over_limit (opening settings n) m.segment)
-    (λ e. subst (Behind disk ms gs h.cmd_sn) (sym (opening_over settings n disk m e))
-    (nothing_counts h.cmd_sn _ (closed_accepts (shut_down (opening settings n) disk).machine disk ms gs refl)))
-    (λ e. subst (Behind disk ms gs h.cmd_sn) (sym (opening_login settings n disk m e)) (behind_login settings n disk m ms gs h m.head k lt all))
+    (λ e. subst (Behind protected disk ms gs h.cmd_sn) (sym (opening_over protected settings n disk m e))
+    (nothing_counts h.cmd_sn _ (closed_accepts protected (shut_down (opening settings n) disk).machine disk ms gs refl)))
+    (λ e. subst (Behind protected disk ms gs h.cmd_sn) (sym (opening_login protected settings n disk m e)) (behind_login protected settings n disk m ms gs h m.head k lt all))
 
-first_group : (settings : Settings) (n : ℕ) (disk : Disk) (ms : List Message) (gs : List Group) (first : Message) (more : List Message) (h : LoginPdu) →
+first_group : (protected : Bool) (settings : Settings) (n : ℕ) (disk : Disk) (ms : List Message) (gs : List Group) (first : Message) (more : List Message) (h : LoginPdu) →
     ms ++ messages_in gs ≡ first ∷ more → first.head ≡ LoginRequest h → h.cmd_sn < 2 ^ 32 → AllByRecursion HasCmdSn more →
-    (messages_in gs ≡ first ∷ more → CountOn h.cmd_sn (cmd_sns (answers_over (opening settings n) disk gs).accepted)) →
-    CountOn h.cmd_sn (cmd_sns (then_stepped (answers (opening settings n) disk ms)
-    (answers_over (answers (opening settings n) disk ms).machine (answers (opening settings n) disk ms).disk gs)).accepted)
+    (messages_in gs ≡ first ∷ more → CountOn h.cmd_sn (cmd_sns (answers_over protected (opening settings n) disk gs).accepted)) →
+    CountOn h.cmd_sn (cmd_sns (then_stepped (answers protected (opening settings n) disk ms)
+    (answers_over protected (answers protected (opening settings n) disk ms).machine (answers protected (opening settings n) disk ms).disk gs)).accepted)
 unfolding answers
-first_group settings n disk [] gs first more h e k lt all go = go e
-first_group settings n disk (m ∷ ms) gs first more h e k lt all go =
+first_group protected settings n disk [] gs first more h e k lt all go = go e
+first_group protected settings n disk (m ∷ ms) gs first more h e k lt all go =
     let same : m ≡ first = cc in
     let rest : ms ++ messages_in gs ≡ more = cc in
-    let r : Stepped = step (opening settings n) disk m in
+    let r : Stepped = step protected (opening settings n) disk m in
     let head : m.head ≡ LoginRequest h = ap (λ (x : Message). x.head) same ∙ k in
-    let later : Stepped = answers r.machine r.disk ms in
+    let later : Stepped = answers protected r.machine r.disk ms in
     subst (λ (xs : List Message). CountOn h.cmd_sn (cmd_sns xs))
-    (sym (append_assoc r.accepted later.accepted (answers_over later.machine later.disk gs).accepted))
-    (behind_first settings n disk m ms gs h head lt (subst (λ (xs : List Message). AllByRecursion HasCmdSn xs) (sym rest) all))
+    (sym (append_assoc r.accepted later.accepted (answers_over protected later.machine later.disk gs).accepted))
+    (behind_first protected settings n disk m ms gs h head lt (subst (λ (xs : List Message). AllByRecursion HasCmdSn xs) (sym rest) all))
 
 login_fits : (head : Head) (h : LoginPdu) → head ≡ LoginRequest h → FitsNumber (login_cmd_sn head) → h.cmd_sn < 2 ^ 32
 login_fits head h k f = subst (λ (x : Head). FitsNumber (login_cmd_sn x)) k f
 
-pub over_commands : (settings : Settings) (n : ℕ) (disk : Disk) (gs : List Group) (first : Message) (more : List Message) (h : LoginPdu) →
+pub over_commands : (protected : Bool) (settings : Settings) (n : ℕ) (disk : Disk) (gs : List Group) (first : Message) (more : List Message) (h : LoginPdu) →
     messages_in gs ≡ first ∷ more → first.head ≡ LoginRequest h → AllByRecursion HasCmdSn (first ∷ more) →
-    CountOn h.cmd_sn (cmd_sns (answers_over (opening settings n) disk gs).accepted)
+    CountOn h.cmd_sn (cmd_sns (answers_over protected (opening settings n) disk gs).accepted)
 unfolding answers_over
-over_commands settings n disk [] first more h e k all = absurd cc
-over_commands settings n disk (g ∷ gs) first more h e k all =
-    first_group settings n g.0 g.1 gs first more h e k (login_fits first.head h k all.0.login) all.1
-    (λ f. over_commands settings n g.0 gs first more h f k all)
+over_commands protected settings n disk [] first more h e k all = absurd cc
+over_commands protected settings n disk (g ∷ gs) first more h e k all =
+    first_group protected settings n g.0 g.1 gs first more h e k (login_fits first.head h k all.0.login) all.1
+    (λ f. over_commands protected settings n g.0 gs first more h f k all)

@@ -1,5 +1,5 @@
 -- Where no failure was counted, what was executed did exactly what its order does.
-use Rattle.std.proofs.Common.{◌≡◌, ◌≤◌, inl, inr, ℕ, List, [], ◌∷◌, ◌++◌, refl, sym, ap, subst, arith}
+use Rattle.std.proofs.Common.{Bool, ◌≡◌, ◌≤◌, inl, inr, ℕ, List, [], ◌∷◌, ◌++◌, refl, sym, ap, subst, arith}
 use Rattle.scsi_disk.specs.Disk.{Disk}
 use Rattle.scsi_disk.specs.Effect.{Effect, effect}
 use Rattle.iscsi_stream.specs.Pieces.{data_of}
@@ -14,122 +14,122 @@ use Rattle.iscsi_target.proofs.ServingLemmas.{runs_rise}
 use Rattle.iscsi_hall.specs.Turns.{Seats, Turn, IsFront, IsOwn, Event, Comes, Takes, Syncs, Ends, Goes as Leaves, Happens, Runs, executed_of, executed_by, executed_in}
 use Rattle.iscsi_hall.specs.Blocks.{Follows}
 
-follow_append : (disk mid last : Disk) (a b : List Execution) → Follows disk a mid → Follows mid b last → Follows disk (a ++ b) last
+follow_append : (protected : Bool) (disk mid last : Disk) (a b : List Execution) → Follows protected disk a mid → Follows protected mid b last → Follows protected disk (a ++ b) last
 unfolding Follows
-follow_append disk mid last [] b p q = subst (λ (d : Disk). Follows d b last) p q
-follow_append disk mid last (e ∷ a) b p q = (p.0, follow_append (effect e.disk e.order (data_of e.pieces)).disk mid last a b p.1 q)
+follow_append protected disk mid last [] b p q = subst (λ (d : Disk). Follows protected d b last) p q
+follow_append protected disk mid last (e ∷ a) b p q = (p.0, follow_append protected (effect protected e.disk e.order (data_of e.pieces)).disk mid last a b p.1 q)
 
-does_follow : (disk last : Disk) (es : List Execution) → Does reliable disk es last → Follows disk es last
+does_follow : (protected : Bool) (disk last : Disk) (es : List Execution) → Does (reliable protected) disk es last → Follows protected disk es last
 unfolding Follows
-does_follow disk last [] d = d
-does_follow disk last (e ∷ es) d = (d.0, does_follow (effect e.disk e.order (data_of e.pieces)).disk last es d.1)
+does_follow protected disk last [] d = d
+does_follow protected disk last (e ∷ es) d = (d.0, does_follow protected (effect protected e.disk e.order (data_of e.pieces)).disk last es d.1)
 
-answers_follow : (s : Machine) (disk : Disk) (ms : List Message) → Follows disk (answers s disk ms).executed (answers s disk ms).disk
+answers_follow : (protected : Bool) (s : Machine) (disk : Disk) (ms : List Message) → Follows protected disk (answers protected s disk ms).executed (answers protected s disk ms).disk
 unfolding Follows answers
-answers_follow s disk [] = refl
-answers_follow s disk (m ∷ ms) =
-    let first : Stepped = step s disk m in
-    let later : Stepped = answers first.machine first.disk ms in
-    follow_append disk first.disk later.disk first.executed later.executed
-    (does_follow disk first.disk first.executed (step_does reliable s disk m).is) (answers_follow first.machine first.disk ms)
+answers_follow protected s disk [] = refl
+answers_follow protected s disk (m ∷ ms) =
+    let first : Stepped = step protected s disk m in
+    let later : Stepped = answers protected first.machine first.disk ms in
+    follow_append protected disk first.disk later.disk first.executed later.executed
+    (does_follow protected disk first.disk first.executed (step_does (reliable protected) s disk m).is) (answers_follow protected first.machine first.disk ms)
 
-runs_follow : (device : Device) (before after : ℕ) (es : List Execution) (disk last : Disk) → after ≡ before → RunsIn device before es after →
-    Does device disk es last → Follows disk es last
+runs_follow : (protected : Bool) (device : Device) (before after : ℕ) (es : List Execution) (disk last : Disk) → after ≡ before → RunsIn protected device before es after →
+    Does device disk es last → Follows protected disk es last
 unfolding Follows
-runs_follow device before after [] disk last same r d = d
-runs_follow device before after (e ∷ es) disk last same r d =
+runs_follow protected device before after [] disk last same r d = d
+runs_follow protected device before after (e ∷ es) disk last same r d =
     let low : before ≤ r.0 = r.1.rises in
-    let high : r.0 ≤ after = runs_rise (device_next device) r.0 es after r.2 in
+    let high : r.0 ≤ after = runs_rise protected (device_next device) r.0 es after r.2 in
     let left : Effect = device 0 e.disk e.order (data_of e.pieces) in
-    let is : left ≡ effect e.disk e.order (data_of e.pieces) = r.1.works (omega arith) in (
+    let is : left ≡ effect protected e.disk e.order (data_of e.pieces) = r.1.works (omega arith) in (
       d.0,
-      subst (λ (x : Effect). Follows x.disk es last) is
-          (runs_follow (device_next device) r.0 after es left.disk last (omega arith) r.2 d.1),
+      subst (λ (x : Effect). Follows protected x.disk es last) is
+          (runs_follow protected (device_next device) r.0 after es left.disk last (omega arith) r.2 d.1),
     )
 
 -- ---- a turn
 
-front_rises : (r : Stepped) (counted : ℕ) (front : Stepped) (after : ℕ) → IsFront r counted front after → counted ≤ after
-front_rises r counted front after (inl f) = f.1
-front_rises r counted front after (inr f) =
-    let a = f.1.rises in let b = runs_rise f.1.device counted front.executed f.1.failures f.1.runs in omega (arith, a, b)
+front_rises : (protected : Bool) (r : Stepped) (counted : ℕ) (front : Stepped) (after : ℕ) → IsFront protected r counted front after → counted ≤ after
+front_rises protected r counted front after (inl f) = f.1
+front_rises protected r counted front after (inr f) =
+    let a = f.1.rises in let b = runs_rise protected f.1.device counted front.executed f.1.failures f.1.runs in omega (arith, a, b)
 
-front_follows : (r : Stepped) (counted : ℕ) (front : Stepped) (after : ℕ) → after ≡ counted → IsFront r counted front after →
-    Follows r.disk front.executed front.disk
+front_follows : (protected : Bool) (r : Stepped) (counted : ℕ) (front : Stepped) (after : ℕ) → after ≡ counted → IsFront protected r counted front after →
+    Follows protected r.disk front.executed front.disk
 unfolding Follows
-front_follows r counted front after same (inl f) = subst (λ (x : Stepped). Follows r.disk x.executed x.disk) (sym f.0) refl
-front_follows r counted front after same (inr (m, f)) =
+front_follows protected r counted front after same (inl f) = subst (λ (x : Stepped). Follows protected r.disk x.executed x.disk) (sym f.0) refl
+front_follows protected r counted front after same (inr (m, f)) =
     let a : f.failures ≤ after = f.rises in
-    let b : counted ≤ f.failures = runs_rise f.device counted front.executed f.failures f.runs in
+    let b : counted ≤ f.failures = runs_rise protected f.device counted front.executed f.failures f.runs in
     let d : Goes f.device r.disk front =
     subst (λ (x : Stepped). Goes f.device r.disk x) (sym f.is) (first_does f.done f.device f.session r.disk f.tasks) in
-    runs_follow f.device counted f.failures front.executed r.disk front.disk (omega arith) f.runs d.is
+    runs_follow protected f.device counted f.failures front.executed r.disk front.disk (omega arith) f.runs d.is
 
-own_rises : (s : Machine) (t : Turn) → IsOwn s t → t.before.failures ≤ t.after.failures
-own_rises s t o =
-    let a = may_rise s t.before.disk t.before.failures t.messages t.stepped o.counted o.may in
-    let b = front_rises t.stepped o.counted t.front t.after.failures o.front in
+own_rises : (protected : Bool) (s : Machine) (t : Turn) → IsOwn protected s t → t.before.failures ≤ t.after.failures
+own_rises protected s t o =
+    let a = may_rise protected s t.before.disk t.before.failures t.messages t.stepped o.counted o.may in
+    let b = front_rises protected t.stepped o.counted t.front t.after.failures o.front in
     omega (arith, a, b)
 
-own_follows : (s : Machine) (t : Turn) → IsOwn s t → t.after.failures ≡ t.before.failures → Follows t.before.disk (executed_of t) t.after.disk
-own_follows s t o same =
-    let a = may_rise s t.before.disk t.before.failures t.messages t.stepped o.counted o.may in
-    let b = front_rises t.stepped o.counted t.front t.after.failures o.front in
-    follow_append t.before.disk t.stepped.disk t.after.disk t.stepped.executed t.front.executed
-    (subst (λ (x : Stepped). Follows t.before.disk x.executed x.disk) (sym (o.works same)) (answers_follow s t.before.disk t.messages))
-    (subst (λ (d : Disk). Follows t.stepped.disk t.front.executed d) (sym o.disk)
-    (front_follows t.stepped o.counted t.front t.after.failures (omega (arith, a, b, same)) o.front))
+own_follows : (protected : Bool) (s : Machine) (t : Turn) → IsOwn protected s t → t.after.failures ≡ t.before.failures → Follows protected t.before.disk (executed_of t) t.after.disk
+own_follows protected s t o same =
+    let a = may_rise protected s t.before.disk t.before.failures t.messages t.stepped o.counted o.may in
+    let b = front_rises protected t.stepped o.counted t.front t.after.failures o.front in
+    follow_append protected t.before.disk t.stepped.disk t.after.disk t.stepped.executed t.front.executed
+    (subst (λ (x : Stepped). Follows protected t.before.disk x.executed x.disk) (sym (o.works same)) (answers_follow protected s t.before.disk t.messages))
+    (subst (λ (d : Disk). Follows protected t.stepped.disk t.front.executed d) (sym o.disk)
+    (front_follows protected t.stepped o.counted t.front t.after.failures (omega (arith, a, b, same)) o.front))
 
 -- ---- events
 
 none_rises : (store last : Store) → last ≡ store → store.failures ≤ last.failures
 none_rises store last e = omega (arith, ap (λ (x : Store). x.failures) e)
 
-happens_rises : (seats : Seats) (store : Store) (e : Event) (after : Seats) (last : Store) → Happens seats store e after last →
+happens_rises : (protected : Bool) (seats : Seats) (store : Store) (e : Event) (after : Seats) (last : Store) → Happens protected seats store e after last →
     store.failures ≤ last.failures
-happens_rises seats store (Comes k settings) after last h = none_rises store last h.3
-happens_rises seats store (Takes t) after last h =
-    let a = own_rises h.machine t h.own in
+happens_rises protected seats store (Comes k settings) after last h = none_rises store last h.3
+happens_rises protected seats store (Takes t) after last h =
+    let a = own_rises protected h.machine t h.own in
     let b = ap (λ (x : Store). x.failures) h.met in
     let d = ap (λ (x : Store). x.failures) h.last_is in
     omega (arith, a, b, d)
-happens_rises seats store (Syncs k) after last h = h.2
-happens_rises seats store (Ends k) after last h = none_rises store last h.1
-happens_rises seats store (Leaves k) after last h = none_rises store last h.2
+happens_rises protected seats store (Syncs k) after last h = h.2
+happens_rises protected seats store (Ends k) after last h = none_rises store last h.1
+happens_rises protected seats store (Leaves k) after last h = none_rises store last h.2
 
-runs_rises : (seats after : Seats) (store last : Store) (es : List Event) → Runs seats store es after last → store.failures ≤ last.failures
+runs_rises : (protected : Bool) (seats after : Seats) (store last : Store) (es : List Event) → Runs protected seats store es after last → store.failures ≤ last.failures
 unfolding Runs
-runs_rises seats after store last [] r = none_rises store last r.1
-runs_rises seats after store last (e ∷ es) r =
-    let a = happens_rises seats store e r.0 r.1 r.2 in let b = runs_rises r.0 after r.1 last es r.3 in omega (arith, a, b)
+runs_rises protected seats after store last [] r = none_rises store last r.1
+runs_rises protected seats after store last (e ∷ es) r =
+    let a = happens_rises protected seats store e r.0 r.1 r.2 in let b = runs_rises protected r.0 after r.1 last es r.3 in omega (arith, a, b)
 
-sync_follows : (store last : Store) → last.disk ≡ store.disk → Follows store.disk [] last.disk
+sync_follows : (protected : Bool) (store last : Store) → last.disk ≡ store.disk → Follows protected store.disk [] last.disk
 unfolding Follows
-sync_follows store last e = e
+sync_follows protected store last e = e
 
-none_follows : (store last : Store) → last ≡ store → Follows store.disk [] last.disk
+none_follows : (protected : Bool) (store last : Store) → last ≡ store → Follows protected store.disk [] last.disk
 unfolding Follows
-none_follows store last e = ap (λ (x : Store). x.disk) e
+none_follows protected store last e = ap (λ (x : Store). x.disk) e
 
-happens_follows : (seats : Seats) (store : Store) (e : Event) (after : Seats) (last : Store) → Happens seats store e after last →
-    last.failures ≡ store.failures → Follows store.disk (executed_by e) last.disk
-happens_follows seats store (Comes k settings) after last h same = none_follows store last h.3
-happens_follows seats store (Takes t) after last h same =
+happens_follows : (protected : Bool) (seats : Seats) (store : Store) (e : Event) (after : Seats) (last : Store) → Happens protected seats store e after last →
+    last.failures ≡ store.failures → Follows protected store.disk (executed_by e) last.disk
+happens_follows protected seats store (Comes k settings) after last h same = none_follows protected store last h.3
+happens_follows protected seats store (Takes t) after last h same =
     let b = ap (λ (x : Store). x.failures) h.met in
     let d = ap (λ (x : Store). x.failures) h.last_is in
-    subst (λ (x : Store). Follows x.disk (executed_of t) last.disk) h.met
-    (subst (λ (x : Store). Follows t.before.disk (executed_of t) x.disk) (sym h.last_is) (own_follows h.machine t h.own (omega (arith, b, d, same))))
-happens_follows seats store (Syncs k) after last h same = sync_follows store last h.1
-happens_follows seats store (Ends k) after last h same = none_follows store last h.1
-happens_follows seats store (Leaves k) after last h same = none_follows store last h.2
+    subst (λ (x : Store). Follows protected x.disk (executed_of t) last.disk) h.met
+    (subst (λ (x : Store). Follows protected t.before.disk (executed_of t) x.disk) (sym h.last_is) (own_follows protected h.machine t h.own (omega (arith, b, d, same))))
+happens_follows protected seats store (Syncs k) after last h same = sync_follows protected store last h.1
+happens_follows protected seats store (Ends k) after last h same = none_follows protected store last h.1
+happens_follows protected seats store (Leaves k) after last h same = none_follows protected store last h.2
 
-pub runs_follows : (seats after : Seats) (store last : Store) (es : List Event) → Runs seats store es after last → last.failures ≡ store.failures →
-    Follows store.disk (executed_in es) last.disk
+pub runs_follows : (protected : Bool) (seats after : Seats) (store last : Store) (es : List Event) → Runs protected seats store es after last → last.failures ≡ store.failures →
+    Follows protected store.disk (executed_in es) last.disk
 unfolding Runs
-runs_follows seats after store last [] r same = none_follows store last r.1
-runs_follows seats after store last (e ∷ es) r same =
-    let a = happens_rises seats store e r.0 r.1 r.2 in
-    let b = runs_rises r.0 after r.1 last es r.3 in
-    follow_append store.disk r.1.disk last.disk (executed_by e) (executed_in es)
-    (happens_follows seats store e r.0 r.1 r.2 (omega (arith, a, b, same)))
-    (runs_follows r.0 after r.1 last es r.3 (omega (arith, a, b, same)))
+runs_follows protected seats after store last [] r same = none_follows protected store last r.1
+runs_follows protected seats after store last (e ∷ es) r same =
+    let a = happens_rises protected seats store e r.0 r.1 r.2 in
+    let b = runs_rises protected r.0 after r.1 last es r.3 in
+    follow_append protected store.disk r.1.disk last.disk (executed_by e) (executed_in es)
+    (happens_follows protected seats store e r.0 r.1 r.2 (omega (arith, a, b, same)))
+    (runs_follows protected r.0 after r.1 last es r.3 (omega (arith, a, b, same)))

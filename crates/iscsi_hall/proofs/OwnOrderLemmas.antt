@@ -66,51 +66,51 @@ abbrev whole : List Execution → List Execution
 whole es = map joined_execution es
 
 -- behind this machine the rest of the session executes so
-abbrev Executes : List Event → Machine → Type 0
-Executes es s = (disk : Disk) → whole (executed_in es) ≡ whole (answers_over s disk (groups_in es)).executed
+abbrev Executes : Bool → List Event → Machine → Type 0
+Executes protected es s = (disk : Disk) → whole (executed_in es) ≡ whole (answers_over protected s disk (groups_in es)).executed
 
-quiet_executes : (s m end : Machine) (es : List Event) → is_closed m ≡ true → Session m es end → Executes es s
+quiet_executes : (protected : Bool) (s m end : Machine) (es : List Event) → is_closed m ≡ true → Session protected m es end → Executes protected es s
 unfolding answers_over
-quiet_executes s m end es e h disk =
-    let q = closed_quiet m end es e h in
-    ap whole q.2 ∙ ap (λ (gs : List Group). whole (answers_over s disk gs).executed) (sym q.1)
+quiet_executes protected s m end es e h disk =
+    let q = closed_quiet protected m end es e h in
+    ap whole q.2 ∙ ap (λ (gs : List Group). whole (answers_over protected s disk gs).executed) (sym q.1)
 
-left_executes : (s m end : Machine) (es : List Event) → IsLeft s m → Session m es end → Executes es m → Executes es s
-left_executes s m end es (inl same) h go disk =
-    go disk ∙ ap (λ (x : Machine). whole (answers_over x disk (groups_in es)).executed) same
-    ∙ ap (λ (r : Stepped). r.executed) (over_joined s disk (groups_in es))
-left_executes s m end es (inr over) h go disk = quiet_executes s m end es (ap is_closed over) h disk
+left_executes : (protected : Bool) (s m end : Machine) (es : List Event) → IsLeft s m → Session protected m es end → Executes protected es m → Executes protected es s
+left_executes protected s m end es (inl same) h go disk =
+    go disk ∙ ap (λ (x : Machine). whole (answers_over protected x disk (groups_in es)).executed) same
+    ∙ ap (λ (r : Stepped). r.executed) (over_joined protected s disk (groups_in es))
+left_executes protected s m end es (inr over) h go disk = quiet_executes protected s m end es (ap is_closed over) h disk
 
-ended_executes : (s m end : Machine) (es : List Event) → IsEnded s m → Session m es end → Executes es m → Executes es s
-ended_executes s m end es (inl same) h go disk = go disk ∙ ap (λ (x : Machine). whole (answers_over x disk (groups_in es)).executed) same
-ended_executes s m end es (inr over) h go disk = quiet_executes s m end es (ap is_closed over) h disk
+ended_executes : (protected : Bool) (s m end : Machine) (es : List Event) → IsEnded s m → Session protected m es end → Executes protected es m → Executes protected es s
+ended_executes protected s m end es (inl same) h go disk = go disk ∙ ap (λ (x : Machine). whole (answers_over protected x disk (groups_in es)).executed) same
+ended_executes protected s m end es (inr over) h go disk = quiet_executes protected s m end es (ap is_closed over) h disk
 
-session_executes : (s end : Machine) (es : List Event) → Session s es end → AllByRecursion IsCalm es → Executes es s
+session_executes : (protected : Bool) (s end : Machine) (es : List Event) → Session protected s es end → AllByRecursion IsCalm es → Executes protected es s
 unfolding Session answers_over
-session_executes s end [] h calm disk = refl
-session_executes s end (Comes k settings ∷ es) h calm disk = absurd h
-session_executes s end (Goes k ∷ es) h calm disk = absurd h
-session_executes s end (Syncs k ∷ es) h calm disk = session_executes s end es h calm.1 disk
-session_executes s end (Ends k ∷ es) h calm disk = ended_executes s h.0 end es h.1 h.2 (session_executes h.0 end es h.2 calm.1) disk
-session_executes s end (Takes t ∷ es) h calm disk =
-    let r : Stepped = answers s t.before.disk t.messages in
+session_executes protected s end [] h calm disk = refl
+session_executes protected s end (Comes k settings ∷ es) h calm disk = absurd h
+session_executes protected s end (Goes k ∷ es) h calm disk = absurd h
+session_executes protected s end (Syncs k ∷ es) h calm disk = session_executes protected s end es h calm.1 disk
+session_executes protected s end (Ends k ∷ es) h calm disk = ended_executes protected s h.0 end es h.1 h.2 (session_executes protected h.0 end es h.2 calm.1) disk
+session_executes protected s end (Takes t ∷ es) h calm disk =
+    let r : Stepped = answers protected s t.before.disk t.messages in
     let is : t.stepped ≡ r = h.1.works calm.0.0 in
     let machine : t.front.machine ≡ r.machine = ap (λ (x : Stepped). x.machine) (calm.0.1) ∙ ap (λ (x : Stepped). x.machine) is in
     let own : t.stepped.executed ++ t.front.executed ≡ r.executed =
     ap (λ (x : Stepped). t.stepped.executed ++ x.executed) calm.0.1 ∙ append-nil t.stepped.executed ∙ ap (λ (x : Stepped). x.executed) is in
-    let later : Stepped = answers_over r.machine r.disk (groups_in es) in
+    let later : Stepped = answers_over protected r.machine r.disk (groups_in es) in
     ap (λ (xs : List Execution). whole (xs ++ executed_in es)) own
     ∙ map-append joined_execution r.executed (executed_in es)
     ∙ ap (λ (xs : List Execution). whole r.executed ++ xs)
-    (left_executes r.machine h.0 end es (subst (λ (x : Machine). IsLeft x h.0) machine h.2) h.3 (session_executes h.0 end es h.3 calm.1) r.disk)
+    (left_executes protected r.machine h.0 end es (subst (λ (x : Machine). IsLeft x h.0) machine h.2) h.3 (session_executes protected h.0 end es h.3 calm.1) r.disk)
     ∙ sym (map-append joined_execution r.executed later.executed)
 
-pub own_executed : (seats after : Seats) (store last : Store) (es : List Event) (seat : ℕ) (s : Machine) → Runs seats store es after last →
+pub own_executed : (protected : Bool) (seats after : Seats) (store last : Store) (es : List Event) (seat : ℕ) (s : Machine) → Runs protected seats store es after last →
     seats seat ≡ Some s → Stays seat es → AllByRecursion IsCalm (events_of seat es) → (disk : Disk)
-    → map joined_execution (executed_for seat (placed_in es)) ≡ map joined_execution (answers_over s disk (groups_in (events_of seat es))).executed
-own_executed seats after store last es seat s r has stays calm disk =
-    let own = own_session seats after store last es seat s r has stays in
-    ap whole (own_turns es seat) ∙ session_executes s own.0 (events_of seat es) own.2 calm disk
+    → map joined_execution (executed_for seat (placed_in es)) ≡ map joined_execution (answers_over protected s disk (groups_in (events_of seat es))).executed
+own_executed protected seats after store last es seat s r has stays calm disk =
+    let own = own_session protected seats after store last es seat s r has stays in
+    ap whole (own_turns es seat) ∙ session_executes protected s own.0 (events_of seat es) own.2 calm disk
 
 -- ---- its commands
 
@@ -118,15 +118,15 @@ tasks_whole : (es : List Execution) → tasks_done (whole es) ≡ tasks_done es
 tasks_whole [] = refl
 tasks_whole (e ∷ es) = ap (λ (ts : List Command). (e.initiator_task_tag, e.order) ∷ ts) (tasks_whole es)
 
-pub own_accepted : (seats after : Seats) (store last : Store) (es : List Event) (seat n : ℕ) (settings : Settings) → Runs seats store es after last →
+pub own_accepted : (protected : Bool) (seats after : Seats) (store last : Store) (es : List Event) (seat n : ℕ) (settings : Settings) → Runs protected seats store es after last →
     seats seat ≡ Some (opening settings n) → Stays seat es → AllByRecursion IsCalm (events_of seat es) → (disk : Disk)
     → (more : List Command)
-    × (tasks_in (answers_over (opening settings n) disk (groups_in (events_of seat es))).accepted ≡ tasks_done (executed_for seat (placed_in es)) ++ more)
-own_accepted seats after store last es seat n settings r has stays calm disk =
+    × (tasks_in (answers_over protected (opening settings n) disk (groups_in (events_of seat es))).accepted ≡ tasks_done (executed_for seat (placed_in es)) ++ more)
+own_accepted protected seats after store last es seat n settings r has stays calm disk =
     let gs : List Group = groups_in (events_of seat es) in
-    let run : Stepped = answers_over (opening settings n) disk gs in
-    let order : AreInOrder run = over_in_order settings n disk gs in
+    let run : Stepped = answers_over protected (opening settings n) disk gs in
+    let order : AreInOrder run = over_in_order protected settings n disk gs in
     let same : tasks_done run.executed ≡ tasks_done (executed_for seat (placed_in es)) =
-    sym (tasks_whole run.executed) ∙ ap tasks_done (sym (own_executed seats after store last es seat (opening settings n) r has stays calm disk))
+    sym (tasks_whole run.executed) ∙ ap tasks_done (sym (own_executed protected seats after store last es seat (opening settings n) r has stays calm disk))
     ∙ tasks_whole (executed_for seat (placed_in es)) in
     (order.more, order.order ∙ ap (λ (ts : List Command). ts ++ order.more) same)

@@ -63,7 +63,7 @@ pub comes_in : (old new : Hall) (place : ℕ) (settings : Settings) → position
 comes_in old new place settings e n =
     let p = position-Some is_none old.seats place None e in
     let seats : new.seats ≡ set old.seats place (Some (opening_seat settings)) = ap (λ (h : Hall). h.seats) n in
-    λ store. (
+    λ protected store. (
       ap machine_in (free_is (seat_at old place) p.1),
       ap machine_in (changed_same place old new (Some (opening_seat settings)) p.0 seats),
       others_stay place old new (Some (opening_seat settings)) seats,
@@ -78,7 +78,7 @@ set_none (x ∷ xs) (suc k) = set_none xs k
 pub goes_in : (old new : Hall) (place : ℕ) → new ≡ with_seat old place None → HappensIn (Goes place) old new
 goes_in old new place n =
     let seats : new.seats ≡ set old.seats place None = ap (λ (h : Hall). h.seats) n in
-    λ store. (
+    λ protected store. (
       ap machine_in (ap (λ (x : List (Option Seat)). get_or x place None) seats ∙ set_none old.seats place),
       others_stay place old new None seats,
       refl,
@@ -95,7 +95,7 @@ pub ends_in : (old new : Hall) (place : ℕ) (result : Result (Unit {0}) TargetF
     → Changes place old new (λ before after. FinishesAt before result after) → HappensIn (Ends place) old new
 ends_in old new place result c =
     let within : place < length old.seats = some_within old.seats place c.before c.was in
-    λ store. (
+    λ protected store. (
       record {
         machine = c.before.connection.machine;
         had = ap machine_in c.was;

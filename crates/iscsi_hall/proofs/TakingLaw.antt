@@ -15,21 +15,21 @@ use Rattle.iscsi_hall.specs.Turns.{Turn, IsFront, IsOwn, IsLeft, TakesTurn, answ
 use Rattle.iscsi_hall.proofs.SeatLemmas.{some_within, changed_same, others_stay}
 
 -- what a call did, as a turn of a seat with n messages
-record Acts (seat : ℕ) (old : Scene) (most : ℕ → Type 0) (new : Scene) : Type 0 where
+record Acts (protected : Bool) (seat : ℕ) (old : Scene) (most : ℕ → Type 0) (new : Scene) : Type 0 where
   pub turn : Turn
   pub seat_is : turn.seat ≡ seat
   pub met : turn.before ≡ old.store
   pub last_is : new.store ≡ turn.after
   pub few : most (length turn.messages)
-  pub own : IsOwn old.connection.machine turn
+  pub own : IsOwn protected old.connection.machine turn
   pub left : IsLeft turn.front.machine new.connection.machine
   pub answers_are : new.output ≡ old.output ++ canon (answers_of turn)
 
 -- no fault of memory
-acts_whole : (seat : ℕ) (old new : Scene) (bytes : List ℕ) (most : ℕ → Type 0) (now : Progress) (a : Answers old.connection old.store bytes now new.store)
+acts_whole : (protected : Bool) (seat : ℕ) (old new : Scene) (bytes : List ℕ) (most : ℕ → Type 0) (now : Progress) (a : Answers protected old.connection old.store bytes now new.store)
     → is_closed old.connection.machine ≡ false → most (length now.messages) → Stands old.output now.stepped a.failures new.store new.output
-    → IsLeft now.stepped.machine new.connection.machine → Acts seat old most new
-acts_whole seat old new bytes most now a open_ few s l = record {
+    → IsLeft now.stepped.machine new.connection.machine → Acts protected seat old most new
+acts_whole protected seat old new bytes most now a open_ few s l = record {
   turn = record {
     seat = seat;
     before = old.store;
@@ -54,16 +54,16 @@ acts_whole seat old new bytes most now a open_ few s l = record {
   answers_are = s.output_is ∙ ap (λ ms. old.output ++ canon ms) (sym (append-nil now.stepped.answers));
 }
 
-front_of : (framing : Framing) (rest : List ℕ) (r : Stepped) (counted : ℕ) (front : Stepped) (after : ℕ) →
-    ((front ≡ unchanged r.machine r.disk) × (counted ≤ after) × AsksForMemory framing rest) ⊎ StopsAt framing rest r counted front after → IsFront r counted front after
-front_of framing rest r counted front after (inl none) = inl (none.0, none.1)
-front_of framing rest r counted front after (inr at) = inr (at.message, at.stops)
+front_of : (protected : Bool) (framing : Framing) (rest : List ℕ) (r : Stepped) (counted : ℕ) (front : Stepped) (after : ℕ) →
+    ((front ≡ unchanged r.machine r.disk) × (counted ≤ after) × AsksForMemory framing rest) ⊎ StopsAt protected framing rest r counted front after → IsFront protected r counted front after
+front_of protected framing rest r counted front after (inl none) = inl (none.0, none.1)
+front_of protected framing rest r counted front after (inr at) = inr (at.message, at.stops)
 
 -- memory ran out
-acts_short : (seat : ℕ) (old new : Scene) (bytes rest : List ℕ) (most : ℕ → Type 0) (now : Progress) (a : Answers old.connection old.store bytes now new.store)
+acts_short : (protected : Bool) (seat : ℕ) (old new : Scene) (bytes rest : List ℕ) (most : ℕ → Type 0) (now : Progress) (a : Answers protected old.connection old.store bytes now new.store)
     → is_closed old.connection.machine ≡ false → most (length now.messages)
-    → StopsShort old.output (remainder now.framing rest now.stepped a.failures) new.connection.machine new.store new.output → Acts seat old most new
-acts_short seat old new bytes rest most now a open_ few s = record {
+    → StopsShort protected old.output (remainder now.framing rest now.stepped a.failures) new.connection.machine new.store new.output → Acts protected seat old most new
+acts_short protected seat old new bytes rest most now a open_ few s = record {
   turn = record {
     seat = seat;
     before = old.store;
@@ -81,7 +81,7 @@ acts_short seat old new bytes rest most now a open_ few s = record {
     counted = a.failures;
     may = a.may;
     works = a.works;
-    front = front_of now.framing rest now.stepped a.failures s.front new.store.failures s.stops;
+    front = front_of protected now.framing rest now.stepped a.failures s.front new.store.failures s.stops;
     disk = s.disk;
   };
   left = inr s.shut;
@@ -91,18 +91,18 @@ acts_short seat old new bytes rest most now a open_ few s = record {
 abbrev one_if : Result ℕ TargetFault → ℕ → Type 0
 one_if result n = OnOk result (n ≤ 1)
 
-acts : (b : Bool) (seat : ℕ) (old new : Scene) (piece : List ℕ) (phase : Phase) (result : Result ℕ TargetFault) → is_closed old.connection.machine ≡ false
-    → b ≡ false → FedNextIf b old piece (with_phase phase result) new → Acts seat old (one_if result) new
-acts true seat old new piece phase result open_ live f = absurd cc
-acts false seat old new piece phase (Ok n) open_ live f =
-    acts_whole seat old new _ (one_if (Ok n)) _ f.fed.answered open_ f.one f.fed.leaves (inl f.fed.ends.1)
-acts false seat old new piece phase (Err faults.NoMemory) open_ live f =
-    acts_short seat old new _ _ (one_if (Err faults.NoMemory)) _ f.answered open_ tt f.leaves
-acts false seat old new piece phase (Err (faults.Stream fault)) open_ live f =
-    acts_whole seat old new _ (one_if (Err (faults.Stream fault))) _ f.answered open_ tt f.leaves (inr f.ends.3)
-acts false seat old new piece phase (Err (faults.Protocol rule)) open_ live f =
-    acts_whole seat old new _ (one_if (Err (faults.Protocol rule))) _ f.answered open_ tt f.leaves (inl f.ends.1)
-acts false seat old new piece phase (Err faults.Closed) open_ live f = absurd f.ends
+acts : (protected : Bool) (b : Bool) (seat : ℕ) (old new : Scene) (piece : List ℕ) (phase : Phase) (result : Result ℕ TargetFault) → is_closed old.connection.machine ≡ false
+    → b ≡ false → FedNextIf protected b old piece (with_phase phase result) new → Acts protected seat old (one_if result) new
+acts protected true seat old new piece phase result open_ live f = absurd cc
+acts protected false seat old new piece phase (Ok n) open_ live f =
+    acts_whole protected seat old new _ (one_if (Ok n)) _ f.fed.answered open_ f.one f.fed.leaves (inl f.fed.ends.1)
+acts protected false seat old new piece phase (Err faults.NoMemory) open_ live f =
+    acts_short protected seat old new _ _ (one_if (Err faults.NoMemory)) _ f.answered open_ tt f.leaves
+acts protected false seat old new piece phase (Err (faults.Stream fault)) open_ live f =
+    acts_whole protected seat old new _ (one_if (Err (faults.Stream fault))) _ f.answered open_ tt f.leaves (inr f.ends.3)
+acts protected false seat old new piece phase (Err (faults.Protocol rule)) open_ live f =
+    acts_whole protected seat old new _ (one_if (Err (faults.Protocol rule))) _ f.answered open_ tt f.leaves (inl f.ends.1)
+acts protected false seat old new piece phase (Err faults.Closed) open_ live f = absurd f.ends
 
 -- a session that may take a PDU is not closed
 open_if : (written over unfed : Bool) → ((written && not over) && unfed) ≡ true → over ≡ false
@@ -116,16 +116,16 @@ takes_open o s same may =
     open_if (has_room s) (is_closed s.connection.machine) (not (length s.unfed == 0)) e
 
 -- so it is one of a hall
-pub takes_turn : (seat : ℕ) (old new : Hall) (before after : Store) (result : Result ℕ TargetFault) (t : Takes seat old before result new after)
-    → may_take_at (seat_at old seat) ≡ true → TakesTurn seat old before result new after
-takes_turn seat old new before after result t may =
+pub takes_turn : (protected : Bool) (seat : ℕ) (old new : Hall) (before after : Store) (result : Result ℕ TargetFault) (t : Takes protected seat old before result new after)
+    → may_take_at (seat_at old seat) ≡ true → TakesTurn protected seat old before result new after
+takes_turn protected seat old new before after result t may =
     let live : is_closed t.before.connection.machine ≡ false = takes_open (seat_at old seat) t.before t.was may in
     let within : seat < length old.seats = some_within old.seats seat t.before t.was in
     let now : seat_at new seat ≡ Some t.after = changed_same seat old new (Some t.after) within t.now in
     let first : Scene = scene t.before.connection before t.before.waiting in
     let last : Scene = scene t.after.connection after t.after.waiting in
-    let a : Acts seat first (one_if result) last =
-    acts (is_closed t.before.connection.machine) seat first last t.before.unfed (phase_of t.after) result live live t.does.fed in
+    let a : Acts protected seat first (one_if result) last =
+    acts protected (is_closed t.before.connection.machine) seat first last t.before.unfed (phase_of t.after) result live live t.does.fed in
     record {
       turn = a.turn;
       seat_is = a.seat_is;

@@ -1,21 +1,23 @@
 -- One disk of all sessions, in an initiator's words: what the last write left (RFC 7143, section
 -- 4.2.2.1; SBC-3).
-use Rattle.std.specs.Prelude.{◌≡◌, ℕ, ◌-◌, ◌*◌, nat_lt, if◌then◌else◌, List, [], ◌∷◌, length, Option, None, Some, unwrap_or}
+--
+-- `protected` says of the store that it refuses each write.
+use Rattle.std.specs.Prelude.{Bool, ◌≡◌, ℕ, ◌-◌, ◌*◌, nat_lt, if◌then◌else◌, List, [], ◌∷◌, length, Option, None, Some, unwrap_or}
 use Rattle.scsi_disk.specs.declared.order.Order.{Order}
 use Rattle.scsi_disk.specs.declared.order.Plan.{Plan}
 use Rattle.scsi_disk.specs.declared.order.Plan.TheVariants.{Take}
 use Rattle.scsi_disk.specs.Disk.{Disk, cut}
-use Rattle.scsi_disk.specs.Effect.{effect}
+use Rattle.scsi_disk.specs.Effect.{effect, guarded}
 use Rattle.scsi_disk.specs.Plan.{plan_of, transfer}
 use Rattle.iscsi_stream.specs.Pieces.{data_of}
 use Rattle.iscsi_target.specs.State.{Execution}
 
 -- What was executed, one after another, leads from one disk to another: each did exactly what its
 -- order does, on the disk that the one before left.
-unfoldable pub Follows : Disk → List Execution → Disk → Type 0
-Follows disk [] last = last ≡ disk
-Follows disk (e ∷ es) last =
-    (e.disk ≡ disk) × Follows (effect e.disk e.order (data_of e.pieces)).disk es last
+unfoldable pub Follows : Bool → Disk → List Execution → Disk → Type 0
+Follows protected disk [] last = last ≡ disk
+Follows protected disk (e ∷ es) last =
+    (e.disk ≡ disk) × Follows protected (effect protected e.disk e.order (data_of e.pieces)).disk es last
 
 -- Block n of bytes that are written from a first block on; none where they don't reach it.
 abbrev pub block_in : ℕ → List ℕ → ℕ → Option (List ℕ)
@@ -30,8 +32,8 @@ block_by (Take length) order bytes n = block_in (transfer order.cdb).first bytes
 block_by _ order bytes n = None
 
 -- What a command writes to block n, on a disk that has `count`; none where it doesn't.
-abbrev pub written_by : ℕ → Execution → ℕ → Option (List ℕ)
-written_by count e n = block_by (plan_of e.order count) e.order (data_of e.pieces) n
+abbrev pub written_by : Bool → ℕ → Execution → ℕ → Option (List ℕ)
+written_by protected count e n = block_by (guarded protected (plan_of e.order count)) e.order (data_of e.pieces) n
 
 -- The later one, if there is one.
 abbrev pub later_or : Option (List ℕ) → Option (List ℕ) → Option (List ℕ)
@@ -39,10 +41,10 @@ later_or (Some later) earlier = Some later
 later_or None earlier = earlier
 
 -- What the last of these commands that writes to block n wrote there; none where none does.
-unfoldable pub last_written : ℕ → List Execution → ℕ → Option (List ℕ)
-last_written count [] n = None
-last_written count (e ∷ es) n = later_or (last_written count es n) (written_by count e n)
+unfoldable pub last_written : Bool → ℕ → List Execution → ℕ → Option (List ℕ)
+last_written protected count [] n = None
+last_written protected count (e ∷ es) n = later_or (last_written protected count es n) (written_by protected count e n)
 
 -- Block n behind these commands: what the last write to it left, or what it was at first.
-abbrev pub block_left : Disk → List Execution → ℕ → List ℕ
-block_left disk es n = unwrap_or (last_written disk.count es n) (disk.block n)
+abbrev pub block_left : Bool → Disk → List Execution → ℕ → List ℕ
+block_left protected disk es n = unwrap_or (last_written protected disk.count es n) (disk.block n)

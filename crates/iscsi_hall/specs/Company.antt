@@ -1,6 +1,8 @@
 -- One session in company: what it does with its PDUs where other sessions change the blocks between
 -- them (RFC 7143, section 4.2).
-use Rattle.std.specs.Prelude.{◌≡◌, ℕ, List, [], ◌∷◌}
+--
+-- `protected` says of the store that it refuses each write.
+use Rattle.std.specs.Prelude.{Bool, ◌≡◌, ℕ, List, [], ◌∷◌}
 use Rattle.std.specs.List.{flat_map, AllByRecursion}
 use Rattle.scsi_disk.specs.Disk.{Disk}
 use Rattle.iscsi_stream.specs.Stream.{Message}
@@ -14,11 +16,11 @@ Group = Disk × List Message
 
 -- Any PDUs, over a store that doesn't fail: each group meets its disk, whatever the one before it
 -- left.
-unfoldable pub answers_over : Machine → Disk → List Group → Stepped
-answers_over s disk [] = unchanged s disk
-answers_over s disk (g ∷ gs) =
-    then_stepped (answers s g.0 g.1)
-    (answers_over (answers s g.0 g.1).machine (answers s g.0 g.1).disk gs)
+unfoldable pub answers_over : Bool → Machine → Disk → List Group → Stepped
+answers_over protected s disk [] = unchanged s disk
+answers_over protected s disk (g ∷ gs) =
+    then_stepped (answers protected s g.0 g.1)
+    (answers_over protected (answers protected s g.0 g.1).machine (answers protected s g.0 g.1).disk gs)
 
 -- The PDUs of all groups.
 abbrev pub messages_in : List Group → List Message

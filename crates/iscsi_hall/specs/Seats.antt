@@ -1,5 +1,7 @@
 -- What a hall of seats holds, and what its calls do. A hall is for several sessions of a target at
 -- a time, over one store (RFC 7143, section 4.2; which seat may be read and fed is own rule).
+--
+-- `protected` says of the store that it refuses each write.
 use Rattle.std.specs.Prelude.{◌≡◌, ℕ, Bool, true, false, not, ◌==◌, ◌&&◌, ◌||◌, nat_lt, List, [], length, drop, get_or, set, Option, None, Some, Result, Ok, Err}
 use Rattle.iscsi_login.specs.declared.phase.Phase.{Phase}
 use Rattle.iscsi_target_session.specs.Configured.{Settings}
@@ -77,9 +79,9 @@ with_phase phase (Ok count) = Ok (count, phase)
 with_phase phase (Err fault) = Err fault
 
 -- One call of feed_next with what was not taken; its answers wait behind those that did.
-pub record TakesAt (old : Seat) (before : Store) (result : Result ℕ TargetFault) (new : Seat)
+pub record TakesAt (protected : Bool) (old : Seat) (before : Store) (result : Result ℕ TargetFault) (new : Seat)
     (after : Store) : Type 0 where
-  pub fed : FedNext (scene old.connection before old.waiting) old.unfed
+  pub fed : FedNext protected (scene old.connection before old.waiting) old.unfed
       (with_phase (phase_of new) result) (scene new.connection after new.waiting)
   pub offered : new.offered ≡ false
   pub unfed : new.unfed ≡ left_of result old.unfed
@@ -140,6 +142,6 @@ pub record Changes (place : ℕ) (old new : Hall) (P : Seat → Seat → Type 0)
   pub does : P before after
 
 -- One turn: the session of a seat took a PDU, over the store of all.
-abbrev pub Takes : ℕ → Hall → Store → Result ℕ TargetFault → Hall → Store → Type 0
-Takes place old before result new after =
-    Changes place old new (λ was now. TakesAt was before result now after)
+abbrev pub Takes : Bool → ℕ → Hall → Store → Result ℕ TargetFault → Hall → Store → Type 0
+Takes protected place old before result new after =
+    Changes place old new (λ was now. TakesAt protected was before result now after)

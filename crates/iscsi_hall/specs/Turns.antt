@@ -1,4 +1,6 @@
 -- Several sessions over one store, in whatever order their PDUs come (RFC 7143, section 4.2).
+--
+-- `protected` says of the store that it refuses each write.
 use Rattle.std.specs.Prelude.{◌≡◌, ◌⊎◌, ◌≤◌, ℕ, Bool, true, false, ◌==◌, List, [], ◌∷◌, ◌++◌, length, Option, None, Some, Result, OnOk}
 use Rattle.std.specs.List.{flat_map}
 use Rattle.iscsi_stream.specs.Stream.{Message}
@@ -36,21 +38,21 @@ abbrev pub executed_of : Turn → List Execution
 executed_of t = t.stepped.executed ++ t.front.executed
 
 -- Behind the PDUs nothing was done, or some tasks of the next PDU, at which memory ran out.
-abbrev pub IsFront : Stepped → ℕ → Stepped → ℕ → Type 0
-IsFront r counted front after =
+abbrev pub IsFront : Bool → Stepped → ℕ → Stepped → ℕ → Type 0
+IsFront protected r counted front after =
     ((front ≡ unchanged r.machine r.disk) × (counted ≤ after))
-    ⊎ ((m : Message) × MayStop r.machine r.disk counted m front after)
+    ⊎ ((m : Message) × MayStop protected r.machine r.disk counted m front after)
 
 -- The turn is the machine's own, on the store that it met. It did what the machine may do if the
 -- device fails. If no failure was counted, it did exactly what the machine does. A closed session
 -- takes no turn.
-pub record IsOwn (s : Machine) (t : Turn) : Type 0 where
+pub record IsOwn (protected : Bool) (s : Machine) (t : Turn) : Type 0 where
   pub live : is_closed s ≡ false
   pub counted : ℕ
-  pub may : MayAnswer s t.before.disk t.before.failures t.messages t.stepped counted
+  pub may : MayAnswer protected s t.before.disk t.before.failures t.messages t.stepped counted
   pub works : t.after.failures ≡ t.before.failures
-      → t.stepped ≡ answers s t.before.disk t.messages
-  pub front : IsFront t.stepped counted t.front t.after.failures
+      → t.stepped ≡ answers protected s t.before.disk t.messages
+  pub front : IsFront protected t.stepped counted t.front t.after.failures
   pub disk : t.after.disk ≡ t.front.disk
 
 -- The session behind a turn: as its PDUs left it, or closed by a fault behind them.
@@ -67,12 +69,12 @@ OthersStay seat seats after = (k : ℕ) → (seat == k) ≡ false → after k �
 
 -- One turn of one seat: it is its machine's own on the store as it is, and no other session
 -- changes.
-pub record IsTurn (seats : Seats) (store : Store) (t : Turn) (after : Seats)
+pub record IsTurn (protected : Bool) (seats : Seats) (store : Store) (t : Turn) (after : Seats)
     (last : Store) : Type 0 where
   pub met : t.before ≡ store
   pub machine : Machine
   pub had : seats t.seat ≡ Some machine
-  pub own : IsOwn machine t
+  pub own : IsOwn protected machine t
   pub left : Machine
   pub is_left : IsLeft t.front.machine left
   pub has : after t.seat ≡ Some left
@@ -100,22 +102,22 @@ pub record Moves (seat : ℕ) (seats after : Seats) (P : Machine → Machine →
   pub others : OthersStay seat seats after
 
 -- This happens, and the blocks change by turns alone. A sync may count failures.
-abbrev pub Happens : Seats → Store → Event → Seats → Store → Type 0
-Happens seats store (Comes seat settings) after last =
+abbrev pub Happens : Bool → Seats → Store → Event → Seats → Store → Type 0
+Happens protected seats store (Comes seat settings) after last =
     (seats seat ≡ None) × (after seat ≡ Some (opening settings 1))
     × OthersStay seat seats after × (last ≡ store)
-Happens seats store (Takes t) after last = IsTurn seats store t after last
-Happens seats store (Syncs seat) after last =
+Happens protected seats store (Takes t) after last = IsTurn protected seats store t after last
+Happens protected seats store (Syncs seat) after last =
     ((k : ℕ) → after k ≡ seats k) × (last.disk ≡ store.disk) × (store.failures ≤ last.failures)
-Happens seats store (Ends seat) after last = Moves seat seats after IsEnded × (last ≡ store)
-Happens seats store (Goes seat) after last =
+Happens protected seats store (Ends seat) after last = Moves seat seats after IsEnded × (last ≡ store)
+Happens protected seats store (Goes seat) after last =
     (after seat ≡ None) × OthersStay seat seats after × (last ≡ store)
 
 -- Any events, in whatever order.
-unfoldable pub Runs : Seats → Store → List Event → Seats → Store → Type 0
-Runs seats store [] after last = ((k : ℕ) → after k ≡ seats k) × (last ≡ store)
-Runs seats store (e ∷ es) after last =
-    (mid : Seats) × (now : Store) × Happens seats store e mid now × Runs mid now es after last
+unfoldable pub Runs : Bool → Seats → Store → List Event → Seats → Store → Type 0
+Runs protected seats store [] after last = ((k : ℕ) → after k ≡ seats k) × (last ≡ store)
+Runs protected seats store (e ∷ es) after last =
+    (mid : Seats) × (now : Store) × Happens protected seats store e mid now × Runs protected mid now es after last
 
 -- What an event executed.
 abbrev pub executed_by : Event → List Execution
@@ -148,14 +150,14 @@ events_of seat (e ∷ es) = only_if (seat_of e == seat) e (events_of seat es)
 
 -- These events are one session's, from a machine on: each goes on from where the last one left it,
 -- over the blocks that it met.
-unfoldable pub Session : Machine → List Event → Machine → Type 0
-Session s [] last = last ≡ s
-Session s (Takes t ∷ es) last =
-    (mid : Machine) × IsOwn s t × IsLeft t.front.machine mid × Session mid es last
-Session s (Syncs seat ∷ es) last = Session s es last
-Session s (Ends seat ∷ es) last = (mid : Machine) × IsEnded s mid × Session mid es last
-Session s (Comes seat settings ∷ es) last = ⊥
-Session s (Goes seat ∷ es) last = ⊥
+unfoldable pub Session : Bool → Machine → List Event → Machine → Type 0
+Session protected s [] last = last ≡ s
+Session protected s (Takes t ∷ es) last =
+    (mid : Machine) × IsOwn protected s t × IsLeft t.front.machine mid × Session protected mid es last
+Session protected s (Syncs seat ∷ es) last = Session protected s es last
+Session protected s (Ends seat ∷ es) last = (mid : Machine) × IsEnded s mid × Session protected mid es last
+Session protected s (Comes seat settings ∷ es) last = ⊥
+Session protected s (Goes seat ∷ es) last = ⊥
 
 -- The event leaves the session of the seat there.
 abbrev pub KeepsSession : Bool → Event → Type 0
@@ -184,18 +186,19 @@ machines hall place = machine_in (seat_at hall place)
 
 -- One turn was taken at a seat, of at most one PDU where there is no fault, and its answers wait
 -- there, behind those that did.
-pub record TakesTurn (seat : ℕ) (old : Hall) (before : Store) (result : Result ℕ TargetFault)
+pub record TakesTurn (protected : Bool) (seat : ℕ) (old : Hall) (before : Store) (result : Result ℕ TargetFault)
     (new : Hall) (after : Store) : Type 0 where
   pub turn : Turn
   pub seat_is : turn.seat ≡ seat
   pub one : OnOk result (length turn.messages ≤ 1)
-  pub is_turn : IsTurn (machines old) before turn (machines new) after
+  pub is_turn : IsTurn protected (machines old) before turn (machines new) after
   pub answers_are : waiting_at (seat_at new seat)
       ≡ waiting_at (seat_at old seat) ++ canon (answers_of turn)
 
 -- This happened in the hall, and no block changed.
 abbrev pub HappensIn : Event → Hall → Hall → Type 0
-HappensIn e old new = (store : Store) → Happens (machines old) store e (machines new) store
+HappensIn e old new =
+    (protected : Bool) (store : Store) → Happens protected (machines old) store e (machines new) store
 
 -- No session changed.
 abbrev pub SameMachines : Hall → Hall → Type 0

@@ -1,7 +1,7 @@
 //! Laws of every interleaving of sessions: functions that do nothing, whose contracts are the
 //! theorems.
 
-ghost use Rattle.std.specs.Prelude.{◌≡◌, ◌<◌, ◌≤◌, ◌+◌, ◌^◌, ◌∷◌, ◌++◌, ℕ, true, List, Result, Some, length, map, take};
+ghost use Rattle.std.specs.Prelude.{Bool, ◌≡◌, ◌<◌, ◌≤◌, ◌+◌, ◌^◌, ◌∷◌, ◌++◌, ℕ, true, List, Result, Some, length, map, take};
 ghost use Rattle.std.specs.List.{AllByRecursion};
 ghost use Rattle.scsi_disk.specs.declared.order.Order.{Order};
 ghost use Rattle.scsi_disk.specs.declared.order.Plan.TheVariants.{Give, Take};
@@ -32,37 +32,37 @@ ghost use Rattle.iscsi_hall.specs.Company.{Group, HaveCount, IsCalm, answers_in,
 /// executed commands leave, one after another.
 pub fn one_disk_of_all()
     // Over a store that may fail, each does what it does, or what it may do where the device fails.
-    ensures may { (seats after : Seats) (store last : Store) (es : List Event)
-        → Runs seats store es after last → Leads store.disk (executed_in es) last.disk }
+    ensures may { (protected : Bool) (seats after : Seats) (store last : Store) (es : List Event)
+        → Runs protected seats store es after last → Leads protected store.disk (executed_in es) last.disk }
     // Where no failure was counted, each does exactly what it does.
-    ensures follows { (seats after : Seats) (store last : Store) (es : List Event)
-        → Runs seats store es after last → last.failures ≡ store.failures
-        → Follows store.disk (executed_in es) last.disk }
+    ensures follows { (protected : Bool) (seats after : Seats) (store last : Store) (es : List Event)
+        → Runs protected seats store es after last → last.failures ≡ store.failures
+        → Follows protected store.disk (executed_in es) last.disk }
 {}
 
 /// What is read is what was written last. If no failure was counted, a READ that is done gives of
 /// each block what the last write to the block, of whichever session, left. If there was no such
 /// write, the READ gives what the block was at first. The blocks in the end are so too.
 pub fn last_write_is_read()
-    ensures read { (seats after : Seats) (store last : Store) (es : List Event)
+    ensures read { (protected : Bool) (seats after : Seats) (store last : Store) (es : List Event)
         (past later : List Execution) (e : Execution) (length : ℕ)
-        → Runs seats store es after last → last.failures ≡ store.failures
+        → Runs protected seats store es after last → last.failures ≡ store.failures
         → executed_in es ≡ past ++ e ∷ later → is_read e.order.cdb ≡ true
         → plan_of e.order store.disk.count ≡ Give length
-        → (effect e.disk e.order (data_of e.pieces)).outcome.bytes
-        ≡ take length (joined (block_left store.disk past) (transfer e.order.cdb).first
+        → (effect protected e.disk e.order (data_of e.pieces)).outcome.bytes
+        ≡ take length (joined (block_left protected store.disk past) (transfer e.order.cdb).first
         (transfer e.order.cdb).count) }
-    ensures blocks { (seats after : Seats) (store last : Store) (es : List Event) (n : ℕ)
-        → Runs seats store es after last → last.failures ≡ store.failures
-        → last.disk.block n ≡ block_left store.disk (executed_in es) n }
+    ensures blocks { (protected : Bool) (seats after : Seats) (store last : Store) (es : List Event) (n : ℕ)
+        → Runs protected seats store es after last → last.failures ≡ store.failures
+        → last.disk.block n ≡ block_left protected store.disk (executed_in es) n }
 {}
 
 /// Each session is its own: while one session has a seat, its turns are its own machine's, each
 /// over the blocks that it met, whatever other sessions do between them.
 pub fn each_its_own()
-    ensures own { (seats after : Seats) (store last : Store) (es : List Event) (seat : ℕ)
-        (s : Machine) → Runs seats store es after last → seats seat ≡ Some s → Stays seat es
-        → (end : Machine) × (after seat ≡ Some end) × Session s (events_of seat es) end }
+    ensures own { (protected : Bool) (seats after : Seats) (store last : Store) (es : List Event) (seat : ℕ)
+        (s : Machine) → Runs protected seats store es after last → seats seat ≡ Some s → Stays seat es
+        → (end : Machine) × (after seat ≡ Some end) × Session protected s (events_of seat es) end }
 {}
 
 /// The order of a session's commands in the one list of all is its own. What the list has of a seat
@@ -75,17 +75,17 @@ pub fn own_order()
     // Suppose that one session has the seat, no failure was counted and memory was there. Then the
     // commands that the list has of the seat are those of the session's own machine with its own
     // PDUs, pieces of data joined.
-    ensures own { (seats after : Seats) (store last : Store) (es : List Event) (seat : ℕ)
-        (s : Machine) → Runs seats store es after last → seats seat ≡ Some s → Stays seat es
+    ensures own { (protected : Bool) (seats after : Seats) (store last : Store) (es : List Event) (seat : ℕ)
+        (s : Machine) → Runs protected seats store es after last → seats seat ≡ Some s → Stays seat es
         → AllByRecursion IsCalm (events_of seat es) → (disk : Disk)
         → map joined_execution (executed_for seat (placed_in es)) ≡ map joined_execution
-        (answers_over s disk (groups_in (events_of seat es))).executed }
+        (answers_over protected s disk (groups_in (events_of seat es))).executed }
     // They are the commands that it accepted, in their order, and then come those that wait.
-    ensures accepted { (seats after : Seats) (store last : Store) (es : List Event) (seat n : ℕ)
-        (settings : Settings) → Runs seats store es after last
+    ensures accepted { (protected : Bool) (seats after : Seats) (store last : Store) (es : List Event) (seat n : ℕ)
+        (settings : Settings) → Runs protected seats store es after last
         → seats seat ≡ Some (opening settings n) → Stays seat es
         → AllByRecursion IsCalm (events_of seat es) → (disk : Disk) → (more : List Command)
-        × (tasks_in (answers_over (opening settings n) disk (groups_in (events_of seat es))).accepted
+        × (tasks_in (answers_over protected (opening settings n) disk (groups_in (events_of seat es))).accepted
         ≡ tasks_done (executed_for seat (placed_in es)) ++ more) }
 {}
 
@@ -96,16 +96,16 @@ pub fn own_order()
 /// So a seat keeps the data of nine writes, and less than 65,536 bytes of answers with the answers
 /// to one PDU. Beside these it keeps what its framer holds of one PDU and one read.
 pub fn few_at_a_time()
-    ensures tasks { (settings : Settings) (n : ℕ) (end : Machine) (es : List Event)
-        → Session (opening settings n) es end → AllByRecursion IsNumbered es
+    ensures tasks { (protected : Bool) (settings : Settings) (n : ℕ) (end : Machine) (es : List Event)
+        → Session protected (opening settings n) es end → AllByRecursion IsNumbered es
         → length end.tasks ≤ 9 }
-    ensures executed { (settings : Settings) (n : ℕ) (end : Machine) (es : List Event)
-        → Session (opening settings n) es end → AllByRecursion IsNumbered es
+    ensures executed { (protected : Bool) (settings : Settings) (n : ℕ) (end : Machine) (es : List Event)
+        → Session protected (opening settings n) es end → AllByRecursion IsNumbered es
         → AllByRecursion ExecutesFew es }
     // Where no failure was counted, a write that waits for data has at most 4,194,304 bytes of them.
-    ensures held { (settings : Settings) (n count : ℕ) (disk : Disk) (gs : List Group)
+    ensures held { (protected : Bool) (settings : Settings) (n count : ℕ) (disk : Disk) (gs : List Group)
         → HaveCount count gs
-        → AllByRecursion HoldsFew (answers_over (opening settings n) disk gs).machine.tasks }
+        → AllByRecursion HoldsFew (answers_over protected (opening settings n) disk gs).machine.tasks }
     // A write takes, and a READ gives, at most 4,194,304 bytes.
     ensures write { (order : Order) (blocks n : ℕ) → plan_of order blocks ≡ Take n
         → n ≤ 4_194_304 }
@@ -113,8 +113,8 @@ pub fn few_at_a_time()
         → plan_of order blocks ≡ Give n → n ≤ 4_194_304 }
     // What waits to be written at a seat behind a turn: less than 65,536 bytes, and the answers of
     // that turn. The turn is of one PDU at most if there is no fault.
-    ensures waits { (seat : ℕ) (old new : Hall) (before after : Store)
-        (result : Result ℕ TargetFault) (t : TakesTurn seat old before result new after)
+    ensures waits { (protected : Bool) (seat : ℕ) (old new : Hall) (before after : Store)
+        (result : Result ℕ TargetFault) (t : TakesTurn protected seat old before result new after)
         → may_take_at (seat_at old seat) ≡ true
         → length (waiting_at (seat_at new seat)) ≤ 65_535 + length (canon (answers_of t.turn)) }
 {}
@@ -124,34 +124,34 @@ pub fn few_at_a_time()
 /// each group of PDUs meets a disk of its own.
 pub fn in_company()
     // This is what a session of a hall answers, where no failure was counted and memory was there.
-    ensures session { (s end : Machine) (es : List Event) → Session s es end
+    ensures session { (protected : Bool) (s end : Machine) (es : List Event) → Session protected s es end
         → AllByRecursion IsCalm es
-        → (disk : Disk) → answers_in es ≡ (answers_over s disk (groups_in es)).answers }
+        → (disk : Disk) → answers_in es ≡ (answers_over protected s disk (groups_in es)).answers }
     // The commands that were accepted are those that were executed, in their order, and those that
     // wait.
-    ensures order { (settings : Settings) (n : ℕ) (disk : Disk) (gs : List Group)
-        → AreInOrder (answers_over (opening settings n) disk gs) }
-    ensures answered { (s : Machine) (disk : Disk) (gs : List Group)
-        → response_tags (answers_over s disk gs).answers
-        ≡ map (λ e. e.initiator_task_tag) (answers_over s disk gs).executed }
+    ensures order { (protected : Bool) (settings : Settings) (n : ℕ) (disk : Disk) (gs : List Group)
+        → AreInOrder (answers_over protected (opening settings n) disk gs) }
+    ensures answered { (protected : Bool) (s : Machine) (disk : Disk) (gs : List Group)
+        → response_tags (answers_over protected s disk gs).answers
+        ≡ map (λ e. e.initiator_task_tag) (answers_over protected s disk gs).executed }
     // CmdSN and StatSN count on.
-    ensures commands { (settings : Settings) (n : ℕ) (disk : Disk) (gs : List Group)
+    ensures commands { (protected : Bool) (settings : Settings) (n : ℕ) (disk : Disk) (gs : List Group)
         (first : Message) (ms : List Message) (request : LoginRequest)
         → messages_in gs ≡ first ∷ ms → first.head ≡ heads.LoginRequest request
         → AllByRecursion HasCmdSn (first ∷ ms)
-        → CountOn request.cmd_sn (cmd_sns (answers_over (opening settings n) disk gs).accepted) }
-    ensures status { (s : Machine) (disk : Disk) (gs : List Group) → s.session.stat_sn < 2 ^ 32
-        → CountOn s.session.stat_sn (stat_sns (answers_over s disk gs).answers) }
+        → CountOn request.cmd_sn (cmd_sns (answers_over protected (opening settings n) disk gs).accepted) }
+    ensures status { (protected : Bool) (s : Machine) (disk : Disk) (gs : List Group) → s.session.stat_sn < 2 ^ 32
+        → CountOn s.session.stat_sn (stat_sns (answers_over protected s disk gs).answers) }
     // Data-In tile what commands give, the data of writes tile what they take, and R2Ts ask for at
     // most a burst inside the transfer, whatever disk the next PDU meets.
-    ensures data_in { (settings : Settings) (n : ℕ) (disk now : Disk) (gs : List Group)
+    ensures data_in { (protected : Bool) (settings : Settings) (n : ℕ) (disk now : Disk) (gs : List Group)
         (m : Message) → IsInRange settings.preferences
-        → TilesDataIn (step (answers_over (opening settings n) disk gs).machine now m) }
-    ensures writes { (settings : Settings) (n : ℕ) (disk now : Disk) (gs : List Group)
+        → TilesDataIn protected (step protected (answers_over protected (opening settings n) disk gs).machine now m) }
+    ensures writes { (protected : Bool) (settings : Settings) (n : ℕ) (disk now : Disk) (gs : List Group)
         (m : Message) → HaveCount now.count gs → AllByRecursion IsTiled
-        (step (answers_over (opening settings n) disk gs).machine now m).executed }
-    ensures modest { (settings : Settings) (n : ℕ) (disk now : Disk) (gs : List Group)
+        (step protected (answers_over protected (opening settings n) disk gs).machine now m).executed }
+    ensures modest { (protected : Bool) (settings : Settings) (n : ℕ) (disk now : Disk) (gs : List Group)
         (m : Message) → HaveCount now.count gs
-        → let t = step (answers_over (opening settings n) disk gs).machine now m in AllByRecursion
+        → let t = step protected (answers_over protected (opening settings n) disk gs).machine now m in AllByRecursion
         (IsModest t.machine.session.held (total_of t.machine.tasks)) (r2t_ranges t.answers) }
 {}

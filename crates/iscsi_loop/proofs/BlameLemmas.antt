@@ -97,24 +97,24 @@ led_there blocks requests outcomes there h =
 
 -- the blocks behind more messages are those of some bytes
 more_blocks : (blocks : ℕ) (old : target.Connection) (before after : Disk) (more : List Message) → Led blocks old before
-    → after ≡ (answers old.machine before more).disk → HasBlocks after
+    → after ≡ (answers false old.machine before more).disk → HasBlocks after
 more_blocks blocks old before after more l e =
     let c : Opening = loop_opening blocks in
     let first : target_state.Machine = target_state.opening c.target c.first_stat_sn in
     let d : Disk = disk_of c.blocks in
-    let a : target_state.Stepped = answers first d l.messages in
-    let here : (answers old.machine before more).disk ≡ (answers (joined a.machine) a.disk more).disk =
-    ap (λ (m : target_state.Machine). (answers m before more).disk) l.machine ∙ ap (λ (x : Disk). (answers (joined a.machine) x more).disk) l.disk_is in
-    let same : (answers (joined a.machine) a.disk more).disk ≡ (answers a.machine a.disk more).disk =
-    ap (λ (x : target_state.Stepped). x.disk) (answers_joined a.machine a.disk more) in
-    let whole : (answers first d (l.messages ++ more)).disk ≡ (answers a.machine a.disk more).disk =
-    ap (λ (x : target_state.Stepped). x.disk) (answers_append first d l.messages more) in
+    let a : target_state.Stepped = answers false first d l.messages in
+    let here : (answers false old.machine before more).disk ≡ (answers false (joined a.machine) a.disk more).disk =
+    ap (λ (m : target_state.Machine). (answers false m before more).disk) l.machine ∙ ap (λ (x : Disk). (answers false (joined a.machine) x more).disk) l.disk_is in
+    let same : (answers false (joined a.machine) a.disk more).disk ≡ (answers false a.machine a.disk more).disk =
+    ap (λ (x : target_state.Stepped). x.disk) (answers_joined false a.machine a.disk more) in
+    let whole : (answers false first d (l.messages ++ more)).disk ≡ (answers false a.machine a.disk more).disk =
+    ap (λ (x : target_state.Stepped). x.disk) (answers_append false first d l.messages more) in
     subst HasBlocks (sym (e ∙ here ∙ same ∙ sym whole)) (answers_blocks first d (l.messages ++ more) tt (record { bytes = c.blocks; is = refl }))
 
 -- so are those that a refused piece leaves
 refused_blocks : (over : Bool) (fault : TargetFault) (blocks : ℕ) (old new : target.Connection) (before after : Disk) (back written piece : List ℕ)
     → Led blocks old before → HasBlocks before → (fault ≡ target_faults.NoMemory → ⊥)
-    → target.FedIf over (target.scene old (stored before) back) piece (Err fault) (target.scene new (stored after) written) → HasBlocks after
+    → target.FedIf false over (target.scene old (stored before) back) piece (Err fault) (target.scene new (stored after) written) → HasBlocks after
 refused_blocks true fault blocks old new before after back written piece l b never f = subst HasBlocks (sym (ap (λ (s : target.Store). s.disk) f.store)) b
 refused_blocks false target_faults.NoMemory blocks old new before after back written piece l b never f = absurd (never refl)
 refused_blocks false (target_faults.Stream fault) blocks old new before after back written piece l b never f =
@@ -128,7 +128,7 @@ refused_blocks false target_faults.Closed blocks old new before after back writt
 -- the target refuses none
 target_refuses : (fault : TargetFault) → target_ran_out (Some fault) ≡ false → (fault ≡ target_faults.NoMemory → ⊥) → (i : initiator.Connection)
     (old new : target.Connection) (before after : Disk) (rest back written read : List ℕ) (n : ℕ)
-    → target.Fed (target.scene old (stored before) back) read (Err fault) (target.scene new (stored after) written) → take n rest ≡ read → length read ≡ n
+    → target.Fed false (target.scene old (stored before) back) read (Err fault) (target.scene new (stored after) written) → take n rest ≡ read → length read ≡ n
     → 0 < n → (blocks : ℕ) (requests : List Request) (outcomes : List Done) → HaveServed blocks requests outcomes (ends_of i old before rest back) → ⊥
 target_refuses fault calm never i old new before after rest back written read n fed front size some blocks requests outcomes h =
     let c : Opening = loop_opening blocks in
@@ -146,8 +146,8 @@ target_refuses fault calm never i old new before after rest back written read n 
     } in
     let receives : TargetReceives read (world_of here h.bytes) there = record {
       result = Err fault;
-      fed = subst (λ (d : Disk). target.Fed (target.scene old (stored d) back) read (Err fault) (target.scene new (store_of b.bytes) written)) (sym h.disk_is)
-          (subst (λ (d : Disk). target.Fed (target.scene old (stored before) back) read (Err fault) (target.scene new (stored d) written)) (sym b.is) fed);
+      fed = subst (λ (d : Disk). target.Fed false (target.scene old (stored d) back) read (Err fault) (target.scene new (store_of b.bytes) written)) (sym h.disk_is)
+          (subst (λ (d : Disk). target.Fed false (target.scene old (stored before) back) read (Err fault) (target.scene new (stored d) written)) (sym b.is) fed);
       dropped = ap (λ (k : ℕ). drop k rest) (sym size);
       initiator = refl;
       fault = refl;
@@ -165,7 +165,7 @@ target_refuses fault calm never i old new before after rest back written read n 
 
 pub target_blameless : (fault : TargetFault) (i : initiator.Connection) (old new : target.Connection) (before after : Disk)
     (rest back written read : List ℕ) (n : ℕ)
-    → target.Fed (target.scene old (stored before) back) read (Err fault) (target.scene new (stored after) written) → read ≡ take n rest → n ≤ length rest
+    → target.Fed false (target.scene old (stored before) back) read (Err fault) (target.scene new (stored after) written) → read ≡ take n rest → n ≤ length rest
     → 0 < n → IsBlameless (ends_of i old before rest back) (target_fault fault)
 target_blameless target_faults.NoMemory i old new before after rest back written read n fed same within some = λ blocks requests outcomes h. tt
 target_blameless (target_faults.Stream fault) i old new before after rest back written read n fed same within some =

@@ -85,27 +85,27 @@ login_takes n s _ segment t = record { held = t.held; prefers = t.prefers }
 
 -- ---- any messages
 
-step_takes : (n : ℕ) (s : Machine) (disk : Disk) (m : Message) → Takes n s.session → Takes n (step s disk m).machine.session
+step_takes : (n : ℕ) (s : Machine) (disk : Disk) (m : Message) → Takes n s.session → Takes n (step false s disk m).machine.session
 step_takes n s disk m t = by_phase s.session.phase refl
   where
-    later : IsLater s.session.phase → Takes n (step s disk m).machine.session
+    later : IsLater s.session.phase → Takes n (step false s disk m).machine.session
     later l =
-        let x : Stays s (step s disk m).machine = step_stays reliable s disk m l in
+        let x : Stays s (step false s disk m).machine = step_stays (reliable false) s disk m l in
         record {
           held = subst (λ (h : Held). n ≤ h.target_max_recv) (sym x.held) t.held;
-          prefers = subst (λ (k : Settings). n ≤ k.preferences.max_recv) (sym (step_settings reliable s disk m)) t.prefers;
+          prefers = subst (λ (k : Settings). n ≤ k.preferences.max_recv) (sym (step_settings (reliable false) s disk m)) t.prefers;
         }
 
-    by_phase : (p : Phase) → s.session.phase ≡ p → Takes n (step s disk m).machine.session
+    by_phase : (p : Phase) → s.session.phase ≡ p → Takes n (step false s disk m).machine.session
     by_phase phases.Login e =
         let open_ : is_closed s ≡ false = ap is_closed_phase e in
         by_cases (is_over_limit s m.segment) (λ f. rw (open_, f) (record { held = t.held; prefers = t.prefers }))
-        (λ f. rw (open_, f) (subst (λ (p : Phase). Takes n (phase_step reliable p s disk m).machine.session) (sym e)
+        (λ f. rw (open_, f) (subst (λ (p : Phase). Takes n (phase_step (reliable false) p s disk m).machine.session) (sym e)
         (login_takes n s.session m.head m.segment t)))
     by_phase phases.Full e = later (subst IsLater (sym e) tt)
     by_phase phases.Closed e = later (subst IsLater (sym e) tt)
 
-pub answers_take : (n : ℕ) (s : Machine) (disk : Disk) (ms : List Message) → Takes n s.session → Takes n (answers s disk ms).machine.session
+pub answers_take : (n : ℕ) (s : Machine) (disk : Disk) (ms : List Message) → Takes n s.session → Takes n (answers false s disk ms).machine.session
 unfolding answers
 answers_take n s disk [] t = t
-answers_take n s disk (m ∷ ms) t = answers_take n (step s disk m).machine (step s disk m).disk ms (step_takes n s disk m t)
+answers_take n s disk (m ∷ ms) t = answers_take n (step false s disk m).machine (step false s disk m).disk ms (step_takes n s disk m t)

@@ -1,5 +1,5 @@
 -- What the steps of a loop lead its pair to.
-use Rattle.std.specs.Prelude.{replicate}
+use Rattle.std.specs.Prelude.{false, replicate}
 use Rattle.std.proofs.Common.{◌≡◌, ◌<◌, ◌≤◌, inl, inr, true, ℕ, zero, suc, ◌+◌, ◌-◌, ◌*◌, List, [], ◌∷◌, ◌++◌, length, take, drop, Option, Some, None, Ok, refl}
 use Rattle.std.proofs.Common.{sym}
 use Rattle.std.proofs.Common.{ap, ◌∙◌, subst, append-nil, arith}
@@ -97,7 +97,7 @@ stored disk = record { disk = disk; failures = 0 }
 
 -- a piece reaches the target
 pub asks_on : (i : initiator.Connection) (old new : target.Connection) (before after : Disk) (out back written piece : List ℕ) (n : ℕ) (phase : Phase)
-    → target.Fed (target.scene old (stored before) back) piece (Ok phase) (target.scene new (stored after) written) → IsDisk after → after.tells ≡ true
+    → target.Fed false (target.scene old (stored before) back) piece (Ok phase) (target.scene new (stored after) written) → IsDisk after → after.tells ≡ true
     → take n out ≡ piece → length piece ≡ n → 0 < n
     → GoOn (ends_of i old before out back) (ends_of i new after (drop n out) written)
 asks_on i old new before after out back written piece n phase fed is tells front size some = λ blocks requests outcomes h.
@@ -106,8 +106,8 @@ asks_on i old new before after out back written piece n phase fed is tells front
     let there : Ends = ends_of i new after (drop n out) written in
     let receives : TargetReceives piece (world_of here h.bytes) (world_of there b.bytes) = record {
       result = Ok phase;
-      fed = subst (λ (d : Disk). target.Fed (target.scene old (stored d) back) piece (Ok phase) (target.scene new (store_of b.bytes) written)) (sym h.disk_is)
-          (subst (λ (d : Disk). target.Fed (target.scene old (stored before) back) piece (Ok phase) (target.scene new (stored d) written)) (sym b.is) fed);
+      fed = subst (λ (d : Disk). target.Fed false (target.scene old (stored d) back) piece (Ok phase) (target.scene new (store_of b.bytes) written)) (sym h.disk_is)
+          (subst (λ (d : Disk). target.Fed false (target.scene old (stored before) back) piece (Ok phase) (target.scene new (stored d) written)) (sym b.is) fed);
       dropped = ap (λ (k : ℕ). drop k out) (sym size);
       initiator = refl;
       fault = refl;
@@ -145,7 +145,7 @@ left_of n rest = take_all (length rest - n) (drop n rest) (omega (arith, length-
 
 -- the next piece of what goes to the target
 pub asks_more : (i : initiator.Connection) (old new : target.Connection) (before after : Disk) (rest back written read : List ℕ) (n : ℕ) (phase : Phase)
-    → target.Fed (target.scene old (stored before) back) read (Ok phase) (target.scene new (stored after) written) → IsDisk after → after.tells ≡ true
+    → target.Fed false (target.scene old (stored before) back) read (Ok phase) (target.scene new (stored after) written) → IsDisk after → after.tells ≡ true
     → read ≡ take n rest → n ≤ length rest → 0 < n
     → GoOn (ends_of i old before rest back) (ends_of i new after (take (length rest - n) (drop n rest)) written)
 asks_more i old new before after rest back written read n phase fed is tells same within some =

@@ -67,9 +67,9 @@ local_command after = record { outcome = reported after.outcome; disk = after.di
 -- many; texts and logouts are nothing to a disk (sections 11.3, 11.4 and 11.18).
 abbrev pub local : ℕ → Disk → Request → Local
 local most disk (requests.In lun cdb expected) =
-    local_command (effect disk (reading_order lun cdb expected) [])
+    local_command (effect false disk (reading_order lun cdb expected) [])
 local most disk (requests.Out lun cdb bytes) =
-    local_command (effect disk (writing_order lun cdb bytes) bytes)
+    local_command (effect false disk (writing_order lun cdb bytes) bytes)
 local most disk (requests.Ping bytes) =
     record { outcome = done.Ping (take most bytes); disk = disk }
 local most disk (requests.Text bytes) = record { outcome = done.Text []; disk = disk }
@@ -142,7 +142,7 @@ pub record Exchange : Type 0 where
 abbrev pub after_answer : Exchange → Message → List Message → Exchange
 after_answer x m more =
     let received = step x.initiator m in
-    let answered = answers x.target x.disk received.output in
+    let answered = answers false x.target x.disk received.output in
     record {
       initiator = received.machine;
       target = answered.machine;
@@ -163,7 +163,7 @@ after_answers (suc more) x = after_answers more (after_next x x.answers)
 -- A request is handed in, and the target receives what is sent (section 4.2).
 abbrev pub handed_in : initiator.Machine → target.Machine → Disk → Request → Exchange
 handed_in m t disk request =
-    let answered = answers t disk (submitted m request).output in
+    let answered = answers false t disk (submitted m request).output in
     record {
       initiator = (submitted m request).machine;
       target = answered.machine;

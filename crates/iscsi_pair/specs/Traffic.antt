@@ -107,7 +107,7 @@ demanded (input ∷ inputs) = demanded_in input ++ demanded inputs
 
 -- All that these messages lead a new target to.
 abbrev pub said : Opening → List Message → Stepped
-said c messages = answers (opening c.target c.first_stat_sn) (disk_of c.blocks) messages
+said c messages = answers false (opening c.target c.first_stat_sn) (disk_of c.blocks) messages
 
 -- The target is where its machine goes with these PDUs, and so are the blocks. These PDUs are the
 -- first of what was moved to the target. Its answers are all that was queued for the initiator.

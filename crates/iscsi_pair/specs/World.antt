@@ -108,7 +108,7 @@ pub data Event : Type 0 where
 -- Bytes reach the target, as one piece; a fault is kept (section 4).
 pub record TargetReceives (moved : List ℕ) (old new : World) : Type 0 where
   pub result : Result Phase TargetFault
-  pub fed : target.Fed (target.scene old.target (store_of old.blocks) old.to_initiator) moved
+  pub fed : target.Fed false (target.scene old.target (store_of old.blocks) old.to_initiator) moved
       result (target.scene new.target (store_of new.blocks) new.to_initiator)
   pub dropped : new.to_target ≡ drop (length moved) old.to_target
   pub initiator : new.initiator ≡ old.initiator

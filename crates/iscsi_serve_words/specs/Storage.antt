@@ -26,22 +26,30 @@ IsStorage (storage.Memory blocks) = (0 < blocks) × (blocks ≤ most_blocks)
 IsStorage (storage.Image image) = IsOrigin image.origin
 IsStorage (storage.Nbd export) = IfSome export.blocks (λ n. (0 < n) × (n ≤ most_blocks))
 
--- An image has as many blocks as were asked for, if a number was.
-abbrev pub HasAsked : Origin → ℕ → Type 0
-HasAsked (origin.Found None) count = Unit {0}
-HasAsked (origin.Found (Some asked)) count = count ≡ asked
-HasAsked (origin.New asked) count = count ≡ asked
-
--- A number of blocks is blamed only where the image that is there has another one.
-abbrev pub IsOther : Origin → ImageFault → Type 0
-IsOther (origin.Found (Some blocks)) (image.Size has asked) = (asked ≡ blocks) × (has ≢ asked)
-IsOther _ (image.Size has asked) = ⊥
-IsOther _ (image.Open fault) = Unit {0}
-
--- An export has as many blocks as were asked for, if a number was.
+-- An image or an export has as many blocks as were asked for, if a number was.
 abbrev pub IsAsked : Option ℕ → ℕ → Type 0
 IsAsked None count = Unit {0}
 IsAsked (Some asked) count = count ≡ asked
+
+-- A number of blocks is blamed only where the image has another one.
+abbrev pub IsOtherImage : Option ℕ → ImageFault → Type 0
+IsOtherImage (Some blocks) (image.Size has asked) = (asked ≡ blocks) × (has ≢ asked)
+IsOtherImage None (image.Size has asked) = ⊥
+IsOtherImage _ (image.Open fault) = Unit {0}
+
+-- How many blocks an image is asked to have, if a number is said.
+abbrev pub asked_by : Origin → Option ℕ
+asked_by (origin.Found blocks) = blocks
+asked_by (origin.New blocks) = Some blocks
+
+-- An image that is found or made has as many blocks as were asked for, if a number was.
+abbrev pub HasAsked : Origin → ℕ → Type 0
+HasAsked origin count = IsAsked (asked_by origin) count
+
+-- A number of blocks is blamed only where the image that is there has another one.
+abbrev pub IsOther : Origin → ImageFault → Type 0
+IsOther (origin.Found blocks) fault = IsOtherImage blocks fault
+IsOther (origin.New blocks) fault = IsOtherImage None fault
 
 -- A number of blocks is blamed only where the export has another one.
 abbrev pub IsOtherExport : Option ℕ → NbdFault → Type 0

@@ -46,6 +46,8 @@ pub struct ServeJob<'a> {
     pub storage: Storage<'a>,
     /// How it is served.
     pub service: Service<'a>,
+    /// No block changes: each write is refused.
+    pub read_only: bool,
 }
 
 /// The most names of initiators that may be listed (own rule).
@@ -84,6 +86,9 @@ const BAD_LOGIN_LIMIT: &str = "'--no-login-limit' cannot be used with '--login-w
 const BAD_MEMORY: &str =
     "is no number of bytes: '--memory <BYTES>' takes a number from 32768 to 562949953421312";
 
+const CREATED_READ_ONLY: &str =
+    "'--read-only' cannot be used with '--create': nobody could write what is made";
+
 const MEMORY_OF_IMAGE: &str = "'--memory <BYTES>' cannot be used with '--file <F>'";
 
 const BAD_EXPORT: &str =
@@ -114,7 +119,8 @@ pub fn serve_program<'a>(alloc: Global) -> Result<Command<'a>, AllocError> {
         .disable_version_flag(true)
         .bin_name("lanthovur serve")?;
     let program = with_size(alloc, program)?;
-    let program = with_image(alloc, program)?
+    let program = with_word(with_image(alloc, program)?, read_only(alloc))?;
+    let program = program
         .arg(valued(
             alloc,
             "port",
@@ -198,6 +204,15 @@ fn with_lengths<'a>(alloc: Global, program: Command<'a>) -> Result<Command<'a>, 
     let program = with_word(program, option(alloc, "segment", "N", segment_help))?;
     let program = with_word(program, option(alloc, "burst", "N", burst_help))?;
     with_word(program, option(alloc, "first-burst", "N", first_help))
+}
+
+// `--read-only`.
+fn read_only<'a>(alloc: Global) -> Result<Arg<'a>, AllocError> {
+    Ok(flag(
+        alloc,
+        "read-only",
+        "Refuse each write; several services may then share an image",
+    ))
 }
 
 // `--no-login-limit`, which wants `--at-once`.
@@ -313,12 +328,14 @@ pub fn service_of<'a>(alloc: Global, asked: &ArgMatches<'a>) -> Result<ServeJob<
 {
     let port = port_of(alloc, asked)?;
     let storage = storage_of(alloc, asked)?;
+    let read_only = read_only_of(alloc, asked)?;
     let sessions = sessions_of(alloc, asked)?;
     initiators_of(alloc, asked)?;
     let Some(digits) = asked.get_str("at-once") else {
         return Ok(ServeJob {
             storage,
             service: Service::InTurn { port, sessions },
+            read_only,
         });
     };
     let Some(at_once) = at_once_of(digits) else {
@@ -346,6 +363,7 @@ pub fn service_of<'a>(alloc: Global, asked: &ArgMatches<'a>) -> Result<ServeJob<
     Ok(ServeJob {
         storage,
         service: Service::AtOnce(options),
+        read_only,
     })
 }
 
@@ -369,6 +387,15 @@ fn sessions_of(alloc: Global, asked: &ArgMatches<'_>) -> Result<Option<u16>, Lin
         Some(sessions) => Ok(Some(sessions)),
         None => Err(refused(alloc, digits, BAD_SESSIONS)),
     }
+}
+
+// Whether each write is refused. An image is not made to be read alone.
+fn read_only_of(alloc: Global, asked: &ArgMatches<'_>) -> Result<bool, LineFault> {
+    let read_only = asked.get_flag("read-only");
+    if read_only && asked.get_flag("create") {
+        return Err(refusal(alloc, CREATED_READ_ONLY));
+    }
+    Ok(read_only)
 }
 
 // What the disk is kept in: the export or the image that is named, or memory.

@@ -3,10 +3,11 @@
 ghost use Rattle.std.specs.Prelude.{◌≡◌, IfOk, IfErr};
 ghost use Rattle.scsi_file.specs.FileStore.{medium_of};
 ghost use Rattle.scsi_file.specs.HostFile.{blocks_of};
-ghost use Rattle.iscsi_serve_words.specs.Storage.{HasAsked, CanBeOpened, IsOther};
+ghost use Rattle.scsi_disk.specs.ReadOnly.{store_in};
+ghost use Rattle.iscsi_serve_words.specs.Storage.{CanBeOpened, HasAsked, IsAsked, IsOther, IsOtherImage, asked_by};
 
 use crate::nbd_storage::NbdExport;
-use scsi_disk::BlockStore;
+use scsi_disk::{BlockStore, ReadOnly};
 use scsi_file::{FileStore, HostFile, OpenFault};
 use std::rt::Files;
 use thiserror::Error;
@@ -18,6 +19,20 @@ pub enum Origin {
     Found { blocks: Option<u64> },
     /// It is made, of `n` blocks of 00, 1 to 2^40.
     New { blocks: u64 },
+}
+
+impl Origin {
+    ghost use Rattle.iscsi_serve_words.specs.Storage.{asked_by};
+
+    // How many blocks are asked for, if a number is.
+    fn blocks(&self) -> Option<u64>
+        ensures { result ≡ asked_by self.now }
+    {
+        match self {
+            Origin::Found { blocks } => *blocks,
+            Origin::New { blocks } => Some(*blocks),
+        }
+    }
 }
 
 /// An image of a disk: a regular file or a block device.
@@ -82,18 +97,22 @@ impl Image<'_> {
     {
         match self.origin {
             Origin::New { blocks } => settled(HostFile::create(rt, self.path, blocks)?),
-            Origin::Found { blocks: None } => settled(HostFile::open(rt, self.path)?),
-            Origin::Found {
-                blocks: Some(asked),
-            } => {
-                let store = settled(HostFile::open(rt, self.path)?)?;
-                let has = store.blocks();
-                if has != asked {
-                    return Err(ImageFault::Size { has, asked });
-                }
-                Ok(store)
-            }
+            Origin::Found { blocks } => sized(settled(HostFile::open(rt, self.path)?)?, blocks),
         }
+    }
+
+    /// The image as a store that can't be written, which other processes may have so at the same time.
+    /// It is there, and has as many blocks as were asked for.
+    pub fn open_read_only(
+        &self,
+        rt: &HostRuntime,
+    ) -> Result<ReadOnly<FileStore<HostFile>>, ImageFault>
+        ensures blocks { IfOk result (λ store.
+            HasAsked self.now.origin (blocks_of (medium_of (store_in store)))) }
+        ensures other { IfErr result (IsOtherImage (asked_by self.now.origin)) }
+    {
+        let store = settled(HostFile::open_read_only(rt, self.path)?)?;
+        Ok(ReadOnly::new(sized(store, self.origin.blocks())?))
     }
 }
 
@@ -106,4 +125,18 @@ fn settled(file: HostFile) -> Result<FileStore<HostFile>, ImageFault>
         Ok(store) => Ok(store),
         Err(_) => Err(ImageFault::Open(OpenFault::NotSynced)),
     }
+}
+
+// The store, if it has as many blocks as were asked for.
+fn sized(store: FileStore<HostFile>, asked: Option<u64>) -> Result<FileStore<HostFile>, ImageFault>
+    ensures blocks { IfOk result (λ store. IsAsked asked (blocks_of (medium_of store))) }
+    ensures other { IfErr result (IsOtherImage asked) }
+{
+    if let Some(asked) = asked {
+        let has = store.blocks();
+        if has != asked {
+            return Err(ImageFault::Size { has, asked });
+        }
+    }
+    Ok(store)
 }

@@ -148,16 +148,16 @@ turn_most w v n had e = omega (arith, e)
 turn_room : (w v n : ℕ) → v ≤ 65_535 + n → v ≤ max w (65_535 + max n 0)
 turn_room w v n le = omega (arith, le)
 
-pub turn_gives : (seat had : ℕ) (old new : Hall) (before after : Store) (result : Result ℕ TargetFault)
-    (t : TakesTurn seat old before result new after) → may_take_at (seat_at old seat) ≡ true → Gives seat had had old (Takes t.turn ∷ []) new
-turn_gives seat had old new before after result t may =
+pub turn_gives : (protected : Bool) (seat had : ℕ) (old new : Hall) (before after : Store) (result : Result ℕ TargetFault)
+    (t : TakesTurn protected seat old before result new after) → may_take_at (seat_at old seat) ≡ true → Gives seat had had old (Takes t.turn ∷ []) new
+turn_gives protected seat had old new before after result t may =
     let n : ℕ = length (canon (answers_of t.turn)) in
     let more : waits_at seat new ≡ waits_at seat old + n =
     ap (λ (x : List ℕ). length x) t.answers_are ∙ length-append (waiting_at (seat_at old seat)) (canon (answers_of t.turn)) in
     record {
       going = λ going. turn_going (waits_at seat old) (waits_at seat new) n had more;
       most = turn_most (waits_at seat old) (waits_at seat new) n had more;
-      waits = turn_room (waits_at seat old) (waits_at seat new) n (turn_waits seat old new before after result t may);
+      waits = turn_room (waits_at seat old) (waits_at seat new) n (turn_waits protected seat old new before after result t may);
     }
 
 -- ---- sessions come and go

@@ -1,5 +1,7 @@
 -- What happens in the hall of a service, as events of that hall (RFC 7143, section 4.2).
-use Rattle.std.specs.Prelude.{◌≡◌, ◌<◌, ◌≤◌, ℕ, zero, suc, ◌+◌, true, false, ◌==◌, nat_lt, if◌then◌else◌, List, [], ◌∷◌, length, None}
+--
+-- `protected` says of the store that it refuses each write.
+use Rattle.std.specs.Prelude.{Bool, ◌≡◌, ◌<◌, ◌≤◌, ℕ, zero, suc, ◌+◌, true, false, ◌==◌, nat_lt, if◌then◌else◌, List, [], ◌∷◌, length, None}
 use Rattle.std.specs.List.{AllByRecursion}
 use Rattle.iscsi_target.specs.Feed.{Store}
 use Rattle.iscsi_hall.specs.Seats.{Hall, seat_at}
@@ -41,22 +43,22 @@ abbrev pub IsAmong : ℕ → Event → Type 0
 IsAmong count e = seat_of e < count
 
 -- Some events at the seats of a hall lead from it and its store to another one, which has as many.
-unfoldable pub RunsWithin : Hall → Store → Hall → Store → Type 0
-RunsWithin old before new after = (length new.seats ≡ length old.seats)
+unfoldable pub RunsWithin : Bool → Hall → Store → Hall → Store → Type 0
+RunsWithin protected old before new after = (length new.seats ≡ length old.seats)
     × (es : List Event) × AllByRecursion (IsAmong (length old.seats)) es
-    × Runs (machines old) before es (machines new) after
+    × Runs protected (machines old) before es (machines new) after
 
 -- Some events do so, and take so many PDUs at each seat at most.
-unfoldable pub RunsFew : (ℕ → ℕ) → Hall → Store → Hall → Store → Type 0
-RunsFew most old before new after = (length new.seats ≡ length old.seats)
+unfoldable pub RunsFew : Bool → (ℕ → ℕ) → Hall → Store → Hall → Store → Type 0
+RunsFew protected most old before new after = (length new.seats ≡ length old.seats)
     × (es : List Event) × AllByRecursion (IsAmong (length old.seats)) es
-    × Runs (machines old) before es (machines new) after
+    × Runs protected (machines old) before es (machines new) after
     × ((k : ℕ) → taken_at k es ≤ most k)
 
 -- Some events do so whatever the store, leave it as it is, take no PDU, and give no peer anything.
 unfoldable pub RunsIdle : Hall → Hall → Type 0
 RunsIdle old new =
-    GivesNothing old new × ((store : Store) → RunsFew (λ k. 0) old store new store)
+    GivesNothing old new × ((protected : Bool) (store : Store) → RunsFew protected (λ k. 0) old store new store)
 
 -- ---- at one seat
 
@@ -70,17 +72,17 @@ IsOfSession seat count e = (seat_of e ≡ seat) × IsAmong count e × KeepsSessi
 
 -- Some events of the session at one seat lead from a hall and its store to another one, which has
 -- as many seats. Every other seat is as it was, and P holds of the events.
-abbrev pub HappensAt : ℕ → Hall → Store → (List Event → Type 0) → Hall → Store → Type 0
-HappensAt seat old before P new after = OthersAreKept seat old new
+abbrev pub HappensAt : Bool → ℕ → Hall → Store → (List Event → Type 0) → Hall → Store → Type 0
+HappensAt protected seat old before P new after = OthersAreKept seat old new
     × (length new.seats ≡ length old.seats)
     × (es : List Event) × AllByRecursion (IsOfSession seat (length old.seats)) es
-    × Runs (machines old) before es (machines new) after
+    × Runs protected (machines old) before es (machines new) after
     × P es
 
 -- Some events of the session at one seat do so. Before them its turn might do as much as `had`
 -- says, and may do as much as `left` says behind them.
-unfoldable pub RunsAt : ℕ → Budget → Budget → Hall → Store → Hall → Store → Type 0
-RunsAt seat had left old before new after = HappensAt seat old before
+unfoldable pub RunsAt : Bool → ℕ → Budget → Budget → Hall → Store → Hall → Store → Type 0
+RunsAt protected seat had left old before new after = HappensAt protected seat old before
     (λ es. ((k : ℕ) → taken_at k es + only seat left.pdus k ≤ only seat had.pdus k)
     × Gives seat had.given left.given old es new)
     new after
@@ -88,12 +90,13 @@ RunsAt seat had left old before new after = HappensAt seat old before
 -- Some events of that session do so whatever the store, leave it as it is, take no PDU, and give
 -- the peer nothing.
 unfoldable pub RunsIdleAt : ℕ → Hall → Hall → Type 0
-RunsIdleAt seat old new = (store : Store) (had : Budget) → RunsAt seat had had old store new store
+RunsIdleAt seat old new =
+    (protected : Bool) (store : Store) (had : Budget) → RunsAt protected seat had had old store new store
 
 -- A turn of the session at one seat. It takes as many PDUs at most as its budget says. It gives
 -- the peer as many bytes at most in all writes but the last one, and in that one what waited.
-unfoldable pub TurnsAt : ℕ → Budget → Hall → Store → Hall → Store → Type 0
-TurnsAt seat budget old before new after = HappensAt seat old before
+unfoldable pub TurnsAt : Bool → ℕ → Budget → Hall → Store → Hall → Store → Type 0
+TurnsAt protected seat budget old before new after = HappensAt protected seat old before
     (λ es. ((k : ℕ) → taken_at k es ≤ only seat budget.pdus k)
     × (given_at seat old es new ≤ budget.given + most_waiting seat old es))
     new after
@@ -101,23 +104,23 @@ TurnsAt seat budget old before new after = HappensAt seat old before
 -- ---- at one seat after another
 
 -- A seat has such a turn, and then sessions come and go.
-unfoldable pub TurnOf : ℕ → Budget → Hall → Store → Hall → Store → Type 0
-TurnOf seat budget old before new after =
-    (left : Hall) × TurnsAt seat budget old before left after × RunsIdle left new
+unfoldable pub TurnOf : Bool → ℕ → Budget → Hall → Store → Hall → Store → Type 0
+TurnOf protected seat budget old before new after =
+    (left : Hall) × TurnsAt protected seat budget old before left after × RunsIdle left new
 
 -- A budget is no more than eight PDUs and 262,144 bytes.
 abbrev pub IsSmall : Budget → Type 0
 IsSmall budget = (budget.pdus ≤ most_taken) × (budget.given ≤ most_given)
 
 -- Sessions come and go, and then each of the first n seats has such a turn, one after another.
-unfoldable pub InTurns : ℕ → Hall → Store → Hall → Store → Type 0
-InTurns zero old before new after = RunsIdle old new × (after ≡ before)
-InTurns (suc n) old before new after = (met : Hall) × (now : Store) × (budget : Budget)
-    × IsSmall budget × InTurns n old before met now × TurnOf n budget met now new after
+unfoldable pub InTurns : Bool → ℕ → Hall → Store → Hall → Store → Type 0
+InTurns protected zero old before new after = RunsIdle old new × (after ≡ before)
+InTurns protected (suc n) old before new after = (met : Hall) × (now : Store) × (budget : Budget)
+    × IsSmall budget × InTurns protected n old before met now × TurnOf protected n budget met now new after
 
 -- Seats have such turns, each of them one at most.
-unfoldable pub RunsInTurns : Hall → Store → Hall → Store → Type 0
-RunsInTurns old before new after = (n : ℕ) × InTurns n old before new after
+unfoldable pub RunsInTurns : Bool → Hall → Store → Hall → Store → Type 0
+RunsInTurns protected old before new after = (n : ℕ) × InTurns protected n old before new after
 
 -- ---- from free seats on
 
@@ -127,8 +130,8 @@ no_sessions place = None
 
 -- What a service of n seats did: its events at these seats, and the sessions in the end. The events
 -- lead from free seats and one store to those sessions and the other store.
-pub record Served (count : ℕ) (before after : Store) : Type 0 where
+pub record Served (protected : Bool) (count : ℕ) (before after : Store) : Type 0 where
   pub events : List Event
   pub few : AllByRecursion (IsAmong count) events
   pub seats : Seats
-  pub runs : Runs no_sessions before events seats after
+  pub runs : Runs protected no_sessions before events seats after

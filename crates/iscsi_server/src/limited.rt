@@ -67,6 +67,10 @@ impl BlockStore for LimitedStore {
 
     ghost lasts = { λ s never synced n c left. left };
 
+    fn is_protected(&self) -> bool {
+        false
+    }
+
     fn blocks(&self) -> u64 {
         self.store.blocks()
     }

@@ -79,7 +79,7 @@ impl Peer {
     ) -> bool
         // It takes as many PDUs at most as the budget says. It gives as many bytes at most in all
         // writes but the last one, which gives no more than what waited.
-        ensures runs { TurnsAt seat budget
+        ensures runs { TurnsAt S.protected seat budget
             hall.old (store_of (S.disk store.old) (S.failures store.old))
             hall.new (store_of (S.disk store.new) (S.failures store.new)) }
         ensures seats { length hall.new.seats ≡ length hall.old.seats }
@@ -130,7 +130,7 @@ impl Peer {
         left: &mut Budget,
     ) -> Step
         requires some { 0 < left.old.pdus }
-        ensures runs { RunsAt seat left.old left.new
+        ensures runs { RunsAt S.protected seat left.old left.new
             hall.old (store_of (S.disk store.old) (S.failures store.old))
             hall.new (store_of (S.disk store.new) (S.failures store.new)) }
         ensures seats { length hall.new.seats ≡ length hall.old.seats }
@@ -156,7 +156,7 @@ impl Peer {
         left: &mut Budget,
     ) -> Step
         requires some { 0 < length (waiting_at (seat_at hall.old seat)) }
-        ensures runs { RunsAt seat left.old left.new
+        ensures runs { RunsAt S.protected seat left.old left.new
             hall.old (store_of (S.disk store.old) (S.failures store.old))
             hall.new (store_of (S.disk store.new) (S.failures store.new)) }
         ensures seats { length hall.new.seats ≡ length hall.old.seats }
@@ -193,7 +193,7 @@ impl Peer {
     ) -> Step
         requires may { may_take_at (seat_at hall.old seat) ≡ true }
         requires some { 0 < left.old.pdus }
-        ensures runs { RunsAt seat left.old left.new
+        ensures runs { RunsAt S.protected seat left.old left.new
             hall.old (store_of (S.disk store.old) (S.failures store.old))
             hall.new (store_of (S.disk store.new) (S.failures store.new)) }
         ensures seats { length hall.new.seats ≡ length hall.old.seats }
@@ -227,7 +227,7 @@ impl Peer {
     )
         requires may { may_take_at (seat_at hall.old seat) ≡ true }
         requires some { 0 < left.old.pdus }
-        ensures runs { RunsAt seat left.old left.new
+        ensures runs { RunsAt S.protected seat left.old left.new
             hall.old (store_of (S.disk store.old) (S.failures store.old))
             hall.new (store_of (S.disk store.new) (S.failures store.new)) }
         ensures seats { length hall.new.seats ≡ length hall.old.seats }

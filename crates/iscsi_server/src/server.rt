@@ -148,20 +148,20 @@ impl<'a> Server<'a> {
     #[tactic(auto, using(crate::proofs::RunningLemmas::none_turns, crate::proofs::RunningLemmas::idle_turns, crate::proofs::RunningLemmas::none_few, crate::proofs::RunningLemmas::none_runs, crate::proofs::RunningLemmas::idle_few, crate::proofs::RunningLemmas::few_runs, crate::proofs::RunningLemmas::none_executed, crate::proofs::RunningLemmas::runs_executed))]
     pub fn turn<S: BlockStore>(&mut self, rt: &HostRuntime, store: &mut S) -> Result<(), ServeFault>
         // Whatever comes of it, it is a run of the hall, of which the laws of `iscsi_hall` speak.
-        ensures runs { RunsWithin
+        ensures runs { RunsWithin S.protected
             self.old.hall (store_of (S.disk store.old) (S.failures store.old))
             self.new.hall (store_of (S.disk store.new) (S.failures store.new)) }
         // Each seat takes eight PDUs at most: so much the others do between two turns of one.
-        ensures few { RunsFew (λ k. most_taken)
+        ensures few { RunsFew S.protected (λ k. most_taken)
             self.old.hall (store_of (S.disk store.old) (S.failures store.old))
             self.new.hall (store_of (S.disk store.new) (S.failures store.new)) }
         // Each seat has one turn at most. All its writes but the last one give the peer 262,144 bytes
         // at most, and the last one gives no more than what waited.
-        ensures turns { RunsInTurns
+        ensures turns { RunsInTurns S.protected
             self.old.hall (store_of (S.disk store.old) (S.failures store.old))
             self.new.hall (store_of (S.disk store.new) (S.failures store.new)) }
         // The blocks are those that commands left.
-        ensures blocks { HasExecuted (S.disk store.old) (S.disk store.new) }
+        ensures blocks { HasExecuted S.protected (S.disk store.old) (S.disk store.new) }
         ensures seats { length self.new.hall.seats ≡ length self.old.hall.seats }
         ensures sessions { self.new.sessions ≡ self.old.sessions }
         ensures logins { self.old.logins ≤ self.new.logins }

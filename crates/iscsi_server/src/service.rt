@@ -35,11 +35,11 @@ pub fn serve_at_once<S: BlockStore>(
     requires service { IsService options }
     // Whatever comes of it, it was a run of a hall from free seats on, of which the laws of
     // `iscsi_hall` speak.
-    ensures served { Served options.entry.at_once
+    ensures served { Served S.protected options.entry.at_once
         (store_of (S.disk store.old) (S.failures store.old))
         (store_of (S.disk store.new) (S.failures store.new)) }
     // The blocks are those that commands left.
-    ensures blocks { HasExecuted (S.disk store.old) (S.disk store.new) }
+    ensures blocks { HasExecuted S.protected (S.disk store.old) (S.disk store.new) }
     ensures ends { IfErr result (λ fault. EndsService fault ⊎ (fault ≡ serve.Write)) }
 {
     allow_seats(rt, options.at_once)?;
@@ -105,7 +105,7 @@ fn serve_all<S: BlockStore>(
     server: &mut Server<'_>,
     store: &mut S,
 ) -> Result<(), ServeFault>
-    ensures runs { RunsWithin
+    ensures runs { RunsWithin S.protected
         server.old.hall (store_of (S.disk store.old) (S.failures store.old))
         server.new.hall (store_of (S.disk store.new) (S.failures store.new)) }
     ensures ends { IfErr result EndsService }

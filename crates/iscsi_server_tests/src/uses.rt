@@ -16,11 +16,11 @@ use scsi_disk::BlockStore;
 /// after another.
 pub fn serve<S: BlockStore>(rt: &HostRuntime, options: Options<'_>, store: &mut S) -> bool
     requires service { IsService options }
-    ensures blocks { (s : Served options.entry.at_once
+    ensures blocks { (s : Served S.protected options.entry.at_once
         (store_of (S.disk store.old) (S.failures store.old))
         (store_of (S.disk store.new) (S.failures store.new)))
         × (S.failures store.new ≡ S.failures store.old
-        → Follows (S.disk store.old) (executed_in s.events) (S.disk store.new)) }
+        → Follows S.protected (S.disk store.old) (executed_in s.events) (S.disk store.new)) }
 {
     one_disk_of_all();
     serve_at_once(rt, options, store).is_ok()

@@ -44,9 +44,9 @@ use Rattle.iscsi_service.specs.Session.{ended_by, Receives, ServesFirst, IsOver,
 use Rattle.iscsi_service.specs.declared.session_fault.SessionFault.TheVariants as session
 
 -- memory ran out before anything was read
-pub none_served : (settings : Settings) (disk : Disk) → ServesFirst settings disk [] disk []
+pub none_served : (protected : Bool) (settings : Settings) (disk : Disk) → ServesFirst protected settings disk [] disk []
 unfolding answers ReadsAs
-none_served settings disk = record {
+none_served protected settings disk = record {
   receives = record { messages = []; given = []; rest = []; whole = refl; reads = refl };
   front = unchanged (opening settings 1) disk;
   stops = inl refl;
@@ -57,37 +57,37 @@ none_served settings disk = record {
 -- ---- a session that goes on
 
 -- the target has answered all PDUs of the stream, and none is ready
-pub record Stands (settings : Settings) (disk : Disk) (bytes : List ℕ) (now : Connection) (disk_now : Disk) (written : List ℕ) : Type 0 where
-  pub has : HasAnswered (beginning settings 1 disk) bytes now disk_now written
+pub record Stands (protected : Bool) (settings : Settings) (disk : Disk) (bytes : List ℕ) (now : Connection) (disk_now : Disk) (written : List ℕ) : Type 0 where
+  pub has : HasAnswered protected (beginning settings 1 disk) bytes now disk_now written
   pub ready : is_ready now.framing ≡ false
   pub bound : now.framing.limit ≡ limit settings
 
 -- a target to which nothing came
-pub stands_first : (settings : Settings) (disk : Disk) → Stands settings disk [] (opening_connection settings 1) disk []
+pub stands_first : (protected : Bool) (settings : Settings) (disk : Disk) → Stands protected settings disk [] (opening_connection settings 1) disk []
 unfolding answers
-stands_first settings disk = record {
+stands_first protected settings disk = record {
   has = record { messages = []; taken = at_opening (limit settings); machine = refl; disk_is = refl; output_is = refl };
   ready = not_whole-nil;
   bound = refl;
 }
 
 -- a broken rule closes the session
-works_close : (old : Connection) (before : Store) (out bytes : List ℕ) (framing : Framing) (more : List Message) (r : Stepped) (after : Store) →
-    Answers old before bytes (progress framing more r) after
+works_close : (protected : Bool) (old : Connection) (before : Store) (out bytes : List ℕ) (framing : Framing) (more : List Message) (r : Stepped) (after : Store) →
+    Answers protected old before bytes (progress framing more r) after
     → after.failures ≡ before.failures → (rule : ℕ) → r.rule ≡ Some rule → is_closed r.machine ≡ true
-works_close old before out bytes framing more r after a works rule e =
-    let is : r ≡ answers old.machine before.disk more = a.works works in
-    ap (λ (x : Stepped). is_closed x.machine) is ∙ answers_close old.machine before.disk more rule (ap (λ (x : Stepped). x.rule) (sym is) ∙ e)
+works_close protected old before out bytes framing more r after a works rule e =
+    let is : r ≡ answers protected old.machine before.disk more = a.works works in
+    ap (λ (x : Stepped). is_closed x.machine) is ∙ answers_close protected old.machine before.disk more rule (ap (λ (x : Stepped). x.rule) (sym is) ∙ e)
 
 -- where memory ran out, the session is closed
-short_closed : (result : Result Phase TargetFault) (out : List ℕ) (framing : Framing) (rest : List ℕ) (r : Stepped) (counted : ℕ) (new : Machine)
-    (after : Store) (written : List ℕ) → feed.LeavesBy result out (feed.remainder framing rest r counted) new after written
+short_closed : (protected : Bool) (result : Result Phase TargetFault) (out : List ℕ) (framing : Framing) (rest : List ℕ) (r : Stepped) (counted : ℕ) (new : Machine)
+    (after : Store) (written : List ℕ) → feed.LeavesBy protected result out (feed.remainder framing rest r counted) new after written
     → result ≡ Err faults.NoMemory → is_closed new ≡ true
-short_closed (Ok phase) out framing rest r counted new after written h e = absurd cc
-short_closed (Err faults.NoMemory) out framing rest r counted new after written h e = ap is_closed h.shut
-short_closed (Err (faults.Stream fault)) out framing rest r counted new after written h e = absurd cc
-short_closed (Err (faults.Protocol rule)) out framing rest r counted new after written h e = absurd cc
-short_closed (Err faults.Closed) out framing rest r counted new after written h e = absurd cc
+short_closed protected (Ok phase) out framing rest r counted new after written h e = absurd cc
+short_closed protected (Err faults.NoMemory) out framing rest r counted new after written h e = ap is_closed h.shut
+short_closed protected (Err (faults.Stream fault)) out framing rest r counted new after written h e = absurd cc
+short_closed protected (Err (faults.Protocol rule)) out framing rest r counted new after written h e = absurd cc
+short_closed protected (Err faults.Closed) out framing rest r counted new after written h e = absurd cc
 
 framing_kept : (piece : List ℕ) (result : Result Phase TargetFault) (framing : Framing) (n : ℕ) (r : Stepped) (new : Connection) →
     Ends piece result framing n r new → (result ≡ Err faults.NoMemory → is_closed new.machine ≡ true) →
@@ -103,16 +103,16 @@ framing_kept piece (Err (faults.Stream fault)) framing n r new e short closes li
 framing_kept piece (Err (faults.Protocol rule)) framing n r new e short closes live = absurd (apart (ap is_closed e.1 ∙ closes rule e.0) live)
 framing_kept piece (Err faults.Closed) framing n r new e short closes live = absurd e
 
-stands_more : (settings : Settings) (disk : Disk) (bytes : List ℕ) (old : Connection) (before : Store) (out piece : List ℕ) (result : Result Phase TargetFault)
+stands_more : (protected : Bool) (settings : Settings) (disk : Disk) (bytes : List ℕ) (old : Connection) (before : Store) (out piece : List ℕ) (result : Result Phase TargetFault)
     (new : Connection) (after : Store) (written : List ℕ)
-    → Stands settings disk bytes old before.disk out → Feeds (scene old before out) piece result (scene new after written) → after.failures ≡ before.failures →
-    is_closed new.machine ≡ false → Stands settings disk (bytes ++ piece) new after.disk written
-stands_more settings disk bytes old before out piece result new after written s f works live =
+    → Stands protected settings disk bytes old before.disk out → Feeds protected (scene old before out) piece result (scene new after written) → after.failures ≡ before.failures →
+    is_closed new.machine ≡ false → Stands protected settings disk (bytes ++ piece) new after.disk written
+stands_more protected settings disk bytes old before out piece result new after written s f works live =
     let kept : new.framing ≡ f.framing =
-    framing_kept piece result f.framing f.count f.stepped new f.ends (short_closed result out f.framing (drop f.count piece) f.stepped f.answered.failures
-    new.machine after written f.leaves) (works_close old before out (take f.count piece) f.framing f.messages f.stepped after f.answered works) live in
+    framing_kept piece result f.framing f.count f.stepped new f.ends (short_closed protected result out f.framing (drop f.count piece) f.stepped f.answered.failures
+    new.machine after written f.leaves) (works_close protected old before out (take f.count piece) f.framing f.messages f.stepped after f.answered works) live in
     record {
-      has = goes_on settings 1 disk bytes old before out piece result new after written f works live s.has;
+      has = goes_on protected settings 1 disk bytes old before out piece result new after written f works live s.has;
       ready = ap is_ready kept ∙ f.answered.ready;
       bound = ap (λ (v : Framing). v.limit) kept ∙ f.answered.limit ∙ s.bound;
     }
@@ -122,42 +122,42 @@ either true = inl refl
 either false = inr refl
 
 -- a closed session stays closed
-stay_closed : (old new : Connection) (before after : Store) (out piece written : List ℕ) (result : Result Phase TargetFault)
-    → is_closed old.machine ≡ true → Fed (scene old before out) piece result (scene new after written) → is_closed new.machine ≡ true
-stay_closed old new before after out piece written result c f =
+stay_closed : (protected : Bool) (old new : Connection) (before after : Store) (out piece written : List ℕ) (result : Result Phase TargetFault)
+    → is_closed old.machine ≡ true → Fed protected (scene old before out) piece result (scene new after written) → is_closed new.machine ≡ true
+stay_closed protected old new before after out piece written result c f =
     let s : Stays (scene old before out) result (scene new after written) =
-    subst (λ (b : Bool). FedIf b (scene old before out) piece result (scene new after written)) c f in
+    subst (λ (b : Bool). FedIf protected b (scene old before out) piece result (scene new after written)) c f in
     ap (λ (x : Connection). is_closed x.machine) s.connection ∙ c
 
-all_closed : (pieces : List (List ℕ)) (old now : Connection) (before store : Store) (out written : List ℕ) → is_closed old.machine ≡ true →
-    FedAll (scene old before out) pieces (scene now store written) → is_closed now.machine ≡ true
+all_closed : (protected : Bool) (pieces : List (List ℕ)) (old now : Connection) (before store : Store) (out written : List ℕ) → is_closed old.machine ≡ true →
+    FedAll protected (scene old before out) pieces (scene now store written) → is_closed now.machine ≡ true
 unfolding FedAll
-all_closed [] old now before store out written c f = ap (λ (x : Connection). is_closed x.machine) f.0 ∙ c
-all_closed (p ∷ pieces) old now before store out written c f = all_closed pieces f.1 now f.2 store f.3 written
-    (stay_closed old f.1 before f.2 out p f.3 f.0 c f.4) f.6
+all_closed protected [] old now before store out written c f = ap (λ (x : Connection). is_closed x.machine) f.0 ∙ c
+all_closed protected (p ∷ pieces) old now before store out written c f = all_closed protected pieces f.1 now f.2 store f.3 written
+    (stay_closed protected old f.1 before f.2 out p f.3 f.0 c f.4) f.6
 
 -- in a session that is not closed all PDUs are answered
-pub stands_answered : (settings : Settings) (disk : Disk) (bytes : List ℕ) (pieces : List (List ℕ)) (old now : Connection) (before store : Store)
+pub stands_answered : (protected : Bool) (settings : Settings) (disk : Disk) (bytes : List ℕ) (pieces : List (List ℕ)) (old now : Connection) (before store : Store)
     (out written : List ℕ)
-    → Stands settings disk bytes old before.disk out → FedAll (scene old before out) pieces (scene now store written) → is_closed now.machine ≡ false →
-    Stands settings disk (bytes ++ stream_of pieces) now store.disk written
+    → Stands protected settings disk bytes old before.disk out → FedAll protected (scene old before out) pieces (scene now store written) → is_closed now.machine ≡ false →
+    Stands protected settings disk (bytes ++ stream_of pieces) now store.disk written
 unfolding FedAll
-stands_answered settings disk bytes [] old now before store out written h f live =
-    subst (λ (x : List ℕ). Stands settings disk x now store.disk written) (sym (append-nil bytes))
-    (subst (λ (x : List ℕ). Stands settings disk bytes now store.disk x) (sym f.2)
-    (subst (λ (x : Store). Stands settings disk bytes now x.disk out) (sym f.1)
-    (subst (λ (x : Connection). Stands settings disk bytes x before.disk out) (sym f.0) h)))
-stands_answered settings disk bytes (p ∷ pieces) old now before store out written h f live =
+stands_answered protected settings disk bytes [] old now before store out written h f live =
+    subst (λ (x : List ℕ). Stands protected settings disk x now store.disk written) (sym (append-nil bytes))
+    (subst (λ (x : List ℕ). Stands protected settings disk bytes now store.disk x) (sym f.2)
+    (subst (λ (x : Store). Stands protected settings disk bytes now x.disk out) (sym f.1)
+    (subst (λ (x : Connection). Stands protected settings disk bytes x before.disk out) (sym f.0) h)))
+stands_answered protected settings disk bytes (p ∷ pieces) old now before store out written h f live =
     elim (either (is_closed old.machine)) [
-      | inl c ↦ absurd (apart (all_closed pieces f.1 now f.2 store f.3 written (stay_closed old f.1 before f.2 out p f.3 f.0 c f.4) f.6) live)
+      | inl c ↦ absurd (apart (all_closed protected pieces f.1 now f.2 store f.3 written (stay_closed protected old f.1 before f.2 out p f.3 f.0 c f.4) f.6) live)
       | inr o ↦ elim (either (is_closed f.1.machine)) [
-        | inl c ↦ absurd (apart (all_closed pieces f.1 now f.2 store f.3 written c f.6) live)
+        | inl c ↦ absurd (apart (all_closed protected pieces f.1 now f.2 store f.3 written c f.6) live)
         | inr l ↦
-            let one : Feeds (scene old before out) p f.0 (scene f.1 f.2 f.3) =
-            subst (λ (b : Bool). FedIf b (scene old before out) p f.0 (scene f.1 f.2 f.3)) o f.4 in
-            subst (λ (x : List ℕ). Stands settings disk x now store.disk written) (append_assoc bytes p (stream_of pieces))
-            (stands_answered settings disk (bytes ++ p) pieces f.1 now f.2 store f.3 written
-            (stands_more settings disk bytes old before out p f.0 f.1 f.2 f.3 h one f.5.device l) f.6 live)
+            let one : Feeds protected (scene old before out) p f.0 (scene f.1 f.2 f.3) =
+            subst (λ (b : Bool). FedIf protected b (scene old before out) p f.0 (scene f.1 f.2 f.3)) o f.4 in
+            subst (λ (x : List ℕ). Stands protected settings disk x now store.disk written) (append_assoc bytes p (stream_of pieces))
+            (stands_answered protected settings disk (bytes ++ p) pieces f.1 now f.2 store f.3 written
+            (stands_more protected settings disk bytes old before out p f.0 f.1 f.2 f.3 h one f.5.device l) f.6 live)
       ]
     ]
 
@@ -168,28 +168,28 @@ none_of None f = refl
 none_of (Some k) f = absurd (f k refl)
 
 -- no rule was broken in a session that goes on
-none_broken : (settings : Settings) (disk : Disk) (ms : List Message) → is_closed (answers (opening settings 1) disk ms).machine ≡ false →
-    (answers (opening settings 1) disk ms).rule ≡ None
-none_broken settings disk ms live =
-    none_of (answers (opening settings 1) disk ms).rule (λ k e. apart (answers_close (opening settings 1) disk ms k e) live)
+none_broken : (protected : Bool) (settings : Settings) (disk : Disk) (ms : List Message) → is_closed (answers protected (opening settings 1) disk ms).machine ≡ false →
+    (answers protected (opening settings 1) disk ms).rule ≡ None
+none_broken protected settings disk ms live =
+    none_of (answers protected (opening settings 1) disk ms).rule (λ k e. apart (answers_close protected (opening settings 1) disk ms k e) live)
 
 -- the rule that the PDUs of a call broke is that of all PDUs
-rule_of : (settings : Settings) (disk : Disk) (taken : List ℕ) (old : Connection) (before : Store) (out bytes : List ℕ) (framing : Framing)
+rule_of : (protected : Bool) (settings : Settings) (disk : Disk) (taken : List ℕ) (old : Connection) (before : Store) (out bytes : List ℕ) (framing : Framing)
     (more : List Message) (r : Stepped) (after : Store)
-    → (h : HasAnswered (beginning settings 1 disk) taken old before.disk out) → is_closed old.machine ≡ false
-    → Answers old before bytes (progress framing more r) after →
+    → (h : HasAnswered protected (beginning settings 1 disk) taken old before.disk out) → is_closed old.machine ≡ false
+    → Answers protected old before bytes (progress framing more r) after →
     after.failures ≡ before.failures
-    → r.rule ≡ (answers (opening settings 1) disk (h.messages ++ more)).rule
-rule_of settings disk taken old before out bytes framing more r after h live a works =
-    let first : Stepped = answers (opening settings 1) disk h.messages in
-    let later : Stepped = answers first.machine first.disk more in
+    → r.rule ≡ (answers protected (opening settings 1) disk (h.messages ++ more)).rule
+rule_of protected settings disk taken old before out bytes framing more r after h live a works =
+    let first : Stepped = answers protected (opening settings 1) disk h.messages in
+    let later : Stepped = answers protected first.machine first.disk more in
     let e : joined_stepped r ≡ joined_stepped later =
     ap joined_stepped (a.works works)
-    ∙ ap (λ (s : Machine). joined_stepped (answers s before.disk more)) h.machine
-    ∙ ap (λ (d : Disk). joined_stepped (answers (joined first.machine) d more)) h.disk_is
-    ∙ answers_joined first.machine first.disk more in
-    let both : answers (opening settings 1) disk (h.messages ++ more) ≡ then_stepped first later = answers_append (opening settings 1) disk h.messages more in
-    let none : first.rule ≡ None = none_broken settings disk h.messages (sym (ap is_closed h.machine) ∙ live) in
+    ∙ ap (λ (s : Machine). joined_stepped (answers protected s before.disk more)) h.machine
+    ∙ ap (λ (d : Disk). joined_stepped (answers protected (joined first.machine) d more)) h.disk_is
+    ∙ answers_joined protected first.machine first.disk more in
+    let both : answers protected (opening settings 1) disk (h.messages ++ more) ≡ then_stepped first later = answers_append protected (opening settings 1) disk h.messages more in
+    let none : first.rule ≡ None = none_broken protected settings disk h.messages (sym (ap is_closed h.machine) ∙ live) in
     ap (λ (x : Stepped). x.rule) e ∙ sym (ap (λ (o : Option ℕ). first_rule o later.rule) none) ∙ ap (λ (x : Stepped). x.rule) (sym both)
 
 -- the PDUs that a framer gave up, and what follows them
@@ -254,103 +254,103 @@ rest_ends most bytes ms v stream.Failed t bound fails = absurd (apart fails t.li
 -- ---- why a session ends
 
 -- where it goes on
-stands_on : (settings : Settings) (disk : Disk) (bytes : List ℕ) (now : Connection) (disk_now : Disk) (written : List ℕ) →
-    (s : Stands settings disk bytes now disk_now written) → is_closed now.machine ≡ false
-    → GoesOnBehind settings disk bytes (receives_all settings bytes s.has.messages now.framing s.has.taken s.bound)
-stands_on settings disk bytes now disk_now written s live =
-    let open_ : is_closed (answers (opening settings 1) disk s.has.messages).machine ≡ false = sym (ap is_closed s.has.machine) ∙ live in
-    (none_broken settings disk s.has.messages open_, open_)
+stands_on : (protected : Bool) (settings : Settings) (disk : Disk) (bytes : List ℕ) (now : Connection) (disk_now : Disk) (written : List ℕ) →
+    (s : Stands protected settings disk bytes now disk_now written) → is_closed now.machine ≡ false
+    → GoesOnBehind protected settings disk bytes (receives_all settings bytes s.has.messages now.framing s.has.taken s.bound)
+stands_on protected settings disk bytes now disk_now written s live =
+    let open_ : is_closed (answers protected (opening settings 1) disk s.has.messages).machine ≡ false = sym (ap is_closed s.has.machine) ∙ live in
+    (none_broken protected settings disk s.has.messages open_, open_)
 
-pub read_told : (settings : Settings) (disk : Disk) (bytes : List ℕ) (now : Connection) (disk_now : Disk) (written : List ℕ) →
-    Stands settings disk bytes now disk_now written → is_closed now.machine ≡ false
-    → EndsBy settings disk (Err session.Read) bytes
-read_told settings disk bytes now disk_now written s live =
+pub read_told : (protected : Bool) (settings : Settings) (disk : Disk) (bytes : List ℕ) (now : Connection) (disk_now : Disk) (written : List ℕ) →
+    Stands protected settings disk bytes now disk_now written → is_closed now.machine ≡ false
+    → EndsBy protected settings disk (Err session.Read) bytes
+read_told protected settings disk bytes now disk_now written s live =
     let v : Framing = now.framing in
     let t : HasTaken bytes s.has.messages v = s.has.taken in
     let part : is_whole t.rest ≡ false = sym (is_whole-settled t.rest) ∙ ap is_whole (sym t.held) ∙ unready_of v.failed v.held t.live s.ready in
     let begun : IsBegun (limit settings) t.rest = subst (λ (n : ℕ). IsBegun n t.rest) s.bound t.begun in (
       receives_all settings bytes s.has.messages v t s.bound,
-      stands_on settings disk bytes now disk_now written s live,
+      stands_on protected settings disk bytes now disk_now written s live,
       begun,
       no_pdu_begun (limit settings) t.rest begun part,
     )
 
-pub end_told : (settings : Settings) (disk : Disk) (bytes : List ℕ) (now new : Connection) (disk_now : Disk) (written : List ℕ) →
-    Stands settings disk bytes now disk_now written → is_closed now.machine ≡ false → Finishes now (Ok tt) new
-    → (receives : Receives settings bytes) × GoesOnBehind settings disk bytes receives × (receives.rest ≡ [])
-end_told settings disk bytes now new disk_now written s live done =
+pub end_told : (protected : Bool) (settings : Settings) (disk : Disk) (bytes : List ℕ) (now new : Connection) (disk_now : Disk) (written : List ℕ) →
+    Stands protected settings disk bytes now disk_now written → is_closed now.machine ≡ false → Finishes now (Ok tt) new
+    → (receives : Receives settings bytes) × GoesOnBehind protected settings disk bytes receives × (receives.rest ≡ [])
+end_told protected settings disk bytes now new disk_now written s live done =
     let t : HasTaken bytes s.has.messages now.framing = s.has.taken in (
       receives_all settings bytes s.has.messages now.framing t s.bound,
-      stands_on settings disk bytes now disk_now written s live,
+      stands_on protected settings disk bytes now disk_now written s live,
       nil_from_length t.rest (omega (arith, ap length done.2, ap length t.held, length-settled t.rest)),
     )
 
-pub finish_told : (fault : TargetFault) (settings : Settings) (disk : Disk) (bytes : List ℕ) (now new : Connection) (disk_now : Disk) (written : List ℕ) →
-    Stands settings disk bytes now disk_now written → is_closed now.machine ≡ false
-    → Finishes now (Err fault) new → EndsBy settings disk (Err (ended_by fault)) bytes
-finish_told (faults.Stream fault) settings disk bytes now new disk_now written s live fails = (
+pub finish_told : (protected : Bool) (fault : TargetFault) (settings : Settings) (disk : Disk) (bytes : List ℕ) (now new : Connection) (disk_now : Disk) (written : List ℕ) →
+    Stands protected settings disk bytes now disk_now written → is_closed now.machine ≡ false
+    → Finishes now (Err fault) new → EndsBy protected settings disk (Err (ended_by fault)) bytes
+finish_told protected (faults.Stream fault) settings disk bytes now new disk_now written s live fails = (
   receives_all settings bytes s.has.messages now.framing s.has.taken s.bound,
-  stands_on settings disk bytes now disk_now written s live,
+  stands_on protected settings disk bytes now disk_now written s live,
   rest_ends (limit settings) bytes s.has.messages now.framing fault s.has.taken s.bound fails.1,
 )
-finish_told faults.NoMemory settings disk bytes now new disk_now written s live fails = absurd fails
-finish_told (faults.Protocol rule) settings disk bytes now new disk_now written s live fails = absurd fails
-finish_told faults.Closed settings disk bytes now new disk_now written s live fails = absurd (apart fails.0 live)
+finish_told protected faults.NoMemory settings disk bytes now new disk_now written s live fails = absurd fails
+finish_told protected (faults.Protocol rule) settings disk bytes now new disk_now written s live fails = absurd fails
+finish_told protected faults.Closed settings disk bytes now new disk_now written s live fails = absurd (apart fails.0 live)
 
 -- what a call fed, behind what was answered
-abbrev fed_receives : (settings : Settings) (disk : Disk) (bytes piece : List ℕ) (old new : Connection) (before after : Store) (out written : List ℕ)
-    (result : Result Phase TargetFault) → Stands settings disk bytes old before.disk out
-    → Feeds (scene old before out) piece result (scene new after written) → Receives settings (bytes ++ piece)
-fed_receives settings disk bytes piece old new before after out written result s f =
+abbrev fed_receives : (protected : Bool) → (settings : Settings) (disk : Disk) (bytes piece : List ℕ) (old new : Connection) (before after : Store) (out written : List ℕ)
+    (result : Result Phase TargetFault) → Stands protected settings disk bytes old before.disk out
+    → Feeds protected (scene old before out) piece result (scene new after written) → Receives settings (bytes ++ piece)
+fed_receives protected settings disk bytes piece old new before after out written result s f =
     receives_of settings (bytes ++ piece) (bytes ++ take f.count piece) (drop f.count piece)
     (s.has.messages ++ f.messages) f.framing (f.answered.taken bytes s.has.messages s.has.taken) (f.answered.limit ∙ s.bound) (whole_is bytes piece f.count)
 
-fed_told : (settings : Settings) (disk : Disk) (bytes piece : List ℕ) (old new : Connection) (before after : Store) (out written : List ℕ)
-    (result : Result Phase TargetFault) → (s : Stands settings disk bytes old before.disk out)
-    → (f : Feeds (scene old before out) piece result (scene new after written)) → feed.Stands out f.stepped f.answered.failures after written
+fed_told : (protected : Bool) (settings : Settings) (disk : Disk) (bytes piece : List ℕ) (old new : Connection) (before after : Store) (out written : List ℕ)
+    (result : Result Phase TargetFault) → (s : Stands protected settings disk bytes old before.disk out)
+    → (f : Feeds protected (scene old before out) piece result (scene new after written)) → feed.Stands out f.stepped f.answered.failures after written
     → after.failures ≡ before.failures
-    → Told (beginning settings 1 disk) (s.has.messages ++ f.messages) f.stepped after.disk written
-fed_told settings disk bytes piece old new before after out written result s f left works =
-    told settings 1 disk bytes old before out (take f.count piece) f.framing f.messages f.stepped f.answered.failures after written s.has f.answered left works
+    → Told protected (beginning settings 1 disk) (s.has.messages ++ f.messages) f.stepped after.disk written
+fed_told protected settings disk bytes piece old new before after out written result s f left works =
+    told protected settings 1 disk bytes old before out (take f.count piece) f.framing f.messages f.stepped f.answered.failures after written s.has f.answered left works
 
-fed_rule : (settings : Settings) (disk : Disk) (bytes piece : List ℕ) (old new : Connection) (before after : Store) (out written : List ℕ)
-    (result : Result Phase TargetFault) → (s : Stands settings disk bytes old before.disk out)
-    → is_closed old.machine ≡ false → (f : Feeds (scene old before out) piece result (scene new after written)) → after.failures ≡ before.failures →
-    (answers (opening settings 1) disk (s.has.messages ++ f.messages)).rule ≡ f.stepped.rule
-fed_rule settings disk bytes piece old new before after out written result s live f works =
-    sym (rule_of settings disk bytes old before out (take f.count piece) f.framing f.messages f.stepped after s.has live f.answered works)
+fed_rule : (protected : Bool) (settings : Settings) (disk : Disk) (bytes piece : List ℕ) (old new : Connection) (before after : Store) (out written : List ℕ)
+    (result : Result Phase TargetFault) → (s : Stands protected settings disk bytes old before.disk out)
+    → is_closed old.machine ≡ false → (f : Feeds protected (scene old before out) piece result (scene new after written)) → after.failures ≡ before.failures →
+    (answers protected (opening settings 1) disk (s.has.messages ++ f.messages)).rule ≡ f.stepped.rule
+fed_rule protected settings disk bytes piece old new before after out written result s live f works =
+    sym (rule_of protected settings disk bytes old before out (take f.count piece) f.framing f.messages f.stepped after s.has live f.answered works)
 
-pub fault_told : (fault : TargetFault) (settings : Settings) (disk : Disk) (bytes piece : List ℕ) (old new : Connection) (before after : Store)
-    (out written : List ℕ) → Stands settings disk bytes old before.disk out
-    → is_closed old.machine ≡ false → Feeds (scene old before out) piece (Err fault) (scene new after written) → after.failures ≡ before.failures →
-    EndsBy settings disk (Err (ended_by fault)) (bytes ++ piece)
-fault_told (faults.Stream fault) settings disk bytes piece old new before after out written s live f works =
+pub fault_told : (protected : Bool) (fault : TargetFault) (settings : Settings) (disk : Disk) (bytes piece : List ℕ) (old new : Connection) (before after : Store)
+    (out written : List ℕ) → Stands protected settings disk bytes old before.disk out
+    → is_closed old.machine ≡ false → Feeds protected (scene old before out) piece (Err fault) (scene new after written) → after.failures ≡ before.failures →
+    EndsBy protected settings disk (Err (ended_by fault)) (bytes ++ piece)
+fault_told protected (faults.Stream fault) settings disk bytes piece old new before after out written s live f works =
     let result : Result Phase TargetFault = Err (faults.Stream fault) in
-    let t = fed_told settings disk bytes piece old new before after out written result s f f.leaves works in (
-      fed_receives settings disk bytes piece old new before after out written result s f,
-      (fed_rule settings disk bytes piece old new before after out written result s live f works ∙ f.ends.0.rule, sym (ap is_closed t.machine) ∙ f.ends.0.live),
+    let t = fed_told protected settings disk bytes piece old new before after out written result s f f.leaves works in (
+      fed_receives protected settings disk bytes piece old new before after out written result s f,
+      (fed_rule protected settings disk bytes piece old new before after out written result s live f works ∙ f.ends.0.rule, sym (ap is_closed t.machine) ∙ f.ends.0.live),
       rest_refused (limit settings) (bytes ++ take f.count piece) (s.has.messages
           ++ f.messages) f.framing (drop f.count piece) fault (f.answered.taken bytes s.has.messages s.has.taken)
           (f.answered.limit ∙ s.bound) f.ends.1 f.ends.2,
     )
-fault_told (faults.Protocol rule) settings disk bytes piece old new before after out written s live f works =
+fault_told protected (faults.Protocol rule) settings disk bytes piece old new before after out written s live f works =
     let result : Result Phase TargetFault = Err (faults.Protocol rule) in (
-      fed_receives settings disk bytes piece old new before after out written result s f,
-      fed_rule settings disk bytes piece old new before after out written result s live f works ∙ f.ends.0,
+      fed_receives protected settings disk bytes piece old new before after out written result s f,
+      fed_rule protected settings disk bytes piece old new before after out written result s live f works ∙ f.ends.0,
     )
-fault_told faults.NoMemory settings disk bytes piece old new before after out written s live f works = tt
-fault_told faults.Closed settings disk bytes piece old new before after out written s live f works = absurd f.ends
+fault_told protected faults.NoMemory settings disk bytes piece old new before after out written s live f works = tt
+fault_told protected faults.Closed settings disk bytes piece old new before after out written s live f works = absurd f.ends
 
 -- where memory ran out, the PDUs before were answered, and perhaps some tasks of the next one
-first_front : (settings : Settings) (disk : Disk) (read out : List ℕ) (framing : Framing) (rest : List ℕ) (r : Stepped) (counted : ℕ) (new : Machine)
+first_front : (protected : Bool) (settings : Settings) (disk : Disk) (read out : List ℕ) (framing : Framing) (rest : List ℕ) (r : Stepped) (counted : ℕ) (new : Machine)
     (after : Store) (written : List ℕ) (receives : Receives settings read)
-    → Told (beginning settings 1 disk) receives.messages r r.disk (out ++ canon r.answers) → after.failures ≡ counted →
-    (l : StopsShort out (remainder framing rest r counted) new after written)
+    → Told protected (beginning settings 1 disk) receives.messages r r.disk (out ++ canon r.answers) → after.failures ≡ counted →
+    (l : StopsShort protected out (remainder framing rest r counted) new after written)
     → ((message : Message) (next : Framing) (n : ℕ) → Moves framing next (take n rest) (message ∷ []) → next.limit ≡ framing.limit →
     (more : Receives settings read) × (more.messages ≡ receives.messages ++ message ∷ []))
-    → ServesFirst settings disk read after.disk written
-first_front settings disk read out framing rest r counted new after written receives t same l receive =
-    let all : Stepped = led settings disk read receives in
+    → ServesFirst protected settings disk read after.disk written
+first_front protected settings disk read out framing rest r counted new after written receives t same l receive =
+    let all : Stepped = led protected settings disk read receives in
     let wrote : (q : Stepped) → joined_stepped l.front ≡ joined_stepped q → written ≡ canon (all.answers ++ q.answers) = λ q e.
     l.output_is ∙ ap (λ (x : List ℕ). out ++ x) (canon_append r.answers l.front.answers) ∙ sym (append_assoc out (canon r.answers) (canon l.front.answers))
     ∙ ap (λ (x : List ℕ). x ++ canon l.front.answers) t.output_is ∙ sym (canon_append all.answers l.front.answers)
@@ -361,7 +361,7 @@ first_front settings disk read out framing rest r counted new after written rece
           let e : joined_stepped l.front ≡ joined_stepped q = ap joined_stepped none.0 ∙ (λ i. unchanged (t.machine i) (t.disk_is i)) in
           record { receives = receives; front = q; stops = inl refl; disk_is = l.disk ∙ ap (λ (x : Stepped). x.disk) e; output_is = wrote q e })
       | inr at ↦
-          (let x = stop_as r.machine all.machine r.disk all.disk counted at.message l.front after.failures t.machine t.disk_is at.stops in
+          (let x = stop_as protected r.machine all.machine r.disk all.disk counted at.message l.front after.failures t.machine t.disk_is at.stops in
           let m = receive at.message at.next at.count at.taken at.limit in
           record {
             receives = receives;
@@ -371,21 +371,21 @@ first_front settings disk read out framing rest r counted new after written rece
               more = m.0;
               behind = m.1;
               failures = counted;
-              stops = subst (λ (n : ℕ). MayStop all.machine all.disk counted at.message x.0 n) same x.1;
+              stops = subst (λ (n : ℕ). MayStop protected all.machine all.disk counted at.message x.0 n) same x.1;
             });
             disk_is = l.disk ∙ ap (λ (y : Stepped). y.disk) x.2;
             output_is = wrote x.0 x.2;
           })
     ]
 
-pub first_told : (settings : Settings) (disk : Disk) (bytes piece : List ℕ) (old new : Connection) (before after : Store) (out written : List ℕ) →
-    Stands settings disk bytes old before.disk out
-    → Feeds (scene old before out) piece (Err faults.NoMemory) (scene new after written) → after.failures ≡ before.failures →
-    ServesFirst settings disk (bytes ++ piece) after.disk written
-first_told settings disk bytes piece old new before after out written s f works =
-    let receives : Receives settings (bytes ++ piece) = fed_receives settings disk bytes piece old new before after out written (Err faults.NoMemory) s f in
+pub first_told : (protected : Bool) (settings : Settings) (disk : Disk) (bytes piece : List ℕ) (old new : Connection) (before after : Store) (out written : List ℕ) →
+    Stands protected settings disk bytes old before.disk out
+    → Feeds protected (scene old before out) piece (Err faults.NoMemory) (scene new after written) → after.failures ≡ before.failures →
+    ServesFirst protected settings disk (bytes ++ piece) after.disk written
+first_told protected settings disk bytes piece old new before after out written s f works =
+    let receives : Receives settings (bytes ++ piece) = fed_receives protected settings disk bytes piece old new before after out written (Err faults.NoMemory) s f in
     let mid : Store = record { disk = f.stepped.disk; failures = after.failures } in
-    let a : Answers old before (take f.count piece) (progress f.framing f.messages f.stepped) mid = record {
+    let a : Answers protected old before (take f.count piece) (progress f.framing f.messages f.stepped) mid = record {
       taken = f.answered.taken;
       limit = f.answered.limit;
       ready = f.answered.ready;
@@ -393,13 +393,13 @@ first_told settings disk bytes piece old new before after out written s f works 
       may = f.answered.may;
       works = f.answered.works;
     } in
-    let t = told settings 1 disk bytes old before out (take f.count piece) f.framing f.messages f.stepped after.failures mid (out
+    let t = told protected settings 1 disk bytes old before out (take f.count piece) f.framing f.messages f.stepped after.failures mid (out
     ++ canon f.stepped.answers) s.has a (record { failures = refl; disk = refl; output_is = refl }) works in
-    let low : before.failures ≤ f.answered.failures = may_rise old.machine before.disk before.failures f.messages f.stepped f.answered.failures f.answered.may
+    let low : before.failures ≤ f.answered.failures = may_rise protected old.machine before.disk before.failures f.messages f.stepped f.answered.failures f.answered.may
     in
-    let high : f.answered.failures ≤ after.failures = short_rises out f.framing (drop f.count piece) f.stepped f.answered.failures new.machine after written
+    let high : f.answered.failures ≤ after.failures = short_rises protected out f.framing (drop f.count piece) f.stepped f.answered.failures new.machine after written
     f.leaves in
-    first_front settings disk (bytes ++ piece) out f.framing (drop f.count piece) f.stepped f.answered.failures new.machine after written receives t
+    first_front protected settings disk (bytes ++ piece) out f.framing (drop f.count piece) f.stepped f.answered.failures new.machine after written receives t
     (omega (arith, low, high, works)) f.leaves
     (λ message next n moves limit_. (
       receives_of settings (bytes ++ piece) ((bytes ++ take f.count piece) ++ take n (drop f.count piece)) (drop n (drop f.count piece))
@@ -411,13 +411,13 @@ first_told settings disk bytes piece old new before after out written s f works 
     ))
 
 -- the PDUs of a piece close it
-pub over_told : (phase : Phase) (settings : Settings) (disk : Disk) (bytes piece : List ℕ) (old new : Connection) (before after : Store) (out written : List ℕ)
-    → Stands settings disk bytes old before.disk out → is_closed old.machine ≡ false
-    → Feeds (scene old before out) piece (Ok phase) (scene new after written) → is_closed_phase phase ≡ true → after.failures ≡ before.failures →
-    IsOver settings disk (bytes ++ piece)
-over_told phase settings disk bytes piece old new before after out written s live f over works =
-    let t = fed_told settings disk bytes piece old new before after out written (Ok phase) s f f.leaves works in (
-      fed_receives settings disk bytes piece old new before after out written (Ok phase) s f,
-      fed_rule settings disk bytes piece old new before after out written (Ok phase) s live f works ∙ f.ends.0,
+pub over_told : (protected : Bool) (phase : Phase) (settings : Settings) (disk : Disk) (bytes piece : List ℕ) (old new : Connection) (before after : Store) (out written : List ℕ)
+    → Stands protected settings disk bytes old before.disk out → is_closed old.machine ≡ false
+    → Feeds protected (scene old before out) piece (Ok phase) (scene new after written) → is_closed_phase phase ≡ true → after.failures ≡ before.failures →
+    IsOver protected settings disk (bytes ++ piece)
+over_told protected phase settings disk bytes piece old new before after out written s live f over works =
+    let t = fed_told protected settings disk bytes piece old new before after out written (Ok phase) s f f.leaves works in (
+      fed_receives protected settings disk bytes piece old new before after out written (Ok phase) s f,
+      fed_rule protected settings disk bytes piece old new before after out written (Ok phase) s live f works ∙ f.ends.0,
       sym (ap is_closed t.machine) ∙ sym (ap is_closed_phase f.ends.2) ∙ over,
     )

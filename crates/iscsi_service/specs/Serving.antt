@@ -1,5 +1,7 @@
 -- Sessions over a socket: what they leave, and what ends them.
-use Rattle.std.specs.Prelude.{◌≡◌, ℕ, List, Result, Ok, Err}
+--
+-- `protected` says of the store that it refuses each write.
+use Rattle.std.specs.Prelude.{Bool, ◌≡◌, ℕ, List, Result, Ok, Err}
 use Rattle.scsi_disk.specs.Disk.{Disk}
 use Rattle.iscsi_target.specs.declared.fault.TargetFault.{TargetFault}
 use Rattle.iscsi_target.specs.declared.fault.TargetFault.TheVariants as target
@@ -21,22 +23,22 @@ session_fault session.Write = serve.Write
 
 -- What a session over a socket leaves where it ends, and why it ends so: nothing is done where no
 -- connection was accepted. No fault wraps the want of memory.
-abbrev pub ServesOne : Settings → Disk → Result (Unit {0}) ServeFault → List ℕ → Disk → List ℕ
+abbrev pub ServesOne : Bool → Settings → Disk → Result (Unit {0}) ServeFault → List ℕ → Disk → List ℕ
     → Type 0
-ServesOne settings disk (Ok done) read disk_now written =
-    ServesAll settings disk read disk_now written × EndsBy settings disk (Ok done) read
-ServesOne settings disk (Err (serve.Target target.NoMemory)) read disk_now written = ⊥
-ServesOne settings disk (Err (serve.Target fault)) read disk_now written =
-    ServesAll settings disk read disk_now written
-    × EndsBy settings disk (Err (session.Target fault)) read
-ServesOne settings disk (Err serve.Read) read disk_now written =
-    ServesAll settings disk read disk_now written × EndsBy settings disk (Err session.Read) read
-ServesOne settings disk (Err serve.Network) read disk_now written = disk_now ≡ disk
-ServesOne settings disk (Err serve.NoMemory) read disk_now written =
-    ServesFirst settings disk read disk_now written
-ServesOne settings disk (Err serve.Sync) read disk_now written =
-    ServesFront settings disk read disk_now written
-ServesOne settings disk (Err serve.Write) read disk_now written =
-    ServesFront settings disk read disk_now written
-ServesOne settings disk (Err (serve.Initiator fault)) read disk_now written = ⊥
-ServesOne settings disk (Err (serve.Script line)) read disk_now written = ⊥
+ServesOne protected settings disk (Ok done) read disk_now written =
+    ServesAll protected settings disk read disk_now written × EndsBy protected settings disk (Ok done) read
+ServesOne protected settings disk (Err (serve.Target target.NoMemory)) read disk_now written = ⊥
+ServesOne protected settings disk (Err (serve.Target fault)) read disk_now written =
+    ServesAll protected settings disk read disk_now written
+    × EndsBy protected settings disk (Err (session.Target fault)) read
+ServesOne protected settings disk (Err serve.Read) read disk_now written =
+    ServesAll protected settings disk read disk_now written × EndsBy protected settings disk (Err session.Read) read
+ServesOne protected settings disk (Err serve.Network) read disk_now written = disk_now ≡ disk
+ServesOne protected settings disk (Err serve.NoMemory) read disk_now written =
+    ServesFirst protected settings disk read disk_now written
+ServesOne protected settings disk (Err serve.Sync) read disk_now written =
+    ServesFront protected settings disk read disk_now written
+ServesOne protected settings disk (Err serve.Write) read disk_now written =
+    ServesFront protected settings disk read disk_now written
+ServesOne protected settings disk (Err (serve.Initiator fault)) read disk_now written = ⊥
+ServesOne protected settings disk (Err (serve.Script line)) read disk_now written = ⊥

@@ -1,6 +1,8 @@
 -- A target's session over a stream: what it leaves, and where it ends (RFC 7143, sections 6 and
 -- 11).
-use Rattle.std.specs.Prelude.{◌≡◌, ◌⊎◌, ◌≤◌, ◌<◌, ℕ, true, false, List, [], ◌∷◌, ◌++◌, length, take, min, Option, Some, None, Result, Ok, Err, codes}
+--
+-- `protected` says of the store that it refuses each write.
+use Rattle.std.specs.Prelude.{Bool, ◌≡◌, ◌⊎◌, ◌≤◌, ◌<◌, ℕ, true, false, List, [], ◌∷◌, ◌++◌, length, take, min, Option, Some, None, Result, Ok, Err, codes}
 use Rattle.std.specs.Io.KnownBytes.{Appends, Consumes, IsAtEnd}
 use Rattle.scsi_disk.specs.Disk.{Disk}
 use Rattle.iscsi_pdu.specs.declared.head.Head.{Head}
@@ -44,10 +46,10 @@ ended_by faults.Closed = session.Target faults.Closed
 
 -- The target has answered all PDUs of what was read, of its longest prefix in the profile: what is
 -- written and the blocks are those that they lead to.
-abbrev pub ServesAll : Settings → Disk → List ℕ → Disk → List ℕ → Type 0
-ServesAll settings disk read disk_now written =
+abbrev pub ServesAll : Bool → Settings → Disk → List ℕ → Disk → List ℕ → Type 0
+ServesAll protected settings disk read disk_now written =
     (ms : List Message) (given rest : List ℕ) → Splits longest_segment read ms given rest
-    → Writes (beginning settings 1 disk) ms disk_now written
+    → Writes protected (beginning settings 1 disk) ms disk_now written
 
 -- The first PDUs of what was read, within the limit of the target's framer, and what follows them.
 pub record Receives (settings : Settings) (read : List ℕ) : Type 0 where
@@ -58,76 +60,76 @@ pub record Receives (settings : Settings) (read : List ℕ) : Type 0 where
   pub reads : ReadsAs (limit settings) no_login given messages
 
 -- What these PDUs lead to.
-abbrev pub led : (settings : Settings) → Disk → (read : List ℕ) → Receives settings read → Stepped
-led settings disk read receives = answers (opening settings 1) disk receives.messages
+abbrev pub led : Bool → (settings : Settings) → Disk → (read : List ℕ) → Receives settings read → Stepped
+led protected settings disk read receives = answers protected (opening settings 1) disk receives.messages
 
 -- Some tasks of the PDU behind those that were answered were done, in their order, over a device
 -- that did not fail.
-pub record DoesSome (settings : Settings) (disk : Disk) (read : List ℕ) (receives : Receives settings read)
+pub record DoesSome (protected : Bool) (settings : Settings) (disk : Disk) (read : List ℕ) (receives : Receives settings read)
     (front : Stepped) : Type 0 where
   pub message : Message
   -- what was read begins with these PDUs and that one
   pub more : Receives settings read
   pub behind : more.messages ≡ receives.messages ++ message ∷ []
   pub failures : ℕ
-  pub stops : MayStop (led settings disk read receives).machine (led settings disk read receives).disk
+  pub stops : MayStop protected (led protected settings disk read receives).machine (led protected settings disk read receives).disk
       failures message front failures
 
 -- The answers to some first PDUs of what was read are written, whole, and the blocks are those that
 -- these PDUs lead to. Of the PDU behind them some tasks may have been done, whole.
-pub record ServesFirst (settings : Settings) (disk : Disk) (read : List ℕ) (disk_now : Disk)
+pub record ServesFirst (protected : Bool) (settings : Settings) (disk : Disk) (read : List ℕ) (disk_now : Disk)
     (written : List ℕ) : Type 0 where
   pub receives : Receives settings read
   pub front : Stepped
-  pub stops : (front ≡ unchanged (led settings disk read receives).machine
-      (led settings disk read receives).disk) ⊎ DoesSome settings disk read receives front
+  pub stops : (front ≡ unchanged (led protected settings disk read receives).machine
+      (led protected settings disk read receives).disk) ⊎ DoesSome protected settings disk read receives front
   pub disk_is : disk_now ≡ front.disk
-  pub output_is : written ≡ canon ((led settings disk read receives).answers ++ front.answers)
+  pub output_is : written ≡ canon ((led protected settings disk read receives).answers ++ front.answers)
 
 -- A front of what was due is written: of the answers to all PDUs of a front of what was read, or to
 -- some first ones of them. The blocks are those that these lead to.
-pub record ServesFront (settings : Settings) (disk : Disk) (read : List ℕ) (disk_now : Disk)
+pub record ServesFront (protected : Bool) (settings : Settings) (disk : Disk) (read : List ℕ) (disk_now : Disk)
     (written : List ℕ) : Type 0 where
   pub front : List ℕ
   pub behind : List ℕ
   pub whole : read ≡ front ++ behind
   pub due : List ℕ
-  pub served : ServesAll settings disk front disk_now due
-      ⊎ ServesFirst settings disk front disk_now due
+  pub served : ServesAll protected settings disk front disk_now due
+      ⊎ ServesFirst protected settings disk front disk_now due
   pub count : ℕ
   pub written_is : written ≡ take count due
 
 -- What a session leaves where it ends; no fault wraps the want of memory.
-abbrev pub Serves : Settings → Disk → Result (Unit {0}) SessionFault → List ℕ → Disk → List ℕ
+abbrev pub Serves : Bool → Settings → Disk → Result (Unit {0}) SessionFault → List ℕ → Disk → List ℕ
     → Type 0
-Serves settings disk (Ok done) read disk_now written = ServesAll settings disk read disk_now written
-Serves settings disk (Err (session.Target (faults.Stream fault))) read disk_now written =
-    ServesAll settings disk read disk_now written
-Serves settings disk (Err (session.Target (faults.Protocol rule))) read disk_now written =
-    ServesAll settings disk read disk_now written
-Serves settings disk (Err session.Read) read disk_now written =
-    ServesAll settings disk read disk_now written
-Serves settings disk (Err session.NoMemory) read disk_now written =
-    ServesFirst settings disk read disk_now written
-Serves settings disk (Err (session.Target faults.NoMemory)) read disk_now written = ⊥
-Serves settings disk (Err (session.Target faults.Closed)) read disk_now written = ⊥
-Serves settings disk (Err session.Sync) read disk_now written =
-    ServesFront settings disk read disk_now written
-Serves settings disk (Err session.Write) read disk_now written =
-    ServesFront settings disk read disk_now written
+Serves protected settings disk (Ok done) read disk_now written = ServesAll protected settings disk read disk_now written
+Serves protected settings disk (Err (session.Target (faults.Stream fault))) read disk_now written =
+    ServesAll protected settings disk read disk_now written
+Serves protected settings disk (Err (session.Target (faults.Protocol rule))) read disk_now written =
+    ServesAll protected settings disk read disk_now written
+Serves protected settings disk (Err session.Read) read disk_now written =
+    ServesAll protected settings disk read disk_now written
+Serves protected settings disk (Err session.NoMemory) read disk_now written =
+    ServesFirst protected settings disk read disk_now written
+Serves protected settings disk (Err (session.Target faults.NoMemory)) read disk_now written = ⊥
+Serves protected settings disk (Err (session.Target faults.Closed)) read disk_now written = ⊥
+Serves protected settings disk (Err session.Sync) read disk_now written =
+    ServesFront protected settings disk read disk_now written
+Serves protected settings disk (Err session.Write) read disk_now written =
+    ServesFront protected settings disk read disk_now written
 
 -- The session was closed by the first PDUs of what was read, and none of them broke a rule. It was
 -- closed by a logout or a refused login (RFC 7143, sections 11.13 and 11.14).
-abbrev pub IsOver : Settings → Disk → List ℕ → Type 0
-IsOver settings disk read = (receives : Receives settings read)
-    × ((led settings disk read receives).rule ≡ None)
-    × (is_closed (led settings disk read receives).machine ≡ true)
+abbrev pub IsOver : Bool → Settings → Disk → List ℕ → Type 0
+IsOver protected settings disk read = (receives : Receives settings read)
+    × ((led protected settings disk read receives).rule ≡ None)
+    × (is_closed (led protected settings disk read receives).machine ≡ true)
 
 -- The session goes on, and no rule was broken, behind the PDUs that what was read has.
-abbrev pub GoesOnBehind : (settings : Settings) → Disk → (read : List ℕ) → Receives settings read
+abbrev pub GoesOnBehind : Bool → (settings : Settings) → Disk → (read : List ℕ) → Receives settings read
     → Type 0
-GoesOnBehind settings disk read receives = ((led settings disk read receives).rule ≡ None)
-    × (is_closed (led settings disk read receives).machine ≡ false)
+GoesOnBehind protected settings disk read receives = ((led protected settings disk read receives).rule ≡ None)
+    × (is_closed (led protected settings disk read receives).machine ≡ false)
 
 -- The bytes behind PDUs are what the framer refuses, or a PDU that is begun and not whole; the
 -- fault names their place.
@@ -144,27 +146,27 @@ RestFails limit stream.Failed given rest = ⊥
 
 -- Why a session ends, by the PDUs of what was read; where memory ran out, or a sync or a write
 -- failed, nothing is stated of it.
-abbrev pub EndsBy : Settings → Disk → Result (Unit {0}) SessionFault → List ℕ → Type 0
+abbrev pub EndsBy : Bool → Settings → Disk → Result (Unit {0}) SessionFault → List ℕ → Type 0
 -- it was closed, or what was read ends behind its last PDU
-EndsBy settings disk (Ok done) read = IsOver settings disk read
-    ⊎ ((receives : Receives settings read) × GoesOnBehind settings disk read receives
+EndsBy protected settings disk (Ok done) read = IsOver protected settings disk read
+    ⊎ ((receives : Receives settings read) × GoesOnBehind protected settings disk read receives
     × (receives.rest ≡ []))
 -- the last PDU broke this rule
-EndsBy settings disk (Err (session.Target (faults.Protocol rule))) read =
-    (receives : Receives settings read) × ((led settings disk read receives).rule ≡ Some rule)
+EndsBy protected settings disk (Err (session.Target (faults.Protocol rule))) read =
+    (receives : Receives settings read) × ((led protected settings disk read receives).rule ≡ Some rule)
 -- the bytes behind the PDUs are refused
-EndsBy settings disk (Err (session.Target (faults.Stream fault))) read =
-    (receives : Receives settings read) × GoesOnBehind settings disk read receives
+EndsBy protected settings disk (Err (session.Target (faults.Stream fault))) read =
+    (receives : Receives settings read) × GoesOnBehind protected settings disk read receives
     × RestFails (limit settings) fault receives.given receives.rest
 -- no fault came before the read that failed
-EndsBy settings disk (Err session.Read) read =
-    (receives : Receives settings read) × GoesOnBehind settings disk read receives
+EndsBy protected settings disk (Err session.Read) read =
+    (receives : Receives settings read) × GoesOnBehind protected settings disk read receives
     × IsBegun (limit settings) receives.rest × NoPdu (limit settings) receives.rest
-EndsBy settings disk (Err session.NoMemory) read = Unit {0}
-EndsBy settings disk (Err (session.Target faults.NoMemory)) read = ⊥
-EndsBy settings disk (Err session.Sync) read = Unit {0}
-EndsBy settings disk (Err session.Write) read = Unit {0}
-EndsBy settings disk (Err (session.Target faults.Closed)) read = ⊥
+EndsBy protected settings disk (Err session.NoMemory) read = Unit {0}
+EndsBy protected settings disk (Err (session.Target faults.NoMemory)) read = ⊥
+EndsBy protected settings disk (Err session.Sync) read = Unit {0}
+EndsBy protected settings disk (Err session.Write) read = Unit {0}
+EndsBy protected settings disk (Err (session.Target faults.Closed)) read = ⊥
 
 -- A PDU that is begun and not whole is a fault once the reader has told its end, and not before.
 abbrev pub EndsCut : Result (Unit {0}) SessionFault → Option (List ℕ) → Type 0
@@ -175,16 +177,16 @@ EndsCut _ left = Unit {0}
 
 -- These bytes led a target and its store from here to there; of the failures that were counted some
 -- may be those of syncs.
-pub record Comes (old : Connection) (before : Store) (bytes : List ℕ) (new : Connection)
+pub record Comes (protected : Bool) (old : Connection) (before : Store) (bytes : List ℕ) (new : Connection)
     (after : Store) : Type 0 where
   pub failures : ℕ
   pub few : failures ≤ after.failures
-  pub advances : Advances old before bytes new (store_of after.disk failures)
+  pub advances : Advances protected old before bytes new (store_of after.disk failures)
 
 -- They did so, or the session was closed by them.
-abbrev pub StandsBehind : Connection → Store → List ℕ → Connection → Store → Type 0
-StandsBehind old before bytes new after =
-    (is_closed new.machine ≡ true) ⊎ Comes old before bytes new after
+abbrev pub StandsBehind : Bool → Connection → Store → List ℕ → Connection → Store → Type 0
+StandsBehind protected old before bytes new after =
+    (is_closed new.machine ≡ true) ⊎ Comes protected old before bytes new after
 
 -- What a session with these settings over a store read and wrote.
 pub record Exchange : Type 0 where
@@ -201,25 +203,25 @@ exchange settings store read written =
 -- What was written are the answers to all PDUs of a front of what was read, where the store was
 -- this one and a crash left this. A crash at last leaves of each block what it would have left then,
 -- or what a command of a PDU behind that front leaves of it.
-pub record SentBefore (all : Exchange) (store : Store) (kept : ℕ → List ℕ → Type 0) (last : Store)
+pub record SentBefore (protected : Bool) (all : Exchange) (store : Store) (kept : ℕ → List ℕ → Type 0) (last : Store)
     (left : ℕ → List ℕ → Type 0) : Type 0 where
   pub front : List ℕ
   pub behind : List ℕ
   pub whole : all.read ≡ front ++ behind
   -- where the session stood then
   pub target : Connection
-  pub stands : StandsBehind (opening_connection all.settings 1) all.store front target store
+  pub stands : StandsBehind protected (opening_connection all.settings 1) all.store front target store
   pub answered : store.failures ≡ all.store.failures
-      → ServesAll all.settings all.store.disk front store.disk all.written
+      → ServesAll protected all.settings all.store.disk front store.disk all.written
   pub few : store.failures ≤ last.failures
-  pub crash : CrashesFed target store behind last kept left
+  pub crash : CrashesFed protected target store behind last kept left
 
 -- ---- the end
 
 -- A session that ended well has read its reader to the end, or was closed.
-abbrev pub EndsWell : Settings → Disk → Option (List ℕ) → Option (List ℕ) → Type 0
-EndsWell settings disk before after =
-    IsAtEnd after ⊎ ((read : List ℕ) × Consumes before after read × IsOver settings disk read)
+abbrev pub EndsWell : Bool → Settings → Disk → Option (List ℕ) → Option (List ℕ) → Type 0
+EndsWell protected settings disk before after =
+    IsAtEnd after ⊎ ((read : List ℕ) × Consumes before after read × IsOver protected settings disk read)
 
 -- ---- a session over a stream
 
@@ -238,17 +240,17 @@ around remaining contents store kept =
 
 -- A session has read this and written that, and ended so. A crash leaves each block as before, or as
 -- a command of a PDU of what was read leaves it.
-abbrev pub ServesStream : Settings → Result (Unit {0}) SessionFault → Around → Around → Type 0
-ServesStream settings result old new = (read : List ℕ) × (written : List ℕ)
+abbrev pub ServesStream : Bool → Settings → Result (Unit {0}) SessionFault → Around → Around → Type 0
+ServesStream protected settings result old new = (read : List ℕ) × (written : List ℕ)
     × Consumes old.remaining new.remaining read
     × Appends old.contents new.contents written × AreBytes written
     × (new.store.failures ≡ old.store.failures
-    → Serves settings old.store.disk result read new.store.disk written
-    × EndsBy settings old.store.disk result read)
-    × CrashesFed (opening_connection settings 1) old.store read new.store old.kept new.kept
+    → Serves protected settings old.store.disk result read new.store.disk written
+    × EndsBy protected settings old.store.disk result read)
+    × CrashesFed protected (opening_connection settings 1) old.store read new.store old.kept new.kept
 
 -- The last answers that a session has written left this store, of which a crash leaves that.
-abbrev pub WroteBefore : Settings → Around → Store → (ℕ → List ℕ → Type 0) → Around → Type 0
-WroteBefore settings old store kept new = (read : List ℕ) × (written : List ℕ)
+abbrev pub WroteBefore : Bool → Settings → Around → Store → (ℕ → List ℕ → Type 0) → Around → Type 0
+WroteBefore protected settings old store kept new = (read : List ℕ) × (written : List ℕ)
     × Consumes old.remaining new.remaining read × Appends old.contents new.contents written
-    × SentBefore (exchange settings old.store read written) store kept new.store new.kept
+    × SentBefore protected (exchange settings old.store read written) store kept new.store new.kept

@@ -1,6 +1,8 @@
 -- What the parts of a session do: bytes that came are fed, and their answers are written or wait. No
 -- reader of its contract needs these.
-use Rattle.std.specs.Prelude.{◌≡◌, ◌≤◌, ℕ, List, [], ◌++◌, Option, Err}
+--
+-- `protected` says of the store that it refuses each write.
+use Rattle.std.specs.Prelude.{Bool, ◌≡◌, ◌≤◌, ℕ, List, [], ◌++◌, Option, Err}
 use Rattle.std.specs.Io.KnownBytes.{Appends}
 use Rattle.iscsi_pdu.specs.Meaning.{AreBytes}
 use Rattle.iscsi_stream.specs.Normalising.{WroteFront}
@@ -35,7 +37,7 @@ service target store contents waiting = record {
 -- This stream was fed in pieces, from the first store on, and led to what is now. Of the answers
 -- some were sent, behind what the writer had got at the start, and the others wait. What is said of
 -- the answers holds if no failure was counted.
-pub record ServedUpTo (settings : Settings) (first : Store) (stream : List ℕ)
+pub record ServedUpTo (protected : Bool) (settings : Settings) (first : Store) (stream : List ℕ)
     (start : Option (List ℕ)) (now : Service) : Type 0 where
   pub pieces : List (List ℕ)
   pub whole : stream ≡ stream_of pieces
@@ -44,9 +46,9 @@ pub record ServedUpTo (settings : Settings) (first : Store) (stream : List ℕ)
   pub bytes : AreBytes sent
   pub rises : first.failures ≤ now.store.failures
   pub fed : now.store.failures ≡ first.failures
-      → FedAll (scene (opening_connection settings 1) first []) pieces
+      → FedAll protected (scene (opening_connection settings 1) first []) pieces
       (scene now.target now.store (sent ++ now.waiting))
-  pub executed : HasExecuted first.disk now.store.disk
+  pub executed : HasExecuted protected first.disk now.store.disk
 
 -- The store was synced, or the sync failed: no block has changed.
 pub record Syncs (before after : Store) : Type 0 where
@@ -63,60 +65,60 @@ HoldsBack session.Read contents now waiting = ⊥
 HoldsBack (session.Target fault) contents now waiting = ⊥
 
 -- What was served up to here is served with these bytes more.
-abbrev pub Goes : Service → List ℕ → Service → Type 0
-Goes old bytes new =
+abbrev pub Goes : Bool → Service → List ℕ → Service → Type 0
+Goes protected old bytes new =
     (settings : Settings) (first : Store) (stream : List ℕ) (start : Option (List ℕ))
-    → ServedUpTo settings first stream start old
-    → ServedUpTo settings first (stream ++ bytes) start new
+    → ServedUpTo protected settings first stream start old
+    → ServedUpTo protected settings first (stream ++ bytes) start new
 
 -- These bytes close the session, where no failure was counted up to this store.
-abbrev pub ClosesBy : Service → List ℕ → Store → Type 0
-ClosesBy old bytes after =
+abbrev pub ClosesBy : Bool → Service → List ℕ → Store → Type 0
+ClosesBy protected old bytes after =
     (settings : Settings) (first : Store) (stream : List ℕ) (start : Option (List ℕ))
-    → ServedUpTo settings first stream start old
-    → after.failures ≡ first.failures → IsOver settings first.disk (stream ++ bytes)
+    → ServedUpTo protected settings first stream start old
+    → after.failures ≡ first.failures → IsOver protected settings first.disk (stream ++ bytes)
 
 -- A front of what was due was sent, behind some of these bytes, and the blocks are those that commands
 -- left.
-abbrev pub Loses : Service → List ℕ → Service → Type 0
-Loses old bytes new =
+abbrev pub Loses : Bool → Service → List ℕ → Service → Type 0
+Loses protected old bytes new =
     (settings : Settings) (first : Store) (stream : List ℕ) (start : Option (List ℕ))
-    → ServedUpTo settings first stream start old
+    → ServedUpTo protected settings first stream start old
     → (sent : List ℕ) × Appends start new.contents sent × AreBytes sent
-    × HasExecuted first.disk new.store.disk
+    × HasExecuted protected first.disk new.store.disk
     × (IsInRange settings.preferences → new.store.failures ≡ first.failures
-    → ServesFront settings first.disk (stream ++ bytes) new.store.disk sent)
+    → ServesFront protected settings first.disk (stream ++ bytes) new.store.disk sent)
 
 -- These bytes are why the session ends so, where no failure was counted up to this store.
-abbrev pub Tells : Service → List ℕ → SessionFault → Store → Type 0
-Tells old bytes fault after =
+abbrev pub Tells : Bool → Service → List ℕ → SessionFault → Store → Type 0
+Tells protected old bytes fault after =
     (settings : Settings) (first : Store) (stream : List ℕ) (start : Option (List ℕ))
-    → ServedUpTo settings first stream start old
-    → after.failures ≡ first.failures → EndsBy settings first.disk (Err fault) (stream ++ bytes)
+    → ServedUpTo protected settings first stream start old
+    → after.failures ≡ first.failures → EndsBy protected settings first.disk (Err fault) (stream ++ bytes)
 
 -- The answers to some first PDUs were sent, and the blocks are those that commands left.
-abbrev pub RunsOut : Service → List ℕ → Service → Type 0
-RunsOut old bytes new =
+abbrev pub RunsOut : Bool → Service → List ℕ → Service → Type 0
+RunsOut protected old bytes new =
     (settings : Settings) (first : Store) (stream : List ℕ) (start : Option (List ℕ))
-    → ServedUpTo settings first stream start old
+    → ServedUpTo protected settings first stream start old
     → (sent : List ℕ) × Appends start new.contents sent × AreBytes sent
-    × HasExecuted first.disk new.store.disk
+    × HasExecuted protected first.disk new.store.disk
     × (new.store.failures ≡ first.failures
-    → ServesFirst settings first.disk (stream ++ bytes) new.store.disk sent)
+    → ServesFirst protected settings first.disk (stream ++ bytes) new.store.disk sent)
 
 -- When the last answers left, some first bytes were served, the store was this one, and a crash
 -- left this. A crash at last leaves of each block what it would have left then, or what a command
 -- of a PDU behind them leaves of it.
-pub record LeftLast (old : Service) (bytes : List ℕ) (store : Store) (kept : ℕ → List ℕ → Type 0)
+pub record LeftLast (protected : Bool) (old : Service) (bytes : List ℕ) (store : Store) (kept : ℕ → List ℕ → Type 0)
     (new : Service) (left : ℕ → List ℕ → Type 0) : Type 0 where
   pub front : List ℕ
   pub behind : List ℕ
   pub whole : bytes ≡ front ++ behind
   pub target : Connection
-  pub goes : Goes old front (service target store new.contents [])
-  pub stands : StandsBehind old.target old.store front target store
+  pub goes : Goes protected old front (service target store new.contents [])
+  pub stands : StandsBehind protected old.target old.store front target store
   pub few : store.failures ≤ new.store.failures
-  pub crash : CrashesFed target store behind new.store kept left
+  pub crash : CrashesFed protected target store behind new.store kept left
 
 -- The fault is not that a stream ends within a PDU: more of it may come.
 abbrev pub IsUncut : StreamFault → Type 0
@@ -124,15 +126,15 @@ IsUncut (stream.Truncated place) = ⊥
 IsUncut _ = Unit {0}
 
 -- What is left where a session ends by a fault at these bytes.
-abbrev pub Breaks : Service → List ℕ → SessionFault → Service → Type 0
-Breaks old bytes session.NoMemory new = RunsOut old bytes new
-Breaks old bytes (session.Target faults.NoMemory) new = ⊥
-Breaks old bytes (session.Target (faults.Stream fault)) new =
-    Goes old bytes new × Tells old bytes (session.Target (faults.Stream fault)) new.store
+abbrev pub Breaks : Bool → Service → List ℕ → SessionFault → Service → Type 0
+Breaks protected old bytes session.NoMemory new = RunsOut protected old bytes new
+Breaks protected old bytes (session.Target faults.NoMemory) new = ⊥
+Breaks protected old bytes (session.Target (faults.Stream fault)) new =
+    Goes protected old bytes new × Tells protected old bytes (session.Target (faults.Stream fault)) new.store
     × IsUncut fault
-Breaks old bytes (session.Target (faults.Protocol rule)) new =
-    Goes old bytes new × Tells old bytes (session.Target (faults.Protocol rule)) new.store
-Breaks old bytes (session.Target faults.Closed) new = ⊥
-Breaks old bytes session.Read new = ⊥
-Breaks old bytes session.Sync new = Loses old bytes new
-Breaks old bytes session.Write new = Loses old bytes new
+Breaks protected old bytes (session.Target (faults.Protocol rule)) new =
+    Goes protected old bytes new × Tells protected old bytes (session.Target (faults.Protocol rule)) new.store
+Breaks protected old bytes (session.Target faults.Closed) new = ⊥
+Breaks protected old bytes session.Read new = ⊥
+Breaks protected old bytes session.Sync new = Loses protected old bytes new
+Breaks protected old bytes session.Write new = Loses protected old bytes new

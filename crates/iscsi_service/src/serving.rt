@@ -51,9 +51,9 @@ pub fn serve_one<S: BlockStore>(
     // What a connection gives and takes is not known beforehand.
     ensures serves { (read : List ℕ) × (written : List ℕ)
         × (S.failures store.new ≡ S.failures store.old
-        → ServesOne config (S.disk store.old) result read (S.disk store.new) written) }
+        → ServesOne S.protected config (S.disk store.old) result read (S.disk store.new) written) }
     // Whatever comes of it, the blocks are those that commands left.
-    ensures blocks { HasExecuted (S.disk store.old) (S.disk store.new) }
+    ensures blocks { HasExecuted S.protected (S.disk store.old) (S.disk store.new) }
     // The store is synced, whatever comes of it but a sync that failed.
     ensures synced { S.synced store.old ≡ true → result ≢ Err ServeFault.Sync
         → S.synced store.new ≡ true }
@@ -133,7 +133,7 @@ pub fn serve<S: BlockStore>(
     initiators: Option<&[&[u8]]>,
 ) -> Result<(), ServeFault>
     // Whatever comes of it, the blocks are those that commands left.
-    ensures blocks { HasExecuted (S.disk store.old) (S.disk store.new) }
+    ensures blocks { HasExecuted S.protected (S.disk store.old) (S.disk store.new) }
     ensures ends { IfErr result (λ fault. EndsService fault ⊎ (fault ≡ ServeFault.Write)) }
 {
     let listener = listen(rt, port)?;
@@ -169,7 +169,7 @@ pub fn serve_connections<S: BlockStore>(
     sessions: u64,
     initiators: Option<&[&[u8]]>,
 ) -> Result<(), ServeFault>
-    ensures blocks { HasExecuted (S.disk store.old) (S.disk store.new) }
+    ensures blocks { HasExecuted S.protected (S.disk store.old) (S.disk store.new) }
     ensures ends { IfErr result EndsService }
 {
     let alloc = rt.alloc();

@@ -8,7 +8,6 @@ ghost use Rattle.iscsi_pdu.specs.Meaning.{AreBytes};
 ghost use Rattle.iscsi_login.specs.Negotiation.{IsInRange};
 ghost use Rattle.iscsi_login.specs.Stage.{is_closed_phase};
 ghost use Rattle.iscsi_target.specs.Machine.{is_closed};
-ghost use Rattle.iscsi_target.specs.Feed.{opening_connection};
 ghost use Rattle.iscsi_target.specs.Crash.{CrashesFed};
 ghost use Rattle.iscsi_target.specs.Inside.{store_of};
 ghost use Rattle.iscsi_serving.specs.Executed.{HasExecuted};
@@ -73,7 +72,7 @@ pub fn serve_stream<S: BlockStore, R: Read, W: Write>(
 ) -> Result<(), SessionFault>
     // Come what may, a crash leaves each block as before, or as a command of a PDU of what was read
     // leaves it.
-    ensures serves { ServesStream config result
+    ensures serves { ServesStream S.protected config result
         (around (R.remaining r.old) (W.contents w.old)
         (store_of (S.disk store.old) (S.failures store.old)) (S.kept store.old))
         (around (R.remaining r.new) (W.contents w.new)
@@ -84,9 +83,9 @@ pub fn serve_stream<S: BlockStore, R: Read, W: Write>(
         → OnOk result ((read : List ℕ) × (written : List ℕ)
         × Consumes (R.remaining r.old) (R.remaining r.new) read
         × Appends (W.contents w.old) (W.contents w.new) written
-        × ServesAll config (S.disk store.old) read (S.disk store.new) written) }
+        × ServesAll S.protected config (S.disk store.old) read (S.disk store.new) written) }
     // Whatever comes of it, the blocks are those that commands left.
-    ensures blocks { HasExecuted (S.disk store.old) (S.disk store.new) }
+    ensures blocks { HasExecuted S.protected (S.disk store.old) (S.disk store.new) }
     // A crash leaves these blocks, and no others, once they are synced.
     ensures lasts { S.failures store.new ≡ 0
         → Lasts (S.synced store.new) (S.disk store.new) (S.kept store.new) }
@@ -95,14 +94,14 @@ pub fn serve_stream<S: BlockStore, R: Read, W: Write>(
         → S.synced store.new ≡ true }
     // Where one failed, the last answers that were written left a store that was synced.
     ensures unsent { result ≡ Err SessionFault.Sync → S.synced store.old ≡ true
-        → (then : S) × (S.synced then ≡ true) × WroteBefore config
+        → (then : S) × (S.synced then ≡ true) × WroteBefore S.protected config
         (around (R.remaining r.old) (W.contents w.old)
         (store_of (S.disk store.old) (S.failures store.old)) (S.kept store.old))
         (store_of (S.disk then) (S.failures then)) (S.kept then)
         (around (R.remaining r.new) (W.contents w.new)
         (store_of (S.disk store.new) (S.failures store.new)) (S.kept store.new)) }
     ensures end { S.failures store.new ≡ S.failures store.old → OnOk result
-        (EndsWell config (S.disk store.old) (R.remaining r.old) (R.remaining r.new)) }
+        (EndsWell S.protected config (S.disk store.old) (R.remaining r.old) (R.remaining r.new)) }
     // A PDU is called cut where the reader has told its end.
     ensures cut { EndsCut result (R.remaining r.new) }
 {
@@ -121,25 +120,25 @@ pub(crate) fn serve_reads<S: BlockStore, R: Read, W: Write>(
 ) -> Result<(), SessionFault>
     requires some { 0 < length buffer.old }
     requires range { IsInRange config.preferences }
-    ensures serves { ServesStream config result
+    ensures serves { ServesStream S.protected config result
         (around (R.remaining r.old) (W.contents w.old)
         (store_of (S.disk store.old) (S.failures store.old)) (S.kept store.old))
         (around (R.remaining r.new) (W.contents w.new)
         (store_of (S.disk store.new) (S.failures store.new)) (S.kept store.new)) }
-    ensures blocks { HasExecuted (S.disk store.old) (S.disk store.new) }
+    ensures blocks { HasExecuted S.protected (S.disk store.old) (S.disk store.new) }
     ensures lasts { S.failures store.new ≡ 0
         → Lasts (S.synced store.new) (S.disk store.new) (S.kept store.new) }
     ensures synced { S.synced store.old ≡ true → result ≢ Err SessionFault.Sync
         → S.synced store.new ≡ true }
     ensures unsent { result ≡ Err SessionFault.Sync → S.synced store.old ≡ true
-        → (then : S) × (S.synced then ≡ true) × WroteBefore config
+        → (then : S) × (S.synced then ≡ true) × WroteBefore S.protected config
         (around (R.remaining r.old) (W.contents w.old)
         (store_of (S.disk store.old) (S.failures store.old)) (S.kept store.old))
         (store_of (S.disk then) (S.failures then)) (S.kept then)
         (around (R.remaining r.new) (W.contents w.new)
         (store_of (S.disk store.new) (S.failures store.new)) (S.kept store.new)) }
     ensures end { S.failures store.new ≡ S.failures store.old → OnOk result
-        (EndsWell config (S.disk store.old) (R.remaining r.old) (R.remaining r.new)) }
+        (EndsWell S.protected config (S.disk store.old) (R.remaining r.old) (R.remaining r.new)) }
     ensures cut { EndsCut result (R.remaining r.new) }
 {
     let mut target = Target::new(alloc, config, FIRST_STAT_SN);
@@ -166,26 +165,26 @@ fn serve_piece<S: BlockStore, W: Write>(
 ) -> Result<bool, SessionFault>
     requires live { is_closed target.old.machine ≡ false }
     ensures open { result ≡ Ok false → is_closed target.new.machine ≡ false }
-    ensures goes { OnOk result (Goes
+    ensures goes { OnOk result (Goes S.protected
         (service target.old (store_of (S.disk store.old) (S.failures store.old)) (W.contents w.old) [])
         piece.now
         (service target.new (store_of (S.disk store.new) (S.failures store.new)) (W.contents w.new) [])) }
-    ensures closes { result ≡ Ok true → ClosesBy
+    ensures closes { result ≡ Ok true → ClosesBy S.protected
         (service target.old (store_of (S.disk store.old) (S.failures store.old)) (W.contents w.old) [])
         piece.now (store_of (S.disk store.new) (S.failures store.new)) }
-    ensures err { IfErr result (λ fault. Breaks
+    ensures err { IfErr result (λ fault. Breaks S.protected
         (service target.old (store_of (S.disk store.old) (S.failures store.old)) (W.contents w.old) [])
         piece.now fault
         (service target.new (store_of (S.disk store.new) (S.failures store.new)) (W.contents w.new) [])) }
-    ensures advances { result ≡ Ok false → Comes target.old
+    ensures advances { result ≡ Ok false → Comes S.protected target.old
         (store_of (S.disk store.old) (S.failures store.old)) piece.now target.new
         (store_of (S.disk store.new) (S.failures store.new)) }
-    ensures crash { (S.failures store.old ≤ S.failures store.new) × CrashesFed target.old
+    ensures crash { (S.failures store.old ≤ S.failures store.new) × CrashesFed S.protected target.old
         (store_of (S.disk store.old) (S.failures store.old)) piece.now
         (store_of (S.disk store.new) (S.failures store.new)) (S.kept store.old) (S.kept store.new) }
     ensures synced { result ≢ Err SessionFault.Sync → S.synced store.new ≡ true }
     ensures unsent { result ≡ Err SessionFault.Sync → S.synced store.old ≡ true
-        → (then : S) × (S.synced then ≡ true) × LeftLast
+        → (then : S) × (S.synced then ≡ true) × LeftLast S.protected
         (service target.old (store_of (S.disk store.old) (S.failures store.old)) (W.contents w.old) [])
         piece.now (store_of (S.disk then) (S.failures then)) (S.kept then)
         (service target.new (store_of (S.disk store.new) (S.failures store.new)) (W.contents w.new) [])
@@ -219,22 +218,22 @@ fn serve_next<S: BlockStore, W: Write>(
         → is_closed target.new.machine ≡ false) }
     ensures bound { IfOk result (λ done. (done.0 ≤ length piece.now)
         × (0 < length piece.now → 0 < done.0)) }
-    ensures goes { IfOk result (λ done. Goes
+    ensures goes { IfOk result (λ done. Goes S.protected
         (service target.old (store_of (S.disk store.old) (S.failures store.old)) (W.contents w.old) out.old.items)
         (take done.0 piece.now)
         (service target.new (store_of (S.disk store.new) (S.failures store.new)) (W.contents w.new) out.new.items)) }
     ensures closes { IfOk result (λ done. is_closed_phase done.1 ≡ true
-        → (is_closed target.new.machine ≡ true) × ClosesBy
+        → (is_closed target.new.machine ≡ true) × ClosesBy S.protected
         (service target.old (store_of (S.disk store.old) (S.failures store.old)) (W.contents w.old) out.old.items)
         (take done.0 piece.now) (store_of (S.disk store.new) (S.failures store.new))) }
-    ensures err { IfErr result (λ fault. Breaks
+    ensures err { IfErr result (λ fault. Breaks S.protected
         (service target.old (store_of (S.disk store.old) (S.failures store.old)) (W.contents w.old) out.old.items)
         piece.now fault
         (service target.new (store_of (S.disk store.new) (S.failures store.new)) (W.contents w.new) [])) }
-    ensures advances { IfOk result (λ done. is_closed_phase done.1 ≡ false → Comes target.old
+    ensures advances { IfOk result (λ done. is_closed_phase done.1 ≡ false → Comes S.protected target.old
         (store_of (S.disk store.old) (S.failures store.old)) (take done.0 piece.now) target.new
         (store_of (S.disk store.new) (S.failures store.new))) }
-    ensures crash { (S.failures store.old ≤ S.failures store.new) × CrashesFed target.old
+    ensures crash { (S.failures store.old ≤ S.failures store.new) × CrashesFed S.protected target.old
         (store_of (S.disk store.old) (S.failures store.old)) piece.now
         (store_of (S.disk store.new) (S.failures store.new)) (S.kept store.old) (S.kept store.new) }
     ensures synced { IfErr result (λ fault. fault ≢ SessionFault.Sync

@@ -20,8 +20,8 @@ pub fn answer_all<S: BlockStore>(
     ensures serves { (read : List ℕ) × (written : List ℕ)
         × (answers.new.items ≡ answers.old.items ++ written)
         × (S.failures store.new ≡ S.failures store.old
-        → Serves config (S.disk store.old) result read (S.disk store.new) written) }
-    ensures blocks { HasExecuted (S.disk store.old) (S.disk store.new) }
+        → Serves S.protected config (S.disk store.old) result read (S.disk store.new) written) }
+    ensures blocks { HasExecuted S.protected (S.disk store.old) (S.disk store.new) }
 {
     let mut rest = stream;
     serve_stream(alloc, config, store, &mut rest, answers)
@@ -39,7 +39,7 @@ pub fn answer_by_meaning<S: BlockStore>(
     ensures answered { S.failures store.new ≡ S.failures store.old
         → OnOk result ((read : List ℕ) × (written : List ℕ)
         × (answers.new.items ≡ answers.old.items ++ written)
-        × ServesAll config (S.disk store.old) read (S.disk store.new) written) }
+        × ServesAll S.protected config (S.disk store.old) read (S.disk store.new) written) }
 {
     let mut rest = stream;
     serve_stream(alloc, config, store, &mut rest, answers)

@@ -1,19 +1,19 @@
 -- The blocks of a service are those that commands left.
-use Rattle.std.proofs.Common.{[], ◌++◌, refl}
+use Rattle.std.proofs.Common.{Bool, [], ◌++◌, refl}
 use Rattle.scsi_disk.specs.Disk.{Disk}
 use Rattle.iscsi_target.specs.Laws.{Leads}
 use Rattle.iscsi_target.proofs.FailingDiskLemmas.{leads_append}
 use Rattle.iscsi_serving.specs.Executed.{HasExecuted}
 
 -- no command leaves a disk as it is
-pub nothing_executed : (disk : Disk) → Leads disk [] disk
+pub nothing_executed : (protected : Bool) (disk : Disk) → Leads protected disk [] disk
 unfolding Leads
-nothing_executed disk = refl
+nothing_executed protected disk = refl
 
 -- the blocks of a disk are those that no command left
-pub none_executed : (disk : Disk) → HasExecuted disk disk
-none_executed disk = ([], nothing_executed disk)
+pub none_executed : (protected : Bool) (disk : Disk) → HasExecuted protected disk disk
+none_executed protected disk = ([], nothing_executed protected disk)
 
 -- commands behind commands
-pub executed_then : (first now last : Disk) → HasExecuted first now → HasExecuted now last → HasExecuted first last
-executed_then first now last a b = (a.0 ++ b.0, leads_append first now last a.0 b.0 a.1 b.1)
+pub executed_then : (protected : Bool) (first now last : Disk) → HasExecuted protected first now → HasExecuted protected now last → HasExecuted protected first last
+executed_then protected first now last a b = (a.0 ++ b.0, leads_append protected first now last a.0 b.0 a.1 b.1)

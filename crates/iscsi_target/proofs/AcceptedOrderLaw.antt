@@ -315,21 +315,21 @@ parts_order device disk = record {
 step_order : (device : Device) (disk : Disk) (s : Machine) (m : Message) → Queues s.tasks (step_on device s disk m)
 step_order device disk s m = step_parts device disk (λ s m r. Queues s.tasks r) (parts_order device disk) s m
 
-pub answers_queue : (s : Machine) (disk : Disk) (ms : List Message) → Queues s.tasks (answers s disk ms)
+pub answers_queue : (protected : Bool) (s : Machine) (disk : Disk) (ms : List Message) → Queues s.tasks (answers protected s disk ms)
 unfolding answers
-answers_queue s disk [] = record { more = tasks_open s.tasks; order = append-nil (tasks_open s.tasks); open_ = λ f. refl }
-answers_queue s disk (m ∷ ms) =
-    let first : Stepped = step s disk m in
-    let q : Queues s.tasks first = step_order reliable disk s m in
+answers_queue protected s disk [] = record { more = tasks_open s.tasks; order = append-nil (tasks_open s.tasks); open_ = λ f. refl }
+answers_queue protected s disk (m ∷ ms) =
+    let first : Stepped = step protected s disk m in
+    let q : Queues s.tasks first = step_order (reliable protected) disk s m in
     by_cases (is_closed first.machine)
-    (λ e. subst (λ (r : Stepped). Queues s.tasks (then_stepped first r)) (sym (closed_answers first.machine first.disk ms e))
+    (λ e. subst (λ (r : Stepped). Queues s.tasks (then_stepped first r)) (sym (closed_answers protected first.machine first.disk ms e))
     (closed_queues s.tasks first first.disk q e))
-    (λ e. open_queues s.tasks first (answers first.machine first.disk ms) q e (answers_queue first.machine first.disk ms))
+    (λ e. open_queues s.tasks first (answers protected first.machine first.disk ms) q e (answers_queue protected first.machine first.disk ms))
 
-pub opening_in_order : (settings : Settings) (n : ℕ) (disk : Disk) (ms : List Message) →
-    AreInOrder (answers (opening settings n) disk ms)
-opening_in_order settings n disk ms =
-    let q : Queues [] (answers (opening settings n) disk ms) = answers_queue (opening settings n) disk ms in
+pub opening_in_order : (protected : Bool) (settings : Settings) (n : ℕ) (disk : Disk) (ms : List Message) →
+    AreInOrder (answers protected (opening settings n) disk ms)
+opening_in_order protected settings n disk ms =
+    let q : Queues [] (answers protected (opening settings n) disk ms) = answers_queue protected (opening settings n) disk ms in
     record { more = q.more; order = q.order; open_ = q.open_ }
 
 -- the tags of what was executed

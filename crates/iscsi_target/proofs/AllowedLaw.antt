@@ -128,116 +128,116 @@ login_admits s _ segment = unmoved s _ refl refl refl (λ e. absurd (cc e))
 -- ---- a message
 
 -- a closed session stays as it is
-closed_stays : (s : Machine) (disk : Disk) (m : Message) → s.session.phase ≡ phases.Closed → step s disk m ≡ unchanged s disk
-closed_stays s disk m e = let shut : is_closed s ≡ true = ap is_closed_phase e in rw shut refl
+closed_stays : (protected : Bool) (s : Machine) (disk : Disk) (m : Message) → s.session.phase ≡ phases.Closed → step protected s disk m ≡ unchanged s disk
+closed_stays protected s disk m e = let shut : is_closed s ≡ true = ap is_closed_phase e in rw shut refl
 
-later_admits : (s : Machine) (disk : Disk) (m : Message) → IsLater s.session.phase
-    → ((step s disk m).machine.session.phase ≡ phases.Full → s.session.phase ≡ phases.Full) → Admits s.session (step s disk m).machine.session
-later_admits s disk m later was =
-    let x = step_stays reliable s disk m later in
-    unmoved s.session (step s disk m).machine.session (step_settings reliable s disk m) x.has_text x.name was
+later_admits : (protected : Bool) (s : Machine) (disk : Disk) (m : Message) → IsLater s.session.phase
+    → ((step protected s disk m).machine.session.phase ≡ phases.Full → s.session.phase ≡ phases.Full) → Admits s.session (step protected s disk m).machine.session
+later_admits protected s disk m later was =
+    let x = step_stays (reliable protected) s disk m later in
+    unmoved s.session (step protected s disk m).machine.session (step_settings (reliable protected) s disk m) x.has_text x.name was
 
-step_admits : (s : Machine) (disk : Disk) (m : Message) → Admits s.session (step s disk m).machine.session
-step_admits s disk m = by_phase s.session.phase refl
+step_admits : (protected : Bool) (s : Machine) (disk : Disk) (m : Message) → Admits s.session (step protected s disk m).machine.session
+step_admits protected s disk m = by_phase s.session.phase refl
   where
-    by_phase : (p : Phase) → s.session.phase ≡ p → Admits s.session (step s disk m).machine.session
+    by_phase : (p : Phase) → s.session.phase ≡ p → Admits s.session (step protected s disk m).machine.session
     by_phase phases.Login e =
         let open_ : is_closed s ≡ false = ap is_closed_phase e in
         by_cases (is_over_limit s m.segment) (λ f. rw (open_, f) (unmoved s.session _ refl refl refl (λ g. absurd (cc g))))
-        (λ f. rw (open_, f) (subst (λ (p : Phase). Admits s.session (phase_step reliable p s disk m).machine.session) (sym e)
+        (λ f. rw (open_, f) (subst (λ (p : Phase). Admits s.session (phase_step (reliable protected) p s disk m).machine.session) (sym e)
         (login_admits s.session m.head m.segment)))
-    by_phase phases.Full e = later_admits s disk m (subst IsLater (sym e) tt) (λ f. e)
+    by_phase phases.Full e = later_admits protected s disk m (subst IsLater (sym e) tt) (λ f. e)
     by_phase phases.Closed e =
-        later_admits s disk m (subst IsLater (sym e) tt)
-        (λ f. sym (ap (λ (r : Stepped). r.machine.session.phase) (closed_stays s disk m e)) ∙ f)
+        later_admits protected s disk m (subst IsLater (sym e) tt)
+        (λ f. sym (ap (λ (r : Stepped). r.machine.session.phase) (closed_stays protected s disk m e)) ∙ f)
 
 -- nothing is executed before full feature phase, nor in a closed session
-executes_none : (s : Machine) (disk : Disk) (m : Message) (p : Phase) → s.session.phase ≡ p → (p ≡ phases.Full → ⊥) → (step s disk m).executed ≡ []
-executes_none s disk m phases.Full e never = absurd (never refl)
-executes_none s disk m phases.Closed e never = ap (λ (r : Stepped). r.executed) (closed_stays s disk m e)
-executes_none s disk m phases.Login e never =
+executes_none : (protected : Bool) (s : Machine) (disk : Disk) (m : Message) (p : Phase) → s.session.phase ≡ p → (p ≡ phases.Full → ⊥) → (step protected s disk m).executed ≡ []
+executes_none protected s disk m phases.Full e never = absurd (never refl)
+executes_none protected s disk m phases.Closed e never = ap (λ (r : Stepped). r.executed) (closed_stays protected s disk m e)
+executes_none protected s disk m phases.Login e never =
     let open_ : is_closed s ≡ false = ap is_closed_phase e in
     by_cases (is_over_limit s m.segment) (λ f. rw (open_, f) refl)
-    (λ f. rw (open_, f) (subst (λ (p : Phase). (phase_step reliable p s disk m).executed ≡ []) (sym e) refl))
+    (λ f. rw (open_, f) (subst (λ (p : Phase). (phase_step (reliable protected) p s disk m).executed ≡ []) (sym e) refl))
 
 -- ---- any messages
 
-all_admit : (s : Machine) (disk : Disk) (ms : List Message) → Admits s.session (answers s disk ms).machine.session
+all_admit : (protected : Bool) (s : Machine) (disk : Disk) (ms : List Message) → Admits s.session (answers protected s disk ms).machine.session
 unfolding answers
-all_admit s disk [] = unmoved s.session s.session refl refl refl (λ e. e)
-all_admit s disk (m ∷ ms) =
-    let first : Stepped = step s disk m in
-    then_admits s.session first.machine.session _ (step_admits s disk m) (all_admit first.machine first.disk ms)
+all_admit protected s disk [] = unmoved s.session s.session refl refl refl (λ e. e)
+all_admit protected s disk (m ∷ ms) =
+    let first : Stepped = step protected s disk m in
+    then_admits s.session first.machine.session _ (step_admits protected s disk m) (all_admit protected first.machine first.disk ms)
 
 -- nothing was executed at this message, so something was behind it
-behind_none : (s : Machine) (disk : Disk) (m : Message) (ms : List Message) → (step s disk m).executed ≡ []
-    → ((answers s disk (m ∷ ms)).executed ≡ [] → ⊥) → (answers (step s disk m).machine (step s disk m).disk ms).executed ≡ [] → ⊥
+behind_none : (protected : Bool) (s : Machine) (disk : Disk) (m : Message) (ms : List Message) → (step protected s disk m).executed ≡ []
+    → ((answers protected s disk (m ∷ ms)).executed ≡ [] → ⊥) → (answers protected (step protected s disk m).machine (step protected s disk m).disk ms).executed ≡ [] → ⊥
 unfolding answers
-behind_none s disk m ms first some none =
-    some (ap (λ (l : List Execution). l ++ (answers (step s disk m).machine (step s disk m).disk ms).executed) first ∙ none)
+behind_none protected s disk m ms first some none =
+    some (ap (λ (l : List Execution). l ++ (answers protected (step protected s disk m).machine (step protected s disk m).disk ms).executed) first ∙ none)
 
-executed_at : (s : Machine) (disk : Disk) (m : Message) (ms : List Message) (p : Phase) → s.session.phase ≡ p → Admitted s.session
-    → ((answers s disk (m ∷ ms)).executed ≡ [] → ⊥)
-    → (((answers (step s disk m).machine (step s disk m).disk ms).executed ≡ [] → ⊥)
-    → (answers (step s disk m).machine (step s disk m).disk ms).machine.session.has_text ≡ true)
-    → (answers (step s disk m).machine (step s disk m).disk ms).machine.session.has_text ≡ true
-executed_at s disk m ms phases.Full e a some later =
-    (all_admit (step s disk m).machine (step s disk m).disk ms).text ((step_admits s disk m).text (a.full e))
-executed_at s disk m ms phases.Login e a some later =
-    later (behind_none s disk m ms (executes_none s disk m phases.Login e (λ f. absurd (cc f))) some)
-executed_at s disk m ms phases.Closed e a some later =
-    later (behind_none s disk m ms (executes_none s disk m phases.Closed e (λ f. absurd (cc f))) some)
+executed_at : (protected : Bool) (s : Machine) (disk : Disk) (m : Message) (ms : List Message) (p : Phase) → s.session.phase ≡ p → Admitted s.session
+    → ((answers protected s disk (m ∷ ms)).executed ≡ [] → ⊥)
+    → (((answers protected (step protected s disk m).machine (step protected s disk m).disk ms).executed ≡ [] → ⊥)
+    → (answers protected (step protected s disk m).machine (step protected s disk m).disk ms).machine.session.has_text ≡ true)
+    → (answers protected (step protected s disk m).machine (step protected s disk m).disk ms).machine.session.has_text ≡ true
+executed_at protected s disk m ms phases.Full e a some later =
+    (all_admit protected (step protected s disk m).machine (step protected s disk m).disk ms).text ((step_admits protected s disk m).text (a.full e))
+executed_at protected s disk m ms phases.Login e a some later =
+    later (behind_none protected s disk m ms (executes_none protected s disk m phases.Login e (λ f. absurd (cc f))) some)
+executed_at protected s disk m ms phases.Closed e a some later =
+    later (behind_none protected s disk m ms (executes_none protected s disk m phases.Closed e (λ f. absurd (cc f))) some)
 
 -- a session in which a command was executed has taken a text
-executed_text : (s : Machine) (disk : Disk) (ms : List Message) → Admitted s.session → ((answers s disk ms).executed ≡ [] → ⊥)
-    → (answers s disk ms).machine.session.has_text ≡ true
+executed_text : (protected : Bool) (s : Machine) (disk : Disk) (ms : List Message) → Admitted s.session → ((answers protected s disk ms).executed ≡ [] → ⊥)
+    → (answers protected s disk ms).machine.session.has_text ≡ true
 unfolding answers
-executed_text s disk [] a some = absurd (some refl)
-executed_text s disk (m ∷ ms) a some =
-    executed_at s disk m ms s.session.phase refl a some
-    (λ more. executed_text (step s disk m).machine (step s disk m).disk ms ((step_admits s disk m).admitted a) more)
+executed_text protected s disk [] a some = absurd (some refl)
+executed_text protected s disk (m ∷ ms) a some =
+    executed_at protected s disk m ms s.session.phase refl a some
+    (λ more. executed_text protected (step protected s disk m).machine (step protected s disk m).disk ms ((step_admits protected s disk m).admitted a) more)
 
 -- ---- the law
 
 opening_admitted : (settings : Settings) (n : ℕ) → Admitted (opening settings n).session
 opening_admitted settings n = record { listed = λ e. absurd (cc e); full = λ e. absurd (cc e) }
 
-named : (settings : Settings) (names : List (List ℕ)) (n : ℕ) (disk : Disk) (ms : List Message) → settings.access.names ≡ Some names
-    → (answers (opening settings n) disk ms).machine.session.has_text ≡ true
-    → is_among names (answers (opening settings n) disk ms).machine.session.initiator_name ≡ true
-named settings names n disk ms listed text =
-    let r : Stepped = answers (opening settings n) disk ms in
-    let x : Admits (opening settings n).session r.machine.session = all_admit (opening settings n) disk ms in
+named : (protected : Bool) (settings : Settings) (names : List (List ℕ)) (n : ℕ) (disk : Disk) (ms : List Message) → settings.access.names ≡ Some names
+    → (answers protected (opening settings n) disk ms).machine.session.has_text ≡ true
+    → is_among names (answers protected (opening settings n) disk ms).machine.session.initiator_name ≡ true
+named protected settings names n disk ms listed text =
+    let r : Stepped = answers protected (opening settings n) disk ms in
+    let x : Admits (opening settings n).session r.machine.session = all_admit protected (opening settings n) disk ms in
     subst (λ (o : Option (List (List ℕ))). is_listed o r.machine.session.initiator_name ≡ true) listed
     (subst (λ (p : Settings). is_allowed p.access r.machine.session.initiator_name ≡ true) x.settings
     ((x.admitted (opening_admitted settings n)).listed text))
 
-pub full_allowed : (settings : Settings) (names : List (List ℕ)) (n : ℕ) (disk : Disk) (ms : List Message) → settings.access.names ≡ Some names
-    → (answers (opening settings n) disk ms).machine.session.phase ≡ phases.Full
-    → is_among names (answers (opening settings n) disk ms).machine.session.initiator_name ≡ true
-full_allowed settings names n disk ms listed full =
-    named settings names n disk ms listed
-    (((all_admit (opening settings n) disk ms).admitted (opening_admitted settings n)).full full)
+pub full_allowed : (protected : Bool) (settings : Settings) (names : List (List ℕ)) (n : ℕ) (disk : Disk) (ms : List Message) → settings.access.names ≡ Some names
+    → (answers protected (opening settings n) disk ms).machine.session.phase ≡ phases.Full
+    → is_among names (answers protected (opening settings n) disk ms).machine.session.initiator_name ≡ true
+full_allowed protected settings names n disk ms listed full =
+    named protected settings names n disk ms listed
+    (((all_admit protected (opening settings n) disk ms).admitted (opening_admitted settings n)).full full)
 
-pub executed_allowed : (settings : Settings) (names : List (List ℕ)) (n : ℕ) (disk : Disk) (ms : List Message) → settings.access.names ≡ Some names
-    → ((answers (opening settings n) disk ms).executed ≡ [] → ⊥)
-    → is_among names (answers (opening settings n) disk ms).machine.session.initiator_name ≡ true
-executed_allowed settings names n disk ms listed some =
-    named settings names n disk ms listed (executed_text (opening settings n) disk ms (opening_admitted settings n) some)
+pub executed_allowed : (protected : Bool) (settings : Settings) (names : List (List ℕ)) (n : ℕ) (disk : Disk) (ms : List Message) → settings.access.names ≡ Some names
+    → ((answers protected (opening settings n) disk ms).executed ≡ [] → ⊥)
+    → is_among names (answers protected (opening settings n) disk ms).machine.session.initiator_name ≡ true
+executed_allowed protected settings names n disk ms listed some =
+    named protected settings names n disk ms listed (executed_text protected (opening settings n) disk ms (opening_admitted settings n) some)
 
 none_if : (l : List Execution) → ((l ≡ [] → ⊥) → ⊥) → l ≡ []
 none_if [] f = refl
 none_if (x ∷ xs) f = absurd (f (λ e. absurd (cc e)))
 
-untouched_by : (executed : List Execution) (disk now : Disk) → executed ≡ [] → now ≡ disk_after (map supplied executed) disk → now ≡ disk
+untouched_by : (protected : Bool) (executed : List Execution) (disk now : Disk) → executed ≡ [] → now ≡ disk_after protected (map supplied executed) disk → now ≡ disk
 unfolding disk_after
-untouched_by executed disk now none e = e ∙ ap (λ (l : List Execution). disk_after (map supplied l) disk) none
+untouched_by protected executed disk now none e = e ∙ ap (λ (l : List Execution). disk_after protected (map supplied l) disk) none
 
-pub others_touch_nothing : (settings : Settings) (names : List (List ℕ)) (n : ℕ) (disk : Disk) (ms : List Message) → settings.access.names ≡ Some names
-    → is_among names (answers (opening settings n) disk ms).machine.session.initiator_name ≡ false
-    → ((answers (opening settings n) disk ms).executed ≡ []) × ((answers (opening settings n) disk ms).disk ≡ disk)
-others_touch_nothing settings names n disk ms listed other =
-    let r : Stepped = answers (opening settings n) disk ms in
+pub others_touch_nothing : (protected : Bool) (settings : Settings) (names : List (List ℕ)) (n : ℕ) (disk : Disk) (ms : List Message) → settings.access.names ≡ Some names
+    → is_among names (answers protected (opening settings n) disk ms).machine.session.initiator_name ≡ false
+    → ((answers protected (opening settings n) disk ms).executed ≡ []) × ((answers protected (opening settings n) disk ms).disk ≡ disk)
+others_touch_nothing protected settings names n disk ms listed other =
+    let r : Stepped = answers protected (opening settings n) disk ms in
     let none : r.executed ≡ [] =
-    none_if r.executed (λ some. absurd (let bad : true ≡ false = sym (executed_allowed settings names n disk ms listed some) ∙ other in cc bad)) in
-    (none, untouched_by r.executed disk r.disk none (answers_fold (opening settings n) disk ms))
+    none_if r.executed (λ some. absurd (let bad : true ≡ false = sym (executed_allowed protected settings names n disk ms listed some) ∙ other in cc bad)) in
+    (none, untouched_by protected r.executed disk r.disk none (answers_fold protected (opening settings n) disk ms))

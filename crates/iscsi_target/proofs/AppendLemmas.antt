@@ -1,5 +1,5 @@
 -- Messages in two parts.
-use Rattle.std.proofs.Common.{◌≡◌, List, [], ◌∷◌, ◌++◌, Option, Some, None, ℕ, refl, sym, ap, ◌∙◌, append_assoc, subst}
+use Rattle.std.proofs.Common.{Bool, ◌≡◌, List, [], ◌∷◌, ◌++◌, Option, Some, None, ℕ, refl, sym, ap, ◌∙◌, append_assoc, subst}
 use Rattle.scsi_disk.specs.Disk.{Disk}
 use Rattle.iscsi_stream.specs.Stream.{Message}
 use Rattle.iscsi_target.specs.State.{Machine, Stepped}
@@ -19,28 +19,28 @@ then_assoc a b c = λ i. record {
   executed = append_assoc a.executed b.executed c.executed i;
 }
 
-pub answers_append : (s : Machine) (disk : Disk) (ms more : List Message)
-    → answers s disk (ms ++ more) ≡ then_stepped (answers s disk ms) (answers (answers s disk ms).machine (answers s disk ms).disk more)
+pub answers_append : (protected : Bool) (s : Machine) (disk : Disk) (ms more : List Message)
+    → answers protected s disk (ms ++ more) ≡ then_stepped (answers protected s disk ms) (answers protected (answers protected s disk ms).machine (answers protected s disk ms).disk more)
 unfolding answers
-answers_append s disk [] more = refl
-answers_append s disk (m ∷ ms) more =
-    let first : Stepped = step s disk m in
-    let later : Stepped = answers first.machine first.disk ms in
-    ap (λ (r : Stepped). then_stepped first r) (answers_append first.machine first.disk ms more)
-    ∙ sym (then_assoc first later (answers later.machine later.disk more))
+answers_append protected s disk [] more = refl
+answers_append protected s disk (m ∷ ms) more =
+    let first : Stepped = step protected s disk m in
+    let later : Stepped = answers protected first.machine first.disk ms in
+    ap (λ (r : Stepped). then_stepped first r) (answers_append protected first.machine first.disk ms more)
+    ∙ sym (then_assoc first later (answers protected later.machine later.disk more))
 
-pub may_append : (s : Machine) (disk : Disk) (before now after : ℕ) (ms more : List Message) (a b : Stepped)
-    → MayAnswer s disk before ms a now → MayAnswer a.machine a.disk now more b after → MayAnswer s disk before (ms ++ more) (then_stepped a b) after
+pub may_append : (protected : Bool) (s : Machine) (disk : Disk) (before now after : ℕ) (ms more : List Message) (a b : Stepped)
+    → MayAnswer protected s disk before ms a now → MayAnswer protected a.machine a.disk now more b after → MayAnswer protected s disk before (ms ++ more) (then_stepped a b) after
 unfolding MayAnswer
-may_append s disk before now after [] more a b e f =
-    subst (λ (n : ℕ). MayAnswer s disk n more (then_stepped a b) after) e.1
-    (subst (λ (x : Stepped). MayAnswer s disk now more (then_stepped x b) after) (sym e.0)
-    (subst (λ (x : Stepped). MayAnswer x.machine x.disk now more b after) e.0 f))
-may_append s disk before now after (m ∷ ms) more a b e f = (
+may_append protected s disk before now after [] more a b e f =
+    subst (λ (n : ℕ). MayAnswer protected s disk n more (then_stepped a b) after) e.1
+    (subst (λ (x : Stepped). MayAnswer protected s disk now more (then_stepped x b) after) (sym e.0)
+    (subst (λ (x : Stepped). MayAnswer protected x.machine x.disk now more b after) e.0 f))
+may_append protected s disk before now after (m ∷ ms) more a b e f = (
   e.0,
   then_stepped e.1 b,
   e.2,
   e.3,
-  may_append e.0.machine e.0.disk e.2 now after ms more e.1 b e.4 (subst (λ (x : Stepped). MayAnswer x.machine x.disk now more b after) e.5 f),
+  may_append protected e.0.machine e.0.disk e.2 now after ms more e.1 b e.4 (subst (λ (x : Stepped). MayAnswer protected x.machine x.disk now more b after) e.5 f),
   ap (λ (x : Stepped). then_stepped x b) e.5 ∙ then_assoc e.0 e.1 b,
 )

@@ -3,7 +3,8 @@ use Rattle.std.proofs.Common.{◌≡◌, ◌⊎◌, inl, inr, ℕ, ◌*◌, ◌-
 use Rattle.std.specs.Prelude.{nat_lt, if◌then◌else◌}
 use Rattle.scsi_disk.specs.Disk.{Disk, cut, overlaid}
 use Rattle.scsi_disk.specs.Plan.{plan_of, transfer}
-use Rattle.scsi_disk.specs.Effect.{effect, disk_by, IsSupplied}
+use Rattle.scsi_disk.specs.Effect.{effect, disk_by, guarded, IsSupplied}
+use Rattle.scsi_disk.proofs.GuardLemmas.{takes_none}
 use Rattle.scsi_disk.specs.Lasting.{Adds}
 use Rattle.scsi_disk.specs.Runs.{Supplied}
 use Rattle.scsi_disk.specs.declared.order.Order.{Order}
@@ -26,13 +27,13 @@ use Rattle.iscsi_target.proofs.OpenWriteLemmas.{data_of_one}
 use Rattle.iscsi_target.proofs.TurnLemmas.{with_tasks}
 
 -- nothing was done
-pub none_done : (orders : List Supplied) (disk : Disk) (kept : ℕ → List ℕ → Type 0) → Crashes orders disk disk kept kept
-none_done orders disk kept = record { count = refl; adds = λ n c h. inl h }
+pub none_done : (protected : Bool) (orders : List Supplied) (disk : Disk) (kept : ℕ → List ℕ → Type 0) → Crashes protected orders disk disk kept kept
+none_done protected orders disk kept = record { count = refl; adds = λ n c h. inl h }
 
 -- one command was executed
-pub one_done : (order : Order) (bytes : List ℕ) (before after : Disk) (old new : ℕ → List ℕ → Type 0) → after.count ≡ before.count →
-    IsSupplied before.count order bytes → Adds (effect before order bytes).disk old new → Crashes ((order, bytes) ∷ []) before after old new
-one_done order bytes before after old new count supplied adds = record {
+pub one_done : (protected : Bool) (order : Order) (bytes : List ℕ) (before after : Disk) (old new : ℕ → List ℕ → Type 0) → after.count ≡ before.count →
+    IsSupplied before.count order bytes → Adds (effect protected before order bytes).disk old new → Crashes protected ((order, bytes) ∷ []) before after old new
+one_done protected order bytes before after old new count supplied adds = record {
   count = count;
   adds = λ n c h. elim (adds n c h) [ inl was ↦ inl was | inr is ↦ inr (inl (supplied, is)) ];
 }
@@ -43,21 +44,21 @@ same_disk (Give k) disk order bytes gives = refl
 same_disk (Take k) disk order bytes gives = absurd (gives k refl)
 
 -- one that writes nothing was
-pub none_written : (order : Order) (bytes : List ℕ) (before after : Disk) (old new : ℕ → List ℕ → Type 0) → after.count ≡ before.count →
-    ((k : ℕ) → plan_of order before.count ≡ Take k → ⊥) → ((n : ℕ) → old n (before.block n)) → Adds (effect before order bytes).disk old new →
-    Crashes [] before after old new
-none_written order bytes before after old new count gives stays adds = record {
+pub none_written : (protected : Bool) (order : Order) (bytes : List ℕ) (before after : Disk) (old new : ℕ → List ℕ → Type 0) → after.count ≡ before.count →
+    ((k : ℕ) → plan_of order before.count ≡ Take k → ⊥) → ((n : ℕ) → old n (before.block n)) → Adds (effect protected before order bytes).disk old new →
+    Crashes protected [] before after old new
+none_written protected order bytes before after old new count gives stays adds = record {
   count = count;
   adds = λ n c h. elim (adds n c h) [
     | inl was ↦ inl was
     | inr is ↦ inl (subst (λ (x : List ℕ). old n x)
-        (sym (is ∙ ap (λ (d : Disk). d.block n) (same_disk (plan_of order before.count) before order bytes gives))) (stays n))
+        (sym (is ∙ ap (λ (d : Disk). d.block n) (same_disk (guarded protected (plan_of order before.count)) before order bytes (takes_none protected (plan_of order before.count) gives)))) (stays n))
   ];
 }
 
-pub any_orders : (orders : List Supplied) (before after : Disk) (old new : ℕ → List ℕ → Type 0) → Crashes [] before after old new →
-    Crashes orders before after old new
-any_orders orders before after old new h = record {
+pub any_orders : (protected : Bool) (orders : List Supplied) (before after : Disk) (old new : ℕ → List ℕ → Type 0) → Crashes protected [] before after old new →
+    Crashes protected orders before after old new
+any_orders protected orders before after old new h = record {
   count = h.count;
   adds = λ n c k. elim (h.adds n c k) [ inl was ↦ inl was | inr none ↦ absurd none ];
 }
@@ -79,52 +80,52 @@ moved_by (Refuse sense) before now order bytes n c e = inl e
 moved_by (Give k) before now order bytes n c e = inl e
 moved_by (Take k) before now order bytes n c e = over 512 (transfer order.cdb).first n bytes now.block before.block c e
 
-pub moved : (orders : List Supplied) (before now : Disk) (n : ℕ) (c : List ℕ) → now.count ≡ before.count → IsBehind now orders n c →
-    (c ≡ now.block n) ⊎ IsBehind before orders n c
-moved [] before now n c same h = absurd h
-moved (o ∷ orders) before now n c same (inr h) = elim (moved orders before now n c same h) [ inl is ↦ inl is | inr more ↦ inr (inr more) ]
-moved (o ∷ orders) before now n c same (inl h) =
-    let is : c ≡ (disk_by (plan_of o.0 before.count) now o.0 o.1).block n =
-    h.1 ∙ ap (λ (k : ℕ). (disk_by (plan_of o.0 k) now o.0 o.1).block n) same in
-    elim (moved_by (plan_of o.0 before.count) before now o.0 o.1 n c is) [
+pub moved : (protected : Bool) (orders : List Supplied) (before now : Disk) (n : ℕ) (c : List ℕ) → now.count ≡ before.count → IsBehind protected now orders n c →
+    (c ≡ now.block n) ⊎ IsBehind protected before orders n c
+moved protected [] before now n c same h = absurd h
+moved protected (o ∷ orders) before now n c same (inr h) = elim (moved protected orders before now n c same h) [ inl is ↦ inl is | inr more ↦ inr (inr more) ]
+moved protected (o ∷ orders) before now n c same (inl h) =
+    let is : c ≡ (disk_by (guarded protected (plan_of o.0 before.count)) now o.0 o.1).block n =
+    h.1 ∙ ap (λ (k : ℕ). (disk_by (guarded protected (plan_of o.0 k)) now o.0 o.1).block n) same in
+    elim (moved_by (guarded protected (plan_of o.0 before.count)) before now o.0 o.1 n c is) [
       | inl was ↦ inl was
       | inr new ↦ inr (inl (subst (λ (k : ℕ). IsSupplied k o.0 o.1) same h.0, new))
     ]
 
-pub at_left : (xs ys : List Supplied) (disk : Disk) (n : ℕ) (c : List ℕ) → IsBehind disk xs n c → IsBehind disk (xs ++ ys) n c
-at_left [] ys disk n c h = absurd h
-at_left (x ∷ xs) ys disk n c (inl h) = inl h
-at_left (x ∷ xs) ys disk n c (inr h) = inr (at_left xs ys disk n c h)
+pub at_left : (protected : Bool) (xs ys : List Supplied) (disk : Disk) (n : ℕ) (c : List ℕ) → IsBehind protected disk xs n c → IsBehind protected disk (xs ++ ys) n c
+at_left protected [] ys disk n c h = absurd h
+at_left protected (x ∷ xs) ys disk n c (inl h) = inl h
+at_left protected (x ∷ xs) ys disk n c (inr h) = inr (at_left protected xs ys disk n c h)
 
-pub at_right : (xs ys : List Supplied) (disk : Disk) (n : ℕ) (c : List ℕ) → IsBehind disk ys n c → IsBehind disk (xs ++ ys) n c
-at_right [] ys disk n c h = h
-at_right (x ∷ xs) ys disk n c h = inr (at_right xs ys disk n c h)
+pub at_right : (protected : Bool) (xs ys : List Supplied) (disk : Disk) (n : ℕ) (c : List ℕ) → IsBehind protected disk ys n c → IsBehind protected disk (xs ++ ys) n c
+at_right protected [] ys disk n c h = h
+at_right protected (x ∷ xs) ys disk n c h = inr (at_right protected xs ys disk n c h)
 
 -- ---- tasks in their turn
 
 -- some of the commands were done, and these are left
-pub record Pends (all left : List Supplied) (before now : Disk) (old kept : ℕ → List ℕ → Type 0) : Type 0 where
-  pub done : Crashes all before now old kept
-  pub rest : (n : ℕ) (c : List ℕ) → IsBehind before left n c → IsBehind before all n c
+pub record Pends (protected : Bool) (all left : List Supplied) (before now : Disk) (old kept : ℕ → List ℕ → Type 0) : Type 0 where
+  pub done : Crashes protected all before now old kept
+  pub rest : (n : ℕ) (c : List ℕ) → IsBehind protected before left n c → IsBehind protected before all n c
 
-pub goes_first : (all : List Supplied) (disk : Disk) (kept : ℕ → List ℕ → Type 0) → Pends all all disk disk kept kept
-goes_first all disk kept = record { done = none_done all disk kept; rest = λ n c h. h }
+pub goes_first : (protected : Bool) (all : List Supplied) (disk : Disk) (kept : ℕ → List ℕ → Type 0) → Pends protected all all disk disk kept kept
+goes_first protected all disk kept = record { done = none_done protected all disk kept; rest = λ n c h. h }
 
 -- the first of them was done
-pub goes_on : (all first left : List Supplied) (before now after : Disk) (old kept new : ℕ → List ℕ → Type 0) → Pends all (first ++ left) before now old kept →
-    ((n : ℕ) → kept n (now.block n)) → Crashes first now after kept new → Pends all left before after old new
-goes_on all first left before now after old kept new g stays h = record {
+pub goes_on : (protected : Bool) (all first left : List Supplied) (before now after : Disk) (old kept new : ℕ → List ℕ → Type 0) → Pends protected all (first ++ left) before now old kept →
+    ((n : ℕ) → kept n (now.block n)) → Crashes protected first now after kept new → Pends protected all left before after old new
+goes_on protected all first left before now after old kept new g stays h = record {
   done = record {
     count = h.count ∙ g.done.count;
     adds = λ n c k. elim (h.adds n c k) [
       | inl was ↦ g.done.adds n c was
-      | inr is ↦ elim (moved first before now n c g.done.count is) [
+      | inr is ↦ elim (moved protected first before now n c g.done.count is) [
         | inl here ↦ g.done.adds n c (subst (λ (x : List ℕ). kept n x) (sym here) (stays n))
-        | inr new ↦ inr (g.rest n c (at_left first left before n c new))
+        | inr new ↦ inr (g.rest n c (at_left protected first left before n c new))
       ]
     ];
   };
-  rest = λ n c k. g.rest n c (at_right first left before n c k);
+  rest = λ n c k. g.rest n c (at_right protected first left before n c k);
 }
 
 -- ---- pieces joined
@@ -141,25 +142,25 @@ pub commands_same : (ts us : List Task) → ones ts ≡ ones us → commands_of 
 commands_same ts us e = sym (commands_joined ts) ∙ ap commands_of e ∙ commands_joined us
 
 -- the first task was done
-pub task_done : (all : List Supplied) (now : Machine) (session : Session) (task : Task) (rest : List Task) (before mid after : Disk)
-    (old kept new : ℕ → List ℕ → Type 0) → now ≡ with_tasks session (task ∷ rest) → Pends all (commands_of now.tasks) before mid old kept →
-    ((n : ℕ) → kept n (mid.block n)) → Crashes (command_of task) mid after kept new → Pends all (commands_of rest) before after old new
-task_done all now session task rest before mid after old kept new is g stays h =
-    goes_on all (command_of task) (commands_of rest) before mid after old kept new
-    (subst (λ (m : Machine). Pends all (commands_of m.tasks) before mid old kept) is g) stays h
+pub task_done : (protected : Bool) (all : List Supplied) (now : Machine) (session : Session) (task : Task) (rest : List Task) (before mid after : Disk)
+    (old kept new : ℕ → List ℕ → Type 0) → now ≡ with_tasks session (task ∷ rest) → Pends protected all (commands_of now.tasks) before mid old kept →
+    ((n : ℕ) → kept n (mid.block n)) → Crashes protected (command_of task) mid after kept new → Pends protected all (commands_of rest) before after old new
+task_done protected all now session task rest before mid after old kept new is g stays h =
+    goes_on protected all (command_of task) (commands_of rest) before mid after old kept new
+    (subst (λ (m : Machine). Pends protected all (commands_of m.tasks) before mid old kept) is g) stays h
 
 -- and these are left
-pub tasks_left : (all : List Supplied) (rest left : List Task) (before after : Disk) (old new : ℕ → List ℕ → Type 0) → ones left ≡ ones rest →
-    Pends all (commands_of rest) before after old new → Pends all (commands_of left) before after old new
-tasks_left all rest left before after old new e g =
-    subst (λ (orders : List Supplied). Pends all orders before after old new) (sym (commands_same left rest e)) g
+pub tasks_left : (protected : Bool) (all : List Supplied) (rest left : List Task) (before after : Disk) (old new : ℕ → List ℕ → Type 0) → ones left ≡ ones rest →
+    Pends protected all (commands_of rest) before after old new → Pends protected all (commands_of left) before after old new
+tasks_left protected all rest left before after old new e g =
+    subst (λ (orders : List Supplied). Pends protected all orders before after old new) (sym (commands_same left rest e)) g
 
 -- ---- the next PDU
 
-pub next_by : (old : Connection) (piece : List ℕ) (n : ℕ) (framing : Framing) (before after : Disk) (kept new : ℕ → List ℕ → Type 0)
-    → Takes old.framing piece n framing → CrashesReady (connection old.machine framing) before after kept new → CrashesNext old piece before after kept new
-next_by old piece n framing before after kept new t (inl h) = inl h
-next_by old piece n framing before after kept new t (inr h) =
+pub next_by : (protected : Bool) (old : Connection) (piece : List ℕ) (n : ℕ) (framing : Framing) (before after : Disk) (kept new : ℕ → List ℕ → Type 0)
+    → Takes old.framing piece n framing → CrashesReady protected (connection old.machine framing) before after kept new → CrashesNext protected old piece before after kept new
+next_by protected old piece n framing before after kept new t (inl h) = inl h
+next_by protected old piece n framing before after kept new t (inr h) =
     let m : Message = message_of framing h.0 h.1 in
     inr (
       m,

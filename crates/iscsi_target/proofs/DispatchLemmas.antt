@@ -325,30 +325,30 @@ not_dropped : (s : Machine) (count : ℕ) (m : Message) (rule : Option ℕ) → 
 not_dropped s count m None e d = let apart : Queued s.session (s.tasks ++ task_of count m ∷ []) ≡ Dropped = sym (admitted_none s count m e) ∙ d in cc
 not_dropped s count m (Some rule) e d = let apart : broken s rule m ≡ Dropped = sym (admitted_some s count m rule e) ∙ d in cc
 
-turn_follows : {E : Type 0} (result : Result (Option ℕ) E) (next : Next) (s : Machine) (before : Store) (output : List ℕ) (new : Moment) →
-    (next ≡ Dropped → ⊥) → Follows next result (moment (advanced s) before output) new → Follows next result (moment s before output) new
-turn_follows result Dropped s before output new never h = absurd (never refl)
-turn_follows (Ok rule) (Answered r) s before output new never h = record { ok = h.ok; err = tt }
-turn_follows (Err e) (Answered r) s before output new never h = record {
+turn_follows : {E : Type 0} (protected : Bool) (result : Result (Option ℕ) E) (next : Next) (s : Machine) (before : Store) (output : List ℕ) (new : Moment) →
+    (next ≡ Dropped → ⊥) → Follows protected next result (moment (advanced s) before output) new → Follows protected next result (moment s before output) new
+turn_follows protected result Dropped s before output new never h = absurd (never refl)
+turn_follows protected (Ok rule) (Answered r) s before output new never h = record { ok = h.ok; err = tt }
+turn_follows protected (Err e) (Answered r) s before output new never h = record {
   ok = tt;
   err = record { machine = h.err.machine; rises = h.err.rises; disk_is = h.err.disk_is; unwritten = h.err.unwritten };
 }
-turn_follows result (Queued session tasks) s before output new never h = record { ok = h.ok; err = h.err }
+turn_follows protected result (Queued session tasks) s before output new never h = record { ok = h.ok; err = h.err }
 
 -- a request that took its CmdSN: where memory runs out, the session is closed, which forgets that it was taken
-pub in_its_turn : {E : Type 0} (result : Result (Option ℕ) E) (s : Machine) (count : ℕ) (m : Message) (before : Store) (output : List ℕ) (new : Moment) →
-    Follows (admitted (advanced s) count m) result (moment (advanced s) before output) new →
-    Follows (admitted (advanced s) count m) result (moment s before output) new
-in_its_turn result s count m before output new h =
-    turn_follows result (admitted (advanced s) count m) s before output new (not_dropped (advanced s) count m (refusal (advanced s) m) refl) h
+pub in_its_turn : {E : Type 0} (protected : Bool) (result : Result (Option ℕ) E) (s : Machine) (count : ℕ) (m : Message) (before : Store) (output : List ℕ) (new : Moment) →
+    Follows protected (admitted (advanced s) count m) result (moment (advanced s) before output) new →
+    Follows protected (admitted (advanced s) count m) result (moment s before output) new
+in_its_turn protected result s count m before output new h =
+    turn_follows protected result (admitted (advanced s) count m) s before output new (not_dropped (advanced s) count m (refusal (advanced s) m) refl) h
 
 -- a request that breaks no rule, and becomes the last task
-pub admitted_follows : {E : Type 0} (result : Result (Option ℕ) E) (s : Machine) (count : ℕ) (m : Message) (before : Store) (output : List ℕ) (new : Machine)
+pub admitted_follows : {E : Type 0} (protected : Bool) (result : Result (Option ℕ) E) (s : Machine) (count : ℕ) (m : Message) (before : Store) (output : List ℕ) (new : Machine)
     (after : Store) (written : List ℕ) → refusal s m ≡ None
-    → Works result (moment (with_tasks s.session (s.tasks ++ task_of count m ∷ [])) before output) (moment new after written)
-    → Follows (admitted s count m) result (moment s before output) (moment new after written)
-admitted_follows result s count m before output new after written kept h =
-    works_follow result (admitted s count m) s.session (s.tasks ++ task_of count m ∷ []) s before output new after written (admitted_none s count m kept) h
+    → Works protected result (moment (with_tasks s.session (s.tasks ++ task_of count m ∷ [])) before output) (moment new after written)
+    → Follows protected (admitted s count m) result (moment s before output) (moment new after written)
+admitted_follows protected result s count m before output new after written kept h =
+    works_follow protected result (admitted s count m) s.session (s.tasks ++ task_of count m ∷ []) s before output new after written (admitted_none s count m kept) h
 
 -- ---- a Data-Out
 
@@ -382,32 +382,32 @@ data_session s m h bytes = for_session s m h bytes (write_of s.tasks h.initiator
 
 -- ---- any message
 
-pub login_answers : {E : Type 0} (result : Result (Option ℕ) E) (n : ℕ) (s : Machine) (disk : Disk) (m : Message) (new : Machine) (before after : List ℕ) →
+pub login_answers : {E : Type 0} (protected : Bool) (result : Result (Option ℕ) E) (n : ℕ) (s : Machine) (disk : Disk) (m : Message) (new : Machine) (before after : List ℕ) →
     is_closed s ≡ false → is_over_limit s m.segment ≡ false → s.session.phase ≡ Login
     → Leaves (on disk s.tasks (login_step s.session m)) result s new before after
-    → Answers m result (moment s (store_of disk n) before) (moment new (store_of disk n) after)
-login_answers (Ok rule) n s disk m new before after live within is h = record {
-  ok = leaves_serves n (on disk s.tasks (login_step s.session m)) (λ d. step_on d s disk m) disk rule new before after
+    → Answers protected m result (moment s (store_of disk n) before) (moment new (store_of disk n) after)
+login_answers protected (Ok rule) n s disk m new before after live within is h = record {
+  ok = leaves_serves protected n (on disk s.tasks (login_step s.session m)) (λ d. step_on d s disk m) disk rule new before after
       (λ d. live_step d s disk m Login live within is) refl refl h.machine h.output h.rule_is;
   err = tt;
 }
-login_answers (Err e) n s disk m new before after live within is h = record {
+login_answers protected (Err e) n s disk m new before after live within is h = record {
   ok = tt;
   err = inl (record { machine = h.err; rises = omega arith; disk_is = refl; unwritten = h.unwritten });
 }
 
-pub full_answers : {E : Type 0} (result : Result (Option ℕ) E) (s : Machine) (m : Message) (before : Store) (output : List ℕ) (new : Machine) (after : Store)
+pub full_answers : {E : Type 0} (protected : Bool) (result : Result (Option ℕ) E) (s : Machine) (m : Message) (before : Store) (output : List ℕ) (new : Machine) (after : Store)
     (written : List ℕ) → is_closed s ≡ false → is_over_limit s m.segment ≡ false → s.session.phase ≡ Full
-    → Follows (full_met s before.disk.count m).next result (moment s before output) (moment new after written)
-    → Answers m result (moment s before output) (moment new after written)
-full_answers (Ok rule) s m before output new after written live within is h = record {
-  ok = serves_same before.failures after.failures (λ d. step_on d s before.disk m)
+    → Follows protected (full_met s before.disk.count m).next result (moment s before output) (moment new after written)
+    → Answers protected m result (moment s before output) (moment new after written)
+full_answers protected (Ok rule) s m before output new after written live within is h = record {
+  ok = serves_same protected before.failures after.failures (λ d. step_on d s before.disk m)
       (λ d. full_step d s before.disk m) rule new after.disk output written (λ d. ap joined_stepped (sym (live_step d s before.disk m Full live within is)))
-      (accepts_by before.failures after.failures (full_met s before.disk.count m).accepted (λ d. followed d s before.disk (full_met s before.disk.count m).next)
+      (accepts_by protected before.failures after.failures (full_met s before.disk.count m).accepted (λ d. followed d s before.disk (full_met s before.disk.count m).next)
       rule new after.disk output written h.ok);
   err = tt;
 }
-full_answers (Err e) s m before output new after written live within is h = record { ok = tt; err = inr (is, h.err) }
+full_answers protected (Err e) s m before output new after written live within is h = record { ok = tt; err = inr (is, h.err) }
 
 -- ---- the commands that are there
 

@@ -36,12 +36,12 @@ use Rattle.iscsi_target.proofs.KeepingLemmas.{step_settings, queued_phase}
 use Rattle.iscsi_target.proofs.ClosingLemmas.{may_close}
 
 -- the bytes of the piece before the rest were taken, and their PDUs answered
-pub record FedUpTo (old : Scene) (piece rest : List ℕ) (new : Scene) : Type 0 where
+pub record FedUpTo (protected : Bool) (old : Scene) (piece rest : List ℕ) (new : Scene) : Type 0 where
   pub front : List ℕ
   pub parts : piece ≡ front ++ rest
   pub messages : List Message
   pub stepped : Stepped
-  pub answered : Answers old.connection old.store front (progress new.connection.framing messages stepped) new.store
+  pub answered : Answers protected old.connection old.store front (progress new.connection.framing messages stepped) new.store
   pub counted : new.store.failures ≡ answered.failures
   pub disk : new.store.disk ≡ stepped.disk
   pub output_is : new.output ≡ old.output ++ canon stepped.answers
@@ -50,22 +50,22 @@ pub record FedUpTo (old : Scene) (piece rest : List ℕ) (new : Scene) : Type 0 
   pub settings_is : new.connection.machine.session.settings ≡ old.connection.machine.session.settings
 
 -- and the session goes on
-pub record GoesUpTo (old : Scene) (piece rest : List ℕ) (new : Scene) : Type 0 where
-  pub fed : FedUpTo old piece rest new
+pub record GoesUpTo (protected : Bool) (old : Scene) (piece rest : List ℕ) (new : Scene) : Type 0 where
+  pub fed : FedUpTo protected old piece rest new
   pub rule : fed.stepped.rule ≡ None
   pub live : is_closed new.connection.machine ≡ false
 
 -- the last PDU broke this rule, or none; n were answered at most, and n if one was ready
-pub record FedAs (old : Scene) (piece rest : List ℕ) (new : Scene) (broken : Option ℕ) (most : ℕ) (ready : Bool) : Type 0 where
-  pub fed : FedUpTo old piece rest new
+pub record FedAs (protected : Bool) (old : Scene) (piece rest : List ℕ) (new : Scene) (broken : Option ℕ) (most : ℕ) (ready : Bool) : Type 0 where
+  pub fed : FedUpTo protected old piece rest new
   pub rule : fed.stepped.rule ≡ broken
   pub few : length fed.messages ≤ most
   pub full : ready ≡ true → length fed.messages ≡ most
 
-pub fed_none : (old : Connection) (before : Store) (output piece : List ℕ) → is_ready old.framing ≡ false → is_closed old.machine ≡ false →
-    GoesUpTo (scene old before output) piece piece (scene old before output)
+pub fed_none : (protected : Bool) (old : Connection) (before : Store) (output piece : List ℕ) → is_ready old.framing ≡ false → is_closed old.machine ≡ false →
+    GoesUpTo protected (scene old before output) piece piece (scene old before output)
 unfolding MayAnswer answers
-fed_none old before output piece unready live = record {
+fed_none protected old before output piece unready live = record {
   fed = record {
     front = [];
     parts = refl;
@@ -85,12 +85,12 @@ fed_none old before output piece unready live = record {
 
 -- ---- bytes that complete no PDU
 
-pub fed_bytes : (old : Connection) (before : Store) (output piece rest after_rest : List ℕ) (now : Connection) (after : Store) (written : List ℕ) (n : ℕ)
+pub fed_bytes : (protected : Bool) (old : Connection) (before : Store) (output piece rest after_rest : List ℕ) (now : Connection) (after : Store) (written : List ℕ) (n : ℕ)
     (framing : Framing)
-    → (g : GoesUpTo (scene old before output) piece rest (scene now after written)) → Takes now.framing rest n framing → is_ready framing ≡ false
+    → (g : GoesUpTo protected (scene old before output) piece rest (scene now after written)) → Takes now.framing rest n framing → is_ready framing ≡ false
     → after_rest ≡ drop n rest
-    → FedAs (scene old before output) piece after_rest (scene (connection now.machine framing) after written) None (length g.fed.messages + 1) (is_ready framing)
-fed_bytes old before output piece rest after_rest now after written n framing g t unready is = let f = g.fed in record {
+    → FedAs protected (scene old before output) piece after_rest (scene (connection now.machine framing) after written) None (length g.fed.messages + 1) (is_ready framing)
+fed_bytes protected old before output piece rest after_rest now after written n framing g t unready is = let f = g.fed in record {
   rule = g.rule;
   few = omega arith;
   full = λ e. absurd (apart e unready);
@@ -125,10 +125,10 @@ same_step d a b disk m e = sym (step_joined d a disk m) ∙ ap (λ (s : Machine)
 abbrev last_of : Device → Machine → Disk → Message → Stepped
 last_of d s disk m = then_stepped (step_on d s disk m) (unchanged (step_on d s disk m).machine (step_on d s disk m).disk)
 
-may_last : (d : Device) (s : Machine) (disk : Disk) (m : Message) (before after : ℕ) → RunsIn d before (step_on d s disk m).executed after
-    → MayAnswer s disk before (m ∷ []) (last_of d s disk m) after
+may_last : (protected : Bool) (d : Device) (s : Machine) (disk : Disk) (m : Message) (before after : ℕ) → RunsIn protected d before (step_on d s disk m).executed after
+    → MayAnswer protected s disk before (m ∷ []) (last_of d s disk m) after
 unfolding MayAnswer
-may_last d s disk m before after runs = (
+may_last protected d s disk m before after runs = (
   step_on d s disk m,
   unchanged (step_on d s disk m).machine (step_on d s disk m).disk,
   after,
@@ -137,9 +137,9 @@ may_last d s disk m before after runs = (
   refl,
 )
 
-answers_last : (s : Machine) (disk : Disk) (m : Message) → answers s disk (m ∷ []) ≡ last_of reliable s disk m
+answers_last : (protected : Bool) (s : Machine) (disk : Disk) (m : Message) → answers protected s disk (m ∷ []) ≡ last_of (reliable protected) s disk m
 unfolding answers
-answers_last s disk m = refl
+answers_last protected s disk m = refl
 
 rule_last : (a b : Option ℕ) → a ≡ None → first_rule a (first_rule b None) ≡ b
 rule_last a None e = rw e refl
@@ -148,12 +148,12 @@ rule_last a (Some rule) e = rw e refl
 settings_as : (a b : Machine) → joined a ≡ joined b → a.session.settings ≡ b.session.settings
 settings_as a b e = ap (λ (s : Machine). s.session.settings) e
 
-pub fed_pdu : (old : Connection) (before : Store) (output piece rest after_rest : List ℕ) (now : Connection) (mid : Store) (written : List ℕ) (n : ℕ)
+pub fed_pdu : (protected : Bool) (old : Connection) (before : Store) (output piece rest after_rest : List ℕ) (now : Connection) (mid : Store) (written : List ℕ) (n : ℕ)
     (framing : Framing) (broken : Option ℕ) (new : Connection) (after : Store) (more : List ℕ)
-    → (g : GoesUpTo (scene old before output) piece rest (scene now mid written)) → Takes now.framing rest n framing →
-    IsAnswered (scene (connection now.machine framing) mid written) broken (scene new after more) → after_rest ≡ drop n rest
-    → FedAs (scene old before output) piece after_rest (scene new after more) broken (length g.fed.messages + 1) (is_ready framing)
-fed_pdu old before output piece rest after_rest now mid written n framing broken new after more g t a is =
+    → (g : GoesUpTo protected (scene old before output) piece rest (scene now mid written)) → Takes now.framing rest n framing →
+    IsAnswered protected (scene (connection now.machine framing) mid written) broken (scene new after more) → after_rest ≡ drop n rest
+    → FedAs protected (scene old before output) piece after_rest (scene new after more) broken (length g.fed.messages + 1) (is_ready framing)
+fed_pdu protected old before output piece rest after_rest now mid written n framing broken new after more g t a is =
     let f = g.fed in
     let m : Message = message_of framing a.head a.segment in
     let d : Device = a.serves.device in
@@ -182,21 +182,21 @@ fed_pdu old before output piece rest after_rest now mid written n framing broken
           taken = moves;
           ready = ap is_ready a.framing_is ∙ unready_after framing a.head;
           failures = after.failures;
-          may = may_append old.machine before.disk before.failures mid.failures after.failures f.messages (m ∷ []) f.stepped last
-              (subst (λ (n : ℕ). MayAnswer old.machine before.disk before.failures f.messages f.stepped n) (sym f.counted) f.answered.may)
-              (may_last d s f.stepped.disk m mid.failures after.failures (runs_as d mid.failures after.failures (step_on d now.machine mid.disk m) one same
+          may = may_append protected old.machine before.disk before.failures mid.failures after.failures f.messages (m ∷ []) f.stepped last
+              (subst (λ (n : ℕ). MayAnswer protected old.machine before.disk before.failures f.messages f.stepped n) (sym f.counted) f.answered.may)
+              (may_last protected d s f.stepped.disk m mid.failures after.failures (runs_as protected d mid.failures after.failures (step_on d now.machine mid.disk m) one same
               a.serves.runs));
           works = λ e. (
               let low = a.serves.rises in
               let high = f.rises in
               let first : mid.failures ≡ before.failures = omega (arith, e, low, high) in
               let then : after.failures ≡ mid.failures = omega (arith, e, first) in
-              let was : f.stepped ≡ answers old.machine before.disk f.messages = f.answered.works first in
-              let is_effect : last ≡ answers s f.stepped.disk (m ∷ []) = ap (λ (x : Device). last_of x s f.stepped.disk m) (a.serves.works then)
-              ∙ sym (answers_last s f.stepped.disk m) in
+              let was : f.stepped ≡ answers protected old.machine before.disk f.messages = f.answered.works first in
+              let is_effect : last ≡ answers protected s f.stepped.disk (m ∷ []) = ap (λ (x : Device). last_of x s f.stepped.disk m) (a.serves.works then)
+              ∙ sym (answers_last protected s f.stepped.disk m) in
               ap (then_stepped f.stepped) is_effect
-              ∙ ap (λ (x : Stepped). then_stepped x (answers x.machine x.disk (m ∷ []))) was
-              ∙ sym (answers_append old.machine before.disk f.messages (m ∷ [])));
+              ∙ ap (λ (x : Stepped). then_stepped x (answers protected x.machine x.disk (m ∷ []))) was
+              ∙ sym (answers_append protected old.machine before.disk f.messages (m ∷ [])));
           limit = ap (λ (x : Framing). x.limit) a.framing_is ∙ ap (λ (x : Framing). x.limit) t.gathered ∙ f.answered.limit;
         };
         counted = refl;
@@ -212,34 +212,34 @@ fed_pdu old before output piece rest after_rest now mid written n framing broken
       rule = rule_last f.stepped.rule one.rule g.rule ∙ sym (a.serves.rule_is ∙ ap (λ (x : Stepped). x.rule) same);
     }
 
-fed_ready : (old : Connection) (before : Store) (output piece rest after_rest : List ℕ) (now : Connection) (mid : Store) (written : List ℕ) (n : ℕ)
+fed_ready : (protected : Bool) (old : Connection) (before : Store) (output piece rest after_rest : List ℕ) (now : Connection) (mid : Store) (written : List ℕ) (n : ℕ)
     (framing : Framing) (broken : Option ℕ) (new : Connection) (after : Store) (more : List ℕ)
-    → (g : GoesUpTo (scene old before output) piece rest (scene now mid written)) → Takes now.framing rest n framing →
-    AnswersReady (scene (connection now.machine framing) mid written) broken (scene new after more) → after_rest ≡ drop n rest
-    → FedAs (scene old before output) piece after_rest (scene new after more) broken (length g.fed.messages + 1) (is_ready framing)
-fed_ready old before output piece rest after_rest now mid written n framing broken new after more g t (inl u) is =
+    → (g : GoesUpTo protected (scene old before output) piece rest (scene now mid written)) → Takes now.framing rest n framing →
+    AnswersReady protected (scene (connection now.machine framing) mid written) broken (scene new after more) → after_rest ≡ drop n rest
+    → FedAs protected (scene old before output) piece after_rest (scene new after more) broken (length g.fed.messages + 1) (is_ready framing)
+fed_ready protected old before output piece rest after_rest now mid written n framing broken new after more g t (inl u) is =
     let most : ℕ = length g.fed.messages + 1 in
     let ready : Bool = is_ready framing in
-    subst (λ (b : Option ℕ). FedAs (scene old before output) piece after_rest (scene new after more) b most ready) (sym u.rule_is)
-    (subst (λ (c : Connection). FedAs (scene old before output) piece after_rest (scene c after more) None most ready) (sym u.connection_is)
-    (subst (λ (s : Store). FedAs (scene old before output) piece after_rest (scene (connection now.machine framing) s more) None most ready) (sym u.store_is)
-    (subst (λ (x : List ℕ). FedAs (scene old before output) piece after_rest (scene (connection now.machine framing) mid x) None most ready) (sym u.output_is)
-    (fed_bytes old before output piece rest after_rest now mid written n framing g t u.unready is))))
-fed_ready old before output piece rest after_rest now mid written n framing broken new after more g t (inr a) is =
-    fed_pdu old before output piece rest after_rest now mid written n framing broken new after more g t a is
+    subst (λ (b : Option ℕ). FedAs protected (scene old before output) piece after_rest (scene new after more) b most ready) (sym u.rule_is)
+    (subst (λ (c : Connection). FedAs protected (scene old before output) piece after_rest (scene c after more) None most ready) (sym u.connection_is)
+    (subst (λ (s : Store). FedAs protected (scene old before output) piece after_rest (scene (connection now.machine framing) s more) None most ready) (sym u.store_is)
+    (subst (λ (x : List ℕ). FedAs protected (scene old before output) piece after_rest (scene (connection now.machine framing) mid x) None most ready) (sym u.output_is)
+    (fed_bytes protected old before output piece rest after_rest now mid written n framing g t u.unready is))))
+fed_ready protected old before output piece rest after_rest now mid written n framing broken new after more g t (inr a) is =
+    fed_pdu protected old before output piece rest after_rest now mid written n framing broken new after more g t a is
 
-pub fed_one : (old : Connection) (before : Store) (output piece rest after_rest : List ℕ) (now : Connection) (mid : Store) (written : List ℕ) (n : ℕ)
+pub fed_one : (protected : Bool) (old : Connection) (before : Store) (output piece rest after_rest : List ℕ) (now : Connection) (mid : Store) (written : List ℕ) (n : ℕ)
     (broken : Option ℕ) (new : Connection) (after : Store) (more : List ℕ)
-    → (g : GoesUpTo (scene old before output) piece rest (scene now mid written))
-    → (t : TakesOne (scene now mid written) rest n broken (scene new after more)) → after_rest ≡ drop n rest
-    → FedAs (scene old before output) piece after_rest (scene new after more) broken (length g.fed.messages + 1) (is_ready t.framing)
-fed_one old before output piece rest after_rest now mid written n broken new after more g t is =
-    fed_ready old before output piece rest after_rest now mid written n t.framing broken new after more g t.takes t.answers is
+    → (g : GoesUpTo protected (scene old before output) piece rest (scene now mid written))
+    → (t : TakesOne protected (scene now mid written) rest n broken (scene new after more)) → after_rest ≡ drop n rest
+    → FedAs protected (scene old before output) piece after_rest (scene new after more) broken (length g.fed.messages + 1) (is_ready t.framing)
+fed_one protected old before output piece rest after_rest now mid written n broken new after more g t is =
+    fed_ready protected old before output piece rest after_rest now mid written n t.framing broken new after more g t.takes t.answers is
 
-pub stays_within : (old : Connection) (before : Store) (output piece rest : List ℕ) (now : Connection) (after : Store) (written : List ℕ) →
-    FedUpTo (scene old before output) piece rest (scene now after written)
+pub stays_within : (protected : Bool) (old : Connection) (before : Store) (output piece rest : List ℕ) (now : Connection) (after : Store) (written : List ℕ) →
+    FedUpTo protected (scene old before output) piece rest (scene now after written)
     → old.framing.limit ≡ limit old.machine.session.settings → now.framing.limit ≡ limit now.machine.session.settings
-stays_within old before output piece rest now after written f e = f.answered.limit ∙ e ∙ ap limit (sym f.settings_is)
+stays_within protected old before output piece rest now after written f e = f.answered.limit ∙ e ∙ ap limit (sym f.settings_is)
 
 -- ---- where a call ends
 
@@ -264,38 +264,38 @@ rest_is piece front rest e =
     cancel (x ∷ a) b c e = cancel a b c (ap (drop 1) e)
 
 -- what stands of the PDUs that were answered
-leaves_to : (old : Connection) (before : Store) (output piece rest : List ℕ) (now : Connection) (after : Store) (written : List ℕ)
+leaves_to : (protected : Bool) (old : Connection) (before : Store) (output piece rest : List ℕ) (now : Connection) (after : Store) (written : List ℕ)
     (result : Result Phase TargetFault) (new : Machine)
-    → (f : FedUpTo (scene old before output) piece rest (scene now after written)) → (result ≡ Err faults.NoMemory → IsShut f.stepped.machine new × AsksForMemory now.framing (drop (count_of piece rest) piece))
-    → LeavesBy result output (remainder now.framing (drop (count_of piece rest) piece) f.stepped f.answered.failures) new after written
-leaves_to old before output piece rest now after written (Ok phase) new f shut = record { failures = f.counted; disk = f.disk; output_is = f.output_is }
-leaves_to old before output piece rest now after written (Err faults.NoMemory) new f shut = record {
+    → (f : FedUpTo protected (scene old before output) piece rest (scene now after written)) → (result ≡ Err faults.NoMemory → IsShut f.stepped.machine new × AsksForMemory now.framing (drop (count_of piece rest) piece))
+    → LeavesBy protected result output (remainder now.framing (drop (count_of piece rest) piece) f.stepped f.answered.failures) new after written
+leaves_to protected old before output piece rest now after written (Ok phase) new f shut = record { failures = f.counted; disk = f.disk; output_is = f.output_is }
+leaves_to protected old before output piece rest now after written (Err faults.NoMemory) new f shut = record {
   front = unchanged f.stepped.machine f.stepped.disk;
   stops = inl (refl, (let e = f.counted in omega (arith, e)), (shut refl).1);
   shut = (shut refl).0;
   disk = f.disk;
   output_is = f.output_is ∙ ap (λ (ms : List Message). output ++ canon ms) (sym (append-nil f.stepped.answers));
 }
-leaves_to old before output piece rest now after written (Err (faults.Stream fault)) new f shut =
+leaves_to protected old before output piece rest now after written (Err (faults.Stream fault)) new f shut =
     record { failures = f.counted; disk = f.disk; output_is = f.output_is }
-leaves_to old before output piece rest now after written (Err (faults.Protocol rule)) new f shut =
+leaves_to protected old before output piece rest now after written (Err (faults.Protocol rule)) new f shut =
     record { failures = f.counted; disk = f.disk; output_is = f.output_is }
-leaves_to old before output piece rest now after written (Err faults.Closed) new f shut =
+leaves_to protected old before output piece rest now after written (Err faults.Closed) new f shut =
     record { failures = f.counted; disk = f.disk; output_is = f.output_is }
 
-abbrev feeds_to : (old : Connection) (before : Store) (output piece rest : List ℕ) (now : Connection) (after : Store) (written : List ℕ)
+abbrev feeds_to : (protected : Bool) → (old : Connection) (before : Store) (output piece rest : List ℕ) (now : Connection) (after : Store) (written : List ℕ)
     (result : Result Phase TargetFault) (new : Connection)
-    → (f : FedUpTo (scene old before output) piece rest (scene now after written)) → (result ≡ Err faults.NoMemory → IsShut f.stepped.machine new.machine × AsksForMemory now.framing (drop (count_of piece rest) piece))
-    → Ends piece result now.framing (count_of piece rest) f.stepped new → Feeds (scene old before output) piece result (scene new after written)
-feeds_to old before output piece rest now after written result new f shut ends = record {
+    → (f : FedUpTo protected (scene old before output) piece rest (scene now after written)) → (result ≡ Err faults.NoMemory → IsShut f.stepped.machine new.machine × AsksForMemory now.framing (drop (count_of piece rest) piece))
+    → Ends piece result now.framing (count_of piece rest) f.stepped new → Feeds protected (scene old before output) piece result (scene new after written)
+feeds_to protected old before output piece rest now after written result new f shut ends = record {
   framing = now.framing;
   count = count_of piece rest;
   some = omega arith;
   messages = f.messages;
   stepped = f.stepped;
-  answered = subst (λ (x : List ℕ). Answers old before x (progress now.framing f.messages f.stepped) after)
+  answered = subst (λ (x : List ℕ). Answers protected old before x (progress now.framing f.messages f.stepped) after)
       (sym (front_is piece f.front rest f.parts)) f.answered;
-  leaves = leaves_to old before output piece rest now after written result new.machine f shut;
+  leaves = leaves_to protected old before output piece rest now after written result new.machine f shut;
   ends = ends;
 }
 
@@ -305,32 +305,32 @@ shut_as a b e = ap closed e
 closed_as : (a b : Machine) → joined a ≡ joined b → is_closed a ≡ is_closed b
 closed_as a b e = ap is_closed e
 
-live_stepped : (old : Connection) (before : Store) (output piece rest : List ℕ) (now : Connection) (after : Store) (written : List ℕ) →
-    (g : GoesUpTo (scene old before output) piece rest (scene now after written)) → IsLive g.fed.stepped
-live_stepped old before output piece rest now after written g = record {
+live_stepped : (protected : Bool) (old : Connection) (before : Store) (output piece rest : List ℕ) (now : Connection) (after : Store) (written : List ℕ) →
+    (g : GoesUpTo protected (scene old before output) piece rest (scene now after written)) → IsLive g.fed.stepped
+live_stepped protected old before output piece rest now after written g = record {
   rule = g.rule;
   live = sym (closed_as now.machine g.fed.stepped.machine g.fed.machine_is) ∙ g.live;
 }
 
-ends_refused : (old : Connection) (before : Store) (output piece rest : List ℕ) (now : Connection) (after : Store) (written : List ℕ) (fault : TargetFault)
+ends_refused : (protected : Bool) (old : Connection) (before : Store) (output piece rest : List ℕ) (now : Connection) (after : Store) (written : List ℕ) (fault : TargetFault)
     (new : Connection)
-    → GoesUpTo (scene old before output) piece rest (scene now after written) → RestFails now.framing rest fault → new.machine ≡ closed now.machine →
-    Feeds (scene old before output) piece (Err fault) (scene new after written)
-ends_refused old before output piece rest now after written faults.NoMemory new g fails is =
-    feeds_to old before output piece rest now after written (Err faults.NoMemory) new g.fed (λ _. (
+    → GoesUpTo protected (scene old before output) piece rest (scene now after written) → RestFails now.framing rest fault → new.machine ≡ closed now.machine →
+    Feeds protected (scene old before output) piece (Err fault) (scene new after written)
+ends_refused protected old before output piece rest now after written faults.NoMemory new g fails is =
+    feeds_to protected old before output piece rest now after written (Err faults.NoMemory) new g.fed (λ _. (
       is ∙ shut_as now.machine g.fed.stepped.machine g.fed.machine_is,
       inl (subst (λ (x : List ℕ). FeedFails now.framing x stream.NoMemory) (sym (rest_is piece g.fed.front rest g.fed.parts)) fails),
     ))
-    (live_stepped old before output piece rest now after written g)
-ends_refused old before output piece rest now after written (faults.Stream fault) new g fails is =
-    feeds_to old before output piece rest now after written (Err (faults.Stream fault)) new g.fed (λ e. absurd cc) (
-      live_stepped old before output piece rest now after written g,
+    (live_stepped protected old before output piece rest now after written g)
+ends_refused protected old before output piece rest now after written (faults.Stream fault) new g fails is =
+    feeds_to protected old before output piece rest now after written (Err (faults.Stream fault)) new g.fed (λ e. absurd cc) (
+      live_stepped protected old before output piece rest now after written g,
       fails.0,
       subst (λ (x : List ℕ). FeedFails now.framing x fault) (sym (rest_is piece g.fed.front rest g.fed.parts)) fails.1,
       is ∙ shut_as now.machine g.fed.stepped.machine g.fed.machine_is,
     )
-ends_refused old before output piece rest now after written (faults.Protocol rule) new g fails is = absurd fails
-ends_refused old before output piece rest now after written faults.Closed new g fails is = absurd fails
+ends_refused protected old before output piece rest now after written (faults.Protocol rule) new g fails is = absurd fails
+ends_refused protected old before output piece rest now after written faults.Closed new g fails is = absurd fails
 
 -- memory ran out at a PDU
 
@@ -353,17 +353,17 @@ queues session tasks Dropped h = absurd h
 queues session tasks (Answered r) h = absurd h
 
 -- nothing was done, or some tasks of the PDU
-record Front (r : Stepped) (m : Message) (before : ℕ) (output : List ℕ) (new : Moment) : Type 0 where
+record Front (protected : Bool) (r : Stepped) (m : Message) (before : ℕ) (output : List ℕ) (new : Moment) : Type 0 where
   front : Stepped
-  stops : ((front ≡ unchanged r.machine r.disk) × (before ≤ new.store.failures)) ⊎ MayStop r.machine r.disk before m front new.store.failures
+  stops : ((front ≡ unchanged r.machine r.disk) × (before ≤ new.store.failures)) ⊎ MayStop protected r.machine r.disk before m front new.store.failures
   shut : closed new.machine ≡ closed front.machine
   disk : new.store.disk ≡ front.disk
   output_is : new.output ≡ output ++ canon front.answers
 
-gives_front : (r : Stepped) (m : Message) (old new : Machine) (disk now : Disk) (fb fa : ℕ) (before after : List ℕ) → joined old ≡ joined r.machine → disk
+gives_front : (protected : Bool) (r : Stepped) (m : Message) (old new : Machine) (disk now : Disk) (fb fa : ℕ) (before after : List ℕ) → joined old ≡ joined r.machine → disk
     ≡ r.disk → GivesUp (moment old (store_of disk fb) before) (moment new (store_of now fa) after)
-    → Front r m fb before (moment new (store_of now fa) after)
-gives_front r m old new disk now fb fa before after e d g = record {
+    → Front protected r m fb before (moment new (store_of now fa) after)
+gives_front protected r m old new disk now fb fa before after e d g = record {
   front = unchanged r.machine r.disk;
   stops = inl (refl, g.rises);
   shut = g.machine ∙ shut_as old r.machine e;
@@ -371,12 +371,12 @@ gives_front r m old new disk now fb fa before after e d g = record {
   output_is = g.unwritten ∙ sym (append-nil before);
 }
 
-stops_front : (r : Stepped) (m : Message) (old new : Machine) (disk now : Disk) (fb fa : ℕ) (before after : List ℕ) (session : Session) (tasks : List Task) →
+stops_front : (protected : Bool) (r : Stepped) (m : Message) (old new : Machine) (disk now : Disk) (fb fa : ℕ) (before after : List ℕ) (session : Session) (tasks : List Task) →
     joined old ≡ joined r.machine → disk ≡ r.disk
     → old.session.phase ≡ phases.Full → (full_met old disk.count m).next ≡ Queued session tasks
-    → Stops (moment (with_tasks session tasks) (store_of disk fb) before) (moment new (store_of now fa) after) →
-    Front r m fb before (moment new (store_of now fa) after)
-stops_front r m old new disk now fb fa before after session tasks e d full queued h =
+    → Stops protected (moment (with_tasks session tasks) (store_of disk fb) before) (moment new (store_of now fa) after) →
+    Front protected r m fb before (moment new (store_of now fa) after)
+stops_front protected r m old new disk now fb fa before after session tasks e d full queued h =
     let q : Queues (full_met r.machine r.disk.count m).next session tasks =
     queues session tasks (full_met r.machine r.disk.count m).next
     (subst (λ (x : Next). SameNext x (full_met r.machine r.disk.count m).next) queued
@@ -398,7 +398,7 @@ stops_front r m old new disk now fb fa before after session tasks e d full queue
         live = ap (λ (x : Stepped). is_closed x.machine) (sym same)
             ∙ h.live (ap is_closed_phase (queued_phase old disk.count m session tasks queued ∙ full));
         failures = h.failures;
-        runs = runs_as h.device fb h.failures a b same h.runs;
+        runs = runs_as protected h.device fb h.failures a b same h.runs;
         rises = h.rises;
       });
       shut = h.machine ∙ ap (λ (x : Stepped). closed x.machine) same;
@@ -407,10 +407,10 @@ stops_front r m old new disk now fb fa before after session tasks e d full queue
     }
 
 -- where memory ran out, the same of a target that is alike
-pub stop_as : (s t : Machine) (disk now : Disk) (before : ℕ) (m : Message) (r : Stepped) (after : ℕ) → joined s ≡ joined t → disk ≡ now →
-    MayStop s disk before m r after
-    → (q : Stepped) × MayStop t now before m q after × (joined_stepped r ≡ joined_stepped q)
-stop_as s t disk now before m r after e d h =
+pub stop_as : (protected : Bool) (s t : Machine) (disk now : Disk) (before : ℕ) (m : Message) (r : Stepped) (after : ℕ) → joined s ≡ joined t → disk ≡ now →
+    MayStop protected s disk before m r after
+    → (q : Stepped) × MayStop protected t now before m q after × (joined_stepped r ≡ joined_stepped q)
+stop_as protected s t disk now before m r after e d h =
     let q : Queues (full_met t now.count m).next h.session h.tasks =
     queues h.session h.tasks (full_met t now.count m).next
     (subst (λ (x : Next). SameNext x (full_met t now.count m).next) h.queued
@@ -430,28 +430,28 @@ stop_as s t disk now before m r after e d h =
         is = refl;
         live = ap (λ (x : Stepped). is_closed x.machine) (sym (ap joined_stepped h.is ∙ same)) ∙ h.live;
         failures = h.failures;
-        runs = runs_as h.device before h.failures a b same (subst (λ (x : Stepped). RunsIn h.device before x.executed h.failures) h.is h.runs);
+        runs = runs_as protected h.device before h.failures a b same (subst (λ (x : Stepped). RunsIn protected h.device before x.executed h.failures) h.is h.runs);
         rises = h.rises;
       },
       ap joined_stepped h.is ∙ same,
     )
 
-halts_by : (r : Stepped) (m : Message) (old new : Machine) (disk now : Disk) (fb fa : ℕ) (before after : List ℕ) (x : Next) → joined old ≡ joined r.machine →
+halts_by : (protected : Bool) (r : Stepped) (m : Message) (old new : Machine) (disk now : Disk) (fb fa : ℕ) (before after : List ℕ) (x : Next) → joined old ≡ joined r.machine →
     disk ≡ r.disk
     → old.session.phase ≡ phases.Full → (full_met old disk.count m).next ≡ x
-    → Halts x (moment old (store_of disk fb) before) (moment new (store_of now fa) after) →
-    Front r m fb before (moment new (store_of now fa) after)
-halts_by r m old new disk now fb fa before after (Queued session tasks) e d full is h =
-    stops_front r m old new disk now fb fa before after session tasks e d full is h
-halts_by r m old new disk now fb fa before after Dropped e d full is h = gives_front r m old new disk now fb fa before after e d h
-halts_by r m old new disk now fb fa before after (Answered q) e d full is h = gives_front r m old new disk now fb fa before after e d h
+    → Halts protected x (moment old (store_of disk fb) before) (moment new (store_of now fa) after) →
+    Front protected r m fb before (moment new (store_of now fa) after)
+halts_by protected r m old new disk now fb fa before after (Queued session tasks) e d full is h =
+    stops_front protected r m old new disk now fb fa before after session tasks e d full is h
+halts_by protected r m old new disk now fb fa before after Dropped e d full is h = gives_front protected r m old new disk now fb fa before after e d h
+halts_by protected r m old new disk now fb fa before after (Answered q) e d full is h = gives_front protected r m old new disk now fb fa before after e d h
 
-halts_front : (r : Stepped) (m : Message) (old new : Machine) (disk now : Disk) (fb fa : ℕ) (before after : List ℕ) → joined old ≡ joined r.machine → disk
-    ≡ r.disk → HaltsAt m (moment old (store_of disk fb) before) (moment new (store_of now fa) after)
-    → Front r m fb before (moment new (store_of now fa) after)
-halts_front r m old new disk now fb fa before after e d (inl g) = gives_front r m old new disk now fb fa before after e d g
-halts_front r m old new disk now fb fa before after e d (inr h) =
-    halts_by r m old new disk now fb fa before after (full_met old disk.count m).next e d h.0 refl h.1
+halts_front : (protected : Bool) (r : Stepped) (m : Message) (old new : Machine) (disk now : Disk) (fb fa : ℕ) (before after : List ℕ) → joined old ≡ joined r.machine → disk
+    ≡ r.disk → HaltsAt protected m (moment old (store_of disk fb) before) (moment new (store_of now fa) after)
+    → Front protected r m fb before (moment new (store_of now fa) after)
+halts_front protected r m old new disk now fb fa before after e d (inl g) = gives_front protected r m old new disk now fb fa before after e d g
+halts_front protected r m old new disk now fb fa before after e d (inr h) =
+    halts_by protected r m old new disk now fb fa before after (full_met old disk.count m).next e d h.0 refl h.1
 
 -- the rest of the piece begins with the PDU
 pub rest_moves : (old now framing : Framing) (rest : List ℕ) (n : ℕ) (m : Message) (next : Framing) → Takes now rest n framing
@@ -461,28 +461,28 @@ rest_moves old now framing rest n m next t g =
     subst (λ (x : List ℕ). Moves now next x (m ∷ [])) (append-nil (take n rest))
     (moves_then now framing next (take n rest) [] [] (m ∷ []) (moves_taken now now framing [] n rest [] (moves_none now) t) g)
 
-rises_after : (front : Stepped) (r : Stepped) (m : Message) (before after : ℕ) → ((front ≡ unchanged r.machine r.disk) × (before ≤ after))
-    ⊎ MayStop r.machine r.disk before m front after → before ≤ after
-rises_after front r m before after (inl h) = h.1
-rises_after front r m before after (inr h) = let a = h.rises in let b = runs_rise h.device before front.executed h.failures h.runs in omega (arith, a, b)
+rises_after : (protected : Bool) (front : Stepped) (r : Stepped) (m : Message) (before after : ℕ) → ((front ≡ unchanged r.machine r.disk) × (before ≤ after))
+    ⊎ MayStop protected r.machine r.disk before m front after → before ≤ after
+rises_after protected front r m before after (inl h) = h.1
+rises_after protected front r m before after (inr h) = let a = h.rises in let b = runs_rise protected h.device before front.executed h.failures h.runs in omega (arith, a, b)
 
-ends_shut : (old : Connection) (before : Store) (output piece rest : List ℕ) (now : Connection) (mid : Store) (written : List ℕ) (n : ℕ) (framing : Framing)
+ends_shut : (protected : Bool) (old : Connection) (before : Store) (output piece rest : List ℕ) (now : Connection) (mid : Store) (written : List ℕ) (n : ℕ) (framing : Framing)
     (new : Connection) (after : Store) (more : List ℕ)
-    → GoesUpTo (scene old before output) piece rest (scene now mid written) → Takes now.framing rest n framing →
-    ShutsReady (scene (connection now.machine framing) mid written) (scene new after more)
-    → Feeds (scene old before output) piece (Err faults.NoMemory) (scene new after more)
-ends_shut old before output piece rest now mid written n framing new after more g t s =
+    → GoesUpTo protected (scene old before output) piece rest (scene now mid written) → Takes now.framing rest n framing →
+    ShutsReady protected (scene (connection now.machine framing) mid written) (scene new after more)
+    → Feeds protected (scene old before output) piece (Err faults.NoMemory) (scene new after more)
+ends_shut protected old before output piece rest now mid written n framing new after more g t s =
     let f = g.fed in
     let m : Message = message_of framing s.head s.segment in
-    let x : Front f.stepped m mid.failures written (moment new.machine after more) =
-    halts_front f.stepped m now.machine new.machine mid.disk after.disk mid.failures after.failures written more f.machine_is f.disk s.halts in
-    let high : mid.failures ≤ after.failures = rises_after x.front f.stepped m mid.failures after.failures x.stops in
+    let x : Front protected f.stepped m mid.failures written (moment new.machine after more) =
+    halts_front protected f.stepped m now.machine new.machine mid.disk after.disk mid.failures after.failures written more f.machine_is f.disk s.halts in
+    let high : mid.failures ≤ after.failures = rises_after protected x.front f.stepped m mid.failures after.failures x.stops in
     let counted : mid.failures ≡ f.answered.failures = f.counted in
     let moves : Moves now.framing (given_up framing s.head) (take n rest) (m ∷ []) =
     rest_moves old.framing now.framing framing rest n m (given_up framing s.head) t (moves_gave framing s.head s.segment s.means) in
     let next : Moves now.framing (given_up framing s.head) (take n (drop (count_of piece rest) piece)) (m ∷ []) =
     subst (λ (y : List ℕ). Moves now.framing (given_up framing s.head) (take n y) (m ∷ [])) (sym (rest_is piece f.front rest f.parts)) moves in
-    let last : Answers old before f.front (progress now.framing f.messages f.stepped) after = record {
+    let last : Answers protected old before f.front (progress now.framing f.messages f.stepped) after = record {
       taken = f.answered.taken;
       ready = f.answered.ready;
       failures = f.answered.failures;
@@ -497,7 +497,7 @@ ends_shut old before output piece rest now mid written n framing new after more 
       messages = f.messages;
       stepped = f.stepped;
       answered =
-          subst (λ (y : List ℕ). Answers old before y (progress now.framing f.messages f.stepped) after) (sym (front_is piece f.front rest f.parts)) last;
+          subst (λ (y : List ℕ). Answers protected old before y (progress now.framing f.messages f.stepped) after) (sym (front_is piece f.front rest f.parts)) last;
       leaves = record {
         front = x.front;
         stops = elim x.stops [
@@ -508,7 +508,7 @@ ends_shut old before output piece rest now mid written n framing new after more 
             limit = ap (λ (v : Framing). v.limit) t.gathered;
             count = n;
             taken = next;
-            stops = subst (λ (k : ℕ). MayStop f.stepped.machine f.stepped.disk k m x.front after.failures) counted h;
+            stops = subst (λ (k : ℕ). MayStop protected f.stepped.machine f.stepped.disk k m x.front after.failures) counted h;
           })
         ];
         shut = s.closed_ ∙ x.shut;
@@ -517,72 +517,72 @@ ends_shut old before output piece rest now mid written n framing new after more 
             ∙ append_assoc output (canon f.stepped.answers) (canon x.front.answers)
             ∙ ap (λ (y : List ℕ). output ++ y) (sym (flat_map-append canonical_bytes f.stepped.answers x.front.answers));
       };
-      ends = live_stepped old before output piece rest now mid written g;
+      ends = live_stepped protected old before output piece rest now mid written g;
     }
 
-pub ends_broken : (old : Connection) (before : Store) (output piece rest : List ℕ) (now : Connection) (after : Store) (written : List ℕ) (rule : ℕ)
-    → (f : FedUpTo (scene old before output) piece rest (scene now after written)) → f.stepped.rule ≡ Some rule → joined now.machine ≡ now.machine →
-    Feeds (scene old before output) piece (Err (faults.Protocol rule)) (scene now after written)
-ends_broken old before output piece rest now after written rule f broken whole =
-    feeds_to old before output piece rest now after written (Err (faults.Protocol rule)) now f (λ e. absurd cc) (
+pub ends_broken : (protected : Bool) (old : Connection) (before : Store) (output piece rest : List ℕ) (now : Connection) (after : Store) (written : List ℕ) (rule : ℕ)
+    → (f : FedUpTo protected (scene old before output) piece rest (scene now after written)) → f.stepped.rule ≡ Some rule → joined now.machine ≡ now.machine →
+    Feeds protected (scene old before output) piece (Err (faults.Protocol rule)) (scene now after written)
+ends_broken protected old before output piece rest now after written rule f broken whole =
+    feeds_to protected old before output piece rest now after written (Err (faults.Protocol rule)) now f (λ e. absurd cc) (
       broken,
       sym whole ∙ f.machine_is,
-      may_close old.machine before.disk before.failures f.messages f.stepped f.answered.failures rule f.answered.may broken,
+      may_close protected old.machine before.disk before.failures f.messages f.stepped f.answered.failures rule f.answered.may broken,
     )
 
-pub ends_closed : (old : Connection) (before : Store) (output piece rest : List ℕ) (now : Connection) (after : Store) (written : List ℕ) (phase : Phase)
-    → (f : FedUpTo (scene old before output) piece rest (scene now after written)) → f.stepped.rule ≡ None → joined now.machine ≡ now.machine → phase
+pub ends_closed : (protected : Bool) (old : Connection) (before : Store) (output piece rest : List ℕ) (now : Connection) (after : Store) (written : List ℕ) (phase : Phase)
+    → (f : FedUpTo protected (scene old before output) piece rest (scene now after written)) → f.stepped.rule ≡ None → joined now.machine ≡ now.machine → phase
     ≡ now.machine.session.phase → is_closed now.machine ≡ true
-    → Feeds (scene old before output) piece (Ok phase) (scene now after written)
-ends_closed old before output piece rest now after written phase f rule whole is over =
-    feeds_to old before output piece rest now after written (Ok phase) now f (λ e. absurd cc) (
+    → Feeds protected (scene old before output) piece (Ok phase) (scene now after written)
+ends_closed protected old before output piece rest now after written phase f rule whole is over =
+    feeds_to protected old before output piece rest now after written (Ok phase) now f (λ e. absurd cc) (
       rule,
       sym whole ∙ f.machine_is,
       is ∙ ap (λ (s : Machine). s.session.phase) f.machine_is,
       inl (sym (closed_as now.machine f.stepped.machine f.machine_is) ∙ over),
     )
 
-pub ends_live : (old : Connection) (before : Store) (output piece rest : List ℕ) (now : Connection) (after : Store) (written : List ℕ) (phase : Phase)
-    → GoesUpTo (scene old before output) piece rest (scene now after written) → joined now.machine ≡ now.machine → phase ≡ now.machine.session.phase
+pub ends_live : (protected : Bool) (old : Connection) (before : Store) (output piece rest : List ℕ) (now : Connection) (after : Store) (written : List ℕ) (phase : Phase)
+    → GoesUpTo protected (scene old before output) piece rest (scene now after written) → joined now.machine ≡ now.machine → phase ≡ now.machine.session.phase
     → length rest ≡ 0 →
-    Feeds (scene old before output) piece (Ok phase) (scene now after written)
-ends_live old before output piece rest now after written phase g whole is none =
+    Feeds protected (scene old before output) piece (Ok phase) (scene now after written)
+ends_live protected old before output piece rest now after written phase g whole is none =
     let f = g.fed in
-    feeds_to old before output piece rest now after written (Ok phase) now f (λ e. absurd cc) (
+    feeds_to protected old before output piece rest now after written (Ok phase) now f (λ e. absurd cc) (
       g.rule,
       sym whole ∙ f.machine_is,
       is ∙ ap (λ (s : Machine). s.session.phase) f.machine_is,
-      inr (record { live = (live_stepped old before output piece rest now after written g).live; all = omega (arith, none); framing_is = refl }),
+      inr (record { live = (live_stepped protected old before output piece rest now after written g).live; all = omega (arith, none); framing_is = refl }),
     )
 
 -- the failures that were counted don't fall
-pub may_rise : (s : Machine) (disk : Disk) (before : ℕ) (ms : List Message) (r : Stepped) (after : ℕ) → MayAnswer s disk before ms r after → before ≤ after
+pub may_rise : (protected : Bool) (s : Machine) (disk : Disk) (before : ℕ) (ms : List Message) (r : Stepped) (after : ℕ) → MayAnswer protected s disk before ms r after → before ≤ after
 unfolding MayAnswer
-may_rise s disk before [] r after e = omega (arith, e.1)
-may_rise s disk before (m ∷ ms) r after e =
-    let a = runs_rise e.3.device before e.0.executed e.2 e.3.runs in
-    let b = may_rise e.0.machine e.0.disk e.2 ms e.1 after e.4 in
+may_rise protected s disk before [] r after e = omega (arith, e.1)
+may_rise protected s disk before (m ∷ ms) r after e =
+    let a = runs_rise protected e.3.device before e.0.executed e.2 e.3.runs in
+    let b = may_rise protected e.0.machine e.0.disk e.2 ms e.1 after e.4 in
     omega (arith, a, b)
 
-pub short_rises : (output : List ℕ) (framing : Framing) (rest : List ℕ) (r : Stepped) (counted : ℕ) (new : Machine) (after : Store) (written : List ℕ) →
-    StopsShort output (remainder framing rest r counted) new after written → counted ≤ after.failures
-short_rises output framing rest r counted new after written h = elim h.stops [
+pub short_rises : (protected : Bool) (output : List ℕ) (framing : Framing) (rest : List ℕ) (r : Stepped) (counted : ℕ) (new : Machine) (after : Store) (written : List ℕ) →
+    StopsShort protected output (remainder framing rest r counted) new after written → counted ≤ after.failures
+short_rises protected output framing rest r counted new after written h = elim h.stops [
   | inl none ↦ none.1
-  | inr at ↦ rises_after h.front r at.message counted after.failures (inr at.stops)
+  | inr at ↦ rises_after protected h.front r at.message counted after.failures (inr at.stops)
 ]
 
 -- no bytes could be taken, or no PDU answered
-pub ends_failed : (old : Connection) (before : Store) (output piece rest : List ℕ) (now : Connection) (mid : Store) (written : List ℕ) (fault : TargetFault)
+pub ends_failed : (protected : Bool) (old : Connection) (before : Store) (output piece rest : List ℕ) (now : Connection) (mid : Store) (written : List ℕ) (fault : TargetFault)
     (new : Connection) (after : Store) (more : List ℕ)
-    → GoesUpTo (scene old before output) piece rest (scene now mid written) → FailsOne (scene now mid written) rest fault (scene new after more) →
-    Feeds (scene old before output) piece (Err fault) (scene new after more)
-ends_failed old before output piece rest now mid written fault new after more g (inl r) =
-    subst (λ (s : Store). Feeds (scene old before output) piece (Err fault) (scene new s more)) (sym r.store_is)
-    (subst (λ (x : List ℕ). Feeds (scene old before output) piece (Err fault) (scene new mid x)) (sym r.output_is)
-    (ends_refused old before output piece rest now mid written fault new g r.fails r.machine))
-ends_failed old before output piece rest now mid written fault new after more g (inr r) =
-    subst (λ (x : TargetFault). Feeds (scene old before output) piece (Err x) (scene new after more)) (sym r.memory)
-    (ends_shut old before output piece rest now mid written r.count r.framing new after more g r.takes r.shuts)
+    → GoesUpTo protected (scene old before output) piece rest (scene now mid written) → FailsOne protected (scene now mid written) rest fault (scene new after more) →
+    Feeds protected (scene old before output) piece (Err fault) (scene new after more)
+ends_failed protected old before output piece rest now mid written fault new after more g (inl r) =
+    subst (λ (s : Store). Feeds protected (scene old before output) piece (Err fault) (scene new s more)) (sym r.store_is)
+    (subst (λ (x : List ℕ). Feeds protected (scene old before output) piece (Err fault) (scene new mid x)) (sym r.output_is)
+    (ends_refused protected old before output piece rest now mid written fault new g r.fails r.machine))
+ends_failed protected old before output piece rest now mid written fault new after more g (inr r) =
+    subst (λ (x : TargetFault). Feeds protected (scene old before output) piece (Err x) (scene new after more)) (sym r.memory)
+    (ends_shut protected old before output piece rest now mid written r.count r.framing new after more g r.takes r.shuts)
 
 -- ---- one PDU
 
@@ -597,17 +597,17 @@ front_taken v w piece n t =
       stops = λ lt. absurd (omega (arith, size, lt));
     }
 
-feeds_one : (old : Connection) (before : Store) (output piece : List ℕ) (n : ℕ) (phase : Phase) (new : Connection) (after : Store) (written : List ℕ)
+feeds_one : (protected : Bool) (old : Connection) (before : Store) (output piece : List ℕ) (n : ℕ) (phase : Phase) (new : Connection) (after : Store) (written : List ℕ)
     → n ≤ length piece → (0 < length piece → 0 < n)
-    → (f : FedUpTo (scene old before output) (take n piece) [] (scene new after written))
+    → (f : FedUpTo protected (scene old before output) (take n piece) [] (scene new after written))
     → f.stepped.rule ≡ None →
     length f.messages ≤ 1
     → (n < length piece → length f.messages ≡ 1) → joined new.machine ≡ new.machine → phase ≡ new.machine.session.phase → (over : Bool) → is_closed new.machine ≡ over →
-    FeedsOne (scene old before output) piece n phase (scene new after written)
-feeds_one old before output piece n phase new after written bound some f rule few stops whole is true over = record {
+    FeedsOne protected (scene old before output) piece n phase (scene new after written)
+feeds_one protected old before output piece n phase new after written bound some f rule few stops whole is true over = record {
   bound = bound;
   some = some;
-  fed = feeds_to old before output (take n piece) [] new after written (Ok phase) new f (λ e. absurd cc) (
+  fed = feeds_to protected old before output (take n piece) [] new after written (Ok phase) new f (λ e. absurd cc) (
     rule,
     sym whole ∙ f.machine_is,
     is ∙ ap (λ (s : Machine). s.session.phase) f.machine_is,
@@ -616,10 +616,10 @@ feeds_one old before output piece n phase new after written bound some f rule fe
   one = few;
   stops = stops;
 }
-feeds_one old before output piece n phase new after written bound some f rule few stops whole is false live = record {
+feeds_one protected old before output piece n phase new after written bound some f rule few stops whole is false live = record {
   bound = bound;
   some = some;
-  fed = feeds_to old before output (take n piece) [] new after written (Ok phase) new f (λ e. absurd cc) (
+  fed = feeds_to protected old before output (take n piece) [] new after written (Ok phase) new f (λ e. absurd cc) (
     rule,
     sym whole ∙ f.machine_is,
     is ∙ ap (λ (s : Machine). s.session.phase) f.machine_is,
@@ -629,15 +629,15 @@ feeds_one old before output piece n phase new after written bound some f rule fe
   stops = stops;
 }
 
-pub next_fed : (old : Connection) (before : Store) (output piece : List ℕ) (n : ℕ) (phase : Phase) (new : Connection) (after : Store) (written : List ℕ)
-    → is_ready old.framing ≡ false → is_closed old.machine ≡ false → TakesOne (scene old before output) piece n None (scene new after written)
-    → joined new.machine ≡ new.machine → phase ≡ new.machine.session.phase → FeedsOne (scene old before output) piece n phase (scene new after written)
+pub next_fed : (protected : Bool) (old : Connection) (before : Store) (output piece : List ℕ) (n : ℕ) (phase : Phase) (new : Connection) (after : Store) (written : List ℕ)
+    → is_ready old.framing ≡ false → is_closed old.machine ≡ false → TakesOne protected (scene old before output) piece n None (scene new after written)
+    → joined new.machine ≡ new.machine → phase ≡ new.machine.session.phase → FeedsOne protected (scene old before output) piece n phase (scene new after written)
 unfolding fed_none
-next_fed old before output piece n phase new after written unready live t whole is =
-    let front : TakesOne (scene old before output) (take n piece) n None (scene new after written) =
+next_fed protected old before output piece n phase new after written unready live t whole is =
+    let front : TakesOne protected (scene old before output) (take n piece) n None (scene new after written) =
     record { framing = t.framing; takes = front_taken old.framing t.framing piece n t.takes; answers = t.answers } in
     let none : [] ≡ drop n (take n piece) = sym (drop_all n (take n piece) (omega (arith, length-take n piece))) in
-    let f = fed_one old before output (take n piece) (take n piece) [] old before output n None new after written
-    (fed_none old before output (take n piece) unready live) front none in
-    feeds_one old before output piece n phase new after written t.takes.bound (takes_some old.framing piece n t.framing unready t.takes) f.fed f.rule f.few
+    let f = fed_one protected old before output (take n piece) (take n piece) [] old before output n None new after written
+    (fed_none protected old before output (take n piece) unready live) front none in
+    feeds_one protected old before output piece n phase new after written t.takes.bound (takes_some old.framing piece n t.framing unready t.takes) f.fed f.rule f.few
     (λ lt. f.full (ready_of t.framing.failed t.framing.held (ap (λ (v : Framing). v.failed) t.takes.gathered ∙ t.takes.live) (t.takes.stops lt))) whole is (is_closed new.machine) refl

@@ -46,46 +46,46 @@ use Rattle.iscsi_login.specs.Stage.{is_closed_phase}
 -- ---- what was taken so far
 
 -- the session is open, and has answered what it took
-record Live (start : Beginning) (taken : List ℕ) (now : Connection) (disk_now : Disk) (written : List ℕ) : Type 0 where
-  has : HasAnswered start taken now disk_now written
+record Live (protected : Bool) (start : Beginning) (taken : List ℕ) (now : Connection) (disk_now : Disk) (written : List ℕ) : Type 0 where
+  has : HasAnswered protected start taken now disk_now written
   ready : is_ready now.framing ≡ false
   bound : now.framing.limit ≡ limit start.settings
 
 -- it is closed, whatever follows in the stream
-record Over (start : Beginning) (taken : List ℕ) (now : Connection) (disk_now : Disk) (written : List ℕ) : Type 0 where
-  over : (more : List ℕ) (ms : List Message) → StreamMeans (taken ++ more) ms → Meets start ms now disk_now written
+record Over (protected : Bool) (start : Beginning) (taken : List ℕ) (now : Connection) (disk_now : Disk) (written : List ℕ) : Type 0 where
+  over : (more : List ℕ) (ms : List Message) → StreamMeans (taken ++ more) ms → Meets protected start ms now disk_now written
 
 -- what stands where memory was there
-pub stands : (output : List ℕ) (framing : Framing) (rest : List ℕ) (r : Stepped) (counted : ℕ) (result : Result Phase TargetFault) (new : Machine)
+pub stands : (protected : Bool) (output : List ℕ) (framing : Framing) (rest : List ℕ) (r : Stepped) (counted : ℕ) (result : Result Phase TargetFault) (new : Machine)
     (after : Store) (written : List ℕ) → (result ≡ Err faults.NoMemory → ⊥)
-    → LeavesBy result output (remainder framing rest r counted) new after written → Stands output r counted after written
-stands output framing rest r counted (Ok phase) new after written memory h = h
-stands output framing rest r counted (Err faults.NoMemory) new after written memory h = absurd (memory refl)
-stands output framing rest r counted (Err (faults.Stream fault)) new after written memory h = h
-stands output framing rest r counted (Err (faults.Protocol rule)) new after written memory h = h
-stands output framing rest r counted (Err faults.Closed) new after written memory h = h
+    → LeavesBy protected result output (remainder framing rest r counted) new after written → Stands output r counted after written
+stands protected output framing rest r counted (Ok phase) new after written memory h = h
+stands protected output framing rest r counted (Err faults.NoMemory) new after written memory h = absurd (memory refl)
+stands protected output framing rest r counted (Err (faults.Stream fault)) new after written memory h = h
+stands protected output framing rest r counted (Err (faults.Protocol rule)) new after written memory h = h
+stands protected output framing rest r counted (Err faults.Closed) new after written memory h = h
 
 -- what a call answered, told from the opening state
-pub record Told (start : Beginning) (ms : List Message) (r : Stepped) (disk_now : Disk) (written : List ℕ) : Type 0 where
-  pub machine : joined r.machine ≡ joined (answers_from start ms).machine
-  pub disk_is : disk_now ≡ (answers_from start ms).disk
-  pub output_is : written ≡ canon (answers_from start ms).answers
+pub record Told (protected : Bool) (start : Beginning) (ms : List Message) (r : Stepped) (disk_now : Disk) (written : List ℕ) : Type 0 where
+  pub machine : joined r.machine ≡ joined (answers_from protected start ms).machine
+  pub disk_is : disk_now ≡ (answers_from protected start ms).disk
+  pub output_is : written ≡ canon (answers_from protected start ms).answers
 
-pub told : (settings : Settings) (n : ℕ) (disk : Disk) (taken : List ℕ) (old : Connection) (before : Store) (out : List ℕ) (bytes : List ℕ) (framing : Framing)
+pub told : (protected : Bool) (settings : Settings) (n : ℕ) (disk : Disk) (taken : List ℕ) (old : Connection) (before : Store) (out : List ℕ) (bytes : List ℕ) (framing : Framing)
     (more : List Message) (r : Stepped) (counted : ℕ) (after : Store) (written : List ℕ)
-    → (h : HasAnswered (beginning settings n disk) taken old before.disk out) → Answers old before bytes (progress framing more r) after
+    → (h : HasAnswered protected (beginning settings n disk) taken old before.disk out) → Answers protected old before bytes (progress framing more r) after
     → Stands out r counted after written →
     after.failures ≡ before.failures
-    → Told (beginning settings n disk) (h.messages ++ more) r after.disk written
-told settings n disk taken old before out bytes framing more r counted after written h a b works =
-    let first : Stepped = answers (opening settings n) disk h.messages in
-    let later : Stepped = answers first.machine first.disk more in
+    → Told protected (beginning settings n disk) (h.messages ++ more) r after.disk written
+told protected settings n disk taken old before out bytes framing more r counted after written h a b works =
+    let first : Stepped = answers protected (opening settings n) disk h.messages in
+    let later : Stepped = answers protected first.machine first.disk more in
     let e : joined_stepped r ≡ joined_stepped later =
     ap joined_stepped (a.works works)
-    ∙ ap (λ (s : Machine). joined_stepped (answers s before.disk more)) h.machine
-    ∙ ap (λ (d : Disk). joined_stepped (answers (joined first.machine) d more)) h.disk_is
-    ∙ answers_joined first.machine first.disk more in
-    let both : answers (opening settings n) disk (h.messages ++ more) ≡ then_stepped first later = answers_append (opening settings n) disk h.messages more in
+    ∙ ap (λ (s : Machine). joined_stepped (answers protected s before.disk more)) h.machine
+    ∙ ap (λ (d : Disk). joined_stepped (answers protected (joined first.machine) d more)) h.disk_is
+    ∙ answers_joined protected first.machine first.disk more in
+    let both : answers protected (opening settings n) disk (h.messages ++ more) ≡ then_stepped first later = answers_append protected (opening settings n) disk h.messages more in
     record {
       machine = ap (λ (x : Stepped). x.machine) e ∙ ap (λ (x : Stepped). joined x.machine) (sym both);
       disk_is = b.disk ∙ ap (λ (x : Stepped). x.disk) e ∙ ap (λ (x : Stepped). x.disk) (sym both);
@@ -95,13 +95,13 @@ told settings n disk taken old before out bytes framing more r counted after wri
     }
 
 -- a closed session, whatever comes behind these messages
-pub closed_meets : (settings : Settings) (n : ℕ) (disk : Disk) (first more : List Message) (now : Connection) (disk_now : Disk) (written : List ℕ)
-    → is_closed (answers (opening settings n) disk first).machine ≡ true → Meets (beginning settings n disk) first now disk_now written →
-    Meets (beginning settings n disk) (first ++ more) now disk_now written
-closed_meets settings n disk first more now disk_now written c m =
-    let a : Stepped = answers (opening settings n) disk first in
-    let e : answers (opening settings n) disk (first ++ more) ≡ then_stepped a (unchanged a.machine a.disk) =
-    answers_append (opening settings n) disk first more ∙ ap (λ (r : Stepped). then_stepped a r) (closed_answers a.machine a.disk more c) in
+pub closed_meets : (protected : Bool) (settings : Settings) (n : ℕ) (disk : Disk) (first more : List Message) (now : Connection) (disk_now : Disk) (written : List ℕ)
+    → is_closed (answers protected (opening settings n) disk first).machine ≡ true → Meets protected (beginning settings n disk) first now disk_now written →
+    Meets protected (beginning settings n disk) (first ++ more) now disk_now written
+closed_meets protected settings n disk first more now disk_now written c m =
+    let a : Stepped = answers protected (opening settings n) disk first in
+    let e : answers protected (opening settings n) disk (first ++ more) ≡ then_stepped a (unchanged a.machine a.disk) =
+    answers_append protected (opening settings n) disk first more ∙ ap (λ (r : Stepped). then_stepped a r) (closed_answers protected a.machine a.disk more c) in
     record {
       machine = m.machine ∙ ap (λ (r : Stepped). joined r.machine) (sym e);
       disk_is = m.disk_is ∙ ap (λ (r : Stepped). r.disk) (sym e);
@@ -109,20 +109,20 @@ closed_meets settings n disk first more now disk_now written c m =
     }
 
 -- a session in which a segment longer than the limit comes
-over_meets : (settings : Settings) (n : ℕ) (disk : Disk) (first : List Message) (m : Message) (more : List Message) (now : Connection) (disk_now : Disk)
+over_meets : (protected : Bool) (settings : Settings) (n : ℕ) (disk : Disk) (first : List Message) (m : Message) (more : List Message) (now : Connection) (disk_now : Disk)
     (written : List ℕ)
-    → is_closed (answers (opening settings n) disk first).machine ≡ false → is_over_limit (answers (opening settings n) disk first).machine m.segment ≡ true
-    → now.machine ≡ closed (answers (opening settings n) disk first).machine → disk_now ≡ (answers (opening settings n) disk first).disk
-    → written ≡ canon (answers (opening settings n) disk first).answers → Meets (beginning settings n disk) (first ++ m ∷ more) now disk_now written
+    → is_closed (answers protected (opening settings n) disk first).machine ≡ false → is_over_limit (answers protected (opening settings n) disk first).machine m.segment ≡ true
+    → now.machine ≡ closed (answers protected (opening settings n) disk first).machine → disk_now ≡ (answers protected (opening settings n) disk first).disk
+    → written ≡ canon (answers protected (opening settings n) disk first).answers → Meets protected (beginning settings n disk) (first ++ m ∷ more) now disk_now written
 unfolding answers
-over_meets settings n disk first m more now disk_now written live long is_now is_disk is_written =
-    let a : Stepped = answers (opening settings n) disk first in
-    let one : step a.machine a.disk m ≡ shut_down a.machine a.disk = rw (live, long) refl in
-    let e : answers (opening settings n) disk (first ++ m ∷ more) ≡ then_stepped a (then_stepped (shut_down a.machine a.disk)
+over_meets protected settings n disk first m more now disk_now written live long is_now is_disk is_written =
+    let a : Stepped = answers protected (opening settings n) disk first in
+    let one : step protected a.machine a.disk m ≡ shut_down a.machine a.disk = rw (live, long) refl in
+    let e : answers protected (opening settings n) disk (first ++ m ∷ more) ≡ then_stepped a (then_stepped (shut_down a.machine a.disk)
     (unchanged (closed a.machine) a.disk)) =
-    answers_append (opening settings n) disk first (m ∷ more)
-    ∙ ap (λ (r : Stepped). then_stepped a (then_stepped r (answers r.machine r.disk more))) one
-    ∙ ap (λ (r : Stepped). then_stepped a (then_stepped (shut_down a.machine a.disk) r)) (closed_answers (closed a.machine) a.disk more refl) in
+    answers_append protected (opening settings n) disk first (m ∷ more)
+    ∙ ap (λ (r : Stepped). then_stepped a (then_stepped r (answers protected r.machine r.disk more))) one
+    ∙ ap (λ (r : Stepped). then_stepped a (then_stepped (shut_down a.machine a.disk) r)) (closed_answers protected (closed a.machine) a.disk more refl) in
     record {
       machine = is_now ∙ ap (λ (r : Stepped). joined r.machine) (sym e);
       disk_is = is_disk ∙ ap (λ (r : Stepped). r.disk) (sym e);
@@ -148,25 +148,25 @@ rests taken piece more count first ms v t p =
     (subst (λ (x : List ℕ). ReadsAs longest_segment no_login x ms) (whole_stream taken piece more t.given t.rest count t.whole) p)
 
 -- what is said where the framer refuses what follows
-fault_meets : (settings : Settings) (n : ℕ) (disk : Disk) (taken piece : List ℕ) (count : ℕ) (first : List Message) (v : Framing) (now : Connection)
+fault_meets : (protected : Bool) (settings : Settings) (n : ℕ) (disk : Disk) (taken piece : List ℕ) (count : ℕ) (first : List Message) (v : Framing) (now : Connection)
     (disk_now : Disk) (written : List ℕ) (fault : StreamFault)
     → (t : HasTaken (taken ++ take count piece) first v) → v.limit ≡ limit settings → (fault ≡ stream.NoMemory → ⊥) → FeedFails v (drop count piece) fault
-    → is_closed (answers (opening settings n) disk first).machine ≡ false
-    → now.machine ≡ closed (answers (opening settings n) disk first).machine → disk_now ≡ (answers (opening settings n) disk first).disk
-    → written ≡ canon (answers (opening settings n) disk first).answers → (more : List ℕ) (ms : List Message) → StreamMeans ((taken ++ piece) ++ more) ms →
-    Meets (beginning settings n disk) ms now disk_now written
-fault_meets settings n disk taken piece count first v now disk_now written stream.NoMemory t bound none f live is_now is_disk is_written more ms p =
+    → is_closed (answers protected (opening settings n) disk first).machine ≡ false
+    → now.machine ≡ closed (answers protected (opening settings n) disk first).machine → disk_now ≡ (answers protected (opening settings n) disk first).disk
+    → written ≡ canon (answers protected (opening settings n) disk first).answers → (more : List ℕ) (ms : List Message) → StreamMeans ((taken ++ piece) ++ more) ms →
+    Meets protected (beginning settings n disk) ms now disk_now written
+fault_meets protected settings n disk taken piece count first v now disk_now written stream.NoMemory t bound none f live is_now is_disk is_written more ms p =
     absurd (none refl)
-fault_meets settings n disk taken piece count first v now disk_now written (stream.Head fault place) t bound none f live is_now is_disk is_written more ms p =
+fault_meets protected settings n disk taken piece count first v now disk_now written (stream.Head fault place) t bound none f live is_now is_disk is_written more ms p =
     let r = rests taken piece more count first ms v t p in
     let held : v.held ≡ t.rest = held_is (taken ++ take count piece) first v t f.1.before in
     let long : 48 ≤ length (t.rest ++ drop count piece) = subst (λ (x : List ℕ). 48 ≤ length (x ++ drop count piece)) held f.1.reached in
     let bad : fault_of (take 48 (t.rest ++ drop count piece)) ≡ Some fault = subst (λ (x : List ℕ). fault_of (take 48 (x ++ drop count piece))
     ≡ Some fault) held f.2 in
     absurd (no_bad_header (after_all no_login first) (t.rest ++ drop count piece) more r.more fault long bad r.reads)
-fault_meets settings n disk taken piece count first v now disk_now written (stream.OverLimit place) t bound none f live is_now is_disk is_written more ms p =
+fault_meets protected settings n disk taken piece count first v now disk_now written (stream.OverLimit place) t bound none f live is_now is_disk is_written more ms p =
     let r = rests taken piece more count first ms v t p in
-    let a : Stepped = answers (opening settings n) disk first in
+    let a : Stepped = answers protected (opening settings n) disk first in
     let held : v.held ≡ t.rest = held_is (taken ++ take count piece) first v t f.1.2.reaches.before in
     let long : 48 ≤ length (t.rest ++ drop count piece) = subst (λ (x : List ℕ). 48 ≤ length (x ++ drop count piece)) held f.1.2.reaches.reached in
     let h : Heads (after_all no_login first) r.more (take 48 (t.rest ++ drop count piece)) =
@@ -177,34 +177,34 @@ fault_meets settings n disk taken piece count first v now disk_now written (stre
     let past : limit settings < length h.segment = omega (arith, f.1.3, size, bound) in
     let bytes : h.m.segment ≡ Bytes h.segment = h.meaning ∙ long_bytes (continues (after_all no_login first) h.m.head) h.m.head h.segment h.says.login
     (omega (arith, past)) in
-    let same : a.machine.session.settings ≡ settings = answers_settings (opening settings n) disk first in
+    let same : a.machine.session.settings ≡ settings = answers_settings protected (opening settings n) disk first in
     let over : is_over_limit a.machine h.m.segment ≡ true =
     ap (λ (x : Segment). is_over_limit a.machine x) bytes ∙ ap (λ (x : Settings). nat_lt (limit x) (length h.segment)) same
     ∙ lt-ltb (limit settings) (length h.segment) past in
-    subst (λ (x : List Message). Meets (beginning settings n disk) x now disk_now written) (sym (r.whole ∙ ap (λ (x : List Message). first ++ x) h.is))
-    (over_meets settings n disk first h.m h.more now disk_now written live over is_now is_disk is_written)
-fault_meets settings n disk taken piece count first v now disk_now written (stream.Truncated place) t bound none f live is_now is_disk is_written more ms p =
+    subst (λ (x : List Message). Meets protected (beginning settings n disk) x now disk_now written) (sym (r.whole ∙ ap (λ (x : List Message). first ++ x) h.is))
+    (over_meets protected settings n disk first h.m h.more now disk_now written live over is_now is_disk is_written)
+fault_meets protected settings n disk taken piece count first v now disk_now written (stream.Truncated place) t bound none f live is_now is_disk is_written more ms p =
     absurd f
-fault_meets settings n disk taken piece count first v now disk_now written stream.Failed t bound none f live is_now is_disk is_written more ms p =
+fault_meets protected settings n disk taken piece count first v now disk_now written stream.Failed t bound none f live is_now is_disk is_written more ms p =
     absurd (apart f t.live)
 
 -- ---- one call
 
 -- the session is open or closed
-abbrev Either : Beginning → List ℕ → Connection → Disk → List ℕ → Type 0
-Either start taken now disk_now written =
-    ((is_closed now.machine ≡ false) × Live start taken now disk_now written)
-    ⊎ ((is_closed now.machine ≡ true) × Over start taken now disk_now written)
+abbrev Either : Bool → Beginning → List ℕ → Connection → Disk → List ℕ → Type 0
+Either protected start taken now disk_now written =
+    ((is_closed now.machine ≡ false) × Live protected start taken now disk_now written)
+    ⊎ ((is_closed now.machine ≡ true) × Over protected start taken now disk_now written)
 
 -- a call that closed the session after these messages
-closing : (settings : Settings) (n : ℕ) (disk : Disk) (taken piece : List ℕ) (count : ℕ) (first : List Message) (v : Framing) (r : Stepped) (new : Connection)
+closing : (protected : Bool) (settings : Settings) (n : ℕ) (disk : Disk) (taken piece : List ℕ) (count : ℕ) (first : List Message) (v : Framing) (r : Stepped) (new : Connection)
     (disk_now : Disk) (written : List ℕ)
-    → HasTaken (taken ++ take count piece) first v → Told (beginning settings n disk) first r disk_now written → new.machine ≡ joined r.machine
+    → HasTaken (taken ++ take count piece) first v → Told protected (beginning settings n disk) first r disk_now written → new.machine ≡ joined r.machine
     → is_closed r.machine ≡ true
-    → Either (beginning settings n disk) (taken ++ piece) new disk_now written
-closing settings n disk taken piece count first v r new disk_now written t told_ e c =
-    let there : is_closed (answers (opening settings n) disk first).machine ≡ true = sym (ap is_closed told_.machine) ∙ c in
-    let meets : Meets (beginning settings n disk) first new disk_now written = record {
+    → Either protected (beginning settings n disk) (taken ++ piece) new disk_now written
+closing protected settings n disk taken piece count first v r new disk_now written t told_ e c =
+    let there : is_closed (answers protected (opening settings n) disk first).machine ≡ true = sym (ap is_closed told_.machine) ∙ c in
+    let meets : Meets protected (beginning settings n disk) first new disk_now written = record {
       machine = e ∙ told_.machine;
       disk_is = told_.disk_is;
       output_is = told_.output_is;
@@ -214,19 +214,19 @@ closing settings n disk taken piece count first v r new disk_now written t told_
       record {
         over = λ more ms p.
             let x = rests taken piece more count first ms v t p in
-            subst (λ (xs : List Message). Meets (beginning settings n disk) xs new disk_now written) (sym x.whole)
-            (closed_meets settings n disk first x.more new disk_now written there meets);
+            subst (λ (xs : List Message). Meets protected (beginning settings n disk) xs new disk_now written) (sym x.whole)
+            (closed_meets protected settings n disk first x.more new disk_now written there meets);
       },
     )
 
-ends_go : (settings : Settings) (n : ℕ) (disk : Disk) (taken piece : List ℕ) (count : ℕ) (first : List Message) (v : Framing) (r : Stepped) (new : Connection)
+ends_go : (protected : Bool) (settings : Settings) (n : ℕ) (disk : Disk) (taken piece : List ℕ) (count : ℕ) (first : List Message) (v : Framing) (r : Stepped) (new : Connection)
     (disk_now : Disk) (written : List ℕ) (result : Result Phase TargetFault)
-    → HasTaken (taken ++ take count piece) first v → Told (beginning settings n disk) first r disk_now written → v.limit ≡ limit settings → is_ready v ≡ false
+    → HasTaken (taken ++ take count piece) first v → Told protected (beginning settings n disk) first r disk_now written → v.limit ≡ limit settings → is_ready v ≡ false
     → ((k : ℕ) → r.rule ≡ Some k → is_closed r.machine ≡ true) → (result ≡ Err faults.NoMemory → ⊥) → Ends piece result v count r new
-    → Either (beginning settings n disk) (taken ++ piece) new disk_now written
-ends_go settings n disk taken piece count first v r new disk_now written (Ok phase) t told_ bound ready closes memory e =
+    → Either protected (beginning settings n disk) (taken ++ piece) new disk_now written
+ends_go protected settings n disk taken piece count first v r new disk_now written (Ok phase) t told_ bound ready closes memory e =
     elim e.3 [
-      | inl c ↦ closing settings n disk taken piece count first v r new disk_now written t told_ e.1 c
+      | inl c ↦ closing protected settings n disk taken piece count first v r new disk_now written t told_ e.1 c
       | inr g ↦ inl (
         ap is_closed e.1 ∙ g.live,
         record {
@@ -244,44 +244,44 @@ ends_go settings n disk taken piece count first v r new disk_now written (Ok pha
         },
       )
     ]
-ends_go settings n disk taken piece count first v r new disk_now written (Err faults.NoMemory) t told_ bound ready closes memory e = absurd (memory refl)
-ends_go settings n disk taken piece count first v r new disk_now written (Err (faults.Stream fault)) t told_ bound ready closes memory e =
-    let live : is_closed (answers (opening settings n) disk first).machine ≡ false = sym (ap is_closed told_.machine) ∙ e.0.live in
-    let now_is : new.machine ≡ closed (answers (opening settings n) disk first).machine = e.3 ∙ ap closed told_.machine in
+ends_go protected settings n disk taken piece count first v r new disk_now written (Err faults.NoMemory) t told_ bound ready closes memory e = absurd (memory refl)
+ends_go protected settings n disk taken piece count first v r new disk_now written (Err (faults.Stream fault)) t told_ bound ready closes memory e =
+    let live : is_closed (answers protected (opening settings n) disk first).machine ≡ false = sym (ap is_closed told_.machine) ∙ e.0.live in
+    let now_is : new.machine ≡ closed (answers protected (opening settings n) disk first).machine = e.3 ∙ ap closed told_.machine in
     inr (
       ap is_closed e.3,
       record {
         over = λ more ms p.
-            fault_meets settings n disk taken piece count first v new disk_now written fault t bound e.1 e.2 live now_is told_.disk_is told_.output_is more ms
+            fault_meets protected settings n disk taken piece count first v new disk_now written fault t bound e.1 e.2 live now_is told_.disk_is told_.output_is more ms
             p;
       },
     )
-ends_go settings n disk taken piece count first v r new disk_now written (Err (faults.Protocol rule)) t told_ bound ready closes memory e =
-    closing settings n disk taken piece count first v r new disk_now written t told_ e.1 (closes rule e.0)
-ends_go settings n disk taken piece count first v r new disk_now written (Err faults.Closed) t told_ bound ready closes memory e = absurd e
+ends_go protected settings n disk taken piece count first v r new disk_now written (Err (faults.Protocol rule)) t told_ bound ready closes memory e =
+    closing protected settings n disk taken piece count first v r new disk_now written t told_ e.1 (closes rule e.0)
+ends_go protected settings n disk taken piece count first v r new disk_now written (Err faults.Closed) t told_ bound ready closes memory e = absurd e
 
-feed_goes : (settings : Settings) (n : ℕ) (disk : Disk) (taken : List ℕ) (old : Connection) (before : Store) (out piece : List ℕ)
+feed_goes : (protected : Bool) (settings : Settings) (n : ℕ) (disk : Disk) (taken : List ℕ) (old : Connection) (before : Store) (out piece : List ℕ)
     (result : Result Phase TargetFault) (new : Connection) (after : Store) (written : List ℕ)
-    → Live (beginning settings n disk) taken old before.disk out → Feeds (scene old before out) piece result (scene new after written)
+    → Live protected (beginning settings n disk) taken old before.disk out → Feeds protected (scene old before out) piece result (scene new after written)
     → GoesWell result before after
-    → Either (beginning settings n disk) (taken ++ piece) new after.disk written
-feed_goes settings n disk taken old before out piece result new after written live f well =
-    let h : HasAnswered (beginning settings n disk) taken old before.disk out = live.has in
+    → Either protected (beginning settings n disk) (taken ++ piece) new after.disk written
+feed_goes protected settings n disk taken old before out piece result new after written live f well =
+    let h : HasAnswered protected (beginning settings n disk) taken old before.disk out = live.has in
     let t : HasTaken (taken ++ take f.count piece) (h.messages ++ f.messages) f.framing = f.answered.taken taken h.messages h.taken in
-    ends_go settings n disk taken piece f.count (h.messages ++ f.messages) f.framing f.stepped new after.disk written result t
-    (told settings n disk taken old before out (take f.count piece) f.framing f.messages f.stepped f.answered.failures after written h f.answered
-    (stands out f.framing (drop f.count piece) f.stepped f.answered.failures result new.machine after written well.memory f.leaves) well.device)
+    ends_go protected settings n disk taken piece f.count (h.messages ++ f.messages) f.framing f.stepped new after.disk written result t
+    (told protected settings n disk taken old before out (take f.count piece) f.framing f.messages f.stepped f.answered.failures after written h f.answered
+    (stands protected out f.framing (drop f.count piece) f.stepped f.answered.failures result new.machine after written well.memory f.leaves) well.device)
     (f.answered.limit ∙ live.bound) f.answered.ready
     (λ k e. let w = f.answered.works well.device in
-    ap (λ (x : Stepped). is_closed x.machine) w ∙ answers_close old.machine before.disk f.messages k (sym (ap (λ (x : Stepped). x.rule) w) ∙ e))
+    ap (λ (x : Stepped). is_closed x.machine) w ∙ answers_close protected old.machine before.disk f.messages k (sym (ap (λ (x : Stepped). x.rule) w) ∙ e))
     well.memory f.ends
 
 -- ---- all calls
 
-live_meets : (settings : Settings) (n : ℕ) (disk : Disk) (taken : List ℕ) (now : Connection) (disk_now : Disk) (written : List ℕ) (ms : List Message)
-    → Live (beginning settings n disk) taken now disk_now written → StreamMeans taken ms → Meets (beginning settings n disk) ms now disk_now written
-live_meets settings n disk taken now disk_now written ms live p =
-    let h : HasAnswered (beginning settings n disk) taken now disk_now written = live.has in
+live_meets : (protected : Bool) (settings : Settings) (n : ℕ) (disk : Disk) (taken : List ℕ) (now : Connection) (disk_now : Disk) (written : List ℕ) (ms : List Message)
+    → Live protected (beginning settings n disk) taken now disk_now written → StreamMeans taken ms → Meets protected (beginning settings n disk) ms now disk_now written
+live_meets protected settings n disk taken now disk_now written ms live p =
+    let h : HasAnswered protected (beginning settings n disk) taken now disk_now written = live.has in
     let t : HasTaken taken h.messages now.framing = h.taken in
     let r : Rests no_login h.messages ms t.rest =
     prefix_of now.framing.limit no_login t.given h.messages t.rest ms t.reads (subst (λ (x : List ℕ). ReadsAs longest_segment no_login x ms) t.whole p) in
@@ -289,88 +289,88 @@ live_meets settings n disk taken now disk_now written ms live p =
     ∙ unready_of now.framing.failed now.framing.held t.live live.ready in
     let none : r.more ≡ [] = none_whole now.framing.limit (after_all no_login h.messages) t.rest r.more t.begun part r.reads in
     let same : h.messages ≡ ms = sym (r.whole ∙ ap (λ (x : List Message). h.messages ++ x) none ∙ append-nil h.messages) in
-    subst (λ (x : List Message). Meets (beginning settings n disk) x now disk_now written) same
+    subst (λ (x : List Message). Meets protected (beginning settings n disk) x now disk_now written) same
     (record { machine = h.machine; disk_is = h.disk_is; output_is = h.output_is })
 
-either_meets : (settings : Settings) (n : ℕ) (disk : Disk) (taken : List ℕ) (now : Connection) (disk_now : Disk) (written : List ℕ) (ms : List Message)
-    → Either (beginning settings n disk) taken now disk_now written → StreamMeans taken ms → Meets (beginning settings n disk) ms now disk_now written
-either_meets settings n disk taken now disk_now written ms (inl l) p = live_meets settings n disk taken now disk_now written ms l.1 p
-either_meets settings n disk taken now disk_now written ms (inr o) p =
+either_meets : (protected : Bool) (settings : Settings) (n : ℕ) (disk : Disk) (taken : List ℕ) (now : Connection) (disk_now : Disk) (written : List ℕ) (ms : List Message)
+    → Either protected (beginning settings n disk) taken now disk_now written → StreamMeans taken ms → Meets protected (beginning settings n disk) ms now disk_now written
+either_meets protected settings n disk taken now disk_now written ms (inl l) p = live_meets protected settings n disk taken now disk_now written ms l.1 p
+either_meets protected settings n disk taken now disk_now written ms (inr o) p =
     o.1.over [] ms (subst (λ (x : List ℕ). StreamMeans x ms) (sym (append-nil taken)) p)
 
-stays_over : (settings : Settings) (n : ℕ) (disk : Disk) (taken piece : List ℕ) (now : Connection) (disk_now : Disk) (written : List ℕ)
-    → Over (beginning settings n disk) taken now disk_now written → Over (beginning settings n disk) (taken ++ piece) now disk_now written
-stays_over settings n disk taken piece now disk_now written o =
+stays_over : (protected : Bool) (settings : Settings) (n : ℕ) (disk : Disk) (taken piece : List ℕ) (now : Connection) (disk_now : Disk) (written : List ℕ)
+    → Over protected (beginning settings n disk) taken now disk_now written → Over protected (beginning settings n disk) (taken ++ piece) now disk_now written
+stays_over protected settings n disk taken piece now disk_now written o =
     record { over = λ more ms p. o.over (piece ++ more) ms (subst (λ (x : List ℕ). StreamMeans x ms) (append_assoc taken piece more) p) }
 
-next_either : (settings : Settings) (n : ℕ) (disk : Disk) (taken : List ℕ) (old : Connection) (before : Store) (out piece : List ℕ)
+next_either : (protected : Bool) (settings : Settings) (n : ℕ) (disk : Disk) (taken : List ℕ) (old : Connection) (before : Store) (out piece : List ℕ)
     (result : Result Phase TargetFault) (new : Connection) (after : Store) (written : List ℕ)
-    → Either (beginning settings n disk) taken old before.disk out → Fed (scene old before out) piece result (scene new after written)
+    → Either protected (beginning settings n disk) taken old before.disk out → Fed protected (scene old before out) piece result (scene new after written)
     → GoesWell result before after
-    → Either (beginning settings n disk) (taken ++ piece) new after.disk written
-next_either settings n disk taken old before out piece result new after written (inl l) f well =
-    feed_goes settings n disk taken old before out piece result new after written l.1
-    (subst (λ (b : Bool). FedIf b (scene old before out) piece result (scene new after written)) l.0 f) well
-next_either settings n disk taken old before out piece result new after written (inr o) f well =
+    → Either protected (beginning settings n disk) (taken ++ piece) new after.disk written
+next_either protected settings n disk taken old before out piece result new after written (inl l) f well =
+    feed_goes protected settings n disk taken old before out piece result new after written l.1
+    (subst (λ (b : Bool). FedIf protected b (scene old before out) piece result (scene new after written)) l.0 f) well
+next_either protected settings n disk taken old before out piece result new after written (inr o) f well =
     let s : Stays (scene old before out) result (scene new after written) =
-    subst (λ (b : Bool). FedIf b (scene old before out) piece result (scene new after written)) o.0 f in
-    let over : Over (beginning settings n disk) (taken ++ piece) old before.disk out = stays_over settings n disk taken piece old before.disk out o.1 in
+    subst (λ (b : Bool). FedIf protected b (scene old before out) piece result (scene new after written)) o.0 f in
+    let over : Over protected (beginning settings n disk) (taken ++ piece) old before.disk out = stays_over protected settings n disk taken piece old before.disk out o.1 in
     inr (
       ap (λ (x : Connection). is_closed x.machine) s.connection ∙ o.0,
-      subst (λ (x : Connection). Over (beginning settings n disk) (taken ++ piece) x after.disk written) (sym s.connection)
-          (subst (λ (x : Store). Over (beginning settings n disk) (taken ++ piece) old x.disk written) (sym s.store)
-          (subst (λ (x : List ℕ). Over (beginning settings n disk) (taken ++ piece) old before.disk x) (sym s.output_is) over)),
+      subst (λ (x : Connection). Over protected (beginning settings n disk) (taken ++ piece) x after.disk written) (sym s.connection)
+          (subst (λ (x : Store). Over protected (beginning settings n disk) (taken ++ piece) old x.disk written) (sym s.store)
+          (subst (λ (x : List ℕ). Over protected (beginning settings n disk) (taken ++ piece) old before.disk x) (sym s.output_is) over)),
     )
 
-fed_from : (settings : Settings) (n : ℕ) (disk : Disk) (taken : List ℕ) (pieces : List (List ℕ)) (old : Connection) (before : Store) (out : List ℕ)
+fed_from : (protected : Bool) (settings : Settings) (n : ℕ) (disk : Disk) (taken : List ℕ) (pieces : List (List ℕ)) (old : Connection) (before : Store) (out : List ℕ)
     (new : Connection) (after : Store) (written : List ℕ) (ms : List Message)
-    → Either (beginning settings n disk) taken old before.disk out → FedAll (scene old before out) pieces (scene new after written)
+    → Either protected (beginning settings n disk) taken old before.disk out → FedAll protected (scene old before out) pieces (scene new after written)
     → StreamMeans (taken ++ flat_map (λ x. x) pieces) ms
-    → Meets (beginning settings n disk) ms new after.disk written
+    → Meets protected (beginning settings n disk) ms new after.disk written
 unfolding FedAll
-fed_from settings n disk taken [] old before out new after written ms e f p =
-    subst (λ (x : Connection). Meets (beginning settings n disk) ms x after.disk written) (sym f.0)
-    (subst (λ (x : Store). Meets (beginning settings n disk) ms old x.disk written) (sym f.1)
-    (subst (λ (x : List ℕ). Meets (beginning settings n disk) ms old before.disk x) (sym f.2)
-    (either_meets settings n disk taken old before.disk out ms e (subst (λ (x : List ℕ). StreamMeans x ms) (append-nil taken) p))))
-fed_from settings n disk taken (piece ∷ pieces) old before out new after written ms e f p =
-    fed_from settings n disk (taken ++ piece) pieces f.1 f.2 f.3 new after written ms
-    (next_either settings n disk taken old before out piece f.0 f.1 f.2 f.3 e f.4 f.5) f.6
+fed_from protected settings n disk taken [] old before out new after written ms e f p =
+    subst (λ (x : Connection). Meets protected (beginning settings n disk) ms x after.disk written) (sym f.0)
+    (subst (λ (x : Store). Meets protected (beginning settings n disk) ms old x.disk written) (sym f.1)
+    (subst (λ (x : List ℕ). Meets protected (beginning settings n disk) ms old before.disk x) (sym f.2)
+    (either_meets protected settings n disk taken old before.disk out ms e (subst (λ (x : List ℕ). StreamMeans x ms) (append-nil taken) p))))
+fed_from protected settings n disk taken (piece ∷ pieces) old before out new after written ms e f p =
+    fed_from protected settings n disk (taken ++ piece) pieces f.1 f.2 f.3 new after written ms
+    (next_either protected settings n disk taken old before out piece f.0 f.1 f.2 f.3 e f.4 f.5) f.6
     (subst (λ (x : List ℕ). StreamMeans x ms) (sym (append_assoc taken piece (flat_map (λ x. x) pieces))) p)
 
-opening_live : (settings : Settings) (n : ℕ) (disk : Disk) → Live (beginning settings n disk) [] (opening_connection settings n) disk []
+opening_live : (protected : Bool) (settings : Settings) (n : ℕ) (disk : Disk) → Live protected (beginning settings n disk) [] (opening_connection settings n) disk []
 unfolding answers
-opening_live settings n disk = record {
+opening_live protected settings n disk = record {
   has = record { messages = []; taken = at_opening (limit settings); machine = refl; disk_is = refl; output_is = refl };
   ready = not_whole-nil;
   bound = refl;
 }
 
 -- a stream that was fed in pieces
-pub fed_stream : (settings : Settings) (n : ℕ) (store : Store) (pieces : List (List ℕ)) (new : Connection) (after : Store) (written : List ℕ)
+pub fed_stream : (protected : Bool) (settings : Settings) (n : ℕ) (store : Store) (pieces : List (List ℕ)) (new : Connection) (after : Store) (written : List ℕ)
     (ms : List Message)
-    → FedAll (scene (opening_connection settings n) store []) pieces (scene new after written) → StreamMeans (flat_map (λ x. x) pieces) ms →
-    Meets (beginning settings n store.disk) ms new after.disk written
-fed_stream settings n store pieces new after written ms f p =
-    fed_from settings n store.disk [] pieces (opening_connection settings n) store [] new after written ms (inl (refl, opening_live settings n store.disk)) f p
+    → FedAll protected (scene (opening_connection settings n) store []) pieces (scene new after written) → StreamMeans (flat_map (λ x. x) pieces) ms →
+    Meets protected (beginning settings n store.disk) ms new after.disk written
+fed_stream protected settings n store pieces new after written ms f p =
+    fed_from protected settings n store.disk [] pieces (opening_connection settings n) store [] new after written ms (inl (refl, opening_live protected settings n store.disk)) f p
 
 -- ---- a stream that isn't all PDUs
 
 -- what is written, the blocks and the session
-record Leads (start : Beginning) (ms : List Message) (rest : List ℕ) (now : Connection) (disk_now : Disk) (written : List ℕ) : Type 0 where
-  writes : Writes start ms disk_now written
-  holds : Holds start ms rest now.machine
+record Leads (protected : Bool) (start : Beginning) (ms : List Message) (rest : List ℕ) (now : Connection) (disk_now : Disk) (written : List ℕ) : Type 0 where
+  writes : Writes protected start ms disk_now written
+  holds : Holds protected start ms rest now.machine
 
 -- the session is closed, and nothing is written any more
-record Stopped (start : Beginning) (taken : List ℕ) (now : Connection) (disk_now : Disk) (written : List ℕ) : Type 0 where
+record Stopped (protected : Bool) (start : Beginning) (taken : List ℕ) (now : Connection) (disk_now : Disk) (written : List ℕ) : Type 0 where
   over : (more : List ℕ) (ms : List Message) (given rest : List ℕ) → Splits longest_segment (taken ++ more) ms given rest →
-      Leads start ms rest now disk_now written
+      Leads protected start ms rest now disk_now written
 
 -- the session is open, or closed and stays so
-abbrev Fate : Beginning → List ℕ → Connection → Disk → List ℕ → Type 0
-Fate start taken now disk_now written =
-    ((is_closed now.machine ≡ false) × Live start taken now disk_now written)
-    ⊎ ((is_closed now.machine ≡ true) × Stopped start taken now disk_now written)
+abbrev Fate : Bool → Beginning → List ℕ → Connection → Disk → List ℕ → Type 0
+Fate protected start taken now disk_now written =
+    ((is_closed now.machine ≡ false) × Live protected start taken now disk_now written)
+    ⊎ ((is_closed now.machine ≡ true) × Stopped protected start taken now disk_now written)
 
 abbrev Fits : Settings → Type 0
 Fits settings = limit settings ≤ longest_segment
@@ -382,10 +382,10 @@ left taken piece more count first ms given rest v le t s =
     prefix_split v.limit no_login t.given first ((t.rest ++ drop count piece) ++ more) given ms rest le t.reads s.reaches.reads s.no_more
     (sym (whole_stream taken piece more t.given t.rest count t.whole) ∙ s.reaches.whole)
 
-writes_of : (settings : Settings) (n : ℕ) (disk : Disk) (ms : List Message) (rest : List ℕ) (now : Connection) (disk_now : Disk) (written : List ℕ) →
-    Meets (beginning settings n disk) ms now disk_now written
-    → is_closed now.machine ≡ true → Leads (beginning settings n disk) ms rest now disk_now written
-writes_of settings n disk ms rest now disk_now written m over = record {
+writes_of : (protected : Bool) (settings : Settings) (n : ℕ) (disk : Disk) (ms : List Message) (rest : List ℕ) (now : Connection) (disk_now : Disk) (written : List ℕ) →
+    Meets protected (beginning settings n disk) ms now disk_now written
+    → is_closed now.machine ≡ true → Leads protected (beginning settings n disk) ms rest now disk_now written
+writes_of protected settings n disk ms rest now disk_now written m over = record {
   writes = record { disk_is = m.disk_is; output_is = m.output_is };
   holds = record {
     machine = ap closed m.machine;
@@ -396,11 +396,11 @@ writes_of settings n disk ms rest now disk_now written m over = record {
 }
 
 -- no PDU is left
-leads_all : (settings : Settings) (n : ℕ) (disk : Disk) (first ms more : List Message) (rest : List ℕ) (now : Connection) (disk_now : Disk) (written : List ℕ) →
+leads_all : (protected : Bool) (settings : Settings) (n : ℕ) (disk : Disk) (first ms more : List Message) (rest : List ℕ) (now : Connection) (disk_now : Disk) (written : List ℕ) →
     ms ≡ first ++ more → more ≡ []
-    → Leads (beginning settings n disk) first rest now disk_now written → Leads (beginning settings n disk) ms rest now disk_now written
-leads_all settings n disk first ms more rest now disk_now written e none w =
-    subst (λ (x : List Message). Leads (beginning settings n disk) x rest now disk_now written)
+    → Leads protected (beginning settings n disk) first rest now disk_now written → Leads protected (beginning settings n disk) ms rest now disk_now written
+leads_all protected settings n disk first ms more rest now disk_now written e none w =
+    subst (λ (x : List Message). Leads protected (beginning settings n disk) x rest now disk_now written)
     (sym (e ∙ ap (λ (x : List Message). first ++ x) none ∙ append-nil first)) w
 
 -- then the rest is what is left of the bytes
@@ -418,11 +418,11 @@ front_left front more rest long e = (
 )
 
 -- closed at a header that is refused
-shut_leads : (settings : Settings) (n : ℕ) (disk : Disk) (first : List Message) (rest : List ℕ) (now : Connection) (disk_now : Disk) (written : List ℕ)
-    → now.machine ≡ closed (answers (opening settings n) disk first).machine → disk_now ≡ (answers (opening settings n) disk first).disk
-    → written ≡ canon (answers (opening settings n) disk first).answers → Refuses (limit settings) rest
-    → Leads (beginning settings n disk) first rest now disk_now written
-shut_leads settings n disk first rest now disk_now written is_now is_disk is_written refused =
+shut_leads : (protected : Bool) (settings : Settings) (n : ℕ) (disk : Disk) (first : List Message) (rest : List ℕ) (now : Connection) (disk_now : Disk) (written : List ℕ)
+    → now.machine ≡ closed (answers protected (opening settings n) disk first).machine → disk_now ≡ (answers protected (opening settings n) disk first).disk
+    → written ≡ canon (answers protected (opening settings n) disk first).answers → Refuses (limit settings) rest
+    → Leads protected (beginning settings n disk) first rest now disk_now written
+shut_leads protected settings n disk first rest now disk_now written is_now is_disk is_written refused =
     let over : is_closed now.machine ≡ true = ap is_closed is_now in
     record {
       writes = record { disk_is = is_disk; output_is = is_written };
@@ -434,15 +434,15 @@ shut_leads settings n disk first rest now disk_now written is_now is_disk is_wri
       };
     }
 
-stopping : (settings : Settings) (n : ℕ) (disk : Disk) (taken piece : List ℕ) (count : ℕ) (first : List Message) (v : Framing) (r : Stepped) (new : Connection)
+stopping : (protected : Bool) (settings : Settings) (n : ℕ) (disk : Disk) (taken piece : List ℕ) (count : ℕ) (first : List Message) (v : Framing) (r : Stepped) (new : Connection)
     (disk_now : Disk) (written : List ℕ)
-    → v.limit ≤ longest_segment → HasTaken (taken ++ take count piece) first v → Told (beginning settings n disk) first r disk_now written
+    → v.limit ≤ longest_segment → HasTaken (taken ++ take count piece) first v → Told protected (beginning settings n disk) first r disk_now written
     → new.machine ≡ joined r.machine
     → is_closed r.machine ≡ true
-    → Fate (beginning settings n disk) (taken ++ piece) new disk_now written
-stopping settings n disk taken piece count first v r new disk_now written le t told_ e c =
-    let there : is_closed (answers (opening settings n) disk first).machine ≡ true = sym (ap is_closed told_.machine) ∙ c in
-    let meets : Meets (beginning settings n disk) first new disk_now written = record {
+    → Fate protected (beginning settings n disk) (taken ++ piece) new disk_now written
+stopping protected settings n disk taken piece count first v r new disk_now written le t told_ e c =
+    let there : is_closed (answers protected (opening settings n) disk first).machine ≡ true = sym (ap is_closed told_.machine) ∙ c in
+    let meets : Meets protected (beginning settings n disk) first new disk_now written = record {
       machine = e ∙ told_.machine;
       disk_is = told_.disk_is;
       output_is = told_.output_is;
@@ -452,24 +452,24 @@ stopping settings n disk taken piece count first v r new disk_now written le t t
       record {
         over = λ more ms given rest s.
             let x = left taken piece more count first ms given rest v le t s in
-            subst (λ (xs : List Message). Leads (beginning settings n disk) xs rest new disk_now written) (sym x.whole)
-            (writes_of settings n disk (first ++ x.more) rest new disk_now written (closed_meets settings n disk first x.more new disk_now written there meets)
+            subst (λ (xs : List Message). Leads protected (beginning settings n disk) xs rest new disk_now written) (sym x.whole)
+            (writes_of protected settings n disk (first ++ x.more) rest new disk_now written (closed_meets protected settings n disk first x.more new disk_now written there meets)
             (ap is_closed e ∙ c));
       },
     )
 
-fault_writes : (settings : Settings) (n : ℕ) (disk : Disk) (taken piece : List ℕ) (count : ℕ) (first : List Message) (v : Framing) (now : Connection)
+fault_writes : (protected : Bool) (settings : Settings) (n : ℕ) (disk : Disk) (taken piece : List ℕ) (count : ℕ) (first : List Message) (v : Framing) (now : Connection)
     (disk_now : Disk) (written : List ℕ) (fault : StreamFault)
     → (t : HasTaken (taken ++ take count piece) first v) → v.limit ≡ limit settings → v.limit ≤ longest_segment → (fault ≡ stream.NoMemory → ⊥) →
     FeedFails v (drop count piece) fault
-    → is_closed (answers (opening settings n) disk first).machine ≡ false
-    → now.machine ≡ closed (answers (opening settings n) disk first).machine → disk_now ≡ (answers (opening settings n) disk first).disk
-    → written ≡ canon (answers (opening settings n) disk first).answers → (more : List ℕ) (ms : List Message) (given rest : List ℕ) →
+    → is_closed (answers protected (opening settings n) disk first).machine ≡ false
+    → now.machine ≡ closed (answers protected (opening settings n) disk first).machine → disk_now ≡ (answers protected (opening settings n) disk first).disk
+    → written ≡ canon (answers protected (opening settings n) disk first).answers → (more : List ℕ) (ms : List Message) (given rest : List ℕ) →
     Splits longest_segment ((taken ++ piece) ++ more) ms given rest
-    → Leads (beginning settings n disk) ms rest now disk_now written
-fault_writes settings n disk taken piece count first v now disk_now written stream.NoMemory t bound le none f live is_now is_disk is_written more ms given rest
+    → Leads protected (beginning settings n disk) ms rest now disk_now written
+fault_writes protected settings n disk taken piece count first v now disk_now written stream.NoMemory t bound le none f live is_now is_disk is_written more ms given rest
     s = absurd (none refl)
-fault_writes settings n disk taken piece count first v now disk_now written (stream.Head fault place) t bound le none f live is_now is_disk is_written more ms
+fault_writes protected settings n disk taken piece count first v now disk_now written (stream.Head fault place) t bound le none f live is_now is_disk is_written more ms
     given rest s =
     let x = left taken piece more count first ms given rest v le t s in
     let held : v.held ≡ t.rest = held_is (taken ++ take count piece) first v t f.1.before in
@@ -480,17 +480,17 @@ fault_writes settings n disk taken piece count first v now disk_now written (str
       | inl e ↦
           let start = front_left (t.rest ++ drop count piece) more rest long (rest_left (after_all no_login first)
           ((t.rest ++ drop count piece) ++ more) x.given rest x.more x.reads x.bytes_are e) in
-          leads_all settings n disk first ms x.more rest now disk_now written x.whole e
-          (shut_leads settings n disk first rest now disk_now written is_now is_disk is_written (
+          leads_all protected settings n disk first ms x.more rest now disk_now written x.whole e
+          (shut_leads protected settings n disk first rest now disk_now written is_now is_disk is_written (
             start.0,
             inl (fault, subst (λ (y : List ℕ). fault_of y ≡ Some fault) start.1 bad),
           ))
       | inr h ↦ absurd (bad_header (take 48 (t.rest ++ drop count piece)) h.m.head (length h.segment) fault h.says bad)
     ]
-fault_writes settings n disk taken piece count first v now disk_now written (stream.OverLimit place) t bound le none f live is_now is_disk is_written more ms
+fault_writes protected settings n disk taken piece count first v now disk_now written (stream.OverLimit place) t bound le none f live is_now is_disk is_written more ms
     given rest s =
     let x = left taken piece more count first ms given rest v le t s in
-    let a : Stepped = answers (opening settings n) disk first in
+    let a : Stepped = answers protected (opening settings n) disk first in
     let held : v.held ≡ t.rest = held_is (taken ++ take count piece) first v t f.1.2.reaches.before in
     let long : 48 ≤ length (t.rest ++ drop count piece) = subst (λ (y : List ℕ). 48 ≤ length (y ++ drop count piece)) held f.1.2.reaches.reached in
     let header : IsHeader (take 48 (t.rest ++ drop count piece)) f.1.0 f.1.1 = subst (λ (y : List ℕ). IsHeader (take 48 (y ++ drop count piece)) f.1.0 f.1.1)
@@ -500,8 +500,8 @@ fault_writes settings n disk taken piece count first v now disk_now written (str
           let start = front_left (t.rest ++ drop count piece) more rest long (rest_left (after_all no_login first)
           ((t.rest ++ drop count piece) ++ more) x.given rest x.more x.reads x.bytes_are e) in
           let past : limit settings < f.1.1 = omega (arith, f.1.3, bound) in
-          leads_all settings n disk first ms x.more rest now disk_now written x.whole e
-          (shut_leads settings n disk first rest now disk_now written is_now is_disk is_written (
+          leads_all protected settings n disk first ms x.more rest now disk_now written x.whole e
+          (shut_leads protected settings n disk first rest now disk_now written is_now is_disk is_written (
             start.0,
             inr (f.1.0, f.1.1, subst (λ (y : List ℕ). IsHeader y f.1.0 f.1.1) start.1 header, past),
           ))
@@ -511,78 +511,78 @@ fault_writes settings n disk taken piece count first v now disk_now written (str
           let past : limit settings < length h.segment = omega (arith, f.1.3, size, bound) in
           let bytes : h.m.segment ≡ Bytes h.segment = h.meaning ∙ long_bytes (continues (after_all no_login first) h.m.head) h.m.head h.segment h.says.login
           (omega (arith, past)) in
-          let same : a.machine.session.settings ≡ settings = answers_settings (opening settings n) disk first in
+          let same : a.machine.session.settings ≡ settings = answers_settings protected (opening settings n) disk first in
           let over : is_over_limit a.machine h.m.segment ≡ true =
           ap (λ (y : Segment). is_over_limit a.machine y) bytes ∙ ap (λ (y : Settings). nat_lt (limit y) (length h.segment)) same
           ∙ lt-ltb (limit settings) (length h.segment) past in
-          subst (λ (y : List Message). Leads (beginning settings n disk) y rest now disk_now written)
+          subst (λ (y : List Message). Leads protected (beginning settings n disk) y rest now disk_now written)
           (sym (x.whole ∙ ap (λ (y : List Message). first ++ y) h.is))
-          (writes_of settings n disk (first ++ h.m ∷ h.more) rest now disk_now written
-          (over_meets settings n disk first h.m h.more now disk_now written live over is_now is_disk is_written) (ap is_closed is_now))
+          (writes_of protected settings n disk (first ++ h.m ∷ h.more) rest now disk_now written
+          (over_meets protected settings n disk first h.m h.more now disk_now written live over is_now is_disk is_written) (ap is_closed is_now))
     ]
-fault_writes settings n disk taken piece count first v now disk_now written (stream.Truncated place) t bound le none f live is_now is_disk is_written more ms
+fault_writes protected settings n disk taken piece count first v now disk_now written (stream.Truncated place) t bound le none f live is_now is_disk is_written more ms
     given rest s = absurd f
-fault_writes settings n disk taken piece count first v now disk_now written stream.Failed t bound le none f live is_now is_disk is_written more ms given rest s
+fault_writes protected settings n disk taken piece count first v now disk_now written stream.Failed t bound le none f live is_now is_disk is_written more ms given rest s
     = absurd (apart f t.live)
 
 -- what a call ends in, for such a stream
-ends_fate : (settings : Settings) (n : ℕ) (disk : Disk) (taken piece : List ℕ) (count : ℕ) (first : List Message) (v : Framing) (r : Stepped) (new : Connection)
+ends_fate : (protected : Bool) (settings : Settings) (n : ℕ) (disk : Disk) (taken piece : List ℕ) (count : ℕ) (first : List Message) (v : Framing) (r : Stepped) (new : Connection)
     (disk_now : Disk) (written : List ℕ) (result : Result Phase TargetFault)
-    → Fits settings → HasTaken (taken ++ take count piece) first v → Told (beginning settings n disk) first r disk_now written → v.limit ≡ limit settings
+    → Fits settings → HasTaken (taken ++ take count piece) first v → Told protected (beginning settings n disk) first r disk_now written → v.limit ≡ limit settings
     → is_ready v
     ≡ false
     → ((k : ℕ) → r.rule ≡ Some k → is_closed r.machine ≡ true) → (result ≡ Err faults.NoMemory → ⊥) → Ends piece result v count r new
-    → Fate (beginning settings n disk) (taken ++ piece) new disk_now written
-ends_fate settings n disk taken piece count first v r new disk_now written (Ok phase) le t told_ bound ready closes memory e =
-    elim (ends_go settings n disk taken piece count first v r new disk_now written (Ok phase) t told_ bound ready closes memory e) [
+    → Fate protected (beginning settings n disk) (taken ++ piece) new disk_now written
+ends_fate protected settings n disk taken piece count first v r new disk_now written (Ok phase) le t told_ bound ready closes memory e =
+    elim (ends_go protected settings n disk taken piece count first v r new disk_now written (Ok phase) t told_ bound ready closes memory e) [
       | inl l ↦ inl l
-      | inr o ↦ stopping settings n disk taken piece count first v r new disk_now written (omega (arith, le, bound)) t told_ e.1 (sym (ap is_closed e.1) ∙ o.0)
+      | inr o ↦ stopping protected settings n disk taken piece count first v r new disk_now written (omega (arith, le, bound)) t told_ e.1 (sym (ap is_closed e.1) ∙ o.0)
     ]
-ends_fate settings n disk taken piece count first v r new disk_now written (Err faults.NoMemory) le t told_ bound ready closes memory e = absurd (memory refl)
-ends_fate settings n disk taken piece count first v r new disk_now written (Err (faults.Stream fault)) le t told_ bound ready closes memory e =
-    let live : is_closed (answers (opening settings n) disk first).machine ≡ false = sym (ap is_closed told_.machine) ∙ e.0.live in
-    let now_is : new.machine ≡ closed (answers (opening settings n) disk first).machine = e.3 ∙ ap closed told_.machine in
+ends_fate protected settings n disk taken piece count first v r new disk_now written (Err faults.NoMemory) le t told_ bound ready closes memory e = absurd (memory refl)
+ends_fate protected settings n disk taken piece count first v r new disk_now written (Err (faults.Stream fault)) le t told_ bound ready closes memory e =
+    let live : is_closed (answers protected (opening settings n) disk first).machine ≡ false = sym (ap is_closed told_.machine) ∙ e.0.live in
+    let now_is : new.machine ≡ closed (answers protected (opening settings n) disk first).machine = e.3 ∙ ap closed told_.machine in
     inr (
       ap is_closed e.3,
       record {
         over = λ more ms given rest s.
-            fault_writes settings n disk taken piece count first v new disk_now written fault t bound (omega (arith, le, bound)) e.1 e.2 live now_is
+            fault_writes protected settings n disk taken piece count first v new disk_now written fault t bound (omega (arith, le, bound)) e.1 e.2 live now_is
             told_.disk_is told_.output_is more ms given rest s;
       },
     )
-ends_fate settings n disk taken piece count first v r new disk_now written (Err (faults.Protocol rule)) le t told_ bound ready closes memory e =
-    stopping settings n disk taken piece count first v r new disk_now written (omega (arith, le, bound)) t told_ e.1 (closes rule e.0)
-ends_fate settings n disk taken piece count first v r new disk_now written (Err faults.Closed) le t told_ bound ready closes memory e = absurd e
+ends_fate protected settings n disk taken piece count first v r new disk_now written (Err (faults.Protocol rule)) le t told_ bound ready closes memory e =
+    stopping protected settings n disk taken piece count first v r new disk_now written (omega (arith, le, bound)) t told_ e.1 (closes rule e.0)
+ends_fate protected settings n disk taken piece count first v r new disk_now written (Err faults.Closed) le t told_ bound ready closes memory e = absurd e
 
-next_fate : (settings : Settings) (n : ℕ) (disk : Disk) (taken : List ℕ) (old : Connection) (before : Store) (out piece : List ℕ)
+next_fate : (protected : Bool) (settings : Settings) (n : ℕ) (disk : Disk) (taken : List ℕ) (old : Connection) (before : Store) (out piece : List ℕ)
     (result : Result Phase TargetFault) (new : Connection) (after : Store) (written : List ℕ)
-    → Fits settings → Fate (beginning settings n disk) taken old before.disk out → Fed (scene old before out) piece result (scene new after written)
+    → Fits settings → Fate protected (beginning settings n disk) taken old before.disk out → Fed protected (scene old before out) piece result (scene new after written)
     → GoesWell result before after
-    → Fate (beginning settings n disk) (taken ++ piece) new after.disk written
-next_fate settings n disk taken old before out piece result new after written le (inl l) fed well =
-    let f : Feeds (scene old before out) piece result (scene new after written) =
-    subst (λ (b : Bool). FedIf b (scene old before out) piece result (scene new after written)) l.0 fed in
-    let h : HasAnswered (beginning settings n disk) taken old before.disk out = l.1.has in
+    → Fate protected (beginning settings n disk) (taken ++ piece) new after.disk written
+next_fate protected settings n disk taken old before out piece result new after written le (inl l) fed well =
+    let f : Feeds protected (scene old before out) piece result (scene new after written) =
+    subst (λ (b : Bool). FedIf protected b (scene old before out) piece result (scene new after written)) l.0 fed in
+    let h : HasAnswered protected (beginning settings n disk) taken old before.disk out = l.1.has in
     let t : HasTaken (taken ++ take f.count piece) (h.messages ++ f.messages) f.framing = f.answered.taken taken h.messages h.taken in
-    ends_fate settings n disk taken piece f.count (h.messages ++ f.messages) f.framing f.stepped new after.disk written result le t
-    (told settings n disk taken old before out (take f.count piece) f.framing f.messages f.stepped f.answered.failures after written h f.answered
-    (stands out f.framing (drop f.count piece) f.stepped f.answered.failures result new.machine after written well.memory f.leaves) well.device)
+    ends_fate protected settings n disk taken piece f.count (h.messages ++ f.messages) f.framing f.stepped new after.disk written result le t
+    (told protected settings n disk taken old before out (take f.count piece) f.framing f.messages f.stepped f.answered.failures after written h f.answered
+    (stands protected out f.framing (drop f.count piece) f.stepped f.answered.failures result new.machine after written well.memory f.leaves) well.device)
     (f.answered.limit ∙ l.1.bound) f.answered.ready
     (λ k e. let w = f.answered.works well.device in
-    ap (λ (x : Stepped). is_closed x.machine) w ∙ answers_close old.machine before.disk f.messages k (sym (ap (λ (x : Stepped). x.rule) w) ∙ e))
+    ap (λ (x : Stepped). is_closed x.machine) w ∙ answers_close protected old.machine before.disk f.messages k (sym (ap (λ (x : Stepped). x.rule) w) ∙ e))
     well.memory f.ends
-next_fate settings n disk taken old before out piece result new after written le (inr o) fed well =
+next_fate protected settings n disk taken old before out piece result new after written le (inr o) fed well =
     let s : Stays (scene old before out) result (scene new after written) =
-    subst (λ (b : Bool). FedIf b (scene old before out) piece result (scene new after written)) o.0 fed in
-    let stopped : Stopped (beginning settings n disk) (taken ++ piece) old before.disk out = record {
+    subst (λ (b : Bool). FedIf protected b (scene old before out) piece result (scene new after written)) o.0 fed in
+    let stopped : Stopped protected (beginning settings n disk) (taken ++ piece) old before.disk out = record {
       over = λ more ms given rest q.
           o.1.over (piece ++ more) ms given rest (subst (λ (x : List ℕ). Splits longest_segment x ms given rest) (append_assoc taken piece more) q);
     } in
     inr (
       ap (λ (x : Connection). is_closed x.machine) s.connection ∙ o.0,
-      subst (λ (x : Connection). Stopped (beginning settings n disk) (taken ++ piece) x after.disk written) (sym s.connection)
-          (subst (λ (x : Store). Stopped (beginning settings n disk) (taken ++ piece) old x.disk written) (sym s.store)
-          (subst (λ (x : List ℕ). Stopped (beginning settings n disk) (taken ++ piece) old before.disk x) (sym s.output_is) stopped)),
+      subst (λ (x : Connection). Stopped protected (beginning settings n disk) (taken ++ piece) x after.disk written) (sym s.connection)
+          (subst (λ (x : Store). Stopped protected (beginning settings n disk) (taken ++ piece) old x.disk written) (sym s.store)
+          (subst (λ (x : List ℕ). Stopped protected (beginning settings n disk) (taken ++ piece) old before.disk x) (sym s.output_is) stopped)),
     )
 
 not_refused : (limit : ℕ) (rest : List ℕ) → IsBegun limit rest → Refuses limit rest → ⊥
@@ -592,12 +592,12 @@ not_refused limit rest begun r = let good = begun r.0 in elim r.1 [
       omega (arith, same, good.1.within, long.3))
 ]
 
-live_leads : (settings : Settings) (n : ℕ) (disk : Disk) (taken : List ℕ) (now : Connection) (disk_now : Disk) (written : List ℕ) (ms : List Message)
+live_leads : (protected : Bool) (settings : Settings) (n : ℕ) (disk : Disk) (taken : List ℕ) (now : Connection) (disk_now : Disk) (written : List ℕ) (ms : List Message)
     (given rest : List ℕ)
-    → Fits settings → is_closed now.machine ≡ false → Live (beginning settings n disk) taken now disk_now written → Splits longest_segment taken ms given rest →
-    Leads (beginning settings n disk) ms rest now disk_now written
-live_leads settings n disk taken now disk_now written ms given rest le open_ live s =
-    let h : HasAnswered (beginning settings n disk) taken now disk_now written = live.has in
+    → Fits settings → is_closed now.machine ≡ false → Live protected (beginning settings n disk) taken now disk_now written → Splits longest_segment taken ms given rest →
+    Leads protected (beginning settings n disk) ms rest now disk_now written
+live_leads protected settings n disk taken now disk_now written ms given rest le open_ live s =
+    let h : HasAnswered protected (beginning settings n disk) taken now disk_now written = live.has in
     let t : HasTaken taken h.messages now.framing = h.taken in
     let x : Leaves no_login h.messages ms t.rest rest =
     prefix_split now.framing.limit no_login t.given h.messages t.rest given ms rest (omega (arith, le, live.bound)) t.reads s.reaches.reads s.no_more (sym
@@ -609,7 +609,7 @@ live_leads settings n disk taken now disk_now written ms given rest le open_ liv
     let same : t.rest ≡ rest = rest_left (after_all no_login h.messages) t.rest x.given rest x.more x.reads x.bytes_are none in
     let begun : IsBegun (limit settings) rest = subst (λ (k : ℕ). IsBegun k rest) live.bound (subst (λ (y : List ℕ). IsBegun now.framing.limit y) same t.begun)
     in
-    leads_all settings n disk h.messages ms x.more rest now disk_now written x.whole none (record {
+    leads_all protected settings n disk h.messages ms x.more rest now disk_now written x.whole none (record {
       writes = record { disk_is = h.disk_is; output_is = h.output_is };
       holds = record {
         machine = ap closed h.machine;
@@ -619,56 +619,56 @@ live_leads settings n disk taken now disk_now written ms given rest le open_ liv
       };
     })
 
-fate_leads : (settings : Settings) (n : ℕ) (disk : Disk) (taken : List ℕ) (now : Connection) (disk_now : Disk) (written : List ℕ) (ms : List Message)
+fate_leads : (protected : Bool) (settings : Settings) (n : ℕ) (disk : Disk) (taken : List ℕ) (now : Connection) (disk_now : Disk) (written : List ℕ) (ms : List Message)
     (given rest : List ℕ)
-    → Fits settings → Fate (beginning settings n disk) taken now disk_now written → Splits longest_segment taken ms given rest →
-    Leads (beginning settings n disk) ms rest now disk_now written
-fate_leads settings n disk taken now disk_now written ms given rest le (inl l) s =
-    live_leads settings n disk taken now disk_now written ms given rest le l.0 l.1 s
-fate_leads settings n disk taken now disk_now written ms given rest le (inr o) s =
+    → Fits settings → Fate protected (beginning settings n disk) taken now disk_now written → Splits longest_segment taken ms given rest →
+    Leads protected (beginning settings n disk) ms rest now disk_now written
+fate_leads protected settings n disk taken now disk_now written ms given rest le (inl l) s =
+    live_leads protected settings n disk taken now disk_now written ms given rest le l.0 l.1 s
+fate_leads protected settings n disk taken now disk_now written ms given rest le (inr o) s =
     o.1.over [] ms given rest (subst (λ (x : List ℕ). Splits longest_segment x ms given rest) (sym (append-nil taken)) s)
 
-fed_fate : (settings : Settings) (n : ℕ) (disk : Disk) (taken : List ℕ) (pieces : List (List ℕ)) (old : Connection) (before : Store) (out : List ℕ)
+fed_fate : (protected : Bool) (settings : Settings) (n : ℕ) (disk : Disk) (taken : List ℕ) (pieces : List (List ℕ)) (old : Connection) (before : Store) (out : List ℕ)
     (new : Connection) (after : Store) (written : List ℕ)
     (ms : List Message) (given rest : List ℕ) → Fits settings
-    → Fate (beginning settings n disk) taken old before.disk out → FedAll (scene old before out) pieces (scene new after written) →
+    → Fate protected (beginning settings n disk) taken old before.disk out → FedAll protected (scene old before out) pieces (scene new after written) →
     Splits longest_segment (taken ++ flat_map (λ x. x) pieces) ms given rest
-    → Leads (beginning settings n disk) ms rest new after.disk written
+    → Leads protected (beginning settings n disk) ms rest new after.disk written
 unfolding FedAll
-fed_fate settings n disk taken [] old before out new after written ms given rest le e f p =
-    subst (λ (x : Connection). Leads (beginning settings n disk) ms rest x after.disk written) (sym f.0)
-    (subst (λ (x : Store). Leads (beginning settings n disk) ms rest old x.disk written) (sym f.1)
-    (subst (λ (x : List ℕ). Leads (beginning settings n disk) ms rest old before.disk x) (sym f.2)
-    (fate_leads settings n disk taken old before.disk out ms given rest le e (subst (λ (x : List ℕ). Splits longest_segment x ms given rest)
+fed_fate protected settings n disk taken [] old before out new after written ms given rest le e f p =
+    subst (λ (x : Connection). Leads protected (beginning settings n disk) ms rest x after.disk written) (sym f.0)
+    (subst (λ (x : Store). Leads protected (beginning settings n disk) ms rest old x.disk written) (sym f.1)
+    (subst (λ (x : List ℕ). Leads protected (beginning settings n disk) ms rest old before.disk x) (sym f.2)
+    (fate_leads protected settings n disk taken old before.disk out ms given rest le e (subst (λ (x : List ℕ). Splits longest_segment x ms given rest)
     (append-nil taken) p))))
-fed_fate settings n disk taken (piece ∷ pieces) old before out new after written ms given rest le e f p =
-    fed_fate settings n disk (taken ++ piece) pieces f.1 f.2 f.3 new after written ms given rest le
-    (next_fate settings n disk taken old before out piece f.0 f.1 f.2 f.3 le e f.4 f.5) f.6
+fed_fate protected settings n disk taken (piece ∷ pieces) old before out new after written ms given rest le e f p =
+    fed_fate protected settings n disk (taken ++ piece) pieces f.1 f.2 f.3 new after written ms given rest le
+    (next_fate protected settings n disk taken old before out piece f.0 f.1 f.2 f.3 le e f.4 f.5) f.6
     (subst (λ (x : List ℕ). Splits longest_segment x ms given rest) (sym (append_assoc taken piece (flat_map (λ x. x) pieces))) p)
 
-fed_leads : (settings : Settings) (n : ℕ) (store : Store) (pieces : List (List ℕ)) (new : Connection) (after : Store) (written : List ℕ) (ms : List Message)
+fed_leads : (protected : Bool) (settings : Settings) (n : ℕ) (store : Store) (pieces : List (List ℕ)) (new : Connection) (after : Store) (written : List ℕ) (ms : List Message)
     (given rest : List ℕ)
-    → Fits settings → FedAll (scene (opening_connection settings n) store []) pieces (scene new after written)
+    → Fits settings → FedAll protected (scene (opening_connection settings n) store []) pieces (scene new after written)
     → Splits longest_segment (flat_map (λ x. x) pieces) ms given rest
-    → Leads (beginning settings n store.disk) ms rest new after.disk written
-fed_leads settings n store pieces new after written ms given rest le f s =
-    fed_fate settings n store.disk [] pieces (opening_connection settings n) store [] new after written ms given rest le
-    (inl (refl, opening_live settings n store.disk)) f s
+    → Leads protected (beginning settings n store.disk) ms rest new after.disk written
+fed_leads protected settings n store pieces new after written ms given rest le f s =
+    fed_fate protected settings n store.disk [] pieces (opening_connection settings n) store [] new after written ms given rest le
+    (inl (refl, opening_live protected settings n store.disk)) f s
 
 -- any stream that was fed in pieces
-pub fed_any : (settings : Settings) (n : ℕ) (store : Store) (pieces : List (List ℕ)) (new : Connection) (after : Store) (written : List ℕ) (ms : List Message)
+pub fed_any : (protected : Bool) (settings : Settings) (n : ℕ) (store : Store) (pieces : List (List ℕ)) (new : Connection) (after : Store) (written : List ℕ) (ms : List Message)
     (given rest : List ℕ)
-    → Fits settings → FedAll (scene (opening_connection settings n) store []) pieces (scene new after written)
+    → Fits settings → FedAll protected (scene (opening_connection settings n) store []) pieces (scene new after written)
     → Splits longest_segment (flat_map (λ x. x) pieces) ms given rest
-    → Writes (beginning settings n store.disk) ms after.disk written
-fed_any settings n store pieces new after written ms given rest le f s = (fed_leads settings n store pieces new after written ms given rest le f s).writes
+    → Writes protected (beginning settings n store.disk) ms after.disk written
+fed_any protected settings n store pieces new after written ms given rest le f s = (fed_leads protected settings n store pieces new after written ms given rest le f s).writes
 
-pub fed_holds : (settings : Settings) (n : ℕ) (store : Store) (pieces : List (List ℕ)) (new : Connection) (after : Store) (written : List ℕ) (ms : List Message)
+pub fed_holds : (protected : Bool) (settings : Settings) (n : ℕ) (store : Store) (pieces : List (List ℕ)) (new : Connection) (after : Store) (written : List ℕ) (ms : List Message)
     (given rest : List ℕ)
-    → Fits settings → FedAll (scene (opening_connection settings n) store []) pieces (scene new after written)
+    → Fits settings → FedAll protected (scene (opening_connection settings n) store []) pieces (scene new after written)
     → Splits longest_segment (flat_map (λ x. x) pieces) ms given rest
-    → Holds (beginning settings n store.disk) ms rest new.machine
-fed_holds settings n store pieces new after written ms given rest le f s = (fed_leads settings n store pieces new after written ms given rest le f s).holds
+    → Holds protected (beginning settings n store.disk) ms rest new.machine
+fed_holds protected settings n store pieces new after written ms given rest le f s = (fed_leads protected settings n store pieces new after written ms given rest le f s).holds
 
 -- ---- in any two cuts
 
@@ -677,10 +677,10 @@ closed_in phases.Login e = absurd cc
 closed_in phases.Full e = absurd cc
 closed_in phases.Closed e = refl
 
-both_live : (settings : Settings) (n : ℕ) (disk : Disk) (ms : List Message) (rest other : List ℕ) (a b : Machine)
-    → (Refuses (limit settings) other → Refuses (limit settings) rest) → Holds (beginning settings n disk) ms rest a
-    → Holds (beginning settings n disk) ms other b → is_closed a ≡ false → is_closed b ≡ false
-both_live settings n disk ms rest other a b refused x y live = by_cases (is_closed b)
+both_live : (protected : Bool) (settings : Settings) (n : ℕ) (disk : Disk) (ms : List Message) (rest other : List ℕ) (a b : Machine)
+    → (Refuses (limit settings) other → Refuses (limit settings) rest) → Holds protected (beginning settings n disk) ms rest a
+    → Holds protected (beginning settings n disk) ms other b → is_closed a ≡ false → is_closed b ≡ false
+both_live protected settings n disk ms rest other a b refused x y live = by_cases (is_closed b)
     (λ over. absurd (elim (y.ends over) [
       | inl done ↦ apart done (sym (ap is_closed (x.goes_on live)) ∙ live)
       | inr r ↦ apart (x.refuses (refused r)) live
@@ -688,25 +688,25 @@ both_live settings n disk ms rest other a b refused x y live = by_cases (is_clos
     (λ e. e)
 
 -- whatever follows, the values and the stage are those of what was taken
-pub same_values : (settings : Settings) (n : ℕ) (disk : Disk) (ms : List Message) (rest other : List ℕ) (a b : Machine)
-    → Holds (beginning settings n disk) ms rest a → Holds (beginning settings n disk) ms other b
+pub same_values : (protected : Bool) (settings : Settings) (n : ℕ) (disk : Disk) (ms : List Message) (rest other : List ℕ) (a b : Machine)
+    → Holds protected (beginning settings n disk) ms rest a → Holds protected (beginning settings n disk) ms other b
     → (b.session.held ≡ a.session.held) × (b.session.stage ≡ a.session.stage)
-same_values settings n disk ms rest other a b x y =
+same_values protected settings n disk ms rest other a b x y =
     let same : closed b ≡ closed a = y.machine ∙ sym x.machine in
     (ap (λ (s : Machine). s.session.held) same, ap (λ (s : Machine). s.session.stage) same)
 
-pub same_session : (settings : Settings) (n : ℕ) (disk : Disk) (ms : List Message) (rest other : List ℕ) (a b : Machine)
+pub same_session : (protected : Bool) (settings : Settings) (n : ℕ) (disk : Disk) (ms : List Message) (rest other : List ℕ) (a b : Machine)
     → (Refuses (limit settings) rest ↔ Refuses (limit settings) other)
-    → Holds (beginning settings n disk) ms rest a → Holds (beginning settings n disk) ms other b → SameSession a b
-same_session settings n disk ms rest other a b refused x y =
-    let same = same_values settings n disk ms rest other a b x y in
-    let goes_on : is_closed a ≡ false → b ≡ a = λ live. y.goes_on (both_live settings n disk ms rest other a b refused.1 x y live) ∙ sym (x.goes_on live) in
+    → Holds protected (beginning settings n disk) ms rest a → Holds protected (beginning settings n disk) ms other b → SameSession a b
+same_session protected settings n disk ms rest other a b refused x y =
+    let same = same_values protected settings n disk ms rest other a b x y in
+    let goes_on : is_closed a ≡ false → b ≡ a = λ live. y.goes_on (both_live protected settings n disk ms rest other a b refused.1 x y live) ∙ sym (x.goes_on live) in
     record {
       held = same.0;
       stage = same.1;
       phase = by_cases (is_closed a)
           (λ over. by_cases (is_closed b) (λ e. closed_in b.session.phase e ∙ sym (closed_in a.session.phase over))
-          (λ live. absurd (apart over (both_live settings n disk ms other rest b a refused.0 y x live))))
+          (λ live. absurd (apart over (both_live protected settings n disk ms other rest b a refused.0 y x live))))
           (λ live. ap (λ (s : Machine). s.session.phase) (goes_on live));
       goes_on = goes_on;
     }

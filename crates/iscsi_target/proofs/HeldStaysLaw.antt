@@ -103,34 +103,34 @@ login_goes s _ segment g = λ e. absurd cc
 later_goes : (s : Session) → IsLater s.phase → Goes s
 later_goes s later e l = subst IsLater e later
 
-step_goes : (s : Machine) (disk : Disk) (m : Message) → Goes s.session → Goes (step s disk m).machine.session
-step_goes s disk m g = by_phase s.session.phase refl
+step_goes : (protected : Bool) (s : Machine) (disk : Disk) (m : Message) → Goes s.session → Goes (step protected s disk m).machine.session
+step_goes protected s disk m g = by_phase s.session.phase refl
   where
-    by_phase : (p : Phase) → s.session.phase ≡ p → Goes (step s disk m).machine.session
+    by_phase : (p : Phase) → s.session.phase ≡ p → Goes (step protected s disk m).machine.session
     by_phase phases.Login e =
         let open_ : is_closed s ≡ false = ap is_closed_phase e in
         by_cases (is_over_limit s m.segment) (λ f. rw (open_, f) (λ closed. absurd cc))
-        (λ f. rw (open_, f) (subst (λ (p : Phase). Goes (phase_step reliable p s disk m).machine.session) (sym e)
+        (λ f. rw (open_, f) (subst (λ (p : Phase). Goes (phase_step (reliable protected) p s disk m).machine.session) (sym e)
         (login_goes s.session m.head m.segment (g e))))
     by_phase phases.Full e =
         let later : IsLater s.session.phase = subst IsLater (sym e) tt in
-        later_goes (step s disk m).machine.session ((step_stays reliable s disk m later).later later)
+        later_goes (step protected s disk m).machine.session ((step_stays (reliable protected) s disk m later).later later)
     by_phase phases.Closed e =
         let later : IsLater s.session.phase = subst IsLater (sym e) tt in
-        later_goes (step s disk m).machine.session ((step_stays reliable s disk m later).later later)
+        later_goes (step protected s disk m).machine.session ((step_stays (reliable protected) s disk m later).later later)
 
-answers_go : (s : Machine) (disk : Disk) (ms : List Message) → Goes s.session → Goes (answers s disk ms).machine.session
+answers_go : (protected : Bool) (s : Machine) (disk : Disk) (ms : List Message) → Goes s.session → Goes (answers protected s disk ms).machine.session
 unfolding answers
-answers_go s disk [] g = g
-answers_go s disk (m ∷ ms) g = answers_go (step s disk m).machine (step s disk m).disk ms (step_goes s disk m g)
+answers_go protected s disk [] g = g
+answers_go protected s disk (m ∷ ms) g = answers_go protected (step protected s disk m).machine (step protected s disk m).disk ms (step_goes protected s disk m g)
 
-answers_stay : (s : Machine) (disk : Disk) (ms : List Message) → IsLater s.session.phase → Stays s (answers s disk ms).machine
+answers_stay : (protected : Bool) (s : Machine) (disk : Disk) (ms : List Message) → IsLater s.session.phase → Stays s (answers protected s disk ms).machine
 unfolding answers
-answers_stay s disk [] later = record { stage = refl; held = refl; has_text = refl; name = refl; later = λ l. l }
-answers_stay s disk (m ∷ ms) later =
-    let x : Stays s (step s disk m).machine = step_stays reliable s disk m later in
-    let y : Stays (step s disk m).machine (answers (step s disk m).machine (step s disk m).disk ms).machine =
-    answers_stay (step s disk m).machine (step s disk m).disk ms (x.later later) in
+answers_stay protected s disk [] later = record { stage = refl; held = refl; has_text = refl; name = refl; later = λ l. l }
+answers_stay protected s disk (m ∷ ms) later =
+    let x : Stays s (step protected s disk m).machine = step_stays (reliable protected) s disk m later in
+    let y : Stays (step protected s disk m).machine (answers protected (step protected s disk m).machine (step protected s disk m).disk ms).machine =
+    answers_stay protected (step protected s disk m).machine (step protected s disk m).disk ms (x.later later) in
     record { stage = y.stage ∙ x.stage; held = y.held ∙ x.held; has_text = y.has_text ∙ x.has_text; name = y.name ∙ x.name; later = λ l. y.later (x.later l) }
 
 later_of : (s : Session) (p : Phase) → s.phase ≡ p → Goes s → s.stage ≡ stages.Full → IsLater s.phase
@@ -138,16 +138,16 @@ later_of s phases.Login e g f = absurd (g e (subst IsLast (sym f) tt))
 later_of s phases.Full e g f = subst IsLater (sym e) tt
 later_of s phases.Closed e g f = subst IsLater (sym e) tt
 
-pub held_stays : (settings : Settings) (n : ℕ) (disk : Disk) (ms more : List Message)
-    → (answers (opening settings n) disk ms).machine.session.stage ≡ stages.Full
-    → ((answers (opening settings n) disk (ms ++ more)).machine.session.stage ≡ stages.Full)
-    × ((answers (opening settings n) disk (ms ++ more)).machine.session.held ≡ (answers (opening settings n) disk ms).machine.session.held)
-held_stays settings n disk ms more full =
-    let r : Stepped = answers (opening settings n) disk ms in
-    let e = answers_append (opening settings n) disk ms more in
-    let x : Stays r.machine (answers r.machine r.disk more).machine =
-    answers_stay r.machine r.disk more (later_of r.machine.session r.machine.session.phase refl
-    (answers_go (opening settings n) disk ms (λ e l. l)) full) in (
+pub held_stays : (protected : Bool) (settings : Settings) (n : ℕ) (disk : Disk) (ms more : List Message)
+    → (answers protected (opening settings n) disk ms).machine.session.stage ≡ stages.Full
+    → ((answers protected (opening settings n) disk (ms ++ more)).machine.session.stage ≡ stages.Full)
+    × ((answers protected (opening settings n) disk (ms ++ more)).machine.session.held ≡ (answers protected (opening settings n) disk ms).machine.session.held)
+held_stays protected settings n disk ms more full =
+    let r : Stepped = answers protected (opening settings n) disk ms in
+    let e = answers_append protected (opening settings n) disk ms more in
+    let x : Stays r.machine (answers protected r.machine r.disk more).machine =
+    answers_stay protected r.machine r.disk more (later_of r.machine.session r.machine.session.phase refl
+    (answers_go protected (opening settings n) disk ms (λ e l. l)) full) in (
       ap (λ (q : Stepped). q.machine.session.stage) e ∙ x.stage ∙ full,
       ap (λ (q : Stepped). q.machine.session.held) e ∙ x.held,
     )

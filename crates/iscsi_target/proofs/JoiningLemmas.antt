@@ -531,15 +531,15 @@ step_joined device s disk m = (step_same device s disk m).is
 -- ---- messages one after another
 
 -- any messages to a session whose pieces are joined
-pub answers_joined : (s : Machine) (disk : Disk) (ms : List Message) → joined_stepped (answers (joined s) disk ms) ≡ joined_stepped (answers s disk ms)
+pub answers_joined : (protected : Bool) (s : Machine) (disk : Disk) (ms : List Message) → joined_stepped (answers protected (joined s) disk ms) ≡ joined_stepped (answers protected s disk ms)
 unfolding answers
-answers_joined s disk [] = ap (λ (ts : List Task). unchanged (record s { tasks = ts }) disk) (joined_twice s.tasks)
-answers_joined s disk (m ∷ ms) =
-    let a : Stepped = step (joined s) disk m in
-    let b : Stepped = step s disk m in
-    let e : joined_stepped a ≡ joined_stepped b = step_joined reliable s disk m in
-    joined_then a (answers a.machine a.disk ms)
-    ∙ ap (λ (r : Stepped). then_stepped (joined_stepped a) r) (sym (answers_joined a.machine a.disk ms))
-    ∙ ap (λ (r : Stepped). then_stepped r (joined_stepped (answers r.machine r.disk ms))) e
-    ∙ ap (λ (r : Stepped). then_stepped (joined_stepped b) r) (answers_joined b.machine b.disk ms)
-    ∙ sym (joined_then b (answers b.machine b.disk ms))
+answers_joined protected s disk [] = ap (λ (ts : List Task). unchanged (record s { tasks = ts }) disk) (joined_twice s.tasks)
+answers_joined protected s disk (m ∷ ms) =
+    let a : Stepped = step protected (joined s) disk m in
+    let b : Stepped = step protected s disk m in
+    let e : joined_stepped a ≡ joined_stepped b = step_joined (reliable protected) s disk m in
+    joined_then a (answers protected a.machine a.disk ms)
+    ∙ ap (λ (r : Stepped). then_stepped (joined_stepped a) r) (sym (answers_joined protected a.machine a.disk ms))
+    ∙ ap (λ (r : Stepped). then_stepped r (joined_stepped (answers protected r.machine r.disk ms))) e
+    ∙ ap (λ (r : Stepped). then_stepped (joined_stepped b) r) (answers_joined protected b.machine b.disk ms)
+    ∙ sym (joined_then b (answers protected b.machine b.disk ms))

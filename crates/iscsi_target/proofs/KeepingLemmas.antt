@@ -314,8 +314,8 @@ pub step_stays : (device : Device) (s : Machine) (disk : Disk) (m : Message) →
 step_stays device s disk m = (step_keeps device s disk m).stays
 
 -- also where memory ran out at one of its tasks
-pub stop_stays : (s : Machine) (disk : Disk) (before : ℕ) (m : Message) (r : Stepped) (after : ℕ) → MayStop s disk before m r after → Stays s r.machine
-stop_stays s disk before m r after h =
+pub stop_stays : (protected : Bool) (s : Machine) (disk : Disk) (before : ℕ) (m : Message) (r : Stepped) (after : ℕ) → MayStop protected s disk before m r after → Stays s r.machine
+stop_stays protected s disk before m r after h =
     let x : KeptSession s.session h.session = (subst (NextKeeps s.session) h.queued (full_next s disk.count m)).0 in
     let y : Keeps (with_tasks h.session []) r = subst (Keeps (with_tasks h.session [])) (sym h.is) (first_keeps h.done h.device h.session disk h.tasks) in
     let l : IsLater s.session.phase = subst IsLater (sym h.full) tt in

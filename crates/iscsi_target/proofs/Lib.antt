@@ -1,6 +1,7 @@
 pub mod SingleTaskLemmas
 pub mod ContinuationLemmas
 pub mod FailingDiskLemmas
+pub mod ProtectedLaw
 pub mod StreamNumberLemmas
 pub mod LoginRows
 pub mod SessionRows

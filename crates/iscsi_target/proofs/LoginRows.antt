@@ -295,7 +295,7 @@ text_past_the_limit = (refl, refl, refl)
 -- a first request of the security stage is refused with this class and detail
 abbrev Refused : LoginRequest → List ℕ → ℕ → ℕ → Type 0
 Refused h text class detail =
-    canon (answers fresh blank (says h text ∷ [])).answers
+    canon (answers false fresh blank (says h text ∷ [])).answers
     ≡ hex (codes "23000000 00000000 40000001 00000000 00000000 00000000 00000000 00000001 00000008")
     ++ class ∷ detail ∷ replicate 10 0
 
@@ -351,7 +351,7 @@ authentication_before_length = refl
 -- the second request of a login is refused with this class and detail
 abbrev RefusedLater : LoginRequest → List ℕ → ℕ → ℕ → Type 0
 RefusedLater h text class detail =
-    drop 88 (canon (answers fresh blank (says first first_text ∷ says h text ∷ [])).answers)
+    drop 88 (canon (answers false fresh blank (says first first_text ∷ says h text ∷ [])).answers)
     ≡ hex (codes "23040000 00000000 40000001 00000000 00000000 00000000 00000000 00000001 00000008")
     ++ class ∷ detail ∷ replicate 10 0
 
@@ -364,7 +364,7 @@ unfolding answers done_in_turn digits header whole put_bit put_number put_bytes 
 no_move_back = refl
 
 -- An unknown key may be given again; a request that does not move holds the stage.
-pub unknown_key_again : (answers fresh blank
+pub unknown_key_again : (answers false fresh blank
     (says (login false false 0 None 0) (first_text ++ entry (codes "X=1")) ∷ says first (entry (codes "X=2")) ∷ says second [] ∷ [])).machine.session.phase
     ≡ phases.Full
 unfolding answers done_in_turn digits header whole put_bit put_number put_bytes put_raw kind_of segment_of segment_bytes

@@ -1,5 +1,5 @@
 -- A login text with very many keys.
-use Rattle.std.specs.Prelude.{◌≡◌, ℕ, zero, suc, ◌+◌, ◌/◌, ◌%◌, List, [], ◌∷◌, ◌++◌, None, codes, refl}
+use Rattle.std.specs.Prelude.{false, ◌≡◌, ℕ, zero, suc, ◌+◌, ◌/◌, ◌%◌, List, [], ◌∷◌, ◌++◌, None, codes, refl}
 use Rattle.std.specs.Fmt.{digits}
 use Rattle.scsi_cdb.specs.Layout.{put_bit, put_number, put_bytes, put_raw}
 use Rattle.scsi_disk.specs.Disk.{cut, joined, overlaid, zero_blocks}
@@ -20,8 +20,8 @@ keys zero = []
 keys (suc n) = keys n ++ entry (codes "K" ++ three n ++ codes "=1")
 
 -- A text of 500 unknown keys would get an answer of over 8,192 bytes.
-pub too_many_keys : (canon (answers fresh blank (says first (first_text ++ keys 500) ∷ [])).answers
+pub too_many_keys : (canon (answers false fresh blank (says first (first_text ++ keys 500) ∷ [])).answers
     ≡ hex (codes "23000000 00000000 40000001 00000000 00000000 00000000 00000000 00000001 00000008 03020000 00000000 00000000"))
-    × ((answers fresh blank (says first (first_text ++ keys 500) ∷ [])).rule ≡ None)
+    × ((answers false fresh blank (says first (first_text ++ keys 500) ∷ [])).rule ≡ None)
 unfolding answers done_in_turn digits header whole put_bit put_number put_bytes put_raw kind_of cut joined overlaid zero_blocks segment_of segment_bytes
 too_many_keys = (refl, refl)

@@ -1,5 +1,5 @@
 -- Numbers that count on, over any messages.
-use Rattle.std.proofs.Common.{◌≡◌, ◌<◌, ◌≤◌, ℕ, zero, suc, ◌+◌, ◌^◌, ◌%◌, List, [], ◌∷◌, ◌++◌, true, false, length, refl, sym, ap, ◌∙◌, subst, arith}
+use Rattle.std.proofs.Common.{Bool, ◌≡◌, ◌<◌, ◌≤◌, ℕ, zero, suc, ◌+◌, ◌^◌, ◌%◌, List, [], ◌∷◌, ◌++◌, true, false, length, refl, sym, ap, ◌∙◌, subst, arith}
 use Rattle.std.specs.List.{AllByRecursion}
 use Rattle.std.proofs.lemmas.List.{map-append}
 use Rattle.std.proofs.lemmas.Grind.{flat_map-append}
@@ -34,59 +34,59 @@ count_after n (x ∷ numbers) after lt c = count_after (next_sn n) numbers after
 
 -- ---- StatSN and tags
 
-pub answers_stat_sns : (s : Machine) (disk : Disk) (ms : List Message) → Count s.session.stat_sn (stat_sns (answers s disk ms).answers)
-    (answers s disk ms).machine.session.stat_sn
+pub answers_stat_sns : (protected : Bool) (s : Machine) (disk : Disk) (ms : List Message) → Count s.session.stat_sn (stat_sns (answers protected s disk ms).answers)
+    (answers protected s disk ms).machine.session.stat_sn
 unfolding answers
-answers_stat_sns s disk [] = refl
-answers_stat_sns s disk (m ∷ ms) =
-    let first : Stepped = step s disk m in
-    let later : Stepped = answers first.machine first.disk ms in
+answers_stat_sns protected s disk [] = refl
+answers_stat_sns protected s disk (m ∷ ms) =
+    let first : Stepped = step protected s disk m in
+    let later : Stepped = answers protected first.machine first.disk ms in
     subst (λ (ns : List ℕ). Count s.session.stat_sn ns later.machine.session.stat_sn)
     (sym (flat_map-append (λ (x : Message). given_number (stat_sn_of x.head)) first.answers later.answers))
     (count_append s.session.stat_sn (stat_sns first.answers) (stat_sns later.answers) first.machine.session.stat_sn later.machine.session.stat_sn
-    (step_tells reliable disk s m).stat_sn (answers_stat_sns first.machine first.disk ms))
+    (step_tells (reliable protected) disk s m).stat_sn (answers_stat_sns protected first.machine first.disk ms))
 
-pub answers_tags : (s : Machine) (disk : Disk) (ms : List Message) → response_tags (answers s disk ms).answers ≡ tags_done (answers s disk ms).executed
+pub answers_tags : (protected : Bool) (s : Machine) (disk : Disk) (ms : List Message) → response_tags (answers protected s disk ms).answers ≡ tags_done (answers protected s disk ms).executed
 unfolding answers
-answers_tags s disk [] = refl
-answers_tags s disk (m ∷ ms) =
-    let first : Stepped = step s disk m in
-    let later : Stepped = answers first.machine first.disk ms in
+answers_tags protected s disk [] = refl
+answers_tags protected s disk (m ∷ ms) =
+    let first : Stepped = step protected s disk m in
+    let later : Stepped = answers protected first.machine first.disk ms in
     flat_map-append (λ (x : Message). response_tag x.head) first.answers later.answers
-    ∙ ap (λ (ts : List ℕ). ts ++ response_tags later.answers) (step_tells reliable disk s m).tags
-    ∙ ap (λ (ts : List ℕ). tags_done first.executed ++ ts) (answers_tags first.machine first.disk ms)
+    ∙ ap (λ (ts : List ℕ). ts ++ response_tags later.answers) (step_tells (reliable protected) disk s m).tags
+    ∙ ap (λ (ts : List ℕ). tags_done first.executed ++ ts) (answers_tags protected first.machine first.disk ms)
     ∙ sym (map-append (λ (e : Execution). e.initiator_task_tag) first.executed later.executed)
 
 -- ---- a closed session
 
-pub closed_step : (s : Machine) (disk : Disk) (m : Message) → is_closed s ≡ true → step s disk m ≡ unchanged s disk
-closed_step s disk m e = rw e refl
+pub closed_step : (protected : Bool) (s : Machine) (disk : Disk) (m : Message) → is_closed s ≡ true → step protected s disk m ≡ unchanged s disk
+closed_step protected s disk m e = rw e refl
 
-pub closed_answers : (s : Machine) (disk : Disk) (ms : List Message) → is_closed s ≡ true → answers s disk ms ≡ unchanged s disk
+pub closed_answers : (protected : Bool) (s : Machine) (disk : Disk) (ms : List Message) → is_closed s ≡ true → answers protected s disk ms ≡ unchanged s disk
 unfolding answers
-closed_answers s disk [] e = refl
-closed_answers s disk (m ∷ ms) e =
-    ap (λ (r : Stepped). then_stepped r (answers r.machine r.disk ms)) (closed_step s disk m e)
-    ∙ ap (λ (r : Stepped). then_stepped (unchanged s disk) r) (closed_answers s disk ms e)
+closed_answers protected s disk [] e = refl
+closed_answers protected s disk (m ∷ ms) e =
+    ap (λ (r : Stepped). then_stepped r (answers protected r.machine r.disk ms)) (closed_step protected s disk m e)
+    ∙ ap (λ (r : Stepped). then_stepped (unchanged s disk) r) (closed_answers protected s disk ms e)
 
 -- ---- CmdSN
 
-pub answers_cmd_sns : (s : Machine) (disk : Disk) (ms : List Message) → s.session.begun ≡ true → s.session.exp_cmd_sn < 2 ^ 32 → AllByRecursion HasCmdSn ms
-    → CountsTo s.session.exp_cmd_sn (cmd_sns (answers s disk ms).accepted) (answers s disk ms).machine
+pub answers_cmd_sns : (protected : Bool) (s : Machine) (disk : Disk) (ms : List Message) → s.session.begun ≡ true → s.session.exp_cmd_sn < 2 ^ 32 → AllByRecursion HasCmdSn ms
+    → CountsTo s.session.exp_cmd_sn (cmd_sns (answers protected s disk ms).accepted) (answers protected s disk ms).machine
 unfolding answers
-answers_cmd_sns s disk [] b f all = record { next = s.session.exp_cmd_sn; count = refl; fits = f; live = λ e. (b, refl) }
-answers_cmd_sns s disk (m ∷ ms) b f all =
-    let first : Stepped = step s disk m in
-    let later : Stepped = answers first.machine first.disk ms in
-    let t : CountsTo s.session.exp_cmd_sn (cmd_sns first.accepted) first.machine = (step_tells reliable disk s m).cmd_sns b f all.0 in
+answers_cmd_sns protected s disk [] b f all = record { next = s.session.exp_cmd_sn; count = refl; fits = f; live = λ e. (b, refl) }
+answers_cmd_sns protected s disk (m ∷ ms) b f all =
+    let first : Stepped = step protected s disk m in
+    let later : Stepped = answers protected first.machine first.disk ms in
+    let t : CountsTo s.session.exp_cmd_sn (cmd_sns first.accepted) first.machine = (step_tells (reliable protected) disk s m).cmd_sns b f all.0 in
     subst (λ (ns : List ℕ). CountsTo s.session.exp_cmd_sn ns later.machine)
     (sym (flat_map-append (λ (x : Message). given_number (cmd_sn_of x.head)) first.accepted later.accepted))
     (by_cases (is_closed first.machine)
-    (λ e. let same : later ≡ unchanged first.machine first.disk = closed_answers first.machine first.disk ms e in
+    (λ e. let same : later ≡ unchanged first.machine first.disk = closed_answers protected first.machine first.disk ms e in
     counts_out s.session.exp_cmd_sn (cmd_sns first.accepted) (cmd_sns later.accepted) first.machine later.machine
     (ap (λ (r : Stepped). is_closed r.machine) same ∙ e) (ap (λ (r : Stepped). cmd_sns r.accepted) same) t)
     (λ e. counts_on s.session.exp_cmd_sn (cmd_sns first.accepted) (cmd_sns later.accepted) first.machine later.machine e t
-    (answers_cmd_sns first.machine first.disk ms (t.live e).0 (subst (λ (k : ℕ). k < 2 ^ 32) (sym (t.live e).1) t.fits) all.1)))
+    (answers_cmd_sns protected first.machine first.disk ms (t.live e).0 (subst (λ (k : ℕ). k < 2 ^ 32) (sym (t.live e).1) t.fits) all.1)))
 
 -- ---- what is held
 
@@ -94,66 +94,66 @@ pub record IsFit (s : Machine) : Type 0 where
   pub held : IsInRange s.session.settings.preferences → IsHeld s.session.held
   pub limit : s.session.held.target_max_recv ≤ limit s.session.settings
 
-pub step_fit : (s : Machine) (disk : Disk) (m : Message) → IsFit s → IsFit (step s disk m).machine
-step_fit s disk m f =
-    let t : StepTells reliable s m (step s disk m) = step_tells reliable disk s m in
+pub step_fit : (protected : Bool) (s : Machine) (disk : Disk) (m : Message) → IsFit s → IsFit (step protected s disk m).machine
+step_fit protected s disk m f =
+    let t : StepTells (reliable protected) s m (step protected s disk m) = step_tells (reliable protected) disk s m in
     record {
       held = λ p. let q : IsInRange s.session.settings.preferences = subst (λ (x : Settings). IsInRange x.preferences) t.settings p in t.held q (f.held q);
-      limit = subst (λ (x : Settings). (step s disk m).machine.session.held.target_max_recv ≤ limit x) (sym t.settings) (t.limit f.limit);
+      limit = subst (λ (x : Settings). (step protected s disk m).machine.session.held.target_max_recv ≤ limit x) (sym t.settings) (t.limit f.limit);
     }
 
-pub answers_fit : (s : Machine) (disk : Disk) (ms : List Message) → IsFit s → IsFit (answers s disk ms).machine
+pub answers_fit : (protected : Bool) (s : Machine) (disk : Disk) (ms : List Message) → IsFit s → IsFit (answers protected s disk ms).machine
 unfolding answers
-answers_fit s disk [] f = f
-answers_fit s disk (m ∷ ms) f = answers_fit (step s disk m).machine (step s disk m).disk ms (step_fit s disk m f)
+answers_fit protected s disk [] f = f
+answers_fit protected s disk (m ∷ ms) f = answers_fit protected (step protected s disk m).machine (step protected s disk m).disk ms (step_fit protected s disk m f)
 
-pub answers_settings : (s : Machine) (disk : Disk) (ms : List Message) → (answers s disk ms).machine.session.settings ≡ s.session.settings
+pub answers_settings : (protected : Bool) (s : Machine) (disk : Disk) (ms : List Message) → (answers protected s disk ms).machine.session.settings ≡ s.session.settings
 unfolding answers
-answers_settings s disk [] = refl
-answers_settings s disk (m ∷ ms) = answers_settings (step s disk m).machine (step s disk m).disk ms ∙ (step_tells reliable disk s m).settings
+answers_settings protected s disk [] = refl
+answers_settings protected s disk (m ∷ ms) = answers_settings protected (step protected s disk m).machine (step protected s disk m).disk ms ∙ (step_tells (reliable protected) disk s m).settings
 
 -- ---- from the first login request
 
-pub opening_over : (settings : Settings) (n : ℕ) (disk : Disk) (m : Message) → is_over_limit (opening settings n) m.segment ≡ true
-    → step (opening settings n) disk m ≡ shut_down (opening settings n) disk
-opening_over settings n disk m e = rw e refl
+pub opening_over : (protected : Bool) (settings : Settings) (n : ℕ) (disk : Disk) (m : Message) → is_over_limit (opening settings n) m.segment ≡ true
+    → step protected (opening settings n) disk m ≡ shut_down (opening settings n) disk
+opening_over protected settings n disk m e = rw e refl
 
-pub opening_login : (settings : Settings) (n : ℕ) (disk : Disk) (m : Message) → is_over_limit (opening settings n) m.segment ≡ false
-    → step (opening settings n) disk m ≡ on disk [] (login_step (opening_session settings n) m)
-opening_login settings n disk m e = rw e refl
+pub opening_login : (protected : Bool) (settings : Settings) (n : ℕ) (disk : Disk) (m : Message) → is_over_limit (opening settings n) m.segment ≡ false
+    → step protected (opening settings n) disk m ≡ on disk [] (login_step (opening_session settings n) m)
+opening_login protected settings n disk m e = rw e refl
 
 -- after messages of which the first does this
-abbrev From : Disk → List Message → ℕ → Stepped → Type 0
-From disk ms first r = CountOn first (cmd_sns (then_stepped r (answers r.machine r.disk ms)).accepted)
+abbrev From : Bool → Disk → List Message → ℕ → Stepped → Type 0
+From protected disk ms first r = CountOn first (cmd_sns (then_stepped r (answers protected r.machine r.disk ms)).accepted)
 
-from_closed : (disk : Disk) (ms : List Message) (first : ℕ) (s : Machine) → is_closed s ≡ true → CountOn first (cmd_sns (answers s disk ms).accepted)
-from_closed disk ms first s e = subst (λ (r : Stepped). CountOn first (cmd_sns r.accepted)) (sym (closed_answers s disk ms e))
+from_closed : (protected : Bool) (disk : Disk) (ms : List Message) (first : ℕ) (s : Machine) → is_closed s ≡ true → CountOn first (cmd_sns (answers protected s disk ms).accepted)
+from_closed protected disk ms first s e = subst (λ (r : Stepped). CountOn first (cmd_sns r.accepted)) (sym (closed_answers protected s disk ms e))
     (λ k le. absurd (omega (arith, le)))
 
-from_login : (s : Machine) (disk : Disk) (ms : List Message) (first : ℕ) → s.session.begun ≡ true → s.session.exp_cmd_sn ≡ first → first < 2 ^ 32 →
+from_login : (protected : Bool) (s : Machine) (disk : Disk) (ms : List Message) (first : ℕ) → s.session.begun ≡ true → s.session.exp_cmd_sn ≡ first → first < 2 ^ 32 →
     AllByRecursion HasCmdSn ms
-    → CountOn first (cmd_sns (answers s disk ms).accepted)
-from_login s disk ms first b e lt all =
-    let c : CountsTo first (cmd_sns (answers s disk ms).accepted) (answers s disk ms).machine =
-    subst (λ (n : ℕ). CountsTo n (cmd_sns (answers s disk ms).accepted) (answers s disk ms).machine) e
-    (answers_cmd_sns s disk ms b (subst (λ (n : ℕ). n < 2 ^ 32) (sym e) lt) all) in
-    count_on first (cmd_sns (answers s disk ms).accepted) c.next lt c.count
+    → CountOn first (cmd_sns (answers protected s disk ms).accepted)
+from_login protected s disk ms first b e lt all =
+    let c : CountsTo first (cmd_sns (answers protected s disk ms).accepted) (answers protected s disk ms).machine =
+    subst (λ (n : ℕ). CountsTo n (cmd_sns (answers protected s disk ms).accepted) (answers protected s disk ms).machine) e
+    (answers_cmd_sns protected s disk ms b (subst (λ (n : ℕ). n < 2 ^ 32) (sym e) lt) all) in
+    count_on first (cmd_sns (answers protected s disk ms).accepted) c.next lt c.count
 
-from_request : (settings : Settings) (n : ℕ) (disk : Disk) (m : Message) (ms : List Message) (h : LoginPdu) (head : Head) → head ≡ LoginRequest h → h.cmd_sn
+from_request : (protected : Bool) (settings : Settings) (n : ℕ) (disk : Disk) (m : Message) (ms : List Message) (h : LoginPdu) (head : Head) → head ≡ LoginRequest h → h.cmd_sn
     < 2 ^ 32
-    → AllByRecursion HasCmdSn ms → From disk ms h.cmd_sn (on disk [] (login_in (opening_session settings n) head m.segment))
-from_request settings n disk m ms h head k lt all =
+    → AllByRecursion HasCmdSn ms → From protected disk ms h.cmd_sn (on disk [] (login_in (opening_session settings n) head m.segment))
+from_request protected settings n disk m ms h head k lt all =
     let c : IsReply (numbered (opening_session settings n) h) (login_request (opening_session settings n) h m.segment) =
     request_reply (opening_session settings n) h m.segment in
-    subst (λ (x : Head). From disk ms h.cmd_sn (on disk [] (login_in (opening_session settings n) x m.segment))) (sym k)
+    subst (λ (x : Head). From protected disk ms h.cmd_sn (on disk [] (login_in (opening_session settings n) x m.segment))) (sym k)
     (let after : Machine = (on disk [] (login_request (opening_session settings n) h m.segment)).machine in
-    by_cases (is_closed after) (from_closed disk ms h.cmd_sn after) (λ e. from_login after disk ms h.cmd_sn (c.live e).0 (c.live e).1 lt all))
+    by_cases (is_closed after) (from_closed protected disk ms h.cmd_sn after) (λ e. from_login protected after disk ms h.cmd_sn (c.live e).0 (c.live e).1 lt all))
 
-pub first_numbers : (settings : Settings) (n : ℕ) (disk : Disk) (m : Message) (ms : List Message) (h : LoginPdu) → m.head ≡ LoginRequest h → h.cmd_sn < 2 ^ 32
-    → AllByRecursion HasCmdSn ms → CountOn h.cmd_sn (cmd_sns (answers (opening settings n) disk (m ∷ ms)).accepted)
+pub first_numbers : (protected : Bool) (settings : Settings) (n : ℕ) (disk : Disk) (m : Message) (ms : List Message) (h : LoginPdu) → m.head ≡ LoginRequest h → h.cmd_sn < 2 ^ 32
+    → AllByRecursion HasCmdSn ms → CountOn h.cmd_sn (cmd_sns (answers protected (opening settings n) disk (m ∷ ms)).accepted)
 unfolding answers
-first_numbers settings n disk m ms h k lt all =
+first_numbers protected settings n disk m ms h k lt all =
     by_cases (is_over_limit (opening settings n) m.segment)
-    (λ e. subst (From disk ms h.cmd_sn) (sym (opening_over settings n disk m e))
-    (from_closed disk ms h.cmd_sn (shut_down (opening settings n) disk).machine refl))
-    (λ e. subst (From disk ms h.cmd_sn) (sym (opening_login settings n disk m e)) (from_request settings n disk m ms h m.head k lt all))
+    (λ e. subst (From protected disk ms h.cmd_sn) (sym (opening_over protected settings n disk m e))
+    (from_closed protected disk ms h.cmd_sn (shut_down (opening settings n) disk).machine refl))
+    (λ e. subst (From protected disk ms h.cmd_sn) (sym (opening_login protected settings n disk m e)) (from_request protected settings n disk m ms h m.head k lt all))

@@ -26,12 +26,12 @@ use Rattle.iscsi_target.proofs.FeedingLemmas.{stands}
 
 -- ---- what messages lead to
 
-receiver : Machine → Disk → Receiver Stepped
-receiver s disk = record {
-  to = answers s disk;
+receiver : (protected : Bool) → Machine → Disk → Receiver Stepped
+receiver protected s disk = record {
+  to = answers protected s disk;
   over = λ r. is_closed r.machine;
-  stays = λ first more over. (let r : Stepped = answers s disk first in
-      answers_append s disk first more ∙ ap (then_stepped r) (closed_answers r.machine r.disk more over) ∙ then_nothing r);
+  stays = λ first more over. (let r : Stepped = answers protected s disk first in
+      answers_append protected s disk first more ∙ ap (then_stepped r) (closed_answers protected r.machine r.disk more over) ∙ then_nothing r);
 }
 
 -- ---- what ended a call
@@ -63,12 +63,12 @@ leaves r = record {
 }
 
 -- the end of a call, by what it answers
-ended : (s : List ℕ) (ms : List Message) (old : Connection) (before : Store) (output piece : List ℕ) (result : Result Phase TargetFault) (new : Connection)
+ended : (protected : Bool) (s : List ℕ) (ms : List Message) (old : Connection) (before : Store) (output piece : List ℕ) (result : Result Phase TargetFault) (new : Connection)
     (after : Store) (written : List ℕ)
-    (f : Feeds (scene old before output) piece result (scene new after written)) (h : HasTaken s ms f.framing)
+    (f : Feeds protected (scene old before output) piece result (scene new after written)) (h : HasTaken s ms f.framing)
     → GoesWell result before after → Ends piece result f.framing f.count f.stepped new
     → Ended (leaves f.stepped) (sight s ms f.framing h (drop f.count piece)) result new.machine new.framing
-ended s ms old before output piece (Ok phase) new after written f h well e =
+ended protected s ms old before output piece (Ok phase) new after written f h well e =
     elim e.3 [
       | inl over ↦ Over over (answered_ok f.stepped phase e.0 e.2) e.1
       | inr on_ ↦
@@ -76,14 +76,14 @@ ended s ms old before output piece (Ok phase) new after written f h well e =
           (subst (IsLeft (sight s ms f.framing h (drop f.count piece))) (sym on_.framing_is)
           (framer_leaves s ms f.framing (drop f.count piece) h f.answered.ready (drop_all f.count piece (omega (arith, on_.all)))))
     ]
-ended s ms old before output piece (Err faults.NoMemory) new after written f h well e = absurd (well.memory refl)
-ended s ms old before output piece (Err (faults.Stream fault)) new after written f h well e =
+ended protected s ms old before output piece (Err faults.NoMemory) new after written f h well e = absurd (well.memory refl)
+ended protected s ms old before output piece (Err (faults.Stream fault)) new after written f h well e =
     Breaks fault e.0.live refl e.3 (framer_refuses s ms f.framing (drop f.count piece) fault h e.1 e.2)
-ended s ms old before output piece (Err (faults.Protocol rule)) new after written f h well e =
-    let is : f.stepped ≡ answers old.machine before.disk f.messages = f.answered.works well.device in
-    Over (ap (λ (r : Stepped). is_closed r.machine) is ∙ answers_close old.machine before.disk f.messages rule (ap (λ (r : Stepped). r.rule) (sym is) ∙ e.0))
+ended protected s ms old before output piece (Err (faults.Protocol rule)) new after written f h well e =
+    let is : f.stepped ≡ answers protected old.machine before.disk f.messages = f.answered.works well.device in
+    Over (ap (λ (r : Stepped). is_closed r.machine) is ∙ answers_close protected old.machine before.disk f.messages rule (ap (λ (r : Stepped). r.rule) (sym is) ∙ e.0))
     (answered_rule f.stepped rule e.0) e.1
-ended s ms old before output piece (Err faults.Closed) new after written f h well e = absurd e
+ended protected s ms old before output piece (Err faults.Closed) new after written f h well e = absurd e
 
 -- ---- two calls
 
@@ -99,51 +99,51 @@ abbrev call_end : Result Phase TargetFault → Connection → Disk → List ℕ 
 call_end result connection disk written = record { result = result; connection = connection; disk = disk; written = written }
 
 -- a call received these PDUs of the stream, and ended so
-record Run (stream : List ℕ) (ms : List Message) (old : Connection) (disk : Disk) (output : List ℕ) (end_ : CallEnd) : Type 0 where
+record Run (protected : Bool) (stream : List ℕ) (ms : List Message) (old : Connection) (disk : Disk) (output : List ℕ) (end_ : CallEnd) : Type 0 where
   messages : List Message
   sight : Sight
-  receives : ReceivesUpTo (receiver old.machine disk) old.framing.limit stream ms messages sight
-  disk_is : end_.disk ≡ (answers old.machine disk messages).disk
-  output_is : end_.written ≡ output ++ canon (answers old.machine disk messages).answers
-  ended : Ended (leaves (answers old.machine disk messages)) sight end_.result end_.connection.machine end_.connection.framing
+  receives : ReceivesUpTo (receiver protected old.machine disk) old.framing.limit stream ms messages sight
+  disk_is : end_.disk ≡ (answers protected old.machine disk messages).disk
+  output_is : end_.written ≡ output ++ canon (answers protected old.machine disk messages).answers
+  ended : Ended (leaves (answers protected old.machine disk messages)) sight end_.result end_.connection.machine end_.connection.framing
 
-run_of : (stream : List ℕ) (ms : List Message) (old : Connection) (before : Store) (output piece : List ℕ) (result : Result Phase TargetFault)
+run_of : (protected : Bool) (stream : List ℕ) (ms : List Message) (old : Connection) (before : Store) (output piece : List ℕ) (result : Result Phase TargetFault)
     (new : Connection) (after : Store) (written : List ℕ)
-    → HasTaken stream ms old.framing → Feeds (scene old before output) piece result (scene new after written) → GoesWell result before after
-    → Run (stream ++ piece) ms old before.disk output (call_end result new after.disk written)
+    → HasTaken stream ms old.framing → Feeds protected (scene old before output) piece result (scene new after written) → GoesWell result before after
+    → Run protected (stream ++ piece) ms old before.disk output (call_end result new after.disk written)
 unfolding receiver
-run_of stream ms old before output piece result new after written t f well =
+run_of protected stream ms old before output piece result new after written t f well =
     let s : List ℕ = stream ++ take f.count piece in
     let h : HasTaken s (ms ++ f.messages) f.framing = f.answered.taken stream ms t in
-    let is : f.stepped ≡ answers old.machine before.disk f.messages = f.answered.works well.device in
-    let stood = stands output f.framing (drop f.count piece) f.stepped f.answered.failures result new.machine after written well.memory f.leaves in
+    let is : f.stepped ≡ answers protected old.machine before.disk f.messages = f.answered.works well.device in
+    let stood = stands protected output f.framing (drop f.count piece) f.stepped f.answered.failures result new.machine after written well.memory f.leaves in
     let x : Sight = sight s (ms ++ f.messages) f.framing h (drop f.count piece) in
-    let e : Ended (leaves (answers old.machine before.disk f.messages)) x result new.machine new.framing =
+    let e : Ended (leaves (answers protected old.machine before.disk f.messages)) x result new.machine new.framing =
     subst (λ (r : Stepped). Ended (leaves r) x result new.machine new.framing) is
-    (ended s (ms ++ f.messages) old before output piece result new after written f h well f.ends) in
+    (ended protected s (ms ++ f.messages) old before output piece result new after written f h well f.ends) in
     let whole : stream ++ piece ≡ s ++ drop f.count piece =
     ap (λ (y : List ℕ). stream ++ y) (sym (take-append-drop f.count piece)) ∙ sym (append_assoc stream (take f.count piece) (drop f.count piece)) in
     record {
       messages = f.messages;
       sight = x;
-      receives = framer_receives (receiver old.machine before.disk) old.framing.limit (stream
+      receives = framer_receives (receiver protected old.machine before.disk) old.framing.limit (stream
           ++ piece) s (drop f.count piece) ms f.messages f.framing h f.answered.limit whole
-          (end_of (leaves (answers old.machine before.disk f.messages)) x result new.machine new.framing e);
+          (end_of (leaves (answers protected old.machine before.disk f.messages)) x result new.machine new.framing e);
       disk_is = stood.disk ∙ ap (λ (r : Stepped). r.disk) is;
       output_is = stood.output_is ∙ ap (λ (r : Stepped). output ++ canon r.answers) is;
       ended = e;
     }
 
-run_alike : (stream : List ℕ) (ms : List Message) (old : Connection) (disk : Disk) (output : List ℕ) (result other : Result Phase TargetFault)
+run_alike : (protected : Bool) (stream : List ℕ) (ms : List Message) (old : Connection) (disk : Disk) (output : List ℕ) (result other : Result Phase TargetFault)
     (new now : Connection) (first second : Store) (written rewritten : List ℕ)
-    → Run stream ms old disk output (call_end result new first.disk written) → Run stream ms old disk output (call_end other now second.disk rewritten) →
+    → Run protected stream ms old disk output (call_end result new first.disk written) → Run protected stream ms old disk output (call_end other now second.disk rewritten) →
     FedAlike result other (scene new first written) (scene now second rewritten)
 unfolding receiver
-run_alike stream ms old disk output result other new now first second written rewritten a b =
-    let h : ReceiveAlike (receiver old.machine disk) a.messages b.messages a.sight b.sight =
-    receive_alike (receiver old.machine disk) old.framing.limit stream ms a.messages b.messages a.sight b.sight a.receives b.receives in
+run_alike protected stream ms old disk output result other new now first second written rewritten a b =
+    let h : ReceiveAlike (receiver protected old.machine disk) a.messages b.messages a.sight b.sight =
+    receive_alike (receiver protected old.machine disk) old.framing.limit stream ms a.messages b.messages a.sight b.sight a.receives b.receives in
     let e : EndAlike is_closed (call result new.machine new.framing) (call other now.machine now.framing) =
-    end_alike (leaves (answers old.machine disk a.messages)) a.sight b.sight result other new.machine now.machine new.framing now.framing h.sight a.ended
+    end_alike (leaves (answers protected old.machine disk a.messages)) a.sight b.sight result other new.machine now.machine new.framing now.framing h.sight a.ended
     (subst (λ (r : Stepped). Ended (leaves r) b.sight other now.machine now.framing) h.same b.ended) in
     record {
       answered = e.answered;
@@ -154,13 +154,13 @@ run_alike stream ms old disk output result other new now first second written re
 
 -- ---- the law
 
-by_state : (closed_ : Bool) (stream : List ℕ) (ms : List Message) (old same : Connection) (before store : Store) (output piece : List ℕ)
+by_state : (protected : Bool) (closed_ : Bool) (stream : List ℕ) (ms : List Message) (old same : Connection) (before store : Store) (output piece : List ℕ)
     (result other : Result Phase TargetFault) (a b : Connection) (first second : Store) (written rewritten : List ℕ)
     → is_closed old.machine ≡ closed_ → (is_closed old.machine ≡ false → HasTaken stream ms old.framing) → Alike old same → store.disk ≡ before.disk
-    → FedIf closed_ (scene old before output) piece result (scene a first written) → GoesWell result before first →
-    FedIf closed_ (scene same store output) piece other (scene b second rewritten) → GoesWell other store second
+    → FedIf protected closed_ (scene old before output) piece result (scene a first written) → GoesWell result before first →
+    FedIf protected closed_ (scene same store output) piece other (scene b second rewritten) → GoesWell other store second
     → FedAlike result other (scene a first written) (scene b second rewritten)
-by_state true stream ms old same before store output piece result other a b first second written rewritten c t like disk f well g well' =
+by_state protected true stream ms old same before store output piece result other a b first second written rewritten c t like disk f well g well' =
     let machine : b.machine ≡ a.machine = ap (λ (x : Connection). x.machine) g.connection ∙ like.machine
     ∙ ap (λ (x : Connection). x.machine) (sym f.connection) in
     record {
@@ -169,23 +169,23 @@ by_state true stream ms old same before store output piece result other a b firs
       disk = ap (λ (x : Store). x.disk) g.store ∙ disk ∙ ap (λ (x : Store). x.disk) (sym f.store);
       output = g.output_is ∙ sym f.output_is;
     }
-by_state false stream ms old same before store output piece result other a b first second written rewritten c t like disk f well g well' =
+by_state protected false stream ms old same before store output piece result other a b first second written rewritten c t like disk f well g well' =
     let is : same ≡ old = λ i. record { machine = like.machine i; framing = like.framing c i } in
     let t' : HasTaken stream ms same.framing = subst (λ (x : Connection). HasTaken stream ms x.framing) (sym is) (t c) in
-    let r : Run (stream ++ piece) ms same store.disk output (call_end other b second.disk rewritten) =
-    run_of stream ms same store output piece other b second rewritten t' g well' in
-    run_alike (stream ++ piece) ms old before.disk output result other a b first second written rewritten
-    (run_of stream ms old before output piece result a first written (t c) f well)
-    (subst (λ (d : Disk). Run (stream ++ piece) ms old d output (call_end other b second.disk rewritten)) disk
-    (subst (λ (x : Connection). Run (stream ++ piece) ms x store.disk output (call_end other b second.disk rewritten)) is r))
+    let r : Run protected (stream ++ piece) ms same store.disk output (call_end other b second.disk rewritten) =
+    run_of protected stream ms same store output piece other b second rewritten t' g well' in
+    run_alike protected (stream ++ piece) ms old before.disk output result other a b first second written rewritten
+    (run_of protected stream ms old before output piece result a first written (t c) f well)
+    (subst (λ (d : Disk). Run protected (stream ++ piece) ms old d output (call_end other b second.disk rewritten)) disk
+    (subst (λ (x : Connection). Run protected (stream ++ piece) ms x store.disk output (call_end other b second.disk rewritten)) is r))
 
-pub one_outcome : (stream piece output written rewritten : List ℕ) (ms : List Message) (old same a b : Connection) (before store first second : Store)
+pub one_outcome : (protected : Bool) (stream piece output written rewritten : List ℕ) (ms : List Message) (old same a b : Connection) (before store first second : Store)
     (result other : Result Phase TargetFault)
     → (is_closed old.machine ≡ false → HasTaken stream ms old.framing) → Alike old same → store.disk ≡ before.disk
-    → Fed (scene old before output) piece result (scene a first written) → GoesWell result before first
-    → Fed (scene same store output) piece other (scene b second rewritten) →
+    → Fed protected (scene old before output) piece result (scene a first written) → GoesWell result before first
+    → Fed protected (scene same store output) piece other (scene b second rewritten) →
     GoesWell other store second
     → FedAlike result other (scene a first written) (scene b second rewritten)
-one_outcome stream piece output written rewritten ms old same a b before store first second result other t like disk f well g well' =
-    by_state (is_closed old.machine) stream ms old same before store output piece result other a b first second written rewritten refl t like disk f well
-    (subst (λ (x : Bool). FedIf x (scene same store output) piece other (scene b second rewritten)) (ap is_closed like.machine) g) well'
+one_outcome protected stream piece output written rewritten ms old same a b before store first second result other t like disk f well g well' =
+    by_state protected (is_closed old.machine) stream ms old same before store output piece result other a b first second written rewritten refl t like disk f well
+    (subst (λ (x : Bool). FedIf protected x (scene same store output) piece other (scene b second rewritten)) (ap is_closed like.machine) g) well'

@@ -9,8 +9,9 @@ use Rattle.scsi_cdb.specs.declared.cdb.Cdb.TheVariants.{TestUnitReady, Inquiry, 
 use Rattle.scsi_cdb.specs.declared.cdb.Cdb.TheVariants.{ReportLuns, Unknown}
 use Rattle.scsi_cdb.specs.declared.sense.Sense.{Sense}
 use Rattle.scsi_disk.specs.Disk.{Disk}
-use Rattle.scsi_disk.specs.Effect.{Effect, Executes, FailsBy, wanted_data, outcome_by, disk_by}
+use Rattle.scsi_disk.specs.Effect.{Effect, Executes, FailsBy, guarded, wanted_data, outcome_by, disk_by}
 use Rattle.scsi_disk.specs.Plan.{plan_of, plan_by, first_refusal, is_read, is_write, is_unknown, transfer, wanted_length, expected_length}
+use Rattle.scsi_disk.proofs.GuardLemmas.{takes_none}
 use Rattle.scsi_disk.specs.declared.order.Order.{Order}
 use Rattle.scsi_disk.specs.declared.order.Outcome.{Outcome}
 use Rattle.iscsi_target.specs.declared.due.Due.{Due}
@@ -44,12 +45,21 @@ failed_none (Take n) disk order bytes after w (inl is, each) = ap (λ (o : Outco
 failed_none (Take n) disk order bytes after w (inr other, each) = ap (λ (o : Outcome). o.bytes) other.1
 failed_none (Give n) disk order bytes after w f = absurd (not_both order.cdb f.1 w)
 
-pub write_gives_none : (fb fa : ℕ) (disk : Disk) (order : Order) (bytes : List ℕ) (after : Effect) → Executes fb fa disk order bytes after → is_write order.cdb
+-- what a store that refuses writes gives in its place has no bytes
+guarded_none : (protected : Bool) (plan : Plan) (disk : Disk) (order : Order) → (outcome_by plan disk order).bytes ≡ []
+    → (outcome_by (guarded protected plan) disk order).bytes ≡ []
+guarded_none true (Refuse sense) disk order e = e
+guarded_none true (Give n) disk order e = e
+guarded_none true (Take n) disk order e = refl
+guarded_none false plan disk order e = e
+
+pub write_gives_none : (protected : Bool) (fb fa : ℕ) (disk : Disk) (order : Order) (bytes : List ℕ) (after : Effect) → Executes protected fb fa disk order bytes after → is_write order.cdb
     ≡ true → after.outcome.bytes ≡ []
-write_gives_none fb fa disk order bytes after x e =
+write_gives_none protected fb fa disk order bytes after x e =
     elim (cases_lt fb fa) [
-      | inl lt ↦ failed_none (plan_of order disk.count) disk order bytes after e (x.fails lt)
-      | inr ge ↦ ap (λ (a : Effect). a.outcome.bytes) (x.works (omega (arith, ge, x.rises))) ∙ none_by (first_refusal order disk.count) disk order e
+      | inl lt ↦ failed_none (guarded protected (plan_of order disk.count)) disk order bytes after e (x.fails lt)
+      | inr ge ↦ ap (λ (a : Effect). a.outcome.bytes) (x.works (omega (arith, ge, x.rises)))
+          ∙ guarded_none protected (plan_of order disk.count) disk order (none_by (first_refusal order disk.count) disk order e)
     ]
 
 -- ---- an order that takes no bytes
@@ -65,12 +75,13 @@ fails_keeps (Refuse sense) disk order bytes after no_take f = absurd f
 fails_keeps (Take n) disk order bytes after no_take f = absurd (no_take n refl)
 fails_keeps (Give n) disk order bytes after no_take f = f.2
 
-pub order_keeps : (fb fa : ℕ) (disk : Disk) (order : Order) (bytes : List ℕ) (after : Effect) → Executes fb fa disk order bytes after
+pub order_keeps : (protected : Bool) (fb fa : ℕ) (disk : Disk) (order : Order) (bytes : List ℕ) (after : Effect) → Executes protected fb fa disk order bytes after
     → ((n : ℕ) → plan_of order disk.count ≡ Take n → ⊥) → after.disk ≡ disk
-order_keeps fb fa disk order bytes after x no_take =
+order_keeps protected fb fa disk order bytes after x no_take =
+    let none = takes_none protected (plan_of order disk.count) no_take in
     elim (cases_lt fb fa) [
-      | inl lt ↦ fails_keeps (plan_of order disk.count) disk order bytes after no_take (x.fails lt)
-      | inr ge ↦ ap (λ (a : Effect). a.disk) (x.works (omega (arith, ge, x.rises))) ∙ disk_kept (plan_of order disk.count) disk order bytes no_take
+      | inl lt ↦ fails_keeps (guarded protected (plan_of order disk.count)) disk order bytes after none (x.fails lt)
+      | inr ge ↦ ap (λ (a : Effect). a.disk) (x.works (omega (arith, ge, x.rises))) ∙ disk_kept (guarded protected (plan_of order disk.count)) disk order bytes none
     ]
 
 -- ---- no more bytes than are expected
@@ -118,19 +129,32 @@ given_most_by : (r : Option Sense) (disk : Disk) (order : Order) → length (out
 given_most_by (Some sense) disk order = omega arith
 given_most_by None disk order = given_by (is_write order.cdb) (512 * (transfer order.cdb).count) disk order
 
-pub given_most : (fb fa : ℕ) (disk : Disk) (order : Order) (bytes : List ℕ) (after : Effect) → Executes fb fa disk order bytes after →
+guarded_given : (protected : Bool) (plan : Plan) (n : ℕ) → given plan ≤ n → given (guarded protected plan) ≤ n
+guarded_given true (Refuse sense) n e = e
+guarded_given true (Give k) n e = e
+guarded_given true (Take k) n e = e
+guarded_given false plan n e = e
+
+guarded_most : (protected : Bool) (plan : Plan) (disk : Disk) (order : Order) (n : ℕ) → length (outcome_by plan disk order).bytes ≤ n
+    → length (outcome_by (guarded protected plan) disk order).bytes ≤ n
+guarded_most true (Refuse sense) disk order n e = e
+guarded_most true (Give k) disk order n e = e
+guarded_most true (Take k) disk order n e = e
+guarded_most false plan disk order n e = e
+
+pub given_most : (protected : Bool) (fb fa : ℕ) (disk : Disk) (order : Order) (bytes : List ℕ) (after : Effect) → Executes protected fb fa disk order bytes after →
     length after.outcome.bytes ≤ order.expected
-given_most fb fa disk order bytes after x =
+given_most protected fb fa disk order bytes after x =
     elim (cases_lt fb fa) [
       | inl lt ↦ omega (
         arith,
-        failed_most (plan_of order disk.count) disk order bytes after (x.fails lt),
-        limit (first_refusal order disk.count) disk order,
+        failed_most (guarded protected (plan_of order disk.count)) disk order bytes after (x.fails lt),
+        guarded_given protected (plan_of order disk.count) order.expected (limit (first_refusal order disk.count) disk order),
       )
       | inr ge ↦ omega (
         arith,
         ap (λ (a : Effect). length a.outcome.bytes) (x.works (omega (arith, ge, x.rises))),
-        given_most_by (first_refusal order disk.count) disk order,
+        guarded_most protected (plan_of order disk.count) disk order order.expected (given_most_by (first_refusal order disk.count) disk order),
       )
     ]
 

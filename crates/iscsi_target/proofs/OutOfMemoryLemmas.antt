@@ -1,5 +1,5 @@
 -- Where memory ran out at a message.
-use Rattle.std.proofs.Common.{◌≡◌, inl, inr, ℕ, zero, suc, List, [], ◌∷◌, false, refl, sym, ap, ◌∙◌}
+use Rattle.std.proofs.Common.{Bool, ◌≡◌, inl, inr, ℕ, zero, suc, List, [], ◌∷◌, false, refl, sym, ap, ◌∙◌}
 use Rattle.std.specs.Prelude.{◌||◌}
 use Rattle.scsi_disk.specs.Disk.{Disk}
 use Rattle.iscsi_stream.specs.Stream.{Message}
@@ -24,10 +24,10 @@ shut at = moment (closed at.machine) at.store at.output
 gives_closed : (old new : Moment) → GivesUp old new → GivesUp old (shut new)
 gives_closed old new h = record { machine = h.machine; rises = h.rises; disk_is = h.disk_is; unwritten = h.unwritten }
 
-next_closed : (next : Next) (old new : Moment) → Halts next old new → Halts next old (shut new)
-next_closed Dropped old new h = gives_closed old new h
-next_closed (Answered r) old new h = gives_closed old new h
-next_closed (Queued session tasks) old new h = record {
+next_closed : (protected : Bool) (next : Next) (old new : Moment) → Halts protected next old new → Halts protected next old (shut new)
+next_closed protected Dropped old new h = gives_closed old new h
+next_closed protected (Answered r) old new h = gives_closed old new h
+next_closed protected (Queued session tasks) old new h = record {
   done = h.done;
   device = h.device;
   live = h.live;
@@ -39,9 +39,9 @@ next_closed (Queued session tasks) old new h = record {
   output = h.output;
 }
 
-pub halts_closed : (m : Message) (old new : Moment) → HaltsAt m old new → HaltsAt m old (shut new)
-halts_closed m old new (inl h) = inl (gives_closed old new h)
-halts_closed m old new (inr h) = inr (h.0, next_closed (full_met old.machine old.store.disk.count m).next old new h.1)
+pub halts_closed : (protected : Bool) (m : Message) (old new : Moment) → HaltsAt protected m old new → HaltsAt protected m old (shut new)
+halts_closed protected m old new (inl h) = inl (gives_closed old new h)
+halts_closed protected m old new (inr h) = inr (h.0, next_closed protected (full_met old.machine old.store.disk.count m).next old new h.1)
 
 -- ---- and keeps its settings
 
@@ -59,19 +59,19 @@ queued_settings : (s : Machine) (disk : Disk) (m : Message) (session : Session) 
     s.session.phase ≡ Full → Queued session tasks ≡ (full_met s disk.count m).next
     → session.settings ≡ s.session.settings
 queued_settings s disk m session tasks live within full is =
-    sym (done_settings reliable session disk tasks) ∙ ap (λ (x : Next). (followed reliable s disk x).machine.session.settings) is
-    ∙ ap (λ (x : Stepped). x.machine.session.settings) (sym (live_step reliable s disk m Full live within full)) ∙ step_settings reliable s disk m
+    sym (done_settings (reliable false) session disk tasks) ∙ ap (λ (x : Next). (followed (reliable false) s disk x).machine.session.settings) is
+    ∙ ap (λ (x : Stepped). x.machine.session.settings) (sym (live_step (reliable false) s disk m Full live within full)) ∙ step_settings (reliable false) s disk m
 
-next_settings : (m : Message) (next : Next) (old new : Moment) → is_closed old.machine ≡ false → is_over_limit old.machine m.segment ≡ false →
+next_settings : (protected : Bool) (m : Message) (next : Next) (old new : Moment) → is_closed old.machine ≡ false → is_over_limit old.machine m.segment ≡ false →
     old.machine.session.phase ≡ Full
-    → next ≡ (full_met old.machine old.store.disk.count m).next → Halts next old new → new.machine.session.settings ≡ old.machine.session.settings
-next_settings m Dropped old new live within full is h = ap (λ (x : Machine). x.session.settings) h.machine
-next_settings m (Answered r) old new live within full is h = ap (λ (x : Machine). x.session.settings) h.machine
-next_settings m (Queued session tasks) old new live within full is h =
+    → next ≡ (full_met old.machine old.store.disk.count m).next → Halts protected next old new → new.machine.session.settings ≡ old.machine.session.settings
+next_settings protected m Dropped old new live within full is h = ap (λ (x : Machine). x.session.settings) h.machine
+next_settings protected m (Answered r) old new live within full is h = ap (λ (x : Machine). x.session.settings) h.machine
+next_settings protected m (Queued session tasks) old new live within full is h =
     ap (λ (x : Machine). x.session.settings) h.machine ∙ first_settings h.done h.device session old.store.disk tasks
     ∙ queued_settings old.machine old.store.disk m session tasks live within full is
 
-pub halts_settings : (m : Message) (old new : Moment) → is_closed old.machine ≡ false → is_over_limit old.machine m.segment ≡ false → HaltsAt m old new →
+pub halts_settings : (protected : Bool) (m : Message) (old new : Moment) → is_closed old.machine ≡ false → is_over_limit old.machine m.segment ≡ false → HaltsAt protected m old new →
     new.machine.session.settings ≡ old.machine.session.settings
-halts_settings m old new live within (inl h) = ap (λ (x : Machine). x.session.settings) h.machine
-halts_settings m old new live within (inr h) = next_settings m (full_met old.machine old.store.disk.count m).next old new live within h.0 refl h.1
+halts_settings protected m old new live within (inl h) = ap (λ (x : Machine). x.session.settings) h.machine
+halts_settings protected m old new live within (inr h) = next_settings protected m (full_met old.machine old.store.disk.count m).next old new live within h.0 refl h.1

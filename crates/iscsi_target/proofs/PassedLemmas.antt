@@ -1,5 +1,5 @@
 -- What a crash leaves behind any PDUs, one after another.
-use Rattle.std.proofs.Common.{◌≡◌, ◌≤◌, inl, inr, ◌∙◌, ℕ, false, List, [], ◌∷◌, ◌++◌, length, take, drop, Option, refl, sym, ap, subst}
+use Rattle.std.proofs.Common.{Bool, ◌≡◌, ◌≤◌, inl, inr, ◌∙◌, ℕ, false, List, [], ◌∷◌, ◌++◌, length, take, drop, Option, refl, sym, ap, subst}
 use Rattle.std.proofs.Common.{arith, append_assoc}
 use Rattle.std.specs.Prelude.{Ok}
 use Rattle.std.proofs.lemmas.List.{take-append-drop, take_all, take_at}
@@ -48,47 +48,47 @@ same_commands : (a b : Machine) (count : ℕ) (m : Message) → joined a ≡ joi
 same_commands a b count m e = phase_commands a.session.phase a b count m e
     ∙ ap (λ (p : Phase). commands_in p b count m) (ap (λ (s : Machine). s.session.phase) e)
 
-same_behind : (a b : Stepped) (m : Message) (n : ℕ) (c : List ℕ) → joined_stepped a ≡ joined_stepped b →
-    IsBehind a.disk (commands_at a.machine a.disk.count m) n c → IsBehind b.disk (commands_at b.machine b.disk.count m) n c
-same_behind a b m n c e h =
+same_behind : (protected : Bool) (a b : Stepped) (m : Message) (n : ℕ) (c : List ℕ) → joined_stepped a ≡ joined_stepped b →
+    IsBehind protected a.disk (commands_at a.machine a.disk.count m) n c → IsBehind protected b.disk (commands_at b.machine b.disk.count m) n c
+same_behind protected a b m n c e h =
     let machine : joined a.machine ≡ joined b.machine = ap (λ (r : Stepped). r.machine) e in
     let disk : a.disk ≡ b.disk = ap (λ (r : Stepped). r.disk) e in
-    subst (λ (d : Disk). IsBehind d (commands_at b.machine d.count m) n c) disk
-    (subst (λ (orders : List Supplied). IsBehind a.disk orders n c) (same_commands a.machine b.machine a.disk.count m machine) h)
+    subst (λ (d : Disk). IsBehind protected d (commands_at b.machine d.count m) n c) disk
+    (subst (λ (orders : List Supplied). IsBehind protected a.disk orders n c) (same_commands a.machine b.machine a.disk.count m machine) h)
 
 -- ---- PDUs that led from here to there
 
 -- what the same messages lead to from a session that is the same with the pieces of each write joined
-record LedAlike (t : Machine) (disk : Disk) (before : ℕ) (ms : List Message) (r : Stepped) (after : ℕ) : Type 0 where
+record LedAlike (protected : Bool) (t : Machine) (disk : Disk) (before : ℕ) (ms : List Message) (r : Stepped) (after : ℕ) : Type 0 where
   led : Stepped
-  may : MayAnswer t disk before ms led after
+  may : MayAnswer protected t disk before ms led after
   same : joined_stepped r ≡ joined_stepped led
 
-led_alike : (s t : Machine) (disk : Disk) (before after : ℕ) (ms : List Message) (r : Stepped) → joined s ≡ joined t → MayAnswer s disk before ms r after →
-    LedAlike t disk before ms r after
+led_alike : (protected : Bool) (s t : Machine) (disk : Disk) (before after : ℕ) (ms : List Message) (r : Stepped) → joined s ≡ joined t → MayAnswer protected s disk before ms r after →
+    LedAlike protected t disk before ms r after
 unfolding MayAnswer
-led_alike s t disk before after [] r e h = record {
+led_alike protected s t disk before after [] r e h = record {
   led = unchanged t disk;
   may = (refl, h.1);
   same = ap joined_stepped h.0 ∙ ap (λ (x : Machine). unchanged x disk) e;
 }
-led_alike s t disk before after (m ∷ ms) r e h =
+led_alike protected s t disk before after (m ∷ ms) r e h =
     let d : Device = h.3.device in
     let first : Stepped = step_on d t disk m in
     let same : joined_stepped h.0 ≡ joined_stepped first = ap joined_stepped h.3.is ∙ same_step d s t disk m e in
-    let later : LedAlike first.machine first.disk h.2 ms h.1 after =
-    led_alike h.0.machine first.machine first.disk h.2 after ms h.1 (ap (λ (x : Stepped). x.machine) same)
-    (subst (λ (x : Disk). MayAnswer h.0.machine x h.2 ms h.1 after) (ap (λ (x : Stepped). x.disk) same) h.4) in
+    let later : LedAlike protected first.machine first.disk h.2 ms h.1 after =
+    led_alike protected h.0.machine first.machine first.disk h.2 after ms h.1 (ap (λ (x : Stepped). x.machine) same)
+    (subst (λ (x : Disk). MayAnswer protected h.0.machine x h.2 ms h.1 after) (ap (λ (x : Stepped). x.disk) same) h.4) in
     record {
       led = then_stepped first later.led;
-      may = (first, later.led, h.2, record { device = d; is = refl; runs = runs_as d before h.2 h.0 first same h.3.runs }, later.may, refl);
+      may = (first, later.led, h.2, record { device = d; is = refl; runs = runs_as protected d before h.2 h.0 first same h.3.runs }, later.may, refl);
       same = ap joined_stepped h.5 ∙ joined_then h.0 h.1 ∙ ap (λ (x : Stepped). then_stepped x (joined_stepped h.1)) same
           ∙ ap (λ (x : Stepped). then_stepped (joined_stepped first) x) later.same ∙ sym (joined_then first later.led);
     }
 
-pub no_advance : (old : Connection) (before : Store) → Advances old before [] old before
+pub no_advance : (protected : Bool) (old : Connection) (before : Store) → Advances protected old before [] old before
 unfolding MayAnswer
-no_advance old before = record {
+no_advance protected old before = record {
   messages = [];
   taken = moves_none old.framing;
   led = unchanged old.machine before.disk;
@@ -98,23 +98,23 @@ no_advance old before = record {
 }
 
 -- what the messages of later bytes lead to, behind those of the bytes before
-later_led : (old mid : Connection) (before store : Store) (front : List ℕ) (ms : List Message) (r : Stepped) (after : ℕ) →
-    (a : Advances old before front mid store) → MayAnswer mid.machine store.disk store.failures ms r after
-    → LedAlike a.led.machine a.led.disk store.failures ms r after
-later_led old mid before store front ms r after a may =
-    led_alike mid.machine a.led.machine a.led.disk store.failures after ms r a.machine
-    (subst (λ (d : Disk). MayAnswer mid.machine d store.failures ms r after) a.disk_is may)
+later_led : (protected : Bool) (old mid : Connection) (before store : Store) (front : List ℕ) (ms : List Message) (r : Stepped) (after : ℕ) →
+    (a : Advances protected old before front mid store) → MayAnswer protected mid.machine store.disk store.failures ms r after
+    → LedAlike protected a.led.machine a.led.disk store.failures ms r after
+later_led protected old mid before store front ms r after a may =
+    led_alike protected mid.machine a.led.machine a.led.disk store.failures after ms r a.machine
+    (subst (λ (d : Disk). MayAnswer protected mid.machine d store.failures ms r after) a.disk_is may)
 
-pub advances_then : (old mid new : Connection) (before store after : Store) (x y : List ℕ) → Advances old before x mid store → Advances mid store y new after →
-    Advances old before (x ++ y) new after
-advances_then old mid new before store after x y a b =
-    let later : LedAlike a.led.machine a.led.disk store.failures b.messages b.led after.failures =
-    later_led old mid before store x b.messages b.led after.failures a b.may in
+pub advances_then : (protected : Bool) (old mid new : Connection) (before store after : Store) (x y : List ℕ) → Advances protected old before x mid store → Advances protected mid store y new after →
+    Advances protected old before (x ++ y) new after
+advances_then protected old mid new before store after x y a b =
+    let later : LedAlike protected a.led.machine a.led.disk store.failures b.messages b.led after.failures =
+    later_led protected old mid before store x b.messages b.led after.failures a b.may in
     record {
       messages = a.messages ++ b.messages;
       taken = moves_then old.framing mid.framing new.framing x y a.messages b.messages a.taken b.taken;
       led = then_stepped a.led later.led;
-      may = may_append old.machine before.disk before.failures store.failures after.failures a.messages b.messages a.led later.led a.may later.may;
+      may = may_append protected old.machine before.disk before.failures store.failures after.failures a.messages b.messages a.led later.led a.may later.may;
       machine = b.machine ∙ ap (λ (r : Stepped). r.machine) later.same;
       disk_is = b.disk_is ∙ ap (λ (r : Stepped). r.disk) later.same;
     }
@@ -125,9 +125,9 @@ taken_front : (x y : List ℕ) (k : ℕ) → take (length (x ++ take k y)) (x ++
 taken_front x y k = ap (take (length (x ++ take k y))) (taken_more (x ++ y) x y k refl) ∙ take_at (x ++ take k y) (drop k y) (length (x ++ take k y)) refl
 
 -- of more bytes, with more failures counted
-pub passed_more : (old : Connection) (before : Store) (piece more : List ℕ) (most last n : ℕ) (c : List ℕ) → most ≤ last →
-    IsPassed old before piece most n c → IsPassed old before (piece ++ more) last n c
-passed_more old before piece more most last n c rises p =
+pub passed_more : (protected : Bool) (old : Connection) (before : Store) (piece more : List ℕ) (most last n : ℕ) (c : List ℕ) → most ≤ last →
+    IsPassed protected old before piece most n c → IsPassed protected old before (piece ++ more) last n c
+passed_more protected old before piece more most last n c rises p =
     let k : ℕ = length (take p.count piece) in
     let parts : piece ++ more ≡ take p.count piece ++ (drop p.count piece ++ more) =
     ap (λ (x : List ℕ). x ++ more) (sym (take-append-drop p.count piece)) ∙ append_assoc (take p.count piece) (drop p.count piece) more in
@@ -146,9 +146,9 @@ passed_more old before piece more most last n c rises p =
       behind = p.behind;
     }
 
-passed_later : (old : Connection) (before : Store) (piece : List ℕ) (most last n : ℕ) (c : List ℕ) → most ≤ last →
-    IsPassed old before piece most n c → IsPassed old before piece last n c
-passed_later old before piece most last n c rises p = record {
+passed_later : (protected : Bool) (old : Connection) (before : Store) (piece : List ℕ) (most last n : ℕ) (c : List ℕ) → most ≤ last →
+    IsPassed protected old before piece most n c → IsPassed protected old before piece last n c
+passed_later protected old before piece most last n c rises p = record {
   messages = p.messages;
   message = p.message;
   framing = p.framing;
@@ -162,11 +162,11 @@ passed_later old before piece most last n c rises p = record {
 }
 
 -- of bytes behind others
-passed_behind : (old mid : Connection) (before store : Store) (front rest : List ℕ) (most n : ℕ) (c : List ℕ) → Advances old before front mid store →
-    IsPassed mid store rest most n c → IsPassed old before (front ++ rest) most n c
-passed_behind old mid before store front rest most n c a p =
-    let later : LedAlike a.led.machine a.led.disk store.failures p.messages p.led p.failures =
-    later_led old mid before store front p.messages p.led p.failures a p.may in
+passed_behind : (protected : Bool) (old mid : Connection) (before store : Store) (front rest : List ℕ) (most n : ℕ) (c : List ℕ) → Advances protected old before front mid store →
+    IsPassed protected mid store rest most n c → IsPassed protected old before (front ++ rest) most n c
+passed_behind protected old mid before store front rest most n c a p =
+    let later : LedAlike protected a.led.machine a.led.disk store.failures p.messages p.led p.failures =
+    later_led protected old mid before store front p.messages p.led p.failures a p.may in
     let k : ℕ = length (front ++ take p.count rest) in
     let last : List Message = p.message ∷ [] in
     let moves : Moves old.framing p.framing (front ++ take p.count rest) (a.messages ++ (p.messages ++ last)) =
@@ -180,25 +180,25 @@ passed_behind old mid before store front rest most n c a p =
           (subst (λ (x : List ℕ). Moves old.framing p.framing x (a.messages ++ (p.messages ++ last))) (sym (taken_front front rest p.count)) moves);
       led = then_stepped a.led later.led;
       failures = p.failures;
-      may = may_append old.machine before.disk before.failures store.failures p.failures a.messages p.messages a.led later.led a.may later.may;
+      may = may_append protected old.machine before.disk before.failures store.failures p.failures a.messages p.messages a.led later.led a.may later.may;
       few = p.few;
-      behind = same_behind p.led later.led p.message n c later.same p.behind;
+      behind = same_behind protected p.led later.led p.message n c later.same p.behind;
     }
 
 -- ---- what a crash leaves
 
-pub crashes_none : (old : Connection) (before : Store) (piece : List ℕ) (kept : ℕ → List ℕ → Type 0) → CrashesFed old before piece before kept kept
-crashes_none old before piece kept = record { count = refl; adds = λ n c h. inl h }
+pub crashes_none : (protected : Bool) (old : Connection) (before : Store) (piece : List ℕ) (kept : ℕ → List ℕ → Type 0) → CrashesFed protected old before piece before kept kept
+crashes_none protected old before piece kept = record { count = refl; adds = λ n c h. inl h }
 
 -- behind one PDU at most
-pub crashes_next : (old : Connection) (before after : Store) (piece : List ℕ) (kept new : ℕ → List ℕ → Type 0) → before.failures ≤ after.failures →
-    CrashesNext old piece before.disk after.disk kept new → CrashesFed old before piece after kept new
+pub crashes_next : (protected : Bool) (old : Connection) (before after : Store) (piece : List ℕ) (kept new : ℕ → List ℕ → Type 0) → before.failures ≤ after.failures →
+    CrashesNext protected old piece before.disk after.disk kept new → CrashesFed protected old before piece after kept new
 unfolding MayAnswer
-crashes_next old before after piece kept new rises (inl h) = record {
+crashes_next protected old before after piece kept new rises (inl h) = record {
   count = h.count;
   adds = λ n c k. elim (h.adds n c k) [ inl was ↦ inl was | inr none ↦ absurd none ];
 }
-crashes_next old before after piece kept new rises (inr h) = record {
+crashes_next protected old before after piece kept new rises (inr h) = record {
   count = h.2.count;
   adds = λ n c k. elim (h.2.adds n c k) [
     | inl was ↦ inl was
@@ -218,88 +218,88 @@ crashes_next old before after piece kept new rises (inr h) = record {
 }
 
 -- behind more bytes
-pub crashes_more : (old : Connection) (before after : Store) (piece more : List ℕ) (kept new : ℕ → List ℕ → Type 0) →
-    CrashesFed old before piece after kept new → CrashesFed old before (piece ++ more) after kept new
-crashes_more old before after piece more kept new h = record {
+pub crashes_more : (protected : Bool) (old : Connection) (before after : Store) (piece more : List ℕ) (kept new : ℕ → List ℕ → Type 0) →
+    CrashesFed protected old before piece after kept new → CrashesFed protected old before (piece ++ more) after kept new
+crashes_more protected old before after piece more kept new h = record {
   count = h.count;
   adds = λ n c k. elim (h.adds n c k) [
     | inl was ↦ inl was
-    | inr is ↦ inr (passed_more old before piece more after.failures after.failures n c (omega arith) is)
+    | inr is ↦ inr (passed_more protected old before piece more after.failures after.failures n c (omega arith) is)
   ];
 }
 
 -- behind the rest of the bytes
-pub crashes_then : (old mid : Connection) (before store after : Store) (piece front rest : List ℕ) (kept now new : ℕ → List ℕ → Type 0) →
-    piece ≡ front ++ rest → Advances old before front mid store
-    → store.failures ≤ after.failures → CrashesFed old before piece store kept now → CrashesFed mid store rest after now new →
-    CrashesFed old before piece after kept new
-crashes_then old mid before store after piece front rest kept now new parts a rises p q = record {
+pub crashes_then : (protected : Bool) (old mid : Connection) (before store after : Store) (piece front rest : List ℕ) (kept now new : ℕ → List ℕ → Type 0) →
+    piece ≡ front ++ rest → Advances protected old before front mid store
+    → store.failures ≤ after.failures → CrashesFed protected old before piece store kept now → CrashesFed protected mid store rest after now new →
+    CrashesFed protected old before piece after kept new
+crashes_then protected old mid before store after piece front rest kept now new parts a rises p q = record {
   count = q.count ∙ p.count;
   adds = λ n c k. elim (q.adds n c k) [
     | inl was ↦ elim (p.adds n c was) [
       | inl first ↦ inl first
-      | inr is ↦ inr (passed_later old before piece store.failures after.failures n c rises is)
+      | inr is ↦ inr (passed_later protected old before piece store.failures after.failures n c rises is)
     ]
-    | inr is ↦ inr (subst (λ (x : List ℕ). IsPassed old before x after.failures n c) (sym parts)
-        (passed_behind old mid before store front rest after.failures n c a is))
+    | inr is ↦ inr (subst (λ (x : List ℕ). IsPassed protected old before x after.failures n c) (sym parts)
+        (passed_behind protected old mid before store front rest after.failures n c a is))
   ];
 }
 
 -- ---- a call
 
-fed_advances : (old : Connection) (before : Store) (output piece rest : List ℕ) (now : Connection) (after : Store) (written : List ℕ) →
-    (f : FedUpTo (scene old before output) piece rest (scene now after written)) → Advances old before f.front now after
-fed_advances old before output piece rest now after written f = record {
+fed_advances : (protected : Bool) (old : Connection) (before : Store) (output piece rest : List ℕ) (now : Connection) (after : Store) (written : List ℕ) →
+    (f : FedUpTo protected (scene old before output) piece rest (scene now after written)) → Advances protected old before f.front now after
+fed_advances protected old before output piece rest now after written f = record {
   messages = f.messages;
   taken = f.answered.taken;
   led = f.stepped;
-  may = subst (λ (k : ℕ). MayAnswer old.machine before.disk before.failures f.messages f.stepped k) (sym f.counted) f.answered.may;
+  may = subst (λ (k : ℕ). MayAnswer protected old.machine before.disk before.failures f.messages f.stepped k) (sym f.counted) f.answered.may;
   machine = f.machine_is;
   disk_is = f.disk;
 }
 
-ready_rises : (old : Connection) (before : Store) (output : List ℕ) (broken : Option ℕ) (new : Connection) (after : Store) (written : List ℕ) →
-    AnswersReady (scene old before output) broken (scene new after written) → before.failures ≤ after.failures
-ready_rises old before output broken new after written (inl u) = omega (arith, ap (λ (s : Store). s.failures) u.store_is)
-ready_rises old before output broken new after written (inr a) = a.serves.rises
+ready_rises : (protected : Bool) (old : Connection) (before : Store) (output : List ℕ) (broken : Option ℕ) (new : Connection) (after : Store) (written : List ℕ) →
+    AnswersReady protected (scene old before output) broken (scene new after written) → before.failures ≤ after.failures
+ready_rises protected old before output broken new after written (inl u) = omega (arith, ap (λ (s : Store). s.failures) u.store_is)
+ready_rises protected old before output broken new after written (inr a) = a.serves.rises
 
-halt_rises : (x : Next) (old new : Moment) → Halts x old new → old.store.failures ≤ new.store.failures
-halt_rises Dropped old new h = h.rises
-halt_rises (Answered r) old new h = h.rises
-halt_rises (Queued session tasks) old new h =
-    let low = runs_rise h.device old.store.failures (done_first h.done h.device session old.store.disk tasks).executed h.failures h.runs in
+halt_rises : (protected : Bool) (x : Next) (old new : Moment) → Halts protected x old new → old.store.failures ≤ new.store.failures
+halt_rises protected Dropped old new h = h.rises
+halt_rises protected (Answered r) old new h = h.rises
+halt_rises protected (Queued session tasks) old new h =
+    let low = runs_rise protected h.device old.store.failures (done_first h.done h.device session old.store.disk tasks).executed h.failures h.runs in
     let high = h.rises in
     omega (arith, low, high)
 
-halts_rise : (m : Message) (old new : Moment) → HaltsAt m old new → old.store.failures ≤ new.store.failures
-halts_rise m old new (inl h) = h.rises
-halts_rise m old new (inr h) = halt_rises (full_met old.machine old.store.disk.count m).next old new h.1
+halts_rise : (protected : Bool) (m : Message) (old new : Moment) → HaltsAt protected m old new → old.store.failures ≤ new.store.failures
+halts_rise protected m old new (inl h) = h.rises
+halts_rise protected m old new (inr h) = halt_rises protected (full_met old.machine old.store.disk.count m).next old new h.1
 
 -- the PDU that the next bytes complete was answered
-pub crashes_on : (old : Connection) (before : Store) (output piece rest : List ℕ) (now : Connection) (mid : Store) (written : List ℕ) (n : ℕ)
+pub crashes_on : (protected : Bool) (old : Connection) (before : Store) (output piece rest : List ℕ) (now : Connection) (mid : Store) (written : List ℕ) (n : ℕ)
     (broken : Option ℕ) (new : Connection) (after : Store) (more : List ℕ) (kept was left : ℕ → List ℕ → Type 0)
-    → GoesUpTo (scene old before output) piece rest (scene now mid written) → TakesOne (scene now mid written) rest n broken (scene new after more) →
-    CrashesFed old before piece mid kept was → CrashesNext now rest mid.disk after.disk was left
-    → CrashesFed old before piece after kept left
-crashes_on old before output piece rest now mid written n broken new after more kept was left g t up one =
+    → GoesUpTo protected (scene old before output) piece rest (scene now mid written) → TakesOne protected (scene now mid written) rest n broken (scene new after more) →
+    CrashesFed protected old before piece mid kept was → CrashesNext protected now rest mid.disk after.disk was left
+    → CrashesFed protected old before piece after kept left
+crashes_on protected old before output piece rest now mid written n broken new after more kept was left g t up one =
     let rises : mid.failures ≤ after.failures =
-    ready_rises (connection now.machine t.framing) mid written broken new after more t.answers in
-    crashes_then old now before mid after piece g.fed.front rest kept was left g.fed.parts (fed_advances old before output piece rest now mid written g.fed)
-    rises up (crashes_next now mid after rest was left rises one)
+    ready_rises protected (connection now.machine t.framing) mid written broken new after more t.answers in
+    crashes_then protected old now before mid after piece g.fed.front rest kept was left g.fed.parts (fed_advances protected old before output piece rest now mid written g.fed)
+    rises up (crashes_next protected now mid after rest was left rises one)
 
 -- it could not be taken, or not be answered
-pub crashes_failed : (old : Connection) (before : Store) (output piece rest : List ℕ) (now : Connection) (mid : Store) (written : List ℕ)
+pub crashes_failed : (protected : Bool) (old : Connection) (before : Store) (output piece rest : List ℕ) (now : Connection) (mid : Store) (written : List ℕ)
     (fault : TargetFault) (new : Connection) (after : Store) (more : List ℕ) (kept was left : ℕ → List ℕ → Type 0)
-    → GoesUpTo (scene old before output) piece rest (scene now mid written) → FailsOne (scene now mid written) rest fault (scene new after more) →
-    CrashesFed old before piece mid kept was → CrashesNext now rest mid.disk after.disk was left
-    → CrashesFed old before piece after kept left
-crashes_failed old before output piece rest now mid written fault new after more kept was left g fails up one =
+    → GoesUpTo protected (scene old before output) piece rest (scene now mid written) → FailsOne protected (scene now mid written) rest fault (scene new after more) →
+    CrashesFed protected old before piece mid kept was → CrashesNext protected now rest mid.disk after.disk was left
+    → CrashesFed protected old before piece after kept left
+crashes_failed protected old before output piece rest now mid written fault new after more kept was left g fails up one =
     let rises : mid.failures ≤ after.failures = elim fails [
       | inl r ↦ omega (arith, ap (λ (s : Store). s.failures) r.store_is)
-      | inr r ↦ halts_rise (message_of r.framing r.shuts.head r.shuts.segment) (moment now.machine mid written) (moment new.machine after more) r.shuts.halts
+      | inr r ↦ halts_rise protected (message_of r.framing r.shuts.head r.shuts.segment) (moment now.machine mid written) (moment new.machine after more) r.shuts.halts
     ] in
-    crashes_then old now before mid after piece g.fed.front rest kept was left g.fed.parts (fed_advances old before output piece rest now mid written g.fed)
-    rises up (crashes_next now mid after rest was left rises one)
+    crashes_then protected old now before mid after piece g.fed.front rest kept was left g.fed.parts (fed_advances protected old before output piece rest now mid written g.fed)
+    rises up (crashes_next protected now mid after rest was left rises one)
 
 -- ---- a call that goes on
 
@@ -307,17 +307,17 @@ joined_once : (s : Machine) → joined (joined s) ≡ joined s
 joined_once s = ap (λ (ts : List Task). (let m : Machine = record { session = s.session; tasks = ts } in m)) (joined_twice s.tasks)
 
 -- the session goes on behind a call of feed, which took the whole piece
-pub feeds_advance : (old : Connection) (before : Store) (output piece : List ℕ) (phase : Phase) (new : Connection) (after : Store) (written : List ℕ) →
-    Feeds (scene old before output) piece (Ok phase) (scene new after written)
-    → is_closed new.machine ≡ false → Advances old before piece new after
-feeds_advance old before output piece phase new after written f live = elim f.ends.3 [
+pub feeds_advance : (protected : Bool) (old : Connection) (before : Store) (output piece : List ℕ) (phase : Phase) (new : Connection) (after : Store) (written : List ℕ) →
+    Feeds protected (scene old before output) piece (Ok phase) (scene new after written)
+    → is_closed new.machine ≡ false → Advances protected old before piece new after
+feeds_advance protected old before output piece phase new after written f live = elim f.ends.3 [
   | inl over ↦ absurd (apart (ap is_closed f.ends.1 ∙ over) live)
   | inr g ↦ record {
     messages = f.messages;
     taken = subst (λ (v : Framing). Moves old.framing v piece f.messages) (sym g.framing_is)
         (subst (λ (x : List ℕ). Moves old.framing f.framing x f.messages) (take_all f.count piece (let all = g.all in omega (arith, all))) f.answered.taken);
     led = f.stepped;
-    may = subst (λ (k : ℕ). MayAnswer old.machine before.disk before.failures f.messages f.stepped k) (sym f.leaves.failures) f.answered.may;
+    may = subst (λ (k : ℕ). MayAnswer protected old.machine before.disk before.failures f.messages f.stepped k) (sym f.leaves.failures) f.answered.may;
     machine = ap joined f.ends.1 ∙ joined_once f.stepped.machine;
     disk_is = f.leaves.disk;
   }

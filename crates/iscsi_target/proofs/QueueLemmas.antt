@@ -344,14 +344,14 @@ pub record AtPdus (ms : List Message) (r : Stepped) : Type 0 where
   pub keeps : AreFew r.machine.tasks
   pub each : length r.executed ≤ 9 * length ms
 
-pub may_few : (s : Machine) (disk : Disk) (before after : ℕ) (ms : List Message) (r : Stepped) → MayAnswer s disk before ms r after →
+pub may_few : (protected : Bool) (s : Machine) (disk : Disk) (before after : ℕ) (ms : List Message) (r : Stepped) → MayAnswer protected s disk before ms r after →
     AllByRecursion HasCmdSn ms → AreFew s.tasks → AtPdus ms r
 unfolding MayAnswer
-may_few s disk before after [] r e all f =
+may_few protected s disk before after [] r e all f =
     subst (λ (x : Stepped). AtPdus [] x) (sym e.0) (record { keeps = f; each = omega arith })
-may_few s disk before after (m ∷ ms) r e all f =
+may_few protected s disk before after (m ∷ ms) r e all f =
     let first : AtPdu s m e.0 = subst (λ (x : Stepped). AtPdu s m x) (sym e.3.is) (step_few e.3.device disk s m) in
-    let later : AtPdus ms e.1 = may_few e.0.machine e.0.disk e.2 after ms e.1 e.4 all.1 (first.keeps all.0 f) in
+    let later : AtPdus ms e.1 = may_few protected e.0.machine e.0.disk e.2 after ms e.1 e.4 all.1 (first.keeps all.0 f) in
     subst (λ (x : Stepped). AtPdus (m ∷ ms) x) (sym e.5) (record {
       keeps = later.keeps;
       each = (let one = first.each all.0 f in let more = later.each in let sum = length-append e.0.executed e.1.executed in omega (arith, one, more, sum));
@@ -359,16 +359,16 @@ may_few s disk before after (m ∷ ms) r e all f =
 
 -- ---- what messages leave
 
-pub queue_of : (s : Machine) (disk : Disk) (ms : List Message) → AllByRecursion HasCmdSn ms → AreFew s.tasks → AreKept s.tasks →
-    IsQueue (answers s disk ms).machine.tasks
+pub queue_of : (protected : Bool) (s : Machine) (disk : Disk) (ms : List Message) → AllByRecursion HasCmdSn ms → AreFew s.tasks → AreKept s.tasks →
+    IsQueue (answers protected s disk ms).machine.tasks
 unfolding answers
-queue_of s disk [] all f k = record { few = f.few; places = f.places; pending = k.pending; unasked = k.unasked }
-queue_of s disk (m ∷ ms) all f k =
-    queue_of (step s disk m).machine (step s disk m).disk ms all.1 ((step_few reliable disk s m).keeps all.0 f) (step_kept reliable s disk m k)
+queue_of protected s disk [] all f k = record { few = f.few; places = f.places; pending = k.pending; unasked = k.unasked }
+queue_of protected s disk (m ∷ ms) all f k =
+    queue_of protected (step protected s disk m).machine (step protected s disk m).disk ms all.1 ((step_few (reliable protected) disk s m).keeps all.0 f) (step_kept (reliable protected) s disk m k)
 
-pub opening_queue : (settings : Settings) (n : ℕ) (disk : Disk) (ms : List Message) → AllByRecursion HasCmdSn ms →
-    IsQueue (answers (opening settings n) disk ms).machine.tasks
-opening_queue settings n disk ms all = queue_of (opening settings n) disk ms all no_few none_kept
+pub opening_queue : (protected : Bool) (settings : Settings) (n : ℕ) (disk : Disk) (ms : List Message) → AllByRecursion HasCmdSn ms →
+    IsQueue (answers protected (opening settings n) disk ms).machine.tasks
+opening_queue protected settings n disk ms all = queue_of protected (opening settings n) disk ms all no_few none_kept
 
 -- ---- MaxCmdSN
 
@@ -481,9 +481,9 @@ window_rises : (exp now waits after : ℕ) → exp < 2 ^ 32 → waits ≤ 8 → 
 window_rises exp now waits after lt few (inl h) = let e = h.0 in let le = h.1 in omega (arith, lt, few, e, le)
 window_rises exp now waits after lt few (inr h) = let e = h.0 in let le = h.1 in omega (arith, lt, few, e, le)
 
-pub step_rises : (s : Machine) (disk : Disk) (m : Message) → s.session.exp_cmd_sn < 2 ^ 32 → waiting s.tasks ≤ 8 → s.session.phase ≡ phases.Full →
-    is_closed (step s disk m).machine ≡ false → IsNotBefore (max_cmd_sn s) (max_cmd_sn (step s disk m).machine)
-step_rises s disk m lt f full open_ =
-    let r : Rises s (step s disk m) = step_parts reliable disk (λ s m r. Rises s r) (parts_rise reliable disk) s m in
-    window_rises s.session.exp_cmd_sn (step s disk m).machine.session.exp_cmd_sn (waiting s.tasks) (waiting (step s disk m).machine.tasks) lt f
+pub step_rises : (protected : Bool) (s : Machine) (disk : Disk) (m : Message) → s.session.exp_cmd_sn < 2 ^ 32 → waiting s.tasks ≤ 8 → s.session.phase ≡ phases.Full →
+    is_closed (step protected s disk m).machine ≡ false → IsNotBefore (max_cmd_sn s) (max_cmd_sn (step protected s disk m).machine)
+step_rises protected s disk m lt f full open_ =
+    let r : Rises s (step protected s disk m) = step_parts (reliable protected) disk (λ s m r. Rises s r) (parts_rise (reliable protected) disk) s m in
+    window_rises s.session.exp_cmd_sn (step protected s disk m).machine.session.exp_cmd_sn (waiting s.tasks) (waiting (step protected s disk m).machine.tasks) lt f
     (r.live open_ full)

@@ -52,28 +52,28 @@ opening_fit settings n = record {
   limit = omega arith;
 }
 
-pub reached_fit : (settings : Settings) (n : ℕ) (disk : Disk) (ms : List Message) → IsFit (answers (opening settings n) disk ms).machine
-reached_fit settings n disk ms = answers_fit (opening settings n) disk ms (opening_fit settings n)
+pub reached_fit : (protected : Bool) (settings : Settings) (n : ℕ) (disk : Disk) (ms : List Message) → IsFit (answers protected (opening settings n) disk ms).machine
+reached_fit protected settings n disk ms = answers_fit protected (opening settings n) disk ms (opening_fit settings n)
 
-pub reached_held : (settings : Settings) (n : ℕ) (disk : Disk) (ms : List Message) → IsInRange settings.preferences →
-    IsHeld (answers (opening settings n) disk ms).machine.session.held
-reached_held settings n disk ms p =
-    (reached_fit settings n disk ms).held (subst (λ (x : Settings). IsInRange x.preferences) (sym (answers_settings (opening settings n) disk ms)) p)
+pub reached_held : (protected : Bool) (settings : Settings) (n : ℕ) (disk : Disk) (ms : List Message) → IsInRange settings.preferences →
+    IsHeld (answers protected (opening settings n) disk ms).machine.session.held
+reached_held protected settings n disk ms p =
+    (reached_fit protected settings n disk ms).held (subst (λ (x : Settings). IsInRange x.preferences) (sym (answers_settings protected (opening settings n) disk ms)) p)
 
 -- ---- Data-In
 
 -- what a store that doesn't fail gives
-pub gives_tiles : (answers : List Message) (es : List Execution) → Gives reliable answers es → GiveTiles bytes_given answers es
-gives_tiles answers [] g = g
-gives_tiles answers (e ∷ es) g = (g.0, g.1, g.2, g.3, gives_tiles g.1 es g.4)
+pub gives_tiles : (protected : Bool) (answers : List Message) (es : List Execution) → Gives (reliable protected) answers es → GiveTiles (bytes_given protected) answers es
+gives_tiles protected answers [] g = g
+gives_tiles protected answers (e ∷ es) g = (g.0, g.1, g.2, g.3, gives_tiles protected g.1 es g.4)
 
-pub reached_data_in : (settings : Settings) (n : ℕ) (disk : Disk) (ms : List Message) (m : Message) → IsInRange settings.preferences
-    → TilesDataIn (step (answers (opening settings n) disk ms).machine (answers (opening settings n) disk ms).disk m)
-reached_data_in settings n disk ms m p =
-    let r : Stepped = answers (opening settings n) disk ms in
-    let t : StepTells reliable r.machine m (step r.machine r.disk m) = step_tells reliable r.disk r.machine m in
-    gives_tiles (step r.machine r.disk m).answers (step r.machine r.disk m).executed
-    (t.gives (subst (λ (x : Settings). IsInRange x.preferences) (sym (answers_settings (opening settings n) disk ms)) p) (reached_held settings n disk ms p))
+pub reached_data_in : (protected : Bool) (settings : Settings) (n : ℕ) (disk : Disk) (ms : List Message) (m : Message) → IsInRange settings.preferences
+    → TilesDataIn protected (step protected (answers protected (opening settings n) disk ms).machine (answers protected (opening settings n) disk ms).disk m)
+reached_data_in protected settings n disk ms m p =
+    let r : Stepped = answers protected (opening settings n) disk ms in
+    let t : StepTells (reliable protected) r.machine m (step protected r.machine r.disk m) = step_tells (reliable protected) r.disk r.machine m in
+    gives_tiles protected (step protected r.machine r.disk m).answers (step protected r.machine r.disk m).executed
+    (t.gives (subst (λ (x : Settings). IsInRange x.preferences) (sym (answers_settings protected (opening settings n) disk ms)) p) (reached_held protected settings n disk ms p))
 
 -- ---- outside the window
 
@@ -96,8 +96,8 @@ outside_due s count m _ n e o = absurd cc
 outside_met : (s : Machine) (count : ℕ) (m : Message) → IsOutside s m → full_met s count m ≡ plainly Dropped
 outside_met s count m o = rw (o.kind, o.size) (outside_due s count m m.head o.number o.is_number o.outside)
 
-outside_full : (s : Machine) (disk : Disk) (m : Message) → IsOutside s m → full_step reliable s disk m ≡ unchanged s disk
-outside_full s disk m o = ap (λ (x : Met). having_accepted x.accepted (followed reliable s disk x.next)) (outside_met s disk.count m o)
+outside_full : (protected : Bool) (s : Machine) (disk : Disk) (m : Message) → IsOutside s m → full_step (reliable protected) s disk m ≡ unchanged s disk
+outside_full protected s disk m o = ap (λ (x : Met). having_accepted x.accepted (followed (reliable protected) s disk x.next)) (outside_met s disk.count m o)
 
 within_limit : (s : Machine) (segment : Segment) → nat_lt s.session.held.target_max_recv (length (segment_bytes segment)) ≡ false
     → s.session.held.target_max_recv ≤ limit s.session.settings → is_over_limit s segment ≡ false
@@ -107,22 +107,22 @@ within_limit s (Bytes bytes) e le =
     (λ f. absurd (omega (arith, le, ltb-false s.session.held.target_max_recv (length bytes) e, ltb-true (limit s.session.settings) (length bytes) f))) (λ f. f)
 within_limit s (Text pairs) e le = refl
 
-pub outside_step : (s : Machine) (disk : Disk) (m : Message) → s.session.held.target_max_recv ≤ limit s.session.settings → IsOutside s m → step s disk m
+pub outside_step : (protected : Bool) (s : Machine) (disk : Disk) (m : Message) → s.session.held.target_max_recv ≤ limit s.session.settings → IsOutside s m → step protected s disk m
     ≡ unchanged s disk
-outside_step s disk m le o =
+outside_step protected s disk m le o =
     let open_ : is_closed s ≡ false = ap is_closed_phase o.phase in
     let short : is_over_limit s m.segment ≡ false = within_limit s m.segment o.size le in
-    rw (open_, short) (ap (λ (p : Phase). phase_step reliable p s disk m) o.phase ∙ outside_full s disk m o)
+    rw (open_, short) (ap (λ (p : Phase). phase_step (reliable protected) p s disk m) o.phase ∙ outside_full protected s disk m o)
 
-pub reached_outside : (settings : Settings) (n : ℕ) (disk : Disk) (ms : List Message) (m : Message) → IsOutside (answers (opening settings n) disk ms).machine m
-    → step (answers (opening settings n) disk ms).machine (answers (opening settings n) disk ms).disk m
-    ≡ unchanged (answers (opening settings n) disk ms).machine (answers (opening settings n) disk ms).disk
-reached_outside settings n disk ms m o =
-    let r : Stepped = answers (opening settings n) disk ms in
-    outside_step r.machine r.disk m (reached_fit settings n disk ms).limit o
+pub reached_outside : (protected : Bool) (settings : Settings) (n : ℕ) (disk : Disk) (ms : List Message) (m : Message) → IsOutside (answers protected (opening settings n) disk ms).machine m
+    → step protected (answers protected (opening settings n) disk ms).machine (answers protected (opening settings n) disk ms).disk m
+    ≡ unchanged (answers protected (opening settings n) disk ms).machine (answers protected (opening settings n) disk ms).disk
+reached_outside protected settings n disk ms m o =
+    let r : Stepped = answers protected (opening settings n) disk ms in
+    outside_step protected r.machine r.disk m (reached_fit protected settings n disk ms).limit o
 
-pub reached_limit : (settings : Settings) (n : ℕ) (disk : Disk) (ms : List Message) →
-    (answers (opening settings n) disk ms).machine.session.held.target_max_recv ≤ limit settings
-reached_limit settings n disk ms =
-    subst (λ (x : Settings). (answers (opening settings n) disk ms).machine.session.held.target_max_recv ≤ limit x)
-    (answers_settings (opening settings n) disk ms) (reached_fit settings n disk ms).limit
+pub reached_limit : (protected : Bool) (settings : Settings) (n : ℕ) (disk : Disk) (ms : List Message) →
+    (answers protected (opening settings n) disk ms).machine.session.held.target_max_recv ≤ limit settings
+reached_limit protected settings n disk ms =
+    subst (λ (x : Settings). (answers protected (opening settings n) disk ms).machine.session.held.target_max_recv ≤ limit x)
+    (answers_settings protected (opening settings n) disk ms) (reached_fit protected settings n disk ms).limit

@@ -1,5 +1,5 @@
 -- READs whose data go out part by part.
-use Rattle.std.proofs.Common.{◌≡◌, ◌<◌, ◌≤◌, ℕ, ◌+◌, ◌*◌, List, [], ◌++◌, min, length, take, drop, replicate, refl, sym, ap, ◌∙◌, subst, arith}
+use Rattle.std.proofs.Common.{Bool, ◌≡◌, ◌<◌, ◌≤◌, ℕ, ◌+◌, ◌*◌, List, [], ◌++◌, min, length, take, drop, replicate, refl, sym, ap, ◌∙◌, subst, arith}
 use Rattle.std.proofs.Common.{append_assoc, Result, Ok, Err, OnOk}
 use Rattle.std.specs.Prelude.{◌==◌}
 use Rattle.std.proofs.lemmas.Bool.Decides.{nat_tests}
@@ -228,28 +228,28 @@ sequences_all s tag read sent rest old new none g =
 
 -- ---- the answers
 
-pub answers_read : (s : Machine) (tag : ℕ) (order : Order) (disk now_disk : Disk) (range : BlockRange) (fb fa count : ℕ) (head : Head)
+pub answers_read : (protected : Bool) (s : Machine) (tag : ℕ) (order : Order) (disk now_disk : Disk) (range : BlockRange) (fb fa count : ℕ) (head : Head)
     (old new now : List ℕ) → IsWhole disk order range → IsDisk disk → now_disk ≡ disk → fb ≤ fa
     → SendsRuns (reply s tag old new) (read_in disk range fb fa) count
     → head ≡ response_head s.session (waiting s.tasks) tag (good order (wanted_length order disk.count) []) count → now ≡ new ++ whole head []
-    → AnswersRead (reply s tag old now) order (store_of disk fb) (store_of now_disk fa)
-answers_read s tag order disk now_disk range fb fa count head old new now is is_disk same rises runs is_head is_now =
+    → AnswersRead protected (reply s tag old now) order (store_of disk fb) (store_of now_disk fa)
+answers_read protected s tag order disk now_disk range fb fa count head old new now is is_disk same rises runs is_head is_now =
     let outcome : Outcome = good order (wanted_length order disk.count) runs.bytes in
     record {
       outcome = outcome;
-      executes = executed disk now_disk order range fb fa runs.bytes is is_disk same rises runs.is_of;
+      executes = executed protected disk now_disk order range fb fa runs.bytes is is_disk same rises runs.is_of;
       output = told_order s tag outcome runs.bytes count head old new now refl runs.counted runs.output is_head is_now;
     }
 
 -- a READ that failed
-pub answers_failed : (s : Machine) (tag : ℕ) (order : Order) (disk now_disk : Disk) (range : BlockRange) (fb fa : ℕ) (outcome : Outcome) (head : Head)
+pub answers_failed : (protected : Bool) (s : Machine) (tag : ℕ) (order : Order) (disk now_disk : Disk) (range : BlockRange) (fb fa : ℕ) (outcome : Outcome) (head : Head)
     (old mid now : List ℕ) → IsWhole disk order range → now_disk ≡ disk → fb < fa → outcome ≡ check order ReadError → mid ≡ old
     → head ≡ response_head s.session (waiting s.tasks) tag outcome 0 → now ≡ mid ++ whole head (sense_segment outcome.sense)
-    → AnswersRead (reply s tag old now) order (store_of disk fb) (store_of now_disk fa)
-answers_failed s tag order disk now_disk range fb fa outcome head old mid now is same rose told is_mid is_head is_now =
+    → AnswersRead protected (reply s tag old now) order (store_of disk fb) (store_of now_disk fa)
+answers_failed protected s tag order disk now_disk range fb fa outcome head old mid now is same rose told is_mid is_head is_now =
     let none : [] ≡ outcome.bytes = ap (λ (o : Outcome). o.bytes) (sym told) in
     record {
       outcome = outcome;
-      executes = not_executed disk now_disk order range fb fa outcome is same rose told;
+      executes = not_executed protected disk now_disk order range fb fa outcome is same rose told;
       output = told_order s tag outcome [] 0 head old mid now none (omega arith) (is_mid ∙ sym (append-nil old)) is_head is_now;
     }

@@ -25,8 +25,8 @@ use Rattle.iscsi_target.proofs.StepPartLemmas.{Parts, step_parts}
 use Rattle.iscsi_target.proofs.ReplyLemmas.{login_logs, reject_reply, reject_and_close_reply, request_answered_reply}
 use Rattle.iscsi_target.proofs.WriteTilingLaws.{still_reliable}
 
-record Tells (r : Stepped) : Type 0 where
-  is : told_in r.answers ≡ map due_for r.executed
+record Tells (protected : Bool) (r : Stepped) : Type 0 where
+  is : told_in r.answers ≡ map (due_for protected) r.executed
 
 none_left : {A : Type 0} (a b : List A) → a ++ b ≡ [] → a ≡ []
 none_left [] b e = refl
@@ -48,8 +48,8 @@ none_told (m ∷ ms) e =
     (no_response m.head (segment_bytes m.segment) (none_left (response_tag m.head) (response_tags ms) e))
     ∙ none_told ms (none_right (response_tag m.head) (response_tags ms) e)
 
-reply_tells : (tasks : List Task) (disk : Disk) (r : Reply) → response_tags r.answers ≡ [] → Tells (on disk tasks r)
-reply_tells tasks disk r e = record { is = none_told r.answers e }
+reply_tells : (protected : Bool) (tasks : List Task) (disk : Disk) (r : Reply) → response_tags r.answers ≡ [] → Tells protected (on disk tasks r)
+reply_tells protected tasks disk r e = record { is = none_told r.answers e }
 
 told_append : (a b : List Message) → told_in (a ++ b) ≡ told_in a ++ told_in b
 told_append a b = flat_map-append (λ (m : Message). told_by m.head (segment_bytes m.segment)) a b
@@ -61,10 +61,10 @@ ins_told : (s : Session) (waits tag data_sn at : ℕ) (given : List (List ℕ ×
 ins_told s waits tag data_sn at [] more = refl
 ins_told s waits tag data_sn at (part ∷ given) more = ins_told s waits tag (data_sn + 1) (at + length part.0) given more
 
-execute_tells : (device : Device) (s : Machine) (disk : Disk) (tag : ℕ) (order : Order) (pieces : Pieces) → device ≡ reliable →
-    Tells (execute device s disk tag order pieces)
+execute_tells : (protected : Bool) (device : Device) (s : Machine) (disk : Disk) (tag : ℕ) (order : Order) (pieces : Pieces) → device ≡ reliable protected →
+    Tells protected (execute device s disk tag order pieces)
 unfolding segment_bytes
-execute_tells device s disk tag order pieces e =
+execute_tells protected device s disk tag order pieces e =
     let f : Effect = device 0 disk order (data_of pieces) in
     let given : List (List ℕ × Bool) = data_in_parts s.session.held f.outcome.bytes in
     record {
@@ -75,61 +75,61 @@ execute_tells device s disk tag order pieces e =
 
 -- ---- tasks
 
-begins_tell : Begins (λ device s disk task r. device ≡ reliable → Tells r)
-begins_tell = record {
-  request_ = λ device s disk m none e. reply_tells s.tasks disk _ (request_answered_reply s.session (waiting s.tasks) m m.head).tags;
-  refused_ = λ device s disk m h k broke e. reply_tells s.tasks disk _ (reject_and_close_reply s.session (waiting s.tasks) data_out_of_order m).tags;
-  command_ = λ device s disk m h k none e. execute_tells device s disk h.initiator_task_tag (order_of h) [] e;
-  write_ = λ device s disk task w is whole e. execute_tells device s disk w.initiator_task_tag w.order w.pieces e;
+begins_tell : (protected : Bool) → Begins (λ device s disk task r. device ≡ reliable protected → Tells protected r)
+begins_tell protected = record {
+  request_ = λ device s disk m none e. reply_tells protected s.tasks disk _ (request_answered_reply s.session (waiting s.tasks) m m.head).tags;
+  refused_ = λ device s disk m h k broke e. reply_tells protected s.tasks disk _ (reject_and_close_reply s.session (waiting s.tasks) data_out_of_order m).tags;
+  command_ = λ device s disk m h k none e. execute_tells protected device s disk h.initiator_task_tag (order_of h) [] e;
+  write_ = λ device s disk task w is whole e. execute_tells protected device s disk w.initiator_task_tag w.order w.pieces e;
   send_r2t_ = λ device s disk task w is whole idle e. record { is = refl };
   wait_ = λ device s disk task w is whole idle e. record { is = refl };
 }
 
-begun_tells : (device : Device) (s : Session) (disk : Disk) (task : Task) (more : List Task) → device ≡ reliable →
-    Tells (begun device (with_tasks s more) disk task)
-begun_tells device s disk task more e =
-    begins (λ device s disk task r. device ≡ reliable → Tells r) begins_tell device (with_tasks s more) disk task e
+begun_tells : (protected : Bool) (device : Device) (s : Session) (disk : Disk) (task : Task) (more : List Task) → device ≡ reliable protected →
+    Tells protected (begun device (with_tasks s more) disk task)
+begun_tells protected device s disk task more e =
+    begins (λ device s disk task r. device ≡ reliable protected → Tells protected r) (begins_tell protected) device (with_tasks s more) disk task e
 
-both_tell : (answers : List Message) (executed : List Execution) (more : List Message) (later : List Execution) → told_in answers ≡ map due_for executed →
-    told_in more ≡ map due_for later → told_in (answers ++ more) ≡ map due_for (executed ++ later)
-both_tell answers executed more later e f =
-    told_append answers more ∙ ap (λ (ts : List Told). ts ++ told_in more) e ∙ ap (λ (ts : List Told). map due_for executed ++ ts) f
-    ∙ sym (map-append due_for executed later)
+both_tell : (protected : Bool) (answers : List Message) (executed : List Execution) (more : List Message) (later : List Execution) → told_in answers ≡ map (due_for protected) executed →
+    told_in more ≡ map (due_for protected) later → told_in (answers ++ more) ≡ map (due_for protected) (executed ++ later)
+both_tell protected answers executed more later e f =
+    told_append answers more ∙ ap (λ (ts : List Told). ts ++ told_in more) e ∙ ap (λ (ts : List Told). map (due_for protected) executed ++ ts) f
+    ∙ sym (map-append (due_for protected) executed later)
 
-turns_tell : Turns (λ device s disk tasks r. device ≡ reliable → Tells r)
-turns_tell = record {
+turns_tell : (protected : Bool) → Turns (λ device s disk tasks r. device ≡ reliable protected → Tells protected r)
+turns_tell protected = record {
   none_ = λ device s disk e. record { is = refl };
-  stop_ = λ device s disk task more why e. begun_tells device s disk task more e;
+  stop_ = λ device s disk task more why e. begun_tells protected device s disk task more e;
   then_ = λ device s disk task more b stays live u e.
       (let a : Stepped = begun device (with_tasks s more) disk task in
-      let later : Tells b = u (ap (device_after a.executed) e ∙ still_reliable a.executed) in
-      record { is = both_tell a.answers a.executed b.answers b.executed (begun_tells device s disk task more e).is later.is });
+      let later : Tells protected b = u (ap (device_after a.executed) e ∙ still_reliable protected a.executed) in
+      record { is = both_tell protected a.answers a.executed b.answers b.executed (begun_tells protected device s disk task more e).is later.is });
 }
 
-done_tells : (s : Session) (disk : Disk) (tasks : List Task) → Tells (done_in_turn reliable s disk tasks)
-done_tells s disk tasks = turns (λ device s disk tasks r. device ≡ reliable → Tells r) turns_tell reliable s disk tasks refl
+done_tells : (protected : Bool) (s : Session) (disk : Disk) (tasks : List Task) → Tells protected (done_in_turn (reliable protected) s disk tasks)
+done_tells protected s disk tasks = turns (λ device s disk tasks r. device ≡ reliable protected → Tells protected r) (turns_tell protected) (reliable protected) s disk tasks refl
 
 -- ---- all parts
 
-parts_tell : (disk : Disk) → Parts reliable disk (λ s m r. Tells r)
-parts_tell disk = record {
+parts_tell : (protected : Bool) (disk : Disk) → Parts (reliable protected) disk (λ s m r. Tells protected r)
+parts_tell protected disk = record {
   nothing_ = λ s m c. record { is = refl };
   shut_ = λ s m. record { is = refl };
-  reject_ = λ s reason m a. reply_tells s.tasks disk _ (reject_reply s.session (waiting s.tasks) reason m).tags;
-  reject_and_close_ = λ s rule m. reply_tells s.tasks disk _ (reject_and_close_reply s.session (waiting s.tasks) rule m).tags;
-  login_ = λ s m k. reply_tells s.tasks disk (login_step s.session m) (login_logs s.session m).is.tags;
-  taken_ = λ s m h w v k e f. record { is = (done_tells s.session disk _).is };
-  refused_ = λ s t m rule a x. record { is = (reply_tells t.tasks disk (reject_and_close t.session (waiting t.tasks) rule m) (reject_and_close_reply t.session (waiting t.tasks) rule m).tags).is };
-  admitted_ = λ s t m a x f. record { is = (done_tells t.session disk _).is };
+  reject_ = λ s reason m a. reply_tells protected s.tasks disk _ (reject_reply s.session (waiting s.tasks) reason m).tags;
+  reject_and_close_ = λ s rule m. reply_tells protected s.tasks disk _ (reject_and_close_reply s.session (waiting s.tasks) rule m).tags;
+  login_ = λ s m k. reply_tells protected s.tasks disk (login_step s.session m) (login_logs s.session m).is.tags;
+  taken_ = λ s m h w v k e f. record { is = (done_tells protected s.session disk _).is };
+  refused_ = λ s t m rule a x. record { is = (reply_tells protected t.tasks disk (reject_and_close t.session (waiting t.tasks) rule m) (reject_and_close_reply t.session (waiting t.tasks) rule m).tags).is };
+  admitted_ = λ s t m a x f. record { is = (done_tells protected t.session disk _).is };
 }
 
-step_tells : (disk : Disk) (s : Machine) (m : Message) → Tells (step s disk m)
-step_tells disk s m = step_parts reliable disk (λ s m r. Tells r) (parts_tell disk) s m
+step_tells : (protected : Bool) (disk : Disk) (s : Machine) (m : Message) → Tells protected (step protected s disk m)
+step_tells protected disk s m = step_parts (reliable protected) disk (λ s m r. Tells protected r) (parts_tell protected disk) s m
 
-pub answers_tell : (s : Machine) (disk : Disk) (ms : List Message) → told_in (answers s disk ms).answers ≡ map due_for (answers s disk ms).executed
+pub answers_tell : (protected : Bool) (s : Machine) (disk : Disk) (ms : List Message) → told_in (answers protected s disk ms).answers ≡ map (due_for protected) (answers protected s disk ms).executed
 unfolding answers
-answers_tell s disk [] = refl
-answers_tell s disk (m ∷ ms) =
-    let first : Stepped = step s disk m in
-    let later : Stepped = answers first.machine first.disk ms in
-    both_tell first.answers first.executed later.answers later.executed (step_tells disk s m).is (answers_tell first.machine first.disk ms)
+answers_tell protected s disk [] = refl
+answers_tell protected s disk (m ∷ ms) =
+    let first : Stepped = step protected s disk m in
+    let later : Stepped = answers protected first.machine first.disk ms in
+    both_tell protected first.answers first.executed later.answers later.executed (step_tells protected disk s m).is (answers_tell protected first.machine first.disk ms)

@@ -1,5 +1,5 @@
 -- What the parts of a session do with a store.
-use Rattle.std.proofs.Common.{◌≡◌, ◌≤◌, inl, inr, ◌∙◌, ℕ, List, [], ◌∷◌, ◌++◌, map, Option, None, refl, sym, ap, subst, arith}
+use Rattle.std.proofs.Common.{Bool, ◌≡◌, ◌≤◌, inl, inr, ◌∙◌, ℕ, List, [], ◌∷◌, ◌++◌, map, Option, None, refl, sym, ap, subst, arith}
 use Rattle.std.specs.Prelude.{Result, Ok, Err, IfOk, OnErr}
 use Rattle.std.proofs.lemmas.Bool.{cases_lt}
 use Rattle.std.proofs.lemmas.List.{append-nil}
@@ -25,39 +25,39 @@ use Rattle.iscsi_target_session.proofs.CaseLemmas.{by_ok}
 
 -- ---- what leaves the disk
 
-pub leaves_serves : (n : ℕ) (r : Stepped) (f : Device → Stepped) (disk : Disk) (broken : Option ℕ) (new : Machine) (before after : List ℕ)
+pub leaves_serves : (protected : Bool) (n : ℕ) (r : Stepped) (f : Device → Stepped) (disk : Disk) (broken : Option ℕ) (new : Machine) (before after : List ℕ)
     → ((d : Device) → f d ≡ r) → r.executed ≡ [] → r.disk ≡ disk → new ≡ r.machine → after ≡ before ++ canon r.answers → broken ≡ r.rule →
-    Serves n before f broken (moment new (store_of disk n) after)
-leaves_serves n r f disk broken new before after is none same is_new is_after is_rule = record {
-  device = reliable;
+    Serves protected n before f broken (moment new (store_of disk n) after)
+leaves_serves protected n r f disk broken new before after is none same is_new is_after is_rule = record {
+  device = reliable protected;
   rises = omega arith;
   works = λ _. refl;
-  runs = subst (λ (xs : List Execution). RunsIn reliable n xs n) (sym (ap (λ (x : Stepped). x.executed) (is reliable) ∙ none)) refl;
-  machine = ap joined is_new ∙ ap (λ (x : Stepped). joined x.machine) (sym (is reliable));
-  disk_is = sym same ∙ ap (λ (x : Stepped). x.disk) (sym (is reliable));
-  output = is_after ∙ ap (λ (x : Stepped). before ++ canon x.answers) (sym (is reliable));
-  rule_is = is_rule ∙ ap (λ (x : Stepped). x.rule) (sym (is reliable));
+  runs = subst (λ (xs : List Execution). RunsIn protected (reliable protected) n xs n) (sym (ap (λ (x : Stepped). x.executed) (is (reliable protected)) ∙ none)) refl;
+  machine = ap joined is_new ∙ ap (λ (x : Stepped). joined x.machine) (sym (is (reliable protected)));
+  disk_is = sym same ∙ ap (λ (x : Stepped). x.disk) (sym (is (reliable protected)));
+  output = is_after ∙ ap (λ (x : Stepped). before ++ canon x.answers) (sym (is (reliable protected)));
+  rule_is = is_rule ∙ ap (λ (x : Stepped). x.rule) (sym (is (reliable protected)));
 }
 
 -- what was done with a message that leaves the disk, over any store
-pub leaves_handles : {E : Type 0} (result : Result (Option ℕ) E) (n : ℕ) (r : Stepped) (f : Device → Stepped) (disk : Disk) (old new : Machine)
+pub leaves_handles : {E : Type 0} (protected : Bool) (result : Result (Option ℕ) E) (n : ℕ) (r : Stepped) (f : Device → Stepped) (disk : Disk) (old new : Machine)
     (before after : List ℕ)
     → ((d : Device) → f d ≡ r) → r.executed ≡ [] → r.disk ≡ disk → Leaves r result old new before after →
-    Handles f result (moment old (store_of disk n) before) (moment new (store_of disk n) after)
-leaves_handles (Ok rule) n r f disk old new before after is none same h = record {
+    Handles protected f result (moment old (store_of disk n) before) (moment new (store_of disk n) after)
+leaves_handles protected (Ok rule) n r f disk old new before after is none same h = record {
   ok =
-      leaves_serves n r f disk rule new before after is none same h.machine h.output h.rule_is;
+      leaves_serves protected n r f disk rule new before after is none same h.machine h.output h.rule_is;
   err = tt;
 }
-leaves_handles (Err e) n r f disk old new before after is none same h = record {
+leaves_handles protected (Err e) n r f disk old new before after is none same h = record {
   ok = tt;
   err = record { machine = h.err; rises = omega arith; disk_is = refl; unwritten = h.unwritten };
 }
 
 -- a message that changes nothing, over any store
-pub unchanged_serves : (n : ℕ) (s : Machine) (f : Device → Stepped) (disk : Disk) (new : Machine) (out : List ℕ) → ((d : Device) → f d ≡ unchanged s disk) → new
-    ≡ s → Serves n out f None (moment new (store_of disk n) out)
-unchanged_serves n s f disk new out is e = leaves_serves n (unchanged s disk) f disk None new out out is refl refl e (sym (append-nil out)) refl
+pub unchanged_serves : (protected : Bool) (n : ℕ) (s : Machine) (f : Device → Stepped) (disk : Disk) (new : Machine) (out : List ℕ) → ((d : Device) → f d ≡ unchanged s disk) → new
+    ≡ s → Serves protected n out f None (moment new (store_of disk n) out)
+unchanged_serves protected n s f disk new out is e = leaves_serves protected n (unchanged s disk) f disk None new out out is refl refl e (sym (append-nil out)) refl
 
 pub attempts : {E : Type 0} (r : Reply) (result : Result (Option ℕ) E) (old new : Session) (before after : List ℕ) → Does r result old new before after →
     Attempts r result old new before after
@@ -85,67 +85,67 @@ relays r (Err x) old new session disk before after h e = record {
 
 -- ---- the same step
 
-runs_joined : (d : Device) (before : ℕ) (xs : List Execution) (after : ℕ) → RunsIn d before xs after → RunsIn d before (map joined_execution xs) after
-runs_joined d before [] after h = h
-runs_joined d before (x ∷ xs) after h = (
+runs_joined : (protected : Bool) (d : Device) (before : ℕ) (xs : List Execution) (after : ℕ) → RunsIn protected d before xs after → RunsIn protected d before (map joined_execution xs) after
+runs_joined protected d before [] after h = h
+runs_joined protected d before (x ∷ xs) after h = (
   h.0,
-  subst (λ (bytes : List ℕ). Executes before h.0 x.disk x.order bytes (d 0 x.disk x.order bytes)) (sym (data_of_one (data_of x.pieces))) h.1,
-  runs_joined (device_next d) h.0 xs after h.2,
+  subst (λ (bytes : List ℕ). Executes protected before h.0 x.disk x.order bytes (d 0 x.disk x.order bytes)) (sym (data_of_one (data_of x.pieces))) h.1,
+  runs_joined protected (device_next d) h.0 xs after h.2,
 )
 
-runs_apart : (d : Device) (before : ℕ) (xs : List Execution) (after : ℕ) → RunsIn d before (map joined_execution xs) after → RunsIn d before xs after
-runs_apart d before [] after h = h
-runs_apart d before (x ∷ xs) after h = (
+runs_apart : (protected : Bool) (d : Device) (before : ℕ) (xs : List Execution) (after : ℕ) → RunsIn protected d before (map joined_execution xs) after → RunsIn protected d before xs after
+runs_apart protected d before [] after h = h
+runs_apart protected d before (x ∷ xs) after h = (
   h.0,
-  subst (λ (bytes : List ℕ). Executes before h.0 x.disk x.order bytes (d 0 x.disk x.order bytes)) (data_of_one (data_of x.pieces)) h.1,
-  runs_apart (device_next d) h.0 xs after h.2,
+  subst (λ (bytes : List ℕ). Executes protected before h.0 x.disk x.order bytes (d 0 x.disk x.order bytes)) (data_of_one (data_of x.pieces)) h.1,
+  runs_apart protected (device_next d) h.0 xs after h.2,
 )
 
 -- where a piece ended makes no difference to what a store did
-pub runs_as : (d : Device) (before after : ℕ) (a b : Stepped) → joined_stepped a ≡ joined_stepped b → RunsIn d before a.executed after →
-    RunsIn d before b.executed after
-runs_as d before after a b e h = runs_apart d before b.executed after (subst (λ (x : Stepped). RunsIn d before x.executed after) e
-    (runs_joined d before a.executed after h))
+pub runs_as : (protected : Bool) (d : Device) (before after : ℕ) (a b : Stepped) → joined_stepped a ≡ joined_stepped b → RunsIn protected d before a.executed after →
+    RunsIn protected d before b.executed after
+runs_as protected d before after a b e h = runs_apart protected d before b.executed after (subst (λ (x : Stepped). RunsIn protected d before x.executed after) e
+    (runs_joined protected d before a.executed after h))
 
 -- the count of failures never falls
-pub runs_rise : (d : Device) (before : ℕ) (xs : List Execution) (after : ℕ) → RunsIn d before xs after → before ≤ after
-runs_rise d before [] after h = omega (arith, h)
-runs_rise d before (x ∷ xs) after h = let a = h.1.rises in let b = runs_rise (device_next d) h.0 xs after h.2 in omega (arith, a, b)
+pub runs_rise : (protected : Bool) (d : Device) (before : ℕ) (xs : List Execution) (after : ℕ) → RunsIn protected d before xs after → before ≤ after
+runs_rise protected d before [] after h = omega (arith, h)
+runs_rise protected d before (x ∷ xs) after h = let a = h.1.rises in let b = runs_rise protected (device_next d) h.0 xs after h.2 in omega (arith, a, b)
 
-pub serves_same : (fb fa : ℕ) (f g : Device → Stepped) (broken : Option ℕ) (new : Machine) (now : Disk) (before after : List ℕ)
-    → ((d : Device) → joined_stepped (g d) ≡ joined_stepped (f d)) → Serves fb before g broken (moment new (store_of now fa) after)
-    → Serves fb before f broken (moment new (store_of now fa) after)
-serves_same fb fa f g broken new now before after is h =
+pub serves_same : (protected : Bool) (fb fa : ℕ) (f g : Device → Stepped) (broken : Option ℕ) (new : Machine) (now : Disk) (before after : List ℕ)
+    → ((d : Device) → joined_stepped (g d) ≡ joined_stepped (f d)) → Serves protected fb before g broken (moment new (store_of now fa) after)
+    → Serves protected fb before f broken (moment new (store_of now fa) after)
+serves_same protected fb fa f g broken new now before after is h =
     let q : joined_stepped (g h.device) ≡ joined_stepped (f h.device) = is h.device in
     record {
       device = h.device;
       rises = h.rises;
       works = h.works;
-      runs = runs_as h.device fb fa (g h.device) (f h.device) q h.runs;
+      runs = runs_as protected h.device fb fa (g h.device) (f h.device) q h.runs;
       machine = h.machine ∙ ap (λ (x : Stepped). x.machine) q;
       disk_is = h.disk_is ∙ ap (λ (x : Stepped). x.disk) q;
       output = h.output ∙ ap (λ (x : Stepped). before ++ canon x.answers) q;
       rule_is = h.rule_is ∙ ap (λ (x : Stepped). x.rule) q;
     }
 
-pub serves_if : {E : Type 0} (result : Result (Option ℕ) E) (fb fa : ℕ) (f g : Device → Stepped) (new : Machine) (now : Disk) (before after : List ℕ)
-    → ((d : Device) → g d ≡ f d) → IfOk result (λ b. Serves fb before g b (moment new (store_of now fa) after))
-    → IfOk result (λ b. Serves fb before f b (moment new (store_of now fa) after))
-serves_if result fb fa f g new now before after is h =
-    by_ok (λ b. Serves fb before g b (moment new (store_of now fa) after)) (λ b. Serves fb before f b (moment new (store_of now fa) after)) result
-    (λ b. serves_same fb fa f g b new now before after (λ d. ap joined_stepped (is d))) h
+pub serves_if : {E : Type 0} (protected : Bool) (result : Result (Option ℕ) E) (fb fa : ℕ) (f g : Device → Stepped) (new : Machine) (now : Disk) (before after : List ℕ)
+    → ((d : Device) → g d ≡ f d) → IfOk result (λ b. Serves protected fb before g b (moment new (store_of now fa) after))
+    → IfOk result (λ b. Serves protected fb before f b (moment new (store_of now fa) after))
+serves_if protected result fb fa f g new now before after is h =
+    by_ok (λ b. Serves protected fb before g b (moment new (store_of now fa) after)) (λ b. Serves protected fb before f b (moment new (store_of now fa) after)) result
+    (λ b. serves_same protected fb fa f g b new now before after (λ d. ap joined_stepped (is d))) h
 
-pub same_if : {E : Type 0} (result : Result (Option ℕ) E) (fb fa : ℕ) (f g : Device → Stepped) (new : Machine) (now : Disk) (before after : List ℕ)
-    → ((d : Device) → joined_stepped (g d) ≡ joined_stepped (f d)) → IfOk result (λ b. Serves fb before g b (moment new (store_of now fa) after)) →
-    IfOk result (λ b. Serves fb before f b (moment new (store_of now fa) after))
-same_if result fb fa f g new now before after is h =
-    by_ok (λ b. Serves fb before g b (moment new (store_of now fa) after)) (λ b. Serves fb before f b (moment new (store_of now fa) after)) result
-    (λ b. serves_same fb fa f g b new now before after is) h
+pub same_if : {E : Type 0} (protected : Bool) (result : Result (Option ℕ) E) (fb fa : ℕ) (f g : Device → Stepped) (new : Machine) (now : Disk) (before after : List ℕ)
+    → ((d : Device) → joined_stepped (g d) ≡ joined_stepped (f d)) → IfOk result (λ b. Serves protected fb before g b (moment new (store_of now fa) after)) →
+    IfOk result (λ b. Serves protected fb before f b (moment new (store_of now fa) after))
+same_if protected result fb fa f g new now before after is h =
+    by_ok (λ b. Serves protected fb before g b (moment new (store_of now fa) after)) (λ b. Serves protected fb before f b (moment new (store_of now fa) after)) result
+    (λ b. serves_same protected fb fa f g b new now before after is) h
 
-pub accepts_by : (fb fa : ℕ) (ms : List Message) (g : Device → Stepped) (broken : Option ℕ) (new : Machine) (now : Disk) (before after : List ℕ)
-    → Serves fb before g broken (moment new (store_of now fa) after)
-    → Serves fb before (λ d. having_accepted ms (g d)) broken (moment new (store_of now fa) after)
-accepts_by fb fa ms g broken new now before after h = record {
+pub accepts_by : (protected : Bool) (fb fa : ℕ) (ms : List Message) (g : Device → Stepped) (broken : Option ℕ) (new : Machine) (now : Disk) (before after : List ℕ)
+    → Serves protected fb before g broken (moment new (store_of now fa) after)
+    → Serves protected fb before (λ d. having_accepted ms (g d)) broken (moment new (store_of now fa) after)
+accepts_by protected fb fa ms g broken new now before after h = record {
   device = h.device;
   rises = h.rises;
   works = h.works;
@@ -158,12 +158,12 @@ accepts_by fb fa ms g broken new now before after h = record {
 
 -- ---- an order
 
-pub order_serves : (fb fa tag : ℕ) (s : Machine) (disk : Disk) (order : Order) (pieces : Pieces) (e : Effect) (new : Machine) (now : Disk)
+pub order_serves : (protected : Bool) (fb fa tag : ℕ) (s : Machine) (disk : Disk) (order : Order) (pieces : Pieces) (e : Effect) (new : Machine) (now : Disk)
     (before after : List ℕ)
-    → Executes fb fa disk order (data_of pieces) e → new ≡ record s { session = counted s.session } → now ≡ e.disk
+    → Executes protected fb fa disk order (data_of pieces) e → new ≡ record s { session = counted s.session } → now ≡ e.disk
     → after ≡ before ++ canon (command_answers s.session (waiting s.tasks) tag e.outcome (data_in_parts s.session.held e.outcome.bytes))
-    → Serves fb before (λ d. execute d s disk tag order pieces) None (moment new (store_of now fa) after)
-order_serves fb fa tag s disk order pieces e new now before after x is_new is_now is_after =
+    → Serves protected fb before (λ d. execute d s disk tag order pieces) None (moment new (store_of now fa) after)
+order_serves protected fb fa tag s disk order pieces e new now before after x is_new is_now is_after =
     elim (cases_lt fb fa) [
       | inl lt ↦ record {
         device = λ _ _ _ _. e;
@@ -176,12 +176,12 @@ order_serves fb fa tag s disk order pieces e new now before after x is_new is_no
         rule_is = refl;
       }
       | inr ge ↦
-          let same : e ≡ effect disk order (data_of pieces) = x.works (omega (arith, ge, x.rises)) in
+          let same : e ≡ effect protected disk order (data_of pieces) = x.works (omega (arith, ge, x.rises)) in
           record {
-            device = reliable;
+            device = reliable protected;
             rises = x.rises;
             works = λ _. refl;
-            runs = (fa, subst (λ (y : Effect). Executes fb fa disk order (data_of pieces) y) same x, refl);
+            runs = (fa, subst (λ (y : Effect). Executes protected fb fa disk order (data_of pieces) y) same x, refl);
             machine = ap joined is_new;
             disk_is = is_now ∙ ap (λ (y : Effect). y.disk) same;
             output = is_after ∙ ap (λ (y : Effect). before ++ canon (command_answers s.session (waiting s.tasks) tag y.outcome
@@ -196,17 +196,17 @@ on_err (Err e) h = h
 
 -- ---- what comes of a PDU
 
-pub answered_follows : {E : Type 0} (result : Result (Option ℕ) E) (n : ℕ) (s : Machine) (r : Reply) (next : Next) (disk : Disk) (new : Machine)
+pub answered_follows : {E : Type 0} (protected : Bool) (result : Result (Option ℕ) E) (n : ℕ) (s : Machine) (r : Reply) (next : Next) (disk : Disk) (new : Machine)
     (before after : List ℕ) → next ≡ Answered r → Leaves (on disk s.tasks r) result s new before after
-    → Follows next result (moment s (store_of disk n) before) (moment new (store_of disk n) after)
-answered_follows (Ok rule) n s r next disk new before after is h = record {
-  ok = leaves_serves n (on disk s.tasks r) (λ d. followed d s disk next) disk rule new before after (λ d. ap (followed d s disk) is) refl refl h.machine
+    → Follows protected next result (moment s (store_of disk n) before) (moment new (store_of disk n) after)
+answered_follows protected (Ok rule) n s r next disk new before after is h = record {
+  ok = leaves_serves protected n (on disk s.tasks r) (λ d. followed d s disk next) disk rule new before after (λ d. ap (followed d s disk) is) refl refl h.machine
       h.output h.rule_is;
   err = tt;
 }
-answered_follows (Err e) n s r next disk new before after is h = record {
+answered_follows protected (Err e) n s r next disk new before after is h = record {
   ok = tt;
-  err = subst (λ (x : Next). Halts x (moment s (store_of disk n) before) (moment new (store_of disk n) after)) (sym is) (record {
+  err = subst (λ (x : Next). Halts protected x (moment s (store_of disk n) before) (moment new (store_of disk n) after)) (sym is) (record {
     machine = h.err;
     rises = omega arith;
     disk_is = refl;
@@ -214,21 +214,21 @@ answered_follows (Err e) n s r next disk new before after is h = record {
   });
 }
 
-pub dropped_follows : {E : Type 0} (n : ℕ) (s : Machine) (next : Next) (disk : Disk) (new : Machine) (out : List ℕ) → next ≡ Dropped → new ≡ s →
-    Follows {E = E} next (Ok None) (moment s (store_of disk n) out) (moment new (store_of disk n) out)
-dropped_follows n s next disk new out is e = record {
-  ok = unchanged_serves n s (λ d. followed d s disk next) disk new out (λ d. ap (followed d s disk) is) e;
+pub dropped_follows : {E : Type 0} (protected : Bool) (n : ℕ) (s : Machine) (next : Next) (disk : Disk) (new : Machine) (out : List ℕ) → next ≡ Dropped → new ≡ s →
+    Follows {E = E} protected next (Ok None) (moment s (store_of disk n) out) (moment new (store_of disk n) out)
+dropped_follows protected n s next disk new out is e = record {
+  ok = unchanged_serves protected n s (λ d. followed d s disk next) disk new out (λ d. ap (followed d s disk) is) e;
   err = tt;
 }
 
-pub follows_as : {E : Type 0} (result : Result (Option ℕ) E) (a b : Next) (old : Machine) (before : Store) (output : List ℕ) (new : Machine) (after : Store)
-    (written : List ℕ) → a ≡ b → Follows a result (moment old before output) (moment new after written)
-    → Follows b result (moment old before output) (moment new after written)
-follows_as result a b old before output new after written e h = subst (λ (x : Next). Follows x result (moment old before output) (moment new after written)) e h
+pub follows_as : {E : Type 0} (protected : Bool) (result : Result (Option ℕ) E) (a b : Next) (old : Machine) (before : Store) (output : List ℕ) (new : Machine) (after : Store)
+    (written : List ℕ) → a ≡ b → Follows protected a result (moment old before output) (moment new after written)
+    → Follows protected b result (moment old before output) (moment new after written)
+follows_as protected result a b old before output new after written e h = subst (λ (x : Next). Follows protected x result (moment old before output) (moment new after written)) e h
 
-pub works_follow : {E : Type 0} (result : Result (Option ℕ) E) (next : Next) (session : Session) (tasks : List Task) (old : Machine) (before : Store)
+pub works_follow : {E : Type 0} (protected : Bool) (result : Result (Option ℕ) E) (next : Next) (session : Session) (tasks : List Task) (old : Machine) (before : Store)
     (output : List ℕ) (new : Machine) (after : Store) (written : List ℕ) → next ≡ Queued session tasks
-    → Works result (moment (with_tasks session tasks) before output) (moment new after written)
-    → Follows next result (moment old before output) (moment new after written)
-works_follow result next session tasks old before output new after written is h =
-    subst (λ (x : Next). Follows x result (moment old before output) (moment new after written)) (sym is) (record { ok = h.ok; err = h.err })
+    → Works protected result (moment (with_tasks session tasks) before output) (moment new after written)
+    → Follows protected next result (moment old before output) (moment new after written)
+works_follow protected result next session tasks old before output new after written is h =
+    subst (λ (x : Next). Follows protected x result (moment old before output) (moment new after written)) (sym is) (record { ok = h.ok; err = h.err })

@@ -29,7 +29,7 @@ unfolding answers done_in_turn digits header whole put_bit put_number put_bytes 
 write_in_bursts = (refl, refl, refl)
 
 -- It leaves its eight blocks, and no other changes.
-pub write_leaves_its_blocks : blocks_from (answers logged_in blank
+pub write_leaves_its_blocks : blocks_from (answers false logged_in blank
     (orders (command true false true 4096 (cdbs.Write10 (record { options = 0; logical_block_address = 0; group_number = 0; blocks = 8; control = 0 })))
     (fill 1)
     ∷ sends 0 0 512 (fill 2 ++ fill 3)
@@ -42,7 +42,7 @@ unfolding answers done_in_turn digits header whole put_bit put_number put_bytes 
 write_leaves_its_blocks = refl
 
 -- Before the last Data-Out no block changes.
-pub write_waits_for_all : blocks_from (answers logged_in blank
+pub write_waits_for_all : blocks_from (answers false logged_in blank
     (orders (command true false true 4096 (cdbs.Write10 (record { options = 0; logical_block_address = 0; group_number = 0; blocks = 8; control = 0 })))
     (fill 1)
     ∷ sends 0 0 512 (fill 2 ++ fill 3)

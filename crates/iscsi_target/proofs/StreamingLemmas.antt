@@ -1,5 +1,5 @@
 -- A call of feed in a stream that was answered so far.
-use Rattle.std.proofs.Common.{◌≡◌, inl, inr, ◌∙◌, ℕ, List, ◌++◌, true, false, length, take, sym, ap, subst, arith}
+use Rattle.std.proofs.Common.{Bool, ◌≡◌, inl, inr, ◌∙◌, ℕ, List, ◌++◌, true, false, length, take, sym, ap, subst, arith}
 use Rattle.std.specs.Prelude.{Result, Ok, Err}
 use Rattle.std.proofs.lemmas.List.{take_all}
 use Rattle.scsi_disk.specs.Disk.{Disk}
@@ -17,15 +17,15 @@ use Rattle.iscsi_target.proofs.ClosingLemmas.{answers_close}
 use Rattle.iscsi_target.proofs.FeedingLemmas.{told}
 
 -- the session goes on, and the whole piece was taken
-went_on : (settings : Settings) (n : ℕ) (disk : Disk) (stream : List ℕ) (old : Connection) (before : Store) (out piece : List ℕ)
+went_on : (protected : Bool) (settings : Settings) (n : ℕ) (disk : Disk) (stream : List ℕ) (old : Connection) (before : Store) (out piece : List ℕ)
     (result : Result Phase TargetFault) (new : Connection) (after : Store) (written : List ℕ)
-    → (f : Feeds (scene old before out) piece result (scene new after written)) → Stands out f.stepped f.answered.failures after written
+    → (f : Feeds protected (scene old before out) piece result (scene new after written)) → Stands out f.stepped f.answered.failures after written
     → after.failures ≡ before.failures →
-    HasAnswered (beginning settings n disk) stream old before.disk out
+    HasAnswered protected (beginning settings n disk) stream old before.disk out
     → f.count ≡ length piece → new.framing ≡ f.framing → new.machine ≡ joined f.stepped.machine →
-    HasAnswered (beginning settings n disk) (stream ++ piece) new after.disk written
-went_on settings n disk stream old before out piece result new after written f stood works h all framing machine =
-    let t = told settings n disk stream old before out (take f.count piece) f.framing f.messages f.stepped f.answered.failures after written h f.answered stood
+    HasAnswered protected (beginning settings n disk) (stream ++ piece) new after.disk written
+went_on protected settings n disk stream old before out piece result new after written f stood works h all framing machine =
+    let t = told protected settings n disk stream old before out (take f.count piece) f.framing f.messages f.stepped f.answered.failures after written h f.answered stood
     works in
     let whole : take f.count piece ≡ piece = take_all f.count piece (omega (arith, all)) in
     record {
@@ -37,29 +37,29 @@ went_on settings n disk stream old before out piece result new after written f s
       output_is = t.output_is;
     }
 
-by_end : (settings : Settings) (n : ℕ) (disk : Disk) (stream : List ℕ) (old : Connection) (before : Store) (out piece : List ℕ)
+by_end : (protected : Bool) (settings : Settings) (n : ℕ) (disk : Disk) (stream : List ℕ) (old : Connection) (before : Store) (out piece : List ℕ)
     (result : Result Phase TargetFault) (new : Connection) (after : Store) (written : List ℕ)
-    → (f : Feeds (scene old before out) piece result (scene new after written)) → after.failures ≡ before.failures → is_closed new.machine ≡ false →
-    HasAnswered (beginning settings n disk) stream old before.disk out
-    → Ends piece result f.framing f.count f.stepped new → HasAnswered (beginning settings n disk) (stream ++ piece) new after.disk written
-by_end settings n disk stream old before out piece (Ok phase) new after written f works live h e =
+    → (f : Feeds protected (scene old before out) piece result (scene new after written)) → after.failures ≡ before.failures → is_closed new.machine ≡ false →
+    HasAnswered protected (beginning settings n disk) stream old before.disk out
+    → Ends piece result f.framing f.count f.stepped new → HasAnswered protected (beginning settings n disk) (stream ++ piece) new after.disk written
+by_end protected settings n disk stream old before out piece (Ok phase) new after written f works live h e =
     elim e.3 [
       | inl over ↦ absurd (apart (ap is_closed e.1 ∙ over) live)
-      | inr on ↦ went_on settings n disk stream old before out piece (Ok phase) new after written f f.leaves works h on.all on.framing_is e.1
+      | inr on ↦ went_on protected settings n disk stream old before out piece (Ok phase) new after written f f.leaves works h on.all on.framing_is e.1
     ]
-by_end settings n disk stream old before out piece (Err faults.NoMemory) new after written f works live h e = absurd (apart (ap is_closed f.leaves.shut) live)
-by_end settings n disk stream old before out piece (Err (faults.Stream fault)) new after written f works live h e = absurd (apart (ap is_closed e.3) live)
-by_end settings n disk stream old before out piece (Err (faults.Protocol rule)) new after written f works live h e =
-    let is : f.stepped ≡ answers old.machine before.disk f.messages = f.answered.works works in
+by_end protected settings n disk stream old before out piece (Err faults.NoMemory) new after written f works live h e = absurd (apart (ap is_closed f.leaves.shut) live)
+by_end protected settings n disk stream old before out piece (Err (faults.Stream fault)) new after written f works live h e = absurd (apart (ap is_closed e.3) live)
+by_end protected settings n disk stream old before out piece (Err (faults.Protocol rule)) new after written f works live h e =
+    let is : f.stepped ≡ answers protected old.machine before.disk f.messages = f.answered.works works in
     let over : is_closed f.stepped.machine ≡ true =
-    ap (λ (r : Stepped). is_closed r.machine) is ∙ answers_close old.machine before.disk f.messages rule (ap (λ (r : Stepped). r.rule) (sym is) ∙ e.0) in
+    ap (λ (r : Stepped). is_closed r.machine) is ∙ answers_close protected old.machine before.disk f.messages rule (ap (λ (r : Stepped). r.rule) (sym is) ∙ e.0) in
     absurd (apart (ap is_closed e.1 ∙ over) live)
-by_end settings n disk stream old before out piece (Err faults.Closed) new after written f works live h e = absurd e
+by_end protected settings n disk stream old before out piece (Err faults.Closed) new after written f works live h e = absurd e
 
-pub goes_on : (settings : Settings) (n : ℕ) (disk : Disk) (stream : List ℕ) (old : Connection) (before : Store) (out piece : List ℕ)
+pub goes_on : (protected : Bool) (settings : Settings) (n : ℕ) (disk : Disk) (stream : List ℕ) (old : Connection) (before : Store) (out piece : List ℕ)
     (result : Result Phase TargetFault) (new : Connection) (after : Store) (written : List ℕ)
-    → Feeds (scene old before out) piece result (scene new after written) → after.failures ≡ before.failures → is_closed new.machine ≡ false →
-    HasAnswered (beginning settings n disk) stream old before.disk out
-    → HasAnswered (beginning settings n disk) (stream ++ piece) new after.disk written
-goes_on settings n disk stream old before out piece result new after written f works live h =
-    by_end settings n disk stream old before out piece result new after written f works live h f.ends
+    → Feeds protected (scene old before out) piece result (scene new after written) → after.failures ≡ before.failures → is_closed new.machine ≡ false →
+    HasAnswered protected (beginning settings n disk) stream old before.disk out
+    → HasAnswered protected (beginning settings n disk) (stream ++ piece) new after.disk written
+goes_on protected settings n disk stream old before out piece result new after written f works live h =
+    by_end protected settings n disk stream old before out piece result new after written f works live h f.ends

@@ -147,31 +147,31 @@ next_is d e = λ i n. then_device d e (one_more n i)
     one_more n = omega arith
 
 -- a store that does the first task as the first, and the others as the second
-pub record Joins (d e both : Device) (s : Machine) (disk : Disk) (task : Task) : Type 0 where
+pub record Joins (protected : Bool) (d e both : Device) (s : Machine) (disk : Disk) (task : Task) : Type 0 where
   pub first : begun both s disk task ≡ begun d s disk task
   pub later : device_after (begun d s disk task).executed both ≡ e
-  pub runs : (before after : ℕ) → RunsIn d before (begun d s disk task).executed after → RunsIn both before (begun d s disk task).executed after
-  pub works : d ≡ reliable → e ≡ reliable → both ≡ reliable
+  pub runs : (before after : ℕ) → RunsIn protected d before (begun d s disk task).executed after → RunsIn protected both before (begun d s disk task).executed after
+  pub works : d ≡ reliable protected → e ≡ reliable protected → both ≡ reliable protected
 
-runs_none : (d e : Device) (before after : ℕ) (es : List Execution) → es ≡ [] → RunsIn d before es after → RunsIn e before es after
-runs_none d e before after [] none h = h
-runs_none d e before after (x ∷ es) none h = absurd cc
+runs_none : (protected : Bool) (d e : Device) (before after : ℕ) (es : List Execution) → es ≡ [] → RunsIn protected d before es after → RunsIn protected e before es after
+runs_none protected d e before after [] none h = h
+runs_none protected d e before after (x ∷ es) none h = absurd cc
 
-runs_one : (d e : Device) (before after : ℕ) (es : List Execution) (x : Execution) → es ≡ x ∷ [] → RunsIn d before es after →
-    RunsIn (then_device d e) before es after
-runs_one d e before after [] x one h = absurd cc
-runs_one d e before after (y ∷ []) x one h = h
-runs_one d e before after (y ∷ z ∷ es) x one h = absurd cc
+runs_one : (protected : Bool) (d e : Device) (before after : ℕ) (es : List Execution) (x : Execution) → es ≡ x ∷ [] → RunsIn protected d before es after →
+    RunsIn protected (then_device d e) before es after
+runs_one protected d e before after [] x one h = absurd cc
+runs_one protected d e before after (y ∷ []) x one h = h
+runs_one protected d e before after (y ∷ z ∷ es) x one h = absurd cc
 
-both_reliable : (d e : Device) → d ≡ reliable → e ≡ reliable → then_device d e ≡ reliable
-both_reliable d e p q = λ i n. at n i
+both_reliable : (protected : Bool) (d e : Device) → d ≡ reliable protected → e ≡ reliable protected → then_device d e ≡ reliable protected
+both_reliable protected d e p q = λ i n. at n i
   where
-    at : (n : ℕ) → then_device d e n ≡ reliable n
+    at : (n : ℕ) → then_device d e n ≡ reliable protected n
     at zero = ap (λ (x : Device). x 0) p
     at (suc n) = ap (λ (x : Device). x n) q
 
-pub joins : (d e : Device) (s : Machine) (disk : Disk) (task : Task) → (both : Device) × Joins d e both s disk task
-joins d e s disk task =
+pub joins : (protected : Bool) (d e : Device) (s : Machine) (disk : Disk) (task : Task) → (both : Device) × Joins protected d e both s disk task
+joins protected d e s disk task =
     let l = looks d s disk task in
     elim l.few [
       | inl none ↦ (
@@ -179,7 +179,7 @@ joins d e s disk task =
         record {
           first = l.pure none e;
           later = ap (λ (es : List Execution). device_after es e) none;
-          runs = λ before after h. runs_none d e before after (begun d s disk task).executed none h;
+          runs = λ before after h. runs_none protected d e before after (begun d s disk task).executed none h;
           works = λ p q. q;
         },
       )
@@ -188,23 +188,23 @@ joins d e s disk task =
         record {
           first = begun_first (then_device d e) d s disk task refl;
           later = ap (λ (es : List Execution). device_after es (then_device d e)) one.1 ∙ next_is d e;
-          runs = λ before after h. runs_one d e before after (begun d s disk task).executed one.0 one.1 h;
-          works = both_reliable d e;
+          runs = λ before after h. runs_one protected d e before after (begun d s disk task).executed one.0 one.1 h;
+          works = both_reliable protected d e;
         },
       )
     ]
 
 -- ---- one task after another
 
-serves_by : (fb fa : ℕ) (f : Device → Stepped) (d : Device) (x : Stepped) (broken : Option ℕ) (new : Machine) (now : Disk) (before after : List ℕ) → f d ≡ x →
-    fb ≤ fa → (fa ≡ fb → d ≡ reliable)
-    → RunsIn d fb x.executed fa → joined new ≡ joined x.machine → now ≡ x.disk → after ≡ before ++ canon x.answers → broken ≡ x.rule →
-    Serves fb before f broken (moment new (store_of now fa) after)
-serves_by fb fa f d x broken new now before after is rises works runs machine disk output rule = record {
+serves_by : (protected : Bool) (fb fa : ℕ) (f : Device → Stepped) (d : Device) (x : Stepped) (broken : Option ℕ) (new : Machine) (now : Disk) (before after : List ℕ) → f d ≡ x →
+    fb ≤ fa → (fa ≡ fb → d ≡ reliable protected)
+    → RunsIn protected d fb x.executed fa → joined new ≡ joined x.machine → now ≡ x.disk → after ≡ before ++ canon x.answers → broken ≡ x.rule →
+    Serves protected fb before f broken (moment new (store_of now fa) after)
+serves_by protected fb fa f d x broken new now before after is rises works runs machine disk output rule = record {
   device = d;
   rises = rises;
   works = works;
-  runs = subst (λ (r : Stepped). RunsIn d fb r.executed fa) (sym is) runs;
+  runs = subst (λ (r : Stepped). RunsIn protected d fb r.executed fa) (sym is) runs;
   machine = machine ∙ ap (λ (r : Stepped). joined r.machine) (sym is);
   disk_is = disk ∙ ap (λ (r : Stepped). r.disk) (sym is);
   output = output ∙ ap (λ (r : Stepped). before ++ canon r.answers) (sym is);
@@ -238,8 +238,8 @@ first_on k d s disk task more stay live =
     ∙ ap (λ (b : Bool). if b then r else then_stepped r (done_first k (device_after r.executed d) r.machine.session r.disk more)) live
 
 -- the first task, which was taken from before the others, was done, and left a target that goes on
-pub record Goes (old : Moment) (task : Task) (rule : Option ℕ) (new : Moment) : Type 0 where
-  pub serves : Serves old.store.failures old.output (λ d. begun d old.machine old.store.disk task) rule new
+pub record Goes (protected : Bool) (old : Moment) (task : Task) (rule : Option ℕ) (new : Moment) : Type 0 where
+  pub serves : Serves protected old.store.failures old.output (λ d. begun d old.machine old.store.disk task) rule new
   pub live : is_closed new.machine ≡ false
   pub done : nat_lt (length old.machine.tasks) (length new.machine.tasks) ≡ false
 
@@ -251,10 +251,10 @@ record Leads (d : Device) (s : Session) (disk : Disk) (task : Task) (more : List
   session : mid.session ≡ (begun d (with_tasks s more) disk task).machine.session
   ones_ : ones mid.tasks ≡ ones more
 
-leads : (fb fm : ℕ) (s : Session) (disk : Disk) (task : Task) (more : List Task) (rule : Option ℕ) (mid : Machine) (mid_disk : Disk) (before out : List ℕ) →
-    (g : Goes (moment (with_tasks s more) (store_of disk fb) before) task rule (moment mid (store_of mid_disk fm) out))
+leads : (protected : Bool) (fb fm : ℕ) (s : Session) (disk : Disk) (task : Task) (more : List Task) (rule : Option ℕ) (mid : Machine) (mid_disk : Disk) (before out : List ℕ) →
+    (g : Goes protected (moment (with_tasks s more) (store_of disk fb) before) task rule (moment mid (store_of mid_disk fm) out))
     → Leads g.serves.device s disk task more mid
-leads fb fm s disk task more rule mid mid_disk before out g =
+leads protected fb fm s disk task more rule mid mid_disk before out g =
     let h = g.serves in
     let r : Stepped = begun h.device (with_tasks s more) disk task in
     let session : mid.session ≡ r.machine.session = ap (λ (x : Machine). x.session) h.machine in
@@ -265,21 +265,21 @@ leads fb fm s disk task more rule mid mid_disk before out g =
     record { live = live; stay = stay; tasks = tasks; session = session; ones_ = same ∙ ap ones tasks }
 
 -- and the others are left
-pub left_behind : (old : Moment) (task : Task) (rule : Option ℕ) (new : Moment) → Goes old task rule new → ones new.machine.tasks ≡ ones old.machine.tasks
-left_behind old task rule new g =
-    (leads old.store.failures new.store.failures old.machine.session old.store.disk task old.machine.tasks rule new.machine new.store.disk old.output new.output
+pub left_behind : (protected : Bool) (old : Moment) (task : Task) (rule : Option ℕ) (new : Moment) → Goes protected old task rule new → ones new.machine.tasks ≡ ones old.machine.tasks
+left_behind protected old task rule new g =
+    (leads protected old.store.failures new.store.failures old.machine.session old.store.disk task old.machine.tasks rule new.machine new.store.disk old.output new.output
     g).ones_
 
-pub then_serves : (fb fm fa : ℕ) (s : Session) (disk : Disk) (task : Task) (more : List Task) (rule : Option ℕ) (mid : Machine) (mid_disk : Disk)
+pub then_serves : (protected : Bool) (fb fm fa : ℕ) (s : Session) (disk : Disk) (task : Task) (more : List Task) (rule : Option ℕ) (mid : Machine) (mid_disk : Disk)
     (before out : List ℕ) (broken : Option ℕ) (new : Machine) (now : Disk) (after : List ℕ)
-    → Goes (moment (with_tasks s more) (store_of disk fb) before) task rule (moment mid (store_of mid_disk fm) out)
-    → Serves fm out (λ d. done_in_turn d mid.session mid_disk mid.tasks) broken (moment new (store_of now fa) after)
-    → Serves fb before (λ d. done_in_turn d s disk (task ∷ more)) broken (moment new (store_of now fa) after)
-then_serves fb fm fa s disk task more rule mid mid_disk before out broken new now after g e =
+    → Goes protected (moment (with_tasks s more) (store_of disk fb) before) task rule (moment mid (store_of mid_disk fm) out)
+    → Serves protected fm out (λ d. done_in_turn d mid.session mid_disk mid.tasks) broken (moment new (store_of now fa) after)
+    → Serves protected fb before (λ d. done_in_turn d s disk (task ∷ more)) broken (moment new (store_of now fa) after)
+then_serves protected fb fm fa s disk task more rule mid mid_disk before out broken new now after g e =
     let h = g.serves in
-    let l = leads fb fm s disk task more rule mid mid_disk before out g in
+    let l = leads protected fb fm s disk task more rule mid mid_disk before out g in
     let r : Stepped = begun h.device (with_tasks s more) disk task in
-    let j = joins h.device e.device (with_tasks s more) disk task in
+    let j = joins protected h.device e.device (with_tasks s more) disk task in
     let q : Stepped = done_in_turn e.device mid.session mid_disk more in
     let same : joined_stepped (done_in_turn e.device mid.session mid_disk mid.tasks)
     ≡ joined_stepped q = (done_same e.device mid.session mid_disk mid.tasks more l.ones_).is in
@@ -290,10 +290,10 @@ then_serves fb fm fa s disk task more rule mid mid_disk before out broken new no
     (ap (λ (x : Stepped). x.machine.tasks) j.1.first ∙ l.tasks)
     ∙ ap (λ (x : Stepped). then_stepped x (done_in_turn (device_after x.executed j.0) x.machine.session x.disk more)) j.1.first
     ∙ (λ i. then_stepped r (done_in_turn (j.1.later i) (ses i) (dsk i) more)) in
-    serves_by fb fa (λ d. done_in_turn d s disk (task ∷ more)) j.0 (then_stepped r q) broken new now before after is (omega (arith, h.rises, e.rises))
+    serves_by protected fb fa (λ d. done_in_turn d s disk (task ∷ more)) j.0 (then_stepped r q) broken new now before after is (omega (arith, h.rises, e.rises))
     (λ x. j.1.works (h.works (omega (arith, x, h.rises, e.rises))) (e.works (omega (arith, x, h.rises, e.rises))))
-    (runs_append j.0 fb fm fa r.executed q.executed (j.1.runs fb fm h.runs)
-    (subst (λ (d : Device). RunsIn d fm q.executed fa) (sym j.1.later) (runs_as e.device fm fa (done_in_turn e.device mid.session mid_disk mid.tasks) q same
+    (runs_append protected j.0 fb fm fa r.executed q.executed (j.1.runs fb fm h.runs)
+    (subst (λ (d : Device). RunsIn protected d fm q.executed fa) (sym j.1.later) (runs_as protected e.device fm fa (done_in_turn e.device mid.session mid_disk mid.tasks) q same
     e.runs)))
     (e.machine ∙ ap (λ (x : Stepped). x.machine) same)
     (e.disk_is ∙ ap (λ (x : Stepped). x.disk) same)
@@ -304,16 +304,16 @@ then_serves fb fm fa s disk task more rule mid mid_disk before out broken new no
     (sym ((looks h.device (with_tasks s more) disk task).rule l.live)))
 
 -- the first task was done, and memory ran out behind it
-pub then_stops : (fb fm fa : ℕ) (s : Session) (disk : Disk) (task : Task) (more : List Task) (rule : Option ℕ) (mid : Machine) (mid_disk : Disk)
+pub then_stops : (protected : Bool) (fb fm fa : ℕ) (s : Session) (disk : Disk) (task : Task) (more : List Task) (rule : Option ℕ) (mid : Machine) (mid_disk : Disk)
     (before out : List ℕ) (new : Machine) (now : Disk) (after : List ℕ)
-    → Goes (moment (with_tasks s more) (store_of disk fb) before) task rule (moment mid (store_of mid_disk fm) out)
-    → Stops (moment mid (store_of mid_disk fm) out) (moment new (store_of now fa) after) →
-    Stops (moment (with_tasks s (task ∷ more)) (store_of disk fb) before) (moment new (store_of now fa) after)
-then_stops fb fm fa s disk task more rule mid mid_disk before out new now after g e =
+    → Goes protected (moment (with_tasks s more) (store_of disk fb) before) task rule (moment mid (store_of mid_disk fm) out)
+    → Stops protected (moment mid (store_of mid_disk fm) out) (moment new (store_of now fa) after) →
+    Stops protected (moment (with_tasks s (task ∷ more)) (store_of disk fb) before) (moment new (store_of now fa) after)
+then_stops protected fb fm fa s disk task more rule mid mid_disk before out new now after g e =
     let h = g.serves in
-    let l = leads fb fm s disk task more rule mid mid_disk before out g in
+    let l = leads protected fb fm s disk task more rule mid mid_disk before out g in
     let r : Stepped = begun h.device (with_tasks s more) disk task in
-    let j = joins h.device e.device (with_tasks s more) disk task in
+    let j = joins protected h.device e.device (with_tasks s more) disk task in
     let q : Stepped = done_first e.done e.device mid.session mid_disk more in
     let same : joined_stepped (done_first e.done e.device mid.session mid_disk mid.tasks)
     ≡ joined_stepped q = (first_same e.done e.device mid.session mid_disk mid.tasks more l.ones_).is in
@@ -323,9 +323,9 @@ then_stops fb fm fa s disk task more rule mid mid_disk before out new now after 
     first_on e.done j.0 s disk task more (ap (stays more) j.1.first ∙ l.stay) (ap (λ (x : Stepped). is_closed x.machine) j.1.first ∙ l.live)
     ∙ ap (λ (x : Stepped). then_stepped x (done_first e.done (device_after x.executed j.0) x.machine.session x.disk more)) j.1.first
     ∙ (λ i. then_stepped r (done_first e.done (j.1.later i) (ses i) (dsk i) more)) in
-    let runs : RunsIn j.0 fb (then_stepped r q).executed e.failures =
-    runs_append j.0 fb fm e.failures r.executed q.executed (j.1.runs fb fm h.runs)
-    (subst (λ (d : Device). RunsIn d fm q.executed e.failures) (sym j.1.later) (runs_as e.device fm e.failures
+    let runs : RunsIn protected j.0 fb (then_stepped r q).executed e.failures =
+    runs_append protected j.0 fb fm e.failures r.executed q.executed (j.1.runs fb fm h.runs)
+    (subst (λ (d : Device). RunsIn protected d fm q.executed e.failures) (sym j.1.later) (runs_as protected e.device fm e.failures
     (done_first e.done e.device mid.session mid_disk mid.tasks) q same e.runs)) in
     record {
       done = suc e.done;
@@ -333,7 +333,7 @@ then_stops fb fm fa s disk task more rule mid mid_disk before out new now after 
       live = λ _. ap (λ (x : Stepped). is_closed x.machine) is
           ∙ ap (λ (x : Stepped). is_closed x.machine) (sym same) ∙ e.live g.live;
       failures = e.failures;
-      runs = subst (λ (x : Stepped). RunsIn j.0 fb x.executed e.failures) (sym is) runs;
+      runs = subst (λ (x : Stepped). RunsIn protected j.0 fb x.executed e.failures) (sym is) runs;
       rises = e.rises;
       machine = e.machine ∙ ap (λ (x : Stepped). closed x.machine) same ∙ ap (λ (x : Stepped). closed x.machine) (sym is);
       disk_is = e.disk_is ∙ ap (λ (x : Stepped). x.disk) same ∙ ap (λ (x : Stepped). x.disk) (sym is);
@@ -343,13 +343,13 @@ then_stops fb fm fa s disk task more rule mid mid_disk before out new now after 
     }
 
 -- memory ran out at the first task
-pub first_stops : (fb fa : ℕ) (s : Session) (disk : Disk) (tasks more : List Task) (new : Machine) (now : Disk) (before after : List ℕ) →
+pub first_stops : (protected : Bool) (fb fa : ℕ) (s : Session) (disk : Disk) (tasks more : List Task) (new : Machine) (now : Disk) (before after : List ℕ) →
     GivesUp (moment (with_tasks s more) (store_of disk fb) before) (moment new (store_of now fa) after)
-    → Stops (moment (with_tasks s tasks) (store_of disk fb) before) (moment new (store_of now fa) after)
+    → Stops protected (moment (with_tasks s tasks) (store_of disk fb) before) (moment new (store_of now fa) after)
 unfolding done_first
-first_stops fb fa s disk tasks more new now before after h = record {
+first_stops protected fb fa s disk tasks more new now before after h = record {
   done = 0;
-  device = reliable;
+  device = reliable protected;
   live = λ e. e;
   failures = fb;
   runs = refl;
@@ -367,50 +367,50 @@ unfolding done_in_turn
 stop_at d s disk task [] e = refl
 stop_at d s disk task (x ∷ more) e = rw e refl
 
-pub stop_serves : (fb fa : ℕ) (s : Session) (disk : Disk) (task : Task) (more : List Task) (rule : Option ℕ) (new : Machine) (now : Disk)
+pub stop_serves : (protected : Bool) (fb fa : ℕ) (s : Session) (disk : Disk) (task : Task) (more : List Task) (rule : Option ℕ) (new : Machine) (now : Disk)
     (before after : List ℕ)
-    → Serves fb before (λ d. begun d (with_tasks s more) disk task) rule (moment new (store_of now fa) after)
+    → Serves protected fb before (λ d. begun d (with_tasks s more) disk task) rule (moment new (store_of now fa) after)
     → (nat_lt (length more) (length new.tasks) || is_closed new) ≡ true
-    → Serves fb before (λ d. done_in_turn d s disk (task ∷ more)) rule (moment new (store_of now fa) after)
-stop_serves fb fa s disk task more rule new now before after h e =
+    → Serves protected fb before (λ d. done_in_turn d s disk (task ∷ more)) rule (moment new (store_of now fa) after)
+stop_serves protected fb fa s disk task more rule new now before after h e =
     let r : Stepped = begun h.device (with_tasks s more) disk task in
     let session : new.session ≡ r.machine.session = ap (λ (x : Machine). x.session) h.machine in
     let size : length new.tasks ≡ length r.machine.tasks = size_same new.tasks r.machine.tasks (ap (λ (x : Machine). x.tasks) h.machine) in
     let size_back = sym size in
     let session_back = sym session in
     let stop : (stays more r || is_closed r.machine) ≡ true = (λ i. nat_lt (length more) (size_back i) || is_closed_phase (session_back i).phase) ∙ e in
-    serves_by fb fa (λ d. done_in_turn d s disk (task ∷ more)) h.device r rule new now before after (stop_at h.device s disk task more stop) h.rises h.works
+    serves_by protected fb fa (λ d. done_in_turn d s disk (task ∷ more)) h.device r rule new now before after (stop_at h.device s disk task more stop) h.rises h.works
     h.runs h.machine h.disk_is h.output h.rule_is
 
 -- there is no task
-pub none_serves : (n : ℕ) (s : Session) (disk : Disk) (new : Machine) (out : List ℕ) → new ≡ with_tasks s [] →
-    Serves n out (λ d. done_in_turn d s disk []) None (moment new (store_of disk n) out)
+pub none_serves : (protected : Bool) (n : ℕ) (s : Session) (disk : Disk) (new : Machine) (out : List ℕ) → new ≡ with_tasks s [] →
+    Serves protected n out (λ d. done_in_turn d s disk []) None (moment new (store_of disk n) out)
 unfolding done_in_turn
-none_serves n s disk new out e = unchanged_serves n (with_tasks s []) (λ d. done_in_turn d s disk []) disk new out (λ d. refl) e
+none_serves protected n s disk new out e = unchanged_serves protected n (with_tasks s []) (λ d. done_in_turn d s disk []) disk new out (λ d. refl) e
 
 -- ---- all of them
 
 -- what is left to do is what was to be done
-pub record GoesOn (E : Type 0) (old now : Moment) : Type 0 where
-  pub works : (result : Result (Option ℕ) E) (new : Moment) → Works result now new → Works result old new
+pub record GoesOn (protected : Bool) (E : Type 0) (old now : Moment) : Type 0 where
+  pub works : (result : Result (Option ℕ) E) (new : Moment) → Works protected result now new → Works protected result old new
 
-pub goes_start : {E : Type 0} (old : Moment) → GoesOn E old old
-goes_start old = record { works = λ result new h. h }
+pub goes_start : {E : Type 0} (protected : Bool) (old : Moment) → GoesOn protected E old old
+goes_start protected old = record { works = λ result new h. h }
 
 -- with its tasks so
 abbrev pub at_tasks : Moment → Session → List Task → Moment
 at_tasks at session tasks = moment (with_tasks session tasks) at.store at.output
 
-works_then : {E : Type 0} (result : Result (Option ℕ) E) (session : Session) (task : Task) (behind : List Task) (rule : Option ℕ) (old next new : Moment)
-    → Goes (at_tasks old session behind) task rule next → Works result next new → Works result (at_tasks old session (task ∷ behind)) new
-works_then (Ok broken) session task behind rule old next new g h = record {
-  ok = then_serves old.store.failures next.store.failures new.store.failures session old.store.disk task behind rule next.machine next.store.disk old.output
+works_then : {E : Type 0} (protected : Bool) (result : Result (Option ℕ) E) (session : Session) (task : Task) (behind : List Task) (rule : Option ℕ) (old next new : Moment)
+    → Goes protected (at_tasks old session behind) task rule next → Works protected result next new → Works protected result (at_tasks old session (task ∷ behind)) new
+works_then protected (Ok broken) session task behind rule old next new g h = record {
+  ok = then_serves protected old.store.failures next.store.failures new.store.failures session old.store.disk task behind rule next.machine next.store.disk old.output
       next.output broken new.machine new.store.disk new.output g h.ok;
   err = tt;
 }
-works_then (Err e) session task behind rule old next new g h = record {
+works_then protected (Err e) session task behind rule old next new g h = record {
   ok = tt;
-  err = then_stops old.store.failures next.store.failures new.store.failures session old.store.disk task behind rule next.machine next.store.disk old.output
+  err = then_stops protected old.store.failures next.store.failures new.store.failures session old.store.disk task behind rule next.machine next.store.disk old.output
       next.output new.machine new.store.disk new.output g h.err;
 }
 
@@ -419,91 +419,91 @@ either true b e = refl
 either false b e = e
 
 -- what is left to do, with the tasks written out
-goes_as : {E : Type 0} (result : Result (Option ℕ) E) (old now new : Moment) (session : Session) (tasks : List Task) → GoesOn E old now →
-    now.machine ≡ with_tasks session tasks → Works result (at_tasks now session tasks) new → Works result old new
-goes_as result old now new session tasks g is h =
-    g.works result new (subst (λ (m : Machine). Works result (moment m now.store now.output) new) (sym is) h)
+goes_as : {E : Type 0} (protected : Bool) (result : Result (Option ℕ) E) (old now new : Moment) (session : Session) (tasks : List Task) → GoesOn protected E old now →
+    now.machine ≡ with_tasks session tasks → Works protected result (at_tasks now session tasks) new → Works protected result old new
+goes_as protected result old now new session tasks g is h =
+    g.works result new (subst (λ (m : Machine). Works protected result (moment m now.store now.output) new) (sym is) h)
 
 -- the first task was done
-pub goes_then : {E : Type 0} (old now next : Moment) (session : Session) (task : Task) (behind : List Task) (rule : Option ℕ) → GoesOn E old now →
-    now.machine ≡ with_tasks session (task ∷ behind) → Goes (at_tasks now session behind) task rule next → GoesOn E old next
-goes_then old now next session task behind rule g is step =
-    record { works = λ result new h. goes_as result old now new session (task ∷ behind) g is (works_then result session task behind rule now next new step h) }
+pub goes_then : {E : Type 0} (protected : Bool) (old now next : Moment) (session : Session) (task : Task) (behind : List Task) (rule : Option ℕ) → GoesOn protected E old now →
+    now.machine ≡ with_tasks session (task ∷ behind) → Goes protected (at_tasks now session behind) task rule next → GoesOn protected E old next
+goes_then protected old now next session task behind rule g is step =
+    record { works = λ result new h. goes_as protected result old now new session (task ∷ behind) g is (works_then protected result session task behind rule now next new step h) }
 
 -- the first task ended the session, or stays
-pub goes_stop : (E : Type 0) (old now new : Moment) (session : Session) (task : Task) (behind : List Task) (rule : Option ℕ) → GoesOn E old now →
+pub goes_stop : (protected : Bool) (E : Type 0) (old now new : Moment) (session : Session) (task : Task) (behind : List Task) (rule : Option ℕ) → GoesOn protected E old now →
     now.machine ≡ with_tasks session (task ∷ behind)
-    → Serves now.store.failures now.output (λ d. begun d (with_tasks session behind) now.store.disk task) rule new
-    → (nat_lt (length behind) (length new.machine.tasks) || is_closed new.machine) ≡ true → Works {E = E} (Ok rule) old new
-goes_stop E old now new session task behind rule g is h stop =
-    goes_as (Ok rule) old now new session (task ∷ behind) g is (record {
-      ok = stop_serves now.store.failures new.store.failures session now.store.disk task behind rule new.machine new.store.disk now.output new.output h stop;
+    → Serves protected now.store.failures now.output (λ d. begun d (with_tasks session behind) now.store.disk task) rule new
+    → (nat_lt (length behind) (length new.machine.tasks) || is_closed new.machine) ≡ true → Works {E = E} protected (Ok rule) old new
+goes_stop protected E old now new session task behind rule g is h stop =
+    goes_as protected (Ok rule) old now new session (task ∷ behind) g is (record {
+      ok = stop_serves protected now.store.failures new.store.failures session now.store.disk task behind rule new.machine new.store.disk now.output new.output h stop;
       err = tt;
     })
 
 -- memory ran out at the first task
-pub goes_short : {E : Type 0} (e : E) (old now new : Moment) (session : Session) (task : Task) (behind : List Task) → GoesOn E old now →
-    now.machine ≡ with_tasks session (task ∷ behind) → GivesUp (at_tasks now session behind) new → Works (Err e) old new
-goes_short e old now new session task behind g is h =
-    goes_as (Err e) old now new session (task ∷ behind) g is (record {
+pub goes_short : {E : Type 0} (protected : Bool) (e : E) (old now new : Moment) (session : Session) (task : Task) (behind : List Task) → GoesOn protected E old now →
+    now.machine ≡ with_tasks session (task ∷ behind) → GivesUp (at_tasks now session behind) new → Works protected (Err e) old new
+goes_short protected e old now new session task behind g is h =
+    goes_as protected (Err e) old now new session (task ∷ behind) g is (record {
       ok = tt;
-      err = first_stops now.store.failures new.store.failures session now.store.disk (task ∷ behind) behind new.machine new.store.disk now.output new.output h;
+      err = first_stops protected now.store.failures new.store.failures session now.store.disk (task ∷ behind) behind new.machine new.store.disk now.output new.output h;
     })
 
 -- no task is left
-pub goes_end : (E : Type 0) (old now : Moment) (session : Session) → GoesOn E old now → now.machine ≡ with_tasks session [] →
-    Works {E = E} (Ok None) old (at_tasks now session [])
-goes_end E old now session g none =
-    goes_as (Ok None) old now (at_tasks now session []) session [] g none
-    (record { ok = none_serves now.store.failures session now.store.disk (with_tasks session []) now.output refl; err = tt })
+pub goes_end : (protected : Bool) (E : Type 0) (old now : Moment) (session : Session) → GoesOn protected E old now → now.machine ≡ with_tasks session [] →
+    Works {E = E} protected (Ok None) old (at_tasks now session [])
+goes_end protected E old now session g none =
+    goes_as protected (Ok None) old now (at_tasks now session []) session [] g none
+    (record { ok = none_serves protected now.store.failures session now.store.disk (with_tasks session []) now.output refl; err = tt })
 
 -- ---- a request that is the only task
 
-alone_handles : {E : Type 0} (result : Result (Option ℕ) E) (session : Session) (m : Message) (before : Store) (output : List ℕ) (new : Machine) (after : Store)
+alone_handles : {E : Type 0} (protected : Bool) (result : Result (Option ℕ) E) (session : Session) (m : Message) (before : Store) (output : List ℕ) (new : Machine) (after : Store)
     (written : List ℕ)
     → breaks_rules session.held (length (segment_bytes m.segment)) m.head ≡ false →
-    Handles (λ d. handled d (with_tasks session []) before.disk m m.head) result (moment (with_tasks session []) before output) (moment new after written)
-    → Works result (moment (with_tasks session (task_of before.disk.count m ∷ [])) before output) (moment new after written)
-alone_handles (Ok rule) session m before output new after written keeps h = record {
-  ok = serves_same before.failures after.failures (λ d. done_in_turn d session before.disk (task_of before.disk.count m ∷ []))
+    Handles protected (λ d. handled d (with_tasks session []) before.disk m m.head) result (moment (with_tasks session []) before output) (moment new after written)
+    → Works protected result (moment (with_tasks session (task_of before.disk.count m ∷ [])) before output) (moment new after written)
+alone_handles protected (Ok rule) session m before output new after written keeps h = record {
+  ok = serves_same protected before.failures after.failures (λ d. done_in_turn d session before.disk (task_of before.disk.count m ∷ []))
       (λ d. handled d (with_tasks session []) before.disk m m.head) rule new after.disk output written
       (λ d. ap joined_stepped (sym (done_alone d session before.disk (task_of before.disk.count m) ∙ alone d (with_tasks session []) before.disk m keeps)))
       h.ok;
   err = tt;
 }
-alone_handles (Err e) session m before output new after written keeps h = record {
+alone_handles protected (Err e) session m before output new after written keeps h = record {
   ok = tt;
-  err = first_stops before.failures after.failures session before.disk (task_of before.disk.count m ∷ []) [] new after.disk output written h.err;
+  err = first_stops protected before.failures after.failures session before.disk (task_of before.disk.count m ∷ []) [] new after.disk output written h.err;
 }
 
-pub alone_works : {E : Type 0} (result : Result (Option ℕ) E) (s : Machine) (m : Message) (before : Store) (output : List ℕ) (new : Machine) (after : Store)
+pub alone_works : {E : Type 0} (protected : Bool) (result : Result (Option ℕ) E) (s : Machine) (m : Message) (before : Store) (output : List ℕ) (new : Machine) (after : Store)
     (written : List ℕ)
     → s.tasks ≡ [] → breaks_rules s.session.held (length (segment_bytes m.segment)) m.head ≡ false →
-    Handles (λ d. handled d s before.disk m m.head) result (moment s before output) (moment new after written)
-    → Works result (moment (with_tasks s.session (s.tasks ++ task_of before.disk.count m ∷ [])) before output) (moment new after written)
-alone_works result s m before output new after written none keeps h =
+    Handles protected (λ d. handled d s before.disk m m.head) result (moment s before output) (moment new after written)
+    → Works protected result (moment (with_tasks s.session (s.tasks ++ task_of before.disk.count m ∷ [])) before output) (moment new after written)
+alone_works protected result s m before output new after written none keeps h =
     let is : s ≡ with_tasks s.session [] = ap (with_tasks s.session) none in
-    subst (λ (ts : List Task). Works result (moment (with_tasks s.session (ts ++ task_of before.disk.count m ∷ [])) before output)
+    subst (λ (ts : List Task). Works protected result (moment (with_tasks s.session (ts ++ task_of before.disk.count m ∷ [])) before output)
     (moment new after written)) (sym none)
-    (alone_handles result s.session m before output new after written keeps (subst
-    (λ (x : Machine). Handles (λ d. handled d x before.disk m m.head) result (moment x before output) (moment new after written)) is h))
+    (alone_handles protected result s.session m before output new after written keeps (subst
+    (λ (x : Machine). Handles protected (λ d. handled d x before.disk m m.head) result (moment x before output) (moment new after written)) is h))
 
 -- memory ran out before a request was kept as a task
-pub short_works : {E : Type 0} (e : E) (s : Machine) (tasks : List Task) (before : Store) (output : List ℕ) →
-    Works (Err e) (moment (with_tasks s.session tasks) before output) (moment s before output)
-short_works e s tasks before output = record {
+pub short_works : {E : Type 0} (protected : Bool) (e : E) (s : Machine) (tasks : List Task) (before : Store) (output : List ℕ) →
+    Works protected (Err e) (moment (with_tasks s.session tasks) before output) (moment s before output)
+short_works protected e s tasks before output = record {
   ok = tt;
-  err = first_stops before.failures before.failures s.session before.disk tasks s.tasks s before.disk output output
+  err = first_stops protected before.failures before.failures s.session before.disk tasks s.tasks s before.disk output output
       (record { machine = refl; rises = omega arith; disk_is = refl; unwritten = refl });
 }
 
 -- memory ran out, whatever comes of the PDU
-pub short_halts : (n : ℕ) (s new : Machine) (disk : Disk) (out : List ℕ) (next : Next) → session_of s next ≡ s.session → closed new ≡ closed s →
-    Halts next (moment s (store_of disk n) out) (moment new (store_of disk n) out)
-short_halts n s new disk out Dropped same e = record { machine = e; rises = omega arith; disk_is = refl; unwritten = refl }
-short_halts n s new disk out (Answered r) same e = record { machine = e; rises = omega arith; disk_is = refl; unwritten = refl }
-short_halts n s new disk out (Queued session tasks) same e =
-    first_stops n n session disk tasks s.tasks new disk out out (record {
+pub short_halts : (protected : Bool) (n : ℕ) (s new : Machine) (disk : Disk) (out : List ℕ) (next : Next) → session_of s next ≡ s.session → closed new ≡ closed s →
+    Halts protected next (moment s (store_of disk n) out) (moment new (store_of disk n) out)
+short_halts protected n s new disk out Dropped same e = record { machine = e; rises = omega arith; disk_is = refl; unwritten = refl }
+short_halts protected n s new disk out (Answered r) same e = record { machine = e; rises = omega arith; disk_is = refl; unwritten = refl }
+short_halts protected n s new disk out (Queued session tasks) same e =
+    first_stops protected n n session disk tasks s.tasks new disk out out (record {
       machine = e ∙ ap (λ (x : Session). closed (with_tasks x s.tasks)) (sym same);
       rises = omega arith;
       disk_is = refl;
@@ -511,15 +511,15 @@ short_halts n s new disk out (Queued session tasks) same e =
     })
 
 -- where a piece of a write ended makes no difference
-pub works_same : {E : Type 0} (result : Result (Option ℕ) E) (session : Session) (ts us : List Task) (before : Store) (output : List ℕ) (new : Machine)
-    (after : Store) (written : List ℕ) → ones ts ≡ ones us → Works result (moment (with_tasks session ts) before output) (moment new after written)
-    → Works result (moment (with_tasks session us) before output) (moment new after written)
-works_same (Ok rule) session ts us before output new after written e h = record {
-  ok = serves_same before.failures after.failures (λ d. done_in_turn d session before.disk us)
+pub works_same : {E : Type 0} (protected : Bool) (result : Result (Option ℕ) E) (session : Session) (ts us : List Task) (before : Store) (output : List ℕ) (new : Machine)
+    (after : Store) (written : List ℕ) → ones ts ≡ ones us → Works protected result (moment (with_tasks session ts) before output) (moment new after written)
+    → Works protected result (moment (with_tasks session us) before output) (moment new after written)
+works_same protected (Ok rule) session ts us before output new after written e h = record {
+  ok = serves_same protected before.failures after.failures (λ d. done_in_turn d session before.disk us)
       (λ d. done_in_turn d session before.disk ts) rule new after.disk output written (λ d. (done_same d session before.disk ts us e).is) h.ok;
   err = tt;
 }
-works_same (Err x) session ts us before output new after written e h =
+works_same protected (Err x) session ts us before output new after written e h =
     let q = h.err in
     let same : joined_stepped (done_first q.done q.device session before.disk ts)
     ≡ joined_stepped (done_first q.done q.device session before.disk us) = (first_same q.done q.device session before.disk ts us e).is in
@@ -530,7 +530,7 @@ works_same (Err x) session ts us before output new after written e h =
         device = q.device;
         live = λ e. ap (λ (y : Stepped). is_closed y.machine) (sym same) ∙ q.live e;
         failures = q.failures;
-        runs = runs_as q.device before.failures q.failures (done_first q.done q.device session before.disk ts)
+        runs = runs_as protected q.device before.failures q.failures (done_first q.done q.device session before.disk ts)
             (done_first q.done q.device session before.disk us) same q.runs;
         rises = q.rises;
         machine = q.machine ∙ ap (λ (y : Stepped). closed y.machine) same;

@@ -142,16 +142,16 @@ done_alone device s disk task = refl
 -- ---- a store
 
 -- Orders in two parts run as at once.
-pub runs_append : (device : Device) (before now after : ℕ) (a b : List Execution) → RunsIn device before a now → RunsIn (device_after a device) now b after →
-    RunsIn device before (a ++ b) after
-runs_append device before now after [] b x y = subst (λ (n : ℕ). RunsIn device n b after) x y
-runs_append device before now after (e ∷ es) b x y = (x.0, x.1, runs_append (device_next device) x.0 now after es b x.2 y)
+pub runs_append : (protected : Bool) (device : Device) (before now after : ℕ) (a b : List Execution) → RunsIn protected device before a now → RunsIn protected (device_after a device) now b after →
+    RunsIn protected device before (a ++ b) after
+runs_append protected device before now after [] b x y = subst (λ (n : ℕ). RunsIn protected device n b after) x y
+runs_append protected device before now after (e ∷ es) b x y = (x.0, x.1, runs_append protected (device_next device) x.0 now after es b x.2 y)
 
 -- And as at once, in two parts.
-pub runs_split : (device : Device) (before after : ℕ) (a b : List Execution) → RunsIn device before (a ++ b) after
-    → (now : ℕ) × RunsIn device before a now × RunsIn (device_after a device) now b after
-runs_split device before after [] b x = (before, refl, x)
-runs_split device before after (e ∷ es) b x =
-    let more : (now : ℕ) × RunsIn (device_next device) x.0 es now × RunsIn (device_after es (device_next device)) now b after =
-    runs_split (device_next device) x.0 after es b x.2 in
+pub runs_split : (protected : Bool) (device : Device) (before after : ℕ) (a b : List Execution) → RunsIn protected device before (a ++ b) after
+    → (now : ℕ) × RunsIn protected device before a now × RunsIn protected (device_after a device) now b after
+runs_split protected device before after [] b x = (before, refl, x)
+runs_split protected device before after (e ∷ es) b x =
+    let more : (now : ℕ) × RunsIn protected (device_next device) x.0 es now × RunsIn protected (device_after es (device_next device)) now b after =
+    runs_split protected (device_next device) x.0 after es b x.2 in
     (more.0, (x.0, x.1, more.1), more.2)

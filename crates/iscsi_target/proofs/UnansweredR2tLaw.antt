@@ -394,22 +394,22 @@ parts_ask device disk = record {
 step_asks : (device : Device) (disk : Disk) (s : Machine) (m : Message) → Whole disk s m (step_on device s disk m)
 step_asks device disk s m = step_parts device disk (Whole disk) (parts_ask device disk) s m
 
-pub answers_asks : (s : Machine) (disk : Disk) (ms : List Message) → IsSound disk.count s.tasks → AreKept s.tasks
-    → sent (answers s disk ms) + unanswered s.tasks ≤ r2ts_answered s disk ms + 1
+pub answers_asks : (protected : Bool) (s : Machine) (disk : Disk) (ms : List Message) → IsSound disk.count s.tasks → AreKept s.tasks
+    → sent (answers protected s disk ms) + unanswered s.tasks ≤ r2ts_answered protected s disk ms + 1
 unfolding answers r2ts_answered
-answers_asks s disk [] o k = omega (arith, unanswered_few s.tasks)
-answers_asks s disk (m ∷ ms) o k =
-    let first : Stepped = step s disk m in
-    let later : Stepped = answers first.machine first.disk ms in
-    let c : Asks (unanswered s.tasks) (pdu_answers s m m.head) first = step_asks reliable disk s m o k in
+answers_asks protected s disk [] o k = omega (arith, unanswered_few s.tasks)
+answers_asks protected s disk (m ∷ ms) o k =
+    let first : Stepped = step protected s disk m in
+    let later : Stepped = answers protected first.machine first.disk ms in
+    let c : Asks (unanswered s.tasks) (pdu_answers s m m.head) first = step_asks (reliable protected) disk s m o k in
     let size = sent_append first later in
     by_cases (is_closed first.machine)
-    (λ e. let none : sent later ≡ 0 = ap sent (closed_answers first.machine first.disk ms e) in omega (arith, c.closed_ e, none, size))
-    (λ e. let sound : IsSound first.disk.count first.machine.tasks = subst (λ (n : ℕ). IsSound n first.machine.tasks) (sym (step_count s disk m))
-    (step_goes disk s m o).sound in
-    let rest = answers_asks first.machine first.disk ms sound (step_kept reliable s disk m k) in
+    (λ e. let none : sent later ≡ 0 = ap sent (closed_answers protected first.machine first.disk ms e) in omega (arith, c.closed_ e, none, size))
+    (λ e. let sound : IsSound first.disk.count first.machine.tasks = subst (λ (n : ℕ). IsSound n first.machine.tasks) (sym (step_count protected s disk m))
+    (step_goes protected disk s m o).sound in
+    let rest = answers_asks protected first.machine first.disk ms sound (step_kept (reliable protected) s disk m k) in
     omega (arith, c.open_ e, rest, size))
 
-pub opening_asks : (settings : Settings) (n : ℕ) (disk : Disk) (ms : List Message)
-    → length (r2t_ranges (answers (opening settings n) disk ms).answers) ≤ r2ts_answered (opening settings n) disk ms + 1
-opening_asks settings n disk ms = omega (arith, answers_asks (opening settings n) disk ms tt none_kept)
+pub opening_asks : (protected : Bool) (settings : Settings) (n : ℕ) (disk : Disk) (ms : List Message)
+    → length (r2t_ranges (answers protected (opening settings n) disk ms).answers) ≤ r2ts_answered protected (opening settings n) disk ms + 1
+opening_asks protected settings n disk ms = omega (arith, answers_asks protected (opening settings n) disk ms tt none_kept)

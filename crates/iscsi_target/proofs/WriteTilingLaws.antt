@@ -6,7 +6,7 @@ use Rattle.std.specs.List.{AllByRecursion}
 use Rattle.std.proofs.lemmas.Bool.{eqb-true, ltb-false}
 use Rattle.scsi_cdb.specs.declared.sense.Sense.{Sense}
 use Rattle.scsi_disk.specs.Disk.{Disk}
-use Rattle.scsi_disk.specs.Effect.{Effect, effect, disk_by}
+use Rattle.scsi_disk.specs.Effect.{guarded, Effect, effect, disk_by}
 use Rattle.scsi_disk.specs.Runs.{disk_after}
 use Rattle.scsi_disk.specs.Plan.{plan_of, plan_by, first_refusal, refusals, is_write, transfer}
 use Rattle.scsi_disk.specs.declared.order.Order.{Order}
@@ -184,13 +184,13 @@ writes_open s disk _ _ (Waits w) o = o
 writes_open s disk _ _ (Opens m h total k e f) o =
     opened_open disk.count s.session.held h total (segment_bytes m.segment) f (immediate_fits disk.count h s.session.held total (segment_bytes m.segment) e f)
 
-executed_count : (device : Device) (disk : Disk) (order : Order) (bytes : List ℕ) → device ≡ reliable → (device 0 disk order bytes).disk.count ≡ disk.count
-executed_count device disk order bytes e = ap (λ (d : Device). (d 0 disk order bytes).disk.count) e ∙ count_by_plan (plan_of order disk.count) disk order bytes
+executed_count : (protected : Bool) (device : Device) (disk : Disk) (order : Order) (bytes : List ℕ) → device ≡ reliable protected → (device 0 disk order bytes).disk.count ≡ disk.count
+executed_count protected device disk order bytes e = ap (λ (d : Device). (d 0 disk order bytes).disk.count) e ∙ count_by_plan (guarded protected (plan_of order disk.count)) disk order bytes
 
-execute_goes : (device : Device) (s : Machine) (disk : Disk) (tag : ℕ) (order : Order) (pieces : Pieces) → device ≡ reliable →
+execute_goes : (protected : Bool) (device : Device) (s : Machine) (disk : Disk) (tag : ℕ) (order : Order) (pieces : Pieces) → device ≡ reliable protected →
     TilesPlan (plan_of order disk.count) pieces
     → IsSound disk.count s.tasks → Goes s disk (execute device s disk tag order pieces)
-execute_goes device s disk tag order pieces e t o =
+execute_goes protected device s disk tag order pieces e t o =
     let none = execute_ranges device s disk tag order pieces in
     record {
       keeps = record {
@@ -198,20 +198,20 @@ execute_goes device s disk tag order pieces e t o =
         tiled = (t, tt);
         modest = no_ranges s.session.held (total_of s.tasks) (r2t_ranges (execute device s disk tag order pieces).answers) none;
       };
-      count = executed_count device disk order (data_of pieces) e;
+      count = executed_count protected device disk order (data_of pieces) e;
       silent = λ stay. none;
     }
 
-begins_go : Begins (λ device s disk task r. device ≡ reliable → OnTask (IsOpen disk.count) task → IsSound disk.count s.tasks → Goes s disk r)
-begins_go = record {
+begins_go : (protected : Bool) → Begins (λ device s disk task r. device ≡ reliable protected → OnTask (IsOpen disk.count) task → IsSound disk.count s.tasks → Goes s disk r)
+begins_go protected = record {
   request_ = λ device s disk m none e open_ o.
       (let c = request_answered_reply s.session (waiting s.tasks) m m.head in
       record { keeps = reply_goes s disk _ c.ranges o; count = refl; silent = λ stay. c.ranges });
   refused_ = λ device s disk m h k broke e open_ o. record { keeps = reply_goes s disk _ refl o; count = refl; silent = λ stay. refl };
-  command_ = λ device s disk m h k none e open_ o. execute_goes device s disk h.initiator_task_tag (order_of h) [] e
+  command_ = λ device s disk m h k none e open_ o. execute_goes protected device s disk h.initiator_task_tag (order_of h) [] e
       (no_plan_tiles (plan_of (order_of h) disk.count) none) o;
   write_ = λ device s disk task w is whole e open_ o.
-      execute_goes device s disk w.initiator_task_tag w.order w.pieces e (whole_tiles disk.count w (writes_open s disk task w is open_) whole) o;
+      execute_goes protected device s disk w.initiator_task_tag w.order w.pieces e (whole_tiles disk.count w (writes_open s disk task w is open_) whole) o;
   send_r2t_ = λ device s disk task w is whole idle e open_ o.
       (let held = writes_open s disk task w is open_ in
       record {
@@ -230,32 +230,32 @@ begins_go = record {
   };
 }
 
-begun_goes : (device : Device) (s : Session) (disk : Disk) (task : Task) (more : List Task) → device ≡ reliable → IsSound disk.count (task ∷ more) →
+begun_goes : (protected : Bool) (device : Device) (s : Session) (disk : Disk) (task : Task) (more : List Task) → device ≡ reliable protected → IsSound disk.count (task ∷ more) →
     Goes (with_tasks s more) disk (begun device (with_tasks s more) disk task)
-begun_goes device s disk task more e o =
-    begins (λ device s disk task r. device ≡ reliable → OnTask (IsOpen disk.count) task → IsSound disk.count s.tasks →
-    Goes s disk r) begins_go device (with_tasks s more) disk task e o.0 o.1
+begun_goes protected device s disk task more e o =
+    begins (λ device s disk task r. device ≡ reliable protected → OnTask (IsOpen disk.count) task → IsSound disk.count s.tasks →
+    Goes s disk r) (begins_go protected) device (with_tasks s more) disk task e o.0 o.1
 
 -- what is left of a store that doesn't fail
-pub still_reliable : (es : List Execution) → device_after es reliable ≡ reliable
-still_reliable [] = refl
-still_reliable (e ∷ es) = still_reliable es
+pub still_reliable : (protected : Bool) (es : List Execution) → device_after es (reliable protected) ≡ reliable protected
+still_reliable protected [] = refl
+still_reliable protected (e ∷ es) = still_reliable protected es
 
 both_tiled : (a b : List Execution) → AllByRecursion IsTiled a → AllByRecursion IsTiled b → AllByRecursion IsTiled (a ++ b)
 both_tiled [] b x y = y
 both_tiled (e ∷ a) b x y = (x.0, both_tiled a b x.1 y)
 
-abbrev Keeps : Device → Disk → List Task → Stepped → Type 0
-Keeps device disk tasks r = device ≡ reliable → IsSound disk.count tasks → KeepsWrites disk.count r
+abbrev Keeps : Bool → Device → Disk → List Task → Stepped → Type 0
+Keeps protected device disk tasks r = device ≡ reliable protected → IsSound disk.count tasks → KeepsWrites disk.count r
 
-turns_go : Turns (λ device s disk tasks r. Keeps device disk tasks r)
-turns_go = record {
+turns_go : (protected : Bool) → Turns (λ device s disk tasks r. Keeps protected device disk tasks r)
+turns_go protected = record {
   none_ = λ device s disk e o. record { sound = tt; tiled = tt; modest = tt };
-  stop_ = λ device s disk task more why e o. (begun_goes device s disk task more e o).keeps;
+  stop_ = λ device s disk task more why e o. (begun_goes protected device s disk task more e o).keeps;
   then_ = λ device s disk task more b stay live u e o.
       (let a : Stepped = begun device (with_tasks s more) disk task in
-      let g = begun_goes device s disk task more e o in
-      let later : KeepsWrites a.disk.count b = u (ap (device_after a.executed) e ∙ still_reliable a.executed)
+      let g = begun_goes protected device s disk task more e o in
+      let later : KeepsWrites a.disk.count b = u (ap (device_after a.executed) e ∙ still_reliable protected a.executed)
       (subst (λ (n : ℕ). IsSound n more) (sym g.count) o.1) in
       let ranges : r2t_ranges (a.answers ++ b.answers) ≡ r2t_ranges b.answers =
       flat_map-append (λ (m : Message). r2t_range m.head) a.answers b.answers ∙ ap (λ (rs : List (ℕ × ℕ)). rs ++ r2t_ranges b.answers) (g.silent stay) in
@@ -266,8 +266,8 @@ turns_go = record {
       });
 }
 
-done_goes : (s : Session) (disk : Disk) (tasks : List Task) → IsSound disk.count tasks → KeepsWrites disk.count (done_in_turn reliable s disk tasks)
-done_goes s disk tasks o = turns (λ device s disk tasks r. Keeps device disk tasks r) turns_go reliable s disk tasks refl o
+done_goes : (protected : Bool) (s : Session) (disk : Disk) (tasks : List Task) → IsSound disk.count tasks → KeepsWrites disk.count (done_in_turn (reliable protected) s disk tasks)
+done_goes protected s disk tasks o = turns (λ device s disk tasks r. Keeps protected device disk tasks r) (turns_go protected) (reliable protected) s disk tasks refl o
 
 -- ---- a Data-Out
 
@@ -316,60 +316,60 @@ taken_kept count r ms k = record { sound = k.sound; tiled = k.tiled; modest = k.
 abbrev Sounds : Disk → Machine → Stepped → Type 0
 Sounds disk s r = IsSound disk.count s.tasks → KeepsWrites disk.count r
 
-parts_go : (disk : Disk) → Parts reliable disk (λ s m r. Sounds disk s r)
-parts_go disk = record {
+parts_go : (protected : Bool) (disk : Disk) → Parts (reliable protected) disk (λ s m r. Sounds disk s r)
+parts_go protected disk = record {
   nothing_ = λ s m c o. record { sound = o; tiled = tt; modest = tt };
   shut_ = λ s m o. record { sound = tt; tiled = tt; modest = tt };
   reject_ = λ s reason m a o. reply_goes s disk _ refl o;
   reject_and_close_ = λ s rule m o. reply_goes s disk _ refl o;
   login_ = λ s m k o. reply_goes s disk (login_step s.session m) (login_logs s.session m).is.ranges o;
   taken_ = λ s m h w v k e f o.
-      taken_kept disk.count (done_in_turn reliable s.session disk (with_write v s.tasks)) [] (done_goes s.session disk (with_write v s.tasks)
+      taken_kept disk.count (done_in_turn (reliable protected) s.session disk (with_write v s.tasks)) [] (done_goes protected s.session disk (with_write v s.tasks)
       (written_sound disk.count v s.tasks (taken_open disk.count (first_burst s.session.held) w v h (segment_bytes m.segment)
       (found_open disk.count s.tasks h.initiator_task_tag w e o) f) o));
   refused_ = λ s t m rule a x o. taken_kept disk.count (breaks t disk rule m) (m ∷ []) (reply_goes t disk _ refl (same_sound disk.count s t m x o));
   admitted_ = λ s t m a x f o.
-      taken_kept disk.count (done_in_turn reliable t.session disk (t.tasks ++ task_of disk.count m ∷ [])) (m ∷ [])
-      (done_goes t.session disk (t.tasks ++ task_of disk.count m ∷ [])
+      taken_kept disk.count (done_in_turn (reliable protected) t.session disk (t.tasks ++ task_of disk.count m ∷ [])) (m ∷ [])
+      (done_goes protected t.session disk (t.tasks ++ task_of disk.count m ∷ [])
       (with_sound disk.count t.tasks (task_of disk.count m) (same_sound disk.count s t m x o) (task_sound disk.count t.session.held m m.head f)));
 }
 
 -- one step
-pub step_goes : (disk : Disk) (s : Machine) (m : Message) → IsSound disk.count s.tasks → KeepsWrites disk.count (step s disk m)
-step_goes disk s m o = step_parts reliable disk (λ s m r. Sounds disk s r) (parts_go disk) s m o
+pub step_goes : (protected : Bool) (disk : Disk) (s : Machine) (m : Message) → IsSound disk.count s.tasks → KeepsWrites disk.count (step protected s disk m)
+step_goes protected disk s m o = step_parts (reliable protected) disk (λ s m r. Sounds disk s r) (parts_go protected disk) s m o
 
 -- ---- the number of blocks
 
-count_kept : (disk : Disk) (es : List Execution) → (disk_after (map supplied es) disk).count ≡ disk.count
+count_kept : (protected : Bool) (disk : Disk) (es : List Execution) → (disk_after protected (map supplied es) disk).count ≡ disk.count
 unfolding disk_after
-count_kept disk [] = refl
-count_kept disk (e ∷ es) = count_kept (effect disk e.order (data_of e.pieces)).disk es
-    ∙ count_by_plan (plan_of e.order disk.count) disk e.order (data_of e.pieces)
+count_kept protected disk [] = refl
+count_kept protected disk (e ∷ es) = count_kept protected (effect protected disk e.order (data_of e.pieces)).disk es
+    ∙ count_by_plan (guarded protected (plan_of e.order disk.count)) disk e.order (data_of e.pieces)
 
-pub step_count : (s : Machine) (disk : Disk) (m : Message) → (step s disk m).disk.count ≡ disk.count
-step_count s disk m = ap (λ (d : Disk). d.count) (step_folds s disk m) ∙ count_kept disk (step s disk m).executed
+pub step_count : (protected : Bool) (s : Machine) (disk : Disk) (m : Message) → (step protected s disk m).disk.count ≡ disk.count
+step_count protected s disk m = ap (λ (d : Disk). d.count) (step_folds protected s disk m) ∙ count_kept protected disk (step protected s disk m).executed
 
-pub answers_count : (s : Machine) (disk : Disk) (ms : List Message) → (answers s disk ms).disk.count ≡ disk.count
+pub answers_count : (protected : Bool) (s : Machine) (disk : Disk) (ms : List Message) → (answers protected s disk ms).disk.count ≡ disk.count
 unfolding answers
-answers_count s disk [] = refl
-answers_count s disk (m ∷ ms) = answers_count (step s disk m).machine (step s disk m).disk ms ∙ step_count s disk m
+answers_count protected s disk [] = refl
+answers_count protected s disk (m ∷ ms) = answers_count protected (step protected s disk m).machine (step protected s disk m).disk ms ∙ step_count protected s disk m
 
 -- ---- from the opening state
 
-pub answers_sound : (s : Machine) (disk : Disk) (ms : List Message) → IsSound disk.count s.tasks → IsSound disk.count (answers s disk ms).machine.tasks
+pub answers_sound : (protected : Bool) (s : Machine) (disk : Disk) (ms : List Message) → IsSound disk.count s.tasks → IsSound disk.count (answers protected s disk ms).machine.tasks
 unfolding answers
-answers_sound s disk [] o = o
-answers_sound s disk (m ∷ ms) o =
-    let first : Stepped = step s disk m in
-    let same : first.disk.count ≡ disk.count = step_count s disk m in
-    let now : IsSound first.disk.count first.machine.tasks = subst (λ (n : ℕ). IsSound n first.machine.tasks) (sym same) (step_goes disk s m o).sound in
-    subst (λ (n : ℕ). IsSound n (answers first.machine first.disk ms).machine.tasks) same (answers_sound first.machine first.disk ms now)
+answers_sound protected s disk [] o = o
+answers_sound protected s disk (m ∷ ms) o =
+    let first : Stepped = step protected s disk m in
+    let same : first.disk.count ≡ disk.count = step_count protected s disk m in
+    let now : IsSound first.disk.count first.machine.tasks = subst (λ (n : ℕ). IsSound n first.machine.tasks) (sym same) (step_goes protected disk s m o).sound in
+    subst (λ (n : ℕ). IsSound n (answers protected first.machine first.disk ms).machine.tasks) same (answers_sound protected first.machine first.disk ms now)
 
 -- after any messages, the next one keeps what is said of writes
-pub reached_keeps : (settings : Settings) (n : ℕ) (disk : Disk) (ms : List Message) (m : Message)
-    → KeepsWrites (answers (opening settings n) disk ms).disk.count (step (answers (opening settings n) disk ms).machine
-    (answers (opening settings n) disk ms).disk m)
-reached_keeps settings n disk ms m =
-    let r : Stepped = answers (opening settings n) disk ms in
-    step_goes r.disk r.machine m
-    (subst (λ (k : ℕ). IsSound k r.machine.tasks) (sym (answers_count (opening settings n) disk ms)) (answers_sound (opening settings n) disk ms tt))
+pub reached_keeps : (protected : Bool) (settings : Settings) (n : ℕ) (disk : Disk) (ms : List Message) (m : Message)
+    → KeepsWrites (answers protected (opening settings n) disk ms).disk.count (step protected (answers protected (opening settings n) disk ms).machine
+    (answers protected (opening settings n) disk ms).disk m)
+reached_keeps protected settings n disk ms m =
+    let r : Stepped = answers protected (opening settings n) disk ms in
+    step_goes protected r.disk r.machine m
+    (subst (λ (k : ℕ). IsSound k r.machine.tasks) (sym (answers_count protected (opening settings n) disk ms)) (answers_sound protected (opening settings n) disk ms tt))

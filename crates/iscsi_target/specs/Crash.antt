@@ -1,6 +1,8 @@
 -- What a crash leaves of the blocks, by the commands whose data a target has (RFC 7143, sections
 -- 11.3 and 11.7).
-use Rattle.std.specs.Prelude.{◌≡◌, ◌≤◌, ◌⊎◌, ℕ, List, [], ◌∷◌, ◌++◌, take}
+--
+-- `protected` says of the store that it refuses each write.
+use Rattle.std.specs.Prelude.{Bool, ◌≡◌, ◌≤◌, ◌⊎◌, ℕ, List, [], ◌∷◌, ◌++◌, take}
 use Rattle.std.specs.List.{flat_map}
 use Rattle.scsi_disk.specs.Disk.{Disk}
 use Rattle.scsi_disk.specs.Effect.{effect, IsSupplied}
@@ -56,26 +58,26 @@ commands_at s count m = commands_in s.session.phase s count m
 -- ---- a crash
 
 -- The block has these bytes behind one of these commands, of those whose data are all there.
-abbrev pub IsBehind : Disk → List Supplied → ℕ → List ℕ → Type 0
-IsBehind disk [] n bytes = ⊥
-IsBehind disk (o ∷ orders) n bytes =
-    (IsSupplied disk.count o.0 o.1 × (bytes ≡ (effect disk o.0 o.1).disk.block n))
-    ⊎ IsBehind disk orders n bytes
+abbrev pub IsBehind : Bool → Disk → List Supplied → ℕ → List ℕ → Type 0
+IsBehind protected disk [] n bytes = ⊥
+IsBehind protected disk (o ∷ orders) n bytes =
+    (IsSupplied disk.count o.0 o.1 × (bytes ≡ (effect protected disk o.0 o.1).disk.block n))
+    ⊎ IsBehind protected disk orders n bytes
 
 -- A crash leaves of each block what it would have left before, or the block behind one of these
 -- commands; there are as many blocks.
-pub record Crashes (orders : List Supplied) (before after : Disk)
+pub record Crashes (protected : Bool) (orders : List Supplied) (before after : Disk)
     (old new : ℕ → List ℕ → Type 0) : Type 0 where
   pub count : after.count ≡ before.count
-  pub adds : (n : ℕ) (bytes : List ℕ) → new n bytes → old n bytes ⊎ IsBehind before orders n bytes
+  pub adds : (n : ℕ) (bytes : List ℕ) → new n bytes → old n bytes ⊎ IsBehind protected before orders n bytes
 
 -- The same where a PDU may be ready: by the commands of that one, or with none changed.
-abbrev pub CrashesReady : Connection → Disk → Disk → (ℕ → List ℕ → Type 0) → (ℕ → List ℕ → Type 0)
+abbrev pub CrashesReady : Bool → Connection → Disk → Disk → (ℕ → List ℕ → Type 0) → (ℕ → List ℕ → Type 0)
     → Type 0
-CrashesReady old before after kept_before kept_after =
-    Crashes [] before after kept_before kept_after
+CrashesReady protected old before after kept_before kept_after =
+    Crashes protected [] before after kept_before kept_after
     ⊎ ((head : Head) × (segment : List ℕ) × Means old.framing.held head segment
-    × Crashes (commands_at old.machine before.count (message_of old.framing head segment))
+    × Crashes protected (commands_at old.machine before.count (message_of old.framing head segment))
     before after kept_before kept_after)
 
 -- The first PDU that the bytes complete is this one.
@@ -86,18 +88,18 @@ pub record IsNext (old : Connection) (piece : List ℕ) (m : Message) : Type 0 w
 
 -- The same of a call with these bytes: by the commands that may be executed for the PDU that they
 -- complete, or with none changed.
-abbrev pub CrashesNext : Connection → List ℕ → Disk → Disk → (ℕ → List ℕ → Type 0)
+abbrev pub CrashesNext : Bool → Connection → List ℕ → Disk → Disk → (ℕ → List ℕ → Type 0)
     → (ℕ → List ℕ → Type 0) → Type 0
-CrashesNext old piece before after kept_before kept_after =
-    Crashes [] before after kept_before kept_after
+CrashesNext protected old piece before after kept_before kept_after =
+    Crashes protected [] before after kept_before kept_after
     ⊎ ((m : Message) × IsNext old piece m
-    × Crashes (commands_at old.machine before.count m) before after kept_before kept_after)
+    × Crashes protected (commands_at old.machine before.count m) before after kept_before kept_after)
 
 -- ---- a crash, for any bytes
 
 -- The first of these bytes complete some PDUs and one more. Behind the others, with at most n
 -- failures counted, the block has these contents as a command of that one leaves it.
-pub record IsPassed (old : Connection) (before : Store) (piece : List ℕ) (most n : ℕ)
+pub record IsPassed (protected : Bool) (old : Connection) (before : Store) (piece : List ℕ) (most n : ℕ)
     (bytes : List ℕ) : Type 0 where
   pub messages : List Message
   pub message : Message
@@ -107,14 +109,14 @@ pub record IsPassed (old : Connection) (before : Store) (piece : List ℕ) (most
   -- what the others lead to, and the failures that were counted behind them
   pub led : Stepped
   pub failures : ℕ
-  pub may : MayAnswer old.machine before.disk before.failures messages led failures
+  pub may : MayAnswer protected old.machine before.disk before.failures messages led failures
   pub few : failures ≤ most
-  pub behind : IsBehind led.disk (commands_at led.machine led.disk.count message) n bytes
+  pub behind : IsBehind protected led.disk (commands_at led.machine led.disk.count message) n bytes
 
 -- A crash behind a call with these bytes leaves each block as it would have left it before, or as a
 -- command of a PDU that they complete leaves it. There are as many blocks as before.
-pub record CrashesFed (old : Connection) (before : Store) (piece : List ℕ) (after : Store)
+pub record CrashesFed (protected : Bool) (old : Connection) (before : Store) (piece : List ℕ) (after : Store)
     (kept_before kept_after : ℕ → List ℕ → Type 0) : Type 0 where
   pub count : after.disk.count ≡ before.disk.count
   pub adds : (n : ℕ) (bytes : List ℕ) → kept_after n bytes
-      → kept_before n bytes ⊎ IsPassed old before piece after.failures n bytes
+      → kept_before n bytes ⊎ IsPassed protected old before piece after.failures n bytes

@@ -24,8 +24,8 @@ abbrev pub Device : Type 0
 Device = ℕ → Disk → Order → List ℕ → Effect
 
 -- A store that doesn't fail does each time what the order does.
-abbrev pub reliable : Device
-reliable n = effect
+abbrev pub reliable : Bool → Device
+reliable protected n = effect protected
 
 -- What is left of it behind one order.
 abbrev pub device_next : Device → Device

@@ -1,4 +1,6 @@
 -- What the calls of a target do: a stream that comes in pieces (RFC 7143, section 11).
+--
+-- `protected` says of the store that it refuses each write.
 use Rattle.std.specs.Prelude.{◌≡◌, ◌≢◌, ◌≤◌, ◌<◌, ◌⊎◌, ℕ, Bool, true, false, List, [], ◌∷◌, ◌++◌, length, take, drop, Some, None, Result, Ok, Err}
 use Rattle.std.specs.List.{flat_map}
 use Rattle.scsi_disk.specs.Disk.{Disk}
@@ -65,9 +67,9 @@ beginning settings first_stat_sn disk = record {
 }
 
 -- What these messages lead to from there.
-abbrev pub answers_from : Beginning → List Message → Stepped
-answers_from start messages =
-    answers (opening start.settings start.first_stat_sn) start.disk messages
+abbrev pub answers_from : Bool → Beginning → List Message → Stepped
+answers_from protected start messages =
+    answers protected (opening start.settings start.first_stat_sn) start.disk messages
 
 -- ---- a call of feed
 
@@ -89,16 +91,16 @@ progress framing messages stepped = record {
 -- A call took bytes that complete these PDUs, and answered them one after another. Each execution did
 -- what the order does if no failure was counted at it, and failed if one was. If no failure was
 -- counted at all, the answers are those of the machine.
-pub record Answers (old : Connection) (before : Store) (bytes : List ℕ) (now : Progress)
+pub record Answers (protected : Bool) (old : Connection) (before : Store) (bytes : List ℕ) (now : Progress)
     (after : Store) : Type 0 where
   pub taken : Moves old.framing now.framing bytes now.messages
   pub limit : now.framing.limit ≡ old.framing.limit
   pub ready : is_ready now.framing ≡ false
   -- the failures that were counted behind the last of them
   pub failures : ℕ
-  pub may : MayAnswer old.machine before.disk before.failures now.messages now.stepped failures
+  pub may : MayAnswer protected old.machine before.disk before.failures now.messages now.stepped failures
   pub works : after.failures ≡ before.failures
-      → now.stepped ≡ answers old.machine before.disk now.messages
+      → now.stepped ≡ answers protected old.machine before.disk now.messages
 
 -- The session is closed by a fault, with what it held and the stage that it was in.
 abbrev pub IsShut : Machine → Machine → Type 0
@@ -142,14 +144,14 @@ pub record Stands (output : List ℕ) (r : Stepped) (counted : ℕ) (after : Sto
   pub output_is : written ≡ output ++ canon r.answers
 
 -- The next PDU, of which some tasks were done.
-pub record StopsAt (framing : Framing) (rest : List ℕ) (r : Stepped) (counted : ℕ)
+pub record StopsAt (protected : Bool) (framing : Framing) (rest : List ℕ) (r : Stepped) (counted : ℕ)
     (front : Stepped) (after : ℕ) : Type 0 where
   pub message : Message
   pub next : Framing
   pub count : ℕ
   pub taken : Moves framing next (take count rest) (message ∷ [])
   pub limit : next.limit ≡ framing.limit
-  pub stops : MayStop r.machine r.disk counted message front after
+  pub stops : MayStop protected r.machine r.disk counted message front after
 
 -- Where a call stands behind the PDUs that it answered. The parts are what the call has of the next
 -- PDU, what is left of the piece, what the answered PDUs led to, and the failures that were counted.
@@ -177,36 +179,36 @@ AsksForMemory framing rest =
 
 -- Memory ran out behind the PDUs that were answered, where what follows asks for it: nothing more
 -- was done, or some tasks of the next PDU. The session is closed.
-pub record StopsShort (output : List ℕ) (at : Remainder) (new : Machine) (after : Store)
+pub record StopsShort (protected : Bool) (output : List ℕ) (at : Remainder) (new : Machine) (after : Store)
     (written : List ℕ) : Type 0 where
   pub front : Stepped
   pub stops :
       ((front ≡ unchanged at.stepped.machine at.stepped.disk) × (at.counted ≤ after.failures)
       × AsksForMemory at.framing at.rest)
-      ⊎ StopsAt at.framing at.rest at.stepped at.counted front after.failures
+      ⊎ StopsAt protected at.framing at.rest at.stepped at.counted front after.failures
   pub shut : IsShut front.machine new
   pub disk : after.disk ≡ front.disk
   pub output_is : written ≡ output ++ canon (at.stepped.answers ++ front.answers)
 
 -- What a call left, by what it answers.
-abbrev pub LeavesBy : Result Phase TargetFault → List ℕ → Remainder → Machine → Store → List ℕ
+abbrev pub LeavesBy : Bool → Result Phase TargetFault → List ℕ → Remainder → Machine → Store → List ℕ
     → Type 0
-LeavesBy (Err faults.NoMemory) output at new after written =
-    StopsShort output at new after written
-LeavesBy _ output at new after written = Stands output at.stepped at.counted after written
+LeavesBy protected (Err faults.NoMemory) output at new after written =
+    StopsShort protected output at new after written
+LeavesBy protected _ output at new after written = Stands output at.stepped at.counted after written
 
 -- A call in a session that isn't closed took the first bytes of the piece, and answered the PDUs
 -- that they complete.
-pub record Feeds (old : Scene) (piece : List ℕ) (result : Result Phase TargetFault)
+pub record Feeds (protected : Bool) (old : Scene) (piece : List ℕ) (result : Result Phase TargetFault)
     (new : Scene) : Type 0 where
   pub framing : Framing
   pub count : ℕ
   pub some : count ≤ length piece
   pub messages : List Message
   pub stepped : Stepped
-  pub answered : Answers old.connection old.store (take count piece)
+  pub answered : Answers protected old.connection old.store (take count piece)
       (progress framing messages stepped) new.store
-  pub leaves : LeavesBy result old.output
+  pub leaves : LeavesBy protected result old.output
       (remainder framing (drop count piece) stepped answered.failures)
       new.connection.machine new.store new.output
   pub ends : Ends piece result framing count stepped new.connection
@@ -219,41 +221,41 @@ pub record Stays (old : Scene) (result : Result Phase TargetFault) (new : Scene)
   pub output_is : new.output ≡ old.output
 
 -- What a call of feed does, by whether the session is closed.
-abbrev pub FedIf : Bool → Scene → List ℕ → Result Phase TargetFault → Scene → Type 0
-FedIf true old piece result new = Stays old result new
-FedIf false old piece result new = Feeds old piece result new
+abbrev pub FedIf : Bool → Bool → Scene → List ℕ → Result Phase TargetFault → Scene → Type 0
+FedIf protected true old piece result new = Stays old result new
+FedIf protected false old piece result new = Feeds protected old piece result new
 
 -- What a call of feed does with a piece of the stream.
-abbrev pub Fed : Scene → List ℕ → Result Phase TargetFault → Scene → Type 0
-Fed old piece result new = FedIf (is_closed old.connection.machine) old piece result new
+abbrev pub Fed : Bool → Scene → List ℕ → Result Phase TargetFault → Scene → Type 0
+Fed protected old piece result new = FedIf protected (is_closed old.connection.machine) old piece result new
 
 -- ---- a call of feed_next
 
 -- A call in a session that isn't closed took the first n bytes, did with them what feed does, and
 -- answered one PDU at most. The call took the bytes up to the end of that PDU, or the whole piece.
-pub record FeedsOne (old : Scene) (piece : List ℕ) (n : ℕ) (phase : Phase)
+pub record FeedsOne (protected : Bool) (old : Scene) (piece : List ℕ) (n : ℕ) (phase : Phase)
     (new : Scene) : Type 0 where
   pub bound : n ≤ length piece
   pub some : 0 < length piece → 0 < n
-  pub fed : Feeds old (take n piece) (Ok phase) new
+  pub fed : Feeds protected old (take n piece) (Ok phase) new
   pub one : length fed.messages ≤ 1
   pub stops : n < length piece → length fed.messages ≡ 1
 
 -- A call that fails is one of feed with the piece.
-abbrev pub FeedsNext : Scene → List ℕ → Result (ℕ × Phase) TargetFault → Scene → Type 0
-FeedsNext old piece (Ok done) new = FeedsOne old piece done.0 done.1 new
-FeedsNext old piece (Err fault) new = Feeds old piece (Err fault) new
+abbrev pub FeedsNext : Bool → Scene → List ℕ → Result (ℕ × Phase) TargetFault → Scene → Type 0
+FeedsNext protected old piece (Ok done) new = FeedsOne protected old piece done.0 done.1 new
+FeedsNext protected old piece (Err fault) new = Feeds protected old piece (Err fault) new
 
 -- What a call of feed_next does, by whether the session is closed.
-abbrev pub FedNextIf : Bool → Scene → List ℕ → Result (ℕ × Phase) TargetFault → Scene → Type 0
-FedNextIf true old piece result new =
+abbrev pub FedNextIf : Bool → Bool → Scene → List ℕ → Result (ℕ × Phase) TargetFault → Scene → Type 0
+FedNextIf protected true old piece result new =
     (result ≡ Err faults.Closed) × (new.connection ≡ old.connection) × (new.store ≡ old.store)
     × (new.output ≡ old.output)
-FedNextIf false old piece result new = FeedsNext old piece result new
+FedNextIf protected false old piece result new = FeedsNext protected old piece result new
 
 -- What a call of feed_next does with a piece of the stream.
-abbrev pub FedNext : Scene → List ℕ → Result (ℕ × Phase) TargetFault → Scene → Type 0
-FedNext old piece result new = FedNextIf (is_closed old.connection.machine) old piece result new
+abbrev pub FedNext : Bool → Scene → List ℕ → Result (ℕ × Phase) TargetFault → Scene → Type 0
+FedNext protected old piece result new = FedNextIf protected (is_closed old.connection.machine) old piece result new
 
 -- ---- a call of finish
 
@@ -269,13 +271,13 @@ Finishes old (Err (faults.Protocol rule)) new = ⊥
 -- ---- a whole stream, in whatever pieces
 
 -- From the opening state this stream was taken, and these bytes were written.
-pub record HasAnswered (start : Beginning) (stream : List ℕ) (now : Connection) (disk_now : Disk)
+pub record HasAnswered (protected : Bool) (start : Beginning) (stream : List ℕ) (now : Connection) (disk_now : Disk)
     (written : List ℕ) : Type 0 where
   pub messages : List Message
   pub taken : HasTaken stream messages now.framing
-  pub machine : now.machine ≡ joined (answers_from start messages).machine
-  pub disk_is : disk_now ≡ (answers_from start messages).disk
-  pub output_is : written ≡ canon (answers_from start messages).answers
+  pub machine : now.machine ≡ joined (answers_from protected start messages).machine
+  pub disk_is : disk_now ≡ (answers_from protected start messages).disk
+  pub output_is : written ≡ canon (answers_from protected start messages).answers
 
 -- The stream that comes in these pieces.
 abbrev pub stream_of : List (List ℕ) → List ℕ
@@ -287,27 +289,27 @@ pub record GoesWell (result : Result Phase TargetFault) (before after : Store) :
   pub device : after.failures ≡ before.failures
 
 -- Calls of feed with pieces of a stream, one after another, which all go well.
-unfoldable pub FedAll : Scene → List (List ℕ) → Scene → Type 0
-FedAll old [] new =
+unfoldable pub FedAll : Bool → Scene → List (List ℕ) → Scene → Type 0
+FedAll protected old [] new =
     (new.connection ≡ old.connection) × (new.store ≡ old.store) × (new.output ≡ old.output)
-FedAll old (piece ∷ pieces) new =
+FedAll protected old (piece ∷ pieces) new =
     (result : Result Phase TargetFault) × (now : Connection) × (store : Store) × (out : List ℕ)
-    × Fed old piece result (scene now store out) × GoesWell result old.store store
-    × FedAll (scene now store out) pieces new
+    × Fed protected old piece result (scene now store out) × GoesWell result old.store store
+    × FedAll protected (scene now store out) pieces new
 
 -- The target is where these messages lead to from the opening state, and so are the blocks and what
 -- was written. The program keeps the bytes of each write as one piece.
-pub record Meets (start : Beginning) (messages : List Message) (now : Connection)
+pub record Meets (protected : Bool) (start : Beginning) (messages : List Message) (now : Connection)
     (disk_now : Disk) (written : List ℕ) : Type 0 where
-  pub machine : now.machine ≡ joined (answers_from start messages).machine
-  pub disk_is : disk_now ≡ (answers_from start messages).disk
-  pub output_is : written ≡ canon (answers_from start messages).answers
+  pub machine : now.machine ≡ joined (answers_from protected start messages).machine
+  pub disk_is : disk_now ≡ (answers_from protected start messages).disk
+  pub output_is : written ≡ canon (answers_from protected start messages).answers
 
 -- The blocks and what was written are those that these messages lead to from the opening state.
-pub record Writes (start : Beginning) (messages : List Message) (disk_now : Disk)
+pub record Writes (protected : Bool) (start : Beginning) (messages : List Message) (disk_now : Disk)
     (written : List ℕ) : Type 0 where
-  pub disk_is : disk_now ≡ (answers_from start messages).disk
-  pub output_is : written ≡ canon (answers_from start messages).answers
+  pub disk_is : disk_now ≡ (answers_from protected start messages).disk
+  pub output_is : written ≡ canon (answers_from protected start messages).answers
 
 -- Bytes begin with a header that a target refuses: no PDU has it, or its segment is longer than the
 -- framer takes (sections 11.2 and 13.12).
@@ -319,12 +321,12 @@ Refuses limit bytes =
 
 -- The session is where these messages lead to from the opening state, or was closed there. It is
 -- closed where they close it, and where the rest begins with a header that is refused.
-pub record Holds (start : Beginning) (messages : List Message) (rest : List ℕ)
+pub record Holds (protected : Bool) (start : Beginning) (messages : List Message) (rest : List ℕ)
     (now : Machine) : Type 0 where
-  pub machine : closed now ≡ closed (answers_from start messages).machine
-  pub goes_on : is_closed now ≡ false → now ≡ joined (answers_from start messages).machine
+  pub machine : closed now ≡ closed (answers_from protected start messages).machine
+  pub goes_on : is_closed now ≡ false → now ≡ joined (answers_from protected start messages).machine
   pub ends : is_closed now ≡ true →
-      (is_closed (answers_from start messages).machine ≡ true)
+      (is_closed (answers_from protected start messages).machine ≡ true)
       ⊎ Refuses (limit start.settings) rest
   pub refuses : Refuses (limit start.settings) rest → is_closed now ≡ true
 

@@ -1,5 +1,7 @@
 -- What the parts of a session do. No reader of its contract needs these.
-use Rattle.std.specs.Prelude.{◌≡◌, ◌≢◌, ◌⊎◌, ℕ, ◌<◌, ◌≤◌, Option, Some, None, false, if◌then◌else◌, List, [], ◌++◌, length, map, insert, remove, slice_index_or, Result, IfOk, OnOk, OnErr}
+--
+-- `protected` says of the store that it refuses each write.
+use Rattle.std.specs.Prelude.{Bool, ◌≡◌, ◌≢◌, ◌⊎◌, ℕ, ◌<◌, ◌≤◌, Option, Some, None, false, if◌then◌else◌, List, [], ◌++◌, length, map, insert, remove, slice_index_or, Result, IfOk, OnOk, OnErr}
 use Rattle.std.specs.List.{AllByRecursion}
 use Rattle.iscsi_stream.specs.Canonical.{canon}
 use Rattle.scsi_disk.specs.Disk.{Disk}
@@ -112,12 +114,12 @@ moment machine store output = record { machine = machine; store = store; output 
 
 -- What any message leads to, behind this output and over a store whose failures were counted before
 -- and after, execution by execution.
-pub record Serves (failures : ℕ) (before : List ℕ) (step : Device → Stepped) (broken : Option ℕ)
+pub record Serves (protected : Bool) (failures : ℕ) (before : List ℕ) (step : Device → Stepped) (broken : Option ℕ)
     (new : Moment) : Type 0 where
   pub device : Device
   pub rises : failures ≤ new.store.failures
-  pub works : new.store.failures ≡ failures → device ≡ reliable
-  pub runs : RunsIn device failures (step device).executed new.store.failures
+  pub works : new.store.failures ≡ failures → device ≡ reliable protected
+  pub runs : RunsIn protected device failures (step device).executed new.store.failures
   pub machine : joined new.machine ≡ joined (step device).machine
   pub disk_is : new.store.disk ≡ (step device).disk
   pub output : new.output ≡ before ++ canon (step device).answers
@@ -132,9 +134,9 @@ pub record GivesUp (old new : Moment) : Type 0 where
   pub unwritten : new.output ≡ old.output
 
 -- What was done with a task, over a store: it was handled so, or memory ran out.
-pub record Handles {E : Type 0} (step : Device → Stepped) (result : Result (Option ℕ) E)
+pub record Handles {E : Type 0} (protected : Bool) (step : Device → Stepped) (result : Result (Option ℕ) E)
     (old new : Moment) : Type 0 where
-  pub ok : IfOk result (λ rule. Serves old.store.failures old.output step rule new)
+  pub ok : IfOk result (λ rule. Serves protected old.store.failures old.output step rule new)
   pub err : OnErr result (GivesUp old new)
 
 -- What the first tasks of a machine at work lead to, n of them.
@@ -144,51 +146,51 @@ first_done done device old =
 
 -- Memory ran out at one of its tasks: those before it were done, and it changed nothing. None of
 -- them ended the session.
-pub record Stops (old new : Moment) : Type 0 where
+pub record Stops (protected : Bool) (old new : Moment) : Type 0 where
   pub done : ℕ
   pub device : Device
   pub live : is_closed old.machine ≡ false
       → is_closed (first_done done device old).machine ≡ false
   -- the failures that were counted behind the last of them
   pub failures : ℕ
-  pub runs : RunsIn device old.store.failures (first_done done device old).executed failures
+  pub runs : RunsIn protected device old.store.failures (first_done done device old).executed failures
   pub rises : failures ≤ new.store.failures
   pub machine : closed new.machine ≡ closed (first_done done device old).machine
   pub disk_is : new.store.disk ≡ (first_done done device old).disk
   pub output : new.output ≡ old.output ++ canon (first_done done device old).answers
 
 -- What was done with its tasks in their turn, over a store.
-pub record Works {E : Type 0} (result : Result (Option ℕ) E) (old new : Moment) : Type 0 where
-  pub ok : IfOk result (λ rule. Serves old.store.failures old.output
+pub record Works {E : Type 0} (protected : Bool) (result : Result (Option ℕ) E) (old new : Moment) : Type 0 where
+  pub ok : IfOk result (λ rule. Serves protected old.store.failures old.output
       (λ device. done_in_turn device old.machine.session old.store.disk old.machine.tasks) rule new)
-  pub err : OnErr result (Stops old new)
+  pub err : OnErr result (Stops protected old new)
 
 -- Memory ran out at what comes of a PDU: at one of the tasks, or before anything was done.
-abbrev pub Halts : Next → Moment → Moment → Type 0
-Halts (Queued session tasks) old new =
-    Stops (moment (record { session = session; tasks = tasks }) old.store old.output) new
-Halts _ old new = GivesUp old new
+abbrev pub Halts : Bool → Next → Moment → Moment → Type 0
+Halts protected (Queued session tasks) old new =
+    Stops protected (moment (record { session = session; tasks = tasks }) old.store old.output) new
+Halts protected _ old new = GivesUp old new
 
 -- What was done with a PDU of which this comes, over a store.
-pub record Follows {E : Type 0} (next : Next) (result : Result (Option ℕ) E) (old new : Moment)
+pub record Follows {E : Type 0} (protected : Bool) (next : Next) (result : Result (Option ℕ) E) (old new : Moment)
     : Type 0 where
-  pub ok : IfOk result (λ rule. Serves old.store.failures old.output
+  pub ok : IfOk result (λ rule. Serves protected old.store.failures old.output
       (λ device. followed device old.machine old.store.disk next) rule new)
-  pub err : OnErr result (Halts next old new)
+  pub err : OnErr result (Halts protected next old new)
 
 -- Memory ran out at a message: at one of the tasks that it leads to, or before anything was done.
-abbrev pub HaltsAt : Message → Moment → Moment → Type 0
-HaltsAt m old new =
+abbrev pub HaltsAt : Bool → Message → Moment → Moment → Type 0
+HaltsAt protected m old new =
     GivesUp old new
     ⊎ ((old.machine.session.phase ≡ phases.Full)
-    × Halts (full_met old.machine old.store.disk.count m).next old new)
+    × Halts protected (full_met old.machine old.store.disk.count m).next old new)
 
 -- What was done with a message, over a store.
-pub record Answers {E : Type 0} (m : Message) (result : Result (Option ℕ) E) (old new : Moment)
+pub record Answers {E : Type 0} (protected : Bool) (m : Message) (result : Result (Option ℕ) E) (old new : Moment)
     : Type 0 where
-  pub ok : IfOk result (λ rule. Serves old.store.failures old.output
+  pub ok : IfOk result (λ rule. Serves protected old.store.failures old.output
       (λ device. step_on device old.machine old.store.disk m) rule new)
-  pub err : OnErr result (HaltsAt m old new)
+  pub err : OnErr result (HaltsAt protected m old new)
 
 -- ---- the next PDU
 
@@ -213,21 +215,21 @@ pub record IsUnready (old : Scene) (broken : Option ℕ) (new : Scene) : Type 0 
   pub rule_is : broken ≡ None
 
 -- The PDU that is ready was answered, and the framer is free for the next one.
-pub record IsAnswered (old : Scene) (broken : Option ℕ) (new : Scene) : Type 0 where
+pub record IsAnswered (protected : Bool) (old : Scene) (broken : Option ℕ) (new : Scene) : Type 0 where
   pub head : Head
   pub segment : List ℕ
   pub means : Means old.connection.framing.held head segment
   pub framing_is : new.connection.framing ≡ given_up old.connection.framing head
-  pub serves : Serves old.store.failures old.output
+  pub serves : Serves protected old.store.failures old.output
       (λ device. step_on device old.connection.machine old.store.disk
       (message_of old.connection.framing head segment)) broken (moment_of new)
 
 -- The PDU that is ready was answered, if one is.
-abbrev pub AnswersReady : Scene → Option ℕ → Scene → Type 0
-AnswersReady old broken new = IsUnready old broken new ⊎ IsAnswered old broken new
+abbrev pub AnswersReady : Bool → Scene → Option ℕ → Scene → Type 0
+AnswersReady protected old broken new = IsUnready old broken new ⊎ IsAnswered protected old broken new
 
 -- Memory ran out at the PDU that is ready: the session is closed, and the PDU is dropped.
-pub record ShutsReady (old new : Scene) : Type 0 where
+pub record ShutsReady (protected : Bool) (old new : Scene) : Type 0 where
   pub head : Head
   pub segment : List ℕ
   pub means : Means old.connection.framing.held head segment
@@ -236,7 +238,7 @@ pub record ShutsReady (old new : Scene) : Type 0 where
   pub settings :
       new.connection.machine.session.settings ≡ old.connection.machine.session.settings
   pub closed_ : new.connection.machine ≡ closed new.connection.machine
-  pub halts : HaltsAt (message_of old.connection.framing head segment) (moment_of old)
+  pub halts : HaltsAt protected (message_of old.connection.framing head segment) (moment_of old)
       (moment_of new)
 
 -- The rest of a stream is refused so.
@@ -248,11 +250,11 @@ RestFails framing rest (faults.Protocol rule) = ⊥
 RestFails framing rest faults.Closed = ⊥
 
 -- Bytes were taken up to the end of a PDU or of the piece, and the PDU was answered if it is whole.
-pub record TakesOne (old : Scene) (piece : List ℕ) (n : ℕ) (broken : Option ℕ) (new : Scene)
+pub record TakesOne (protected : Bool) (old : Scene) (piece : List ℕ) (n : ℕ) (broken : Option ℕ) (new : Scene)
     : Type 0 where
   pub framing : Framing
   pub takes : Takes old.connection.framing piece n framing
-  pub answers : AnswersReady
+  pub answers : AnswersReady protected
       (scene (connection old.connection.machine framing) old.store old.output) broken new
 
 -- The bytes are refused: the session is closed.
@@ -264,18 +266,18 @@ pub record AreRefused (old : Scene) (piece : List ℕ) (fault : TargetFault) (ne
   pub output_is : new.output ≡ old.output
 
 -- Memory ran out at the PDU that they complete.
-pub record RunsOut (old : Scene) (piece : List ℕ) (fault : TargetFault) (new : Scene)
+pub record RunsOut (protected : Bool) (old : Scene) (piece : List ℕ) (fault : TargetFault) (new : Scene)
     : Type 0 where
   pub memory : fault ≡ faults.NoMemory
   pub framing : Framing
   pub count : ℕ
   pub takes : Takes old.connection.framing piece count framing
-  pub shuts : ShutsReady
+  pub shuts : ShutsReady protected
       (scene (connection old.connection.machine framing) old.store old.output) new
 
 -- Why no bytes could be taken, or no PDU answered.
-abbrev pub FailsOne : Scene → List ℕ → TargetFault → Scene → Type 0
-FailsOne old piece fault new = AreRefused old piece fault new ⊎ RunsOut old piece fault new
+abbrev pub FailsOne : Bool → Scene → List ℕ → TargetFault → Scene → Type 0
+FailsOne protected old piece fault new = AreRefused old piece fault new ⊎ RunsOut protected old piece fault new
 
 -- A stream's `NoMemory` is the target's own.
 abbrev pub target_fault : StreamFault → TargetFault
@@ -289,11 +291,11 @@ target_fault stream.Failed = faults.Stream stream.Failed
 
 -- These bytes led a target and its store from here to there: the target took them and answered the
 -- PDUs that they complete. The target may keep the bytes of each write as one piece.
-pub record Advances (old : Connection) (before : Store) (bytes : List ℕ) (new : Connection)
+pub record Advances (protected : Bool) (old : Connection) (before : Store) (bytes : List ℕ) (new : Connection)
     (after : Store) : Type 0 where
   pub messages : List Message
   pub taken : Moves old.framing new.framing bytes messages
   pub led : Stepped
-  pub may : MayAnswer old.machine before.disk before.failures messages led after.failures
+  pub may : MayAnswer protected old.machine before.disk before.failures messages led after.failures
   pub machine : joined new.machine ≡ joined led.machine
   pub disk_is : after.disk ≡ led.disk

@@ -1,9 +1,11 @@
 -- The words of the laws: what holds of every list of messages (RFC 7143, sections 4.2, 11.7 and
 -- 11.8).
+--
+-- `protected` says of the store that it refuses each write.
 use Rattle.std.specs.Prelude.{◌≡◌, ◌⊎◌, ℕ, ◌+◌, ◌<◌, ◌^◌, ◌%◌, Bool, true, false, List, [], ◌∷◌, ◌++◌, length, map, slice_index, Option, Some, None}
 use Rattle.std.specs.List.{flat_map}
 use Rattle.scsi_disk.specs.Disk.{Disk}
-use Rattle.scsi_disk.specs.Effect.{Effect, effect, FailsBy}
+use Rattle.scsi_disk.specs.Effect.{Effect, effect, guarded, FailsBy}
 use Rattle.scsi_disk.specs.Plan.{plan_of}
 use Rattle.scsi_disk.specs.Runs.{Supplied}
 use Rattle.scsi_disk.specs.declared.order.Order.{Order}
@@ -112,17 +114,17 @@ supplied e = (e.order, data_of e.pieces)
 
 -- What was executed did what the order does, or what it may do where the device fails, and left
 -- this.
-abbrev pub MayLeave : Execution → Effect → Type 0
-MayLeave e after =
-    (after ≡ effect e.disk e.order (data_of e.pieces))
-    ⊎ FailsBy (plan_of e.order e.disk.count) e.disk e.order (data_of e.pieces) after
+abbrev pub MayLeave : Bool → Execution → Effect → Type 0
+MayLeave protected e after =
+    (after ≡ effect protected e.disk e.order (data_of e.pieces))
+    ⊎ FailsBy (guarded protected (plan_of e.order e.disk.count)) e.disk e.order (data_of e.pieces) after
 
 -- What was executed, one after another, leads from one disk to another, each on the disk that the
 -- one before left.
-unfoldable pub Leads : Disk → List Execution → Disk → Type 0
-Leads disk [] last = last ≡ disk
-Leads disk (e ∷ es) last =
-    (after : Effect) × (e.disk ≡ disk) × MayLeave e after × Leads after.disk es last
+unfoldable pub Leads : Bool → Disk → List Execution → Disk → Type 0
+Leads protected disk [] last = last ≡ disk
+Leads protected disk (e ∷ es) last =
+    (after : Effect) × (e.disk ≡ disk) × MayLeave protected e after × Leads protected after.disk es last
 
 -- The command of a task, if it is one (section 11.3).
 abbrev pub task_open : Task → List Command
@@ -180,8 +182,8 @@ told_of tag outcome = record {
 }
 
 -- What is to be told of what was executed, over a store that doesn't fail (section 11.4).
-abbrev pub due_for : Execution → Told
-due_for e = told_of e.initiator_task_tag (effect e.disk e.order (data_of e.pieces)).outcome
+abbrev pub due_for : Bool → Execution → Told
+due_for protected e = told_of e.initiator_task_tag (effect protected e.disk e.order (data_of e.pieces)).outcome
 
 -- The commands that were accepted are those that were executed, in their order, and then those of
 -- the tasks that there are, unless the session is closed (section 4.2.2.1).

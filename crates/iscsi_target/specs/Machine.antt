@@ -3,6 +3,8 @@
 -- `step` is one message, and `answers` any number of them. What comes of a PDU in full feature phase
 -- (`full_met`) is apart from the tasks that are done (`done_in_turn`). A login stands in `Login`,
 -- SCSI commands in `Command`, the other requests in `Requests` and `TextRequests`.
+--
+-- `protected` says of the store that it refuses each write.
 use Rattle.std.specs.Prelude.{◌≡◌, ◌≤◌, ℕ, zero, suc, Bool, true, false, not, ◌==◌, ◌||◌, nat_lt, if◌then◌else◌, List, [], ◌∷◌, ◌++◌, length, Option, Some, None}
 use Rattle.std.specs.List.{list_any}
 use Rattle.scsi_disk.specs.Disk.{Disk}
@@ -298,40 +300,40 @@ step_on device s disk m =
     else phase_step device s.session.phase s disk m
 
 -- One message, over a store that doesn't fail.
-abbrev pub step : Machine → Disk → Message → Stepped
-step s disk m = step_on reliable s disk m
+abbrev pub step : Bool → Machine → Disk → Message → Stepped
+step protected s disk m = step_on (reliable protected) s disk m
 
 -- ---- messages one after another
 
 -- Any messages, over a store that doesn't fail.
-unfoldable pub answers : Machine → Disk → List Message → Stepped
-answers s disk [] = unchanged s disk
-answers s disk (m ∷ ms) =
-    then_stepped (step s disk m) (answers (step s disk m).machine (step s disk m).disk ms)
+unfoldable pub answers : Bool → Machine → Disk → List Message → Stepped
+answers protected s disk [] = unchanged s disk
+answers protected s disk (m ∷ ms) =
+    then_stepped (step protected s disk m) (answers protected (step protected s disk m).machine (step protected s disk m).disk ms)
 
 -- ---- a store that may fail
 
 -- The orders were executed one after another, from one count of the store's failures to another.
 -- Each execution did what the order does if the count stayed, and failed if the count rose.
-abbrev pub RunsIn : Device → ℕ → List Execution → ℕ → Type 0
-RunsIn device before [] after = after ≡ before
-RunsIn device before (e ∷ es) after =
+abbrev pub RunsIn : Bool → Device → ℕ → List Execution → ℕ → Type 0
+RunsIn protected device before [] after = after ≡ before
+RunsIn protected device before (e ∷ es) after =
     (now : ℕ)
-    × Executes before now e.disk e.order (data_of e.pieces)
+    × Executes protected before now e.disk e.order (data_of e.pieces)
     (device 0 e.disk e.order (data_of e.pieces))
-    × RunsIn (device_next device) now es after
+    × RunsIn protected (device_next device) now es after
 
 -- One message, over a store that may fail, whose failures were counted before and behind it.
-pub record MayStep (s : Machine) (disk : Disk) (before : ℕ) (m : Message) (r : Stepped)
+pub record MayStep (protected : Bool) (s : Machine) (disk : Disk) (before : ℕ) (m : Message) (r : Stepped)
     (after : ℕ) : Type 0 where
   pub device : Device
   pub is : r ≡ step_on device s disk m
-  pub runs : RunsIn device before r.executed after
+  pub runs : RunsIn protected device before r.executed after
 
 -- One message at which memory ran out, over a store that may fail. Some of the tasks were done, in
 -- their order, and the one at which memory ran out changed nothing. No task before that one ended the
 -- session, as a broken rule and a logout do.
-pub record MayStop (s : Machine) (disk : Disk) (before : ℕ) (m : Message) (r : Stepped)
+pub record MayStop (protected : Bool) (s : Machine) (disk : Disk) (before : ℕ) (m : Message) (r : Stepped)
     (after : ℕ) : Type 0 where
   pub full : s.session.phase ≡ phases.Full
   pub session : Session
@@ -343,12 +345,12 @@ pub record MayStop (s : Machine) (disk : Disk) (before : ℕ) (m : Message) (r :
   pub live : is_closed r.machine ≡ false
   -- the failures that were counted behind the last of them
   pub failures : ℕ
-  pub runs : RunsIn device before r.executed failures
+  pub runs : RunsIn protected device before r.executed failures
   pub rises : failures ≤ after
 
 -- Any messages, over a store that may fail.
-unfoldable pub MayAnswer : Machine → Disk → ℕ → List Message → Stepped → ℕ → Type 0
-MayAnswer s disk before [] r after = (r ≡ unchanged s disk) × (after ≡ before)
-MayAnswer s disk before (m ∷ ms) r after =
-    (first : Stepped) × (later : Stepped) × (now : ℕ) × MayStep s disk before m first now
-    × MayAnswer first.machine first.disk now ms later after × (r ≡ then_stepped first later)
+unfoldable pub MayAnswer : Bool → Machine → Disk → ℕ → List Message → Stepped → ℕ → Type 0
+MayAnswer protected s disk before [] r after = (r ≡ unchanged s disk) × (after ≡ before)
+MayAnswer protected s disk before (m ∷ ms) r after =
+    (first : Stepped) × (later : Stepped) × (now : ℕ) × MayStep protected s disk before m first now
+    × MayAnswer protected first.machine first.disk now ms later after × (r ≡ then_stepped first later)

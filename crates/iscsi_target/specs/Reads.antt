@@ -1,5 +1,5 @@
 -- READs whose data go out part by part. No reader of a session's contract needs these.
-use Rattle.std.specs.Prelude.{◌≡◌, ℕ, ◌+◌, ◌*◌, ◌%◌, ◌≤◌, List, [], ◌++◌, length}
+use Rattle.std.specs.Prelude.{Bool, ◌≡◌, ℕ, ◌+◌, ◌*◌, ◌%◌, ◌≤◌, List, [], ◌++◌, length}
 use Rattle.scsi_disk.specs.Disk.{Disk}
 use Rattle.scsi_disk.specs.Effect.{Executes}
 use Rattle.scsi_disk.specs.Reading.{WereRead}
@@ -73,9 +73,9 @@ pub record SendsRuns (to : Reply) (read : Read) (count : ℕ) : Type 0 where
       (waiting to.machine.tasks) to.tag 0 0 (data_in_parts to.machine.session.held bytes))
 
 -- An order without data was executed over a store, and its answers were appended (section 11.4).
-pub record AnswersRead (to : Reply) (order : Order) (before after : Store) : Type 0 where
+pub record AnswersRead (protected : Bool) (to : Reply) (order : Order) (before after : Store) : Type 0 where
   pub outcome : Outcome
-  pub executes : Executes before.failures after.failures before.disk order []
+  pub executes : Executes protected before.failures after.failures before.disk order []
       (record { disk = after.disk; outcome = outcome })
   pub output : to.new ≡ to.old ++ canon (command_answers to.machine.session
       (waiting to.machine.tasks) to.tag outcome

@@ -33,7 +33,7 @@ LoginIsAnswered = Row fresh (says first first_text ∷ says second second_text �
 -- It leads to full feature phase, with these held values (section 6.3).
 abbrev pub LoginLeads : Type 0
 LoginLeads =
-    (answers fresh blank (says first first_text ∷ says second second_text ∷ [])).machine ≡ logged_in
+    (answers false fresh blank (says first first_text ∷ says second second_text ∷ [])).machine ≡ logged_in
 
 -- WRITE(10) of the first eight blocks (SBC-3).
 abbrev pub write_of_eight : Cdb
@@ -206,7 +206,7 @@ second_data tag = record {
 
 -- No data were asked for of a write that waits (section 11.8).
 abbrev pub AskedForNone : Type 0
-AskedForNone = (answers logged_in blank
+AskedForNone = (answers false logged_in blank
     (orders (command true false true 4096 write_of_eight) (fill 1) ∷ second_write true ∷ second_data 0 ∷ [])).rule ≡ Some 3
 
 -- two writes, of which the second has its data while it waits
@@ -228,7 +228,7 @@ WritesInTurn = Answered logged_in two_writes
 
 -- The first block has its bytes (section 4.2.2.1).
 abbrev pub LastWriteStands : Type 0
-LastWriteStands = blocks_from (answers logged_in blank two_writes).disk 0 2 ≡ fill 9 ++ fill 2
+LastWriteStands = blocks_from (answers false logged_in blank two_writes).disk 0 2 ≡ fill 9 ++ fill 2
 
 -- A logout behind a write is answered in its turn; a command behind it is dropped (section 11.14).
 abbrev pub LogoutInTurn : Type 0

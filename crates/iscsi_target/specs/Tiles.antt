@@ -1,4 +1,6 @@
 -- What tiles a transfer, and what R2Ts ask for (RFC 7143, sections 11.7 and 11.8).
+--
+-- `protected` says of the store that it refuses each write.
 use Rattle.std.specs.Prelude.{◌≡◌, ℕ, ◌+◌, ◌≤◌, Bool, true, if◌then◌else◌, List, [], ◌∷◌, ◌++◌, length, Option, Some, None, is_some}
 use Rattle.std.specs.List.{flat_map, AllByRecursion}
 use Rattle.scsi_disk.specs.Disk.{Disk}
@@ -43,8 +45,8 @@ abbrev pub data_in_tags : List Message → List ℕ
 data_in_tags ms = flat_map (λ m. data_in_tag m.head) ms
 
 -- The bytes that a command gave (section 11.7).
-abbrev pub bytes_given : Execution → List ℕ
-bytes_given e = (effect e.disk e.order (data_of e.pieces)).outcome.bytes
+abbrev pub bytes_given : Bool → Execution → List ℕ
+bytes_given protected e = (effect protected e.disk e.order (data_of e.pieces)).outcome.bytes
 
 -- These answers have the Data-In of what was executed: they have its tag, and tile these bytes
 -- (section 11.7).
@@ -62,8 +64,8 @@ GiveTiles given answers (e ∷ es) =
 
 -- The Data-In of what a message made the target execute have its tag, and tile what it gave, one
 -- execution after another; others there are none (section 11.7).
-abbrev pub TilesDataIn : Stepped → Type 0
-TilesDataIn r = GiveTiles bytes_given r.answers r.executed
+abbrev pub TilesDataIn : Bool → Stepped → Type 0
+TilesDataIn protected r = GiveTiles (bytes_given protected) r.answers r.executed
 
 -- The pieces of the data of an order tile what it takes, by its plan (section 11.7).
 abbrev pub TilesPlan : Plan → Pieces → Type 0
@@ -114,7 +116,7 @@ pdu_answers s m (heads.DataOut h) =
 pdu_answers s m _ = 0
 
 -- How many R2Ts are answered by messages (section 11.8).
-unfoldable pub r2ts_answered : Machine → Disk → List Message → ℕ
-r2ts_answered s disk [] = 0
-r2ts_answered s disk (m ∷ ms) =
-    pdu_answers s m m.head + r2ts_answered (step s disk m).machine (step s disk m).disk ms
+unfoldable pub r2ts_answered : Bool → Machine → Disk → List Message → ℕ
+r2ts_answered protected s disk [] = 0
+r2ts_answered protected s disk (m ∷ ms) =
+    pdu_answers s m m.head + r2ts_answered protected (step protected s disk m).machine (step protected s disk m).disk ms

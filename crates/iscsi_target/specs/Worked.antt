@@ -236,10 +236,10 @@ logged_in = record {
 -- broken, if one is.
 abbrev pub Row : Machine → List Message → List ℕ → List ℕ → Option ℕ → Type 0
 Row s ms input output rule =
-    (canon ms ≡ input) × (canon (answers s blank ms).answers ≡ output)
-    × ((answers s blank ms).rule ≡ rule)
+    (canon ms ≡ input) × (canon (answers false s blank ms).answers ≡ output)
+    × ((answers false s blank ms).rule ≡ rule)
 
 -- The messages are answered by these bytes; this rule is broken, if one is.
 abbrev pub Answered : Machine → List Message → List ℕ → Option ℕ → Type 0
 Answered s ms output rule =
-    (canon (answers s blank ms).answers ≡ output) × ((answers s blank ms).rule ≡ rule)
+    (canon (answers false s blank ms).answers ≡ output) × ((answers false s blank ms).rule ≡ rule)

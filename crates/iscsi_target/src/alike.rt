@@ -36,7 +36,7 @@ pub fn answer_pieces<S: BlockStore>(
 ) -> Result<Answered, TargetFault>
     ensures in_range { IsInRange config.preferences }
     ensures fed { IfOk result (λ now. S.failures store.new ≡ S.failures store.old
-        → FedAll (scene (opening_connection config first_statsn)
+        → FedAll S.protected (scene (opening_connection config first_statsn)
         (store_of (S.disk store.old) (S.failures store.old)) [])
         (map (λ piece. piece.items) pieces.now)
         (scene now.target (store_of (S.disk store.new) (S.failures store.new)) now.output.items)) }
@@ -69,13 +69,13 @@ pub fn answers_alike<S: BlockStore>(
     requires disk { S.disk other.old ≡ S.disk store.old }
     // Each target was fed its own stream.
     ensures first { IfOk result (λ both. S.failures store.new ≡ S.failures store.old
-        → FedAll (scene (opening_connection configs.0 first_statsn)
+        → FedAll S.protected (scene (opening_connection configs.0 first_statsn)
         (store_of (S.disk store.old) (S.failures store.old)) [])
         (map (λ piece. piece.items) streams.entry.0.now)
         (scene both.0.target (store_of (S.disk store.new) (S.failures store.new))
         both.0.output.items)) }
     ensures second { IfOk result (λ both. S.failures other.new ≡ S.failures other.old
-        → FedAll (scene (opening_connection configs.1 first_statsn)
+        → FedAll S.protected (scene (opening_connection configs.1 first_statsn)
         (store_of (S.disk other.old) (S.failures other.old)) [])
         (map (λ piece. piece.items) streams.entry.1.now)
         (scene both.1.target (store_of (S.disk other.new) (S.failures other.new))

@@ -1,7 +1,7 @@
 //! Laws of the target machine: functions that do nothing, whose contracts are the theorems. They
 //! speak of the definitions in `specs`, which the contracts of the working functions cite too.
 
-ghost use Rattle.std.specs.Prelude.{◌≡◌, ◌≢◌, ◌≤◌, ◌<◌, ◌+◌, ◌%◌, ◌^◌, ◌++◌, ◌∷◌, [], ℕ, false, true, List, Result, Some, length, map};
+ghost use Rattle.std.specs.Prelude.{Bool, ◌≡◌, ◌≢◌, ◌≤◌, ◌<◌, ◌+◌, ◌%◌, ◌^◌, ◌++◌, ◌∷◌, [], ℕ, false, true, List, Result, Some, length, map};
 ghost use Rattle.std.specs.List.{AllByRecursion};
 ghost use Rattle.scsi_disk.specs.Disk.{Disk};
 ghost use Rattle.scsi_disk.specs.Runs.{disk_after};
@@ -18,7 +18,7 @@ ghost use Rattle.iscsi_login.specs.Held.{IsHeld};
 ghost use Rattle.iscsi_target.specs.declared.fault.TargetFault.{TargetFault};
 ghost use Rattle.iscsi_target_session.specs.Configured.{Settings};
 ghost use Rattle.iscsi_target_session.specs.Session.{limit, Session};
-ghost use Rattle.iscsi_target.specs.State.{Machine, Stepped, closed, opening, unchanged, max_cmd_sn, waiting};
+ghost use Rattle.iscsi_target.specs.State.{Execution, Machine, Stepped, closed, opening, unchanged, max_cmd_sn, waiting};
 ghost use Rattle.iscsi_target.specs.State.{joined};
 ghost use Rattle.iscsi_target.specs.Execution.{Device};
 ghost use Rattle.iscsi_target.specs.Machine.{is_closed, step, step_on, answers, then_stepped, done_first, done_in_turn, MayStep, MayAnswer};
@@ -43,19 +43,27 @@ pub fn worked_sessions()
 /// those whose response went out, in the order in which they were accepted. No accepted command is
 /// left out but those that wait, which come behind, or at which the session was closed.
 pub fn one_disk()
-    ensures fold { (s : Machine) (disk : Disk) (ms : List Message)
-        → (answers s disk ms).disk ≡ disk_after (map supplied (answers s disk ms).executed) disk }
+    ensures fold { (protected : Bool) (s : Machine) (disk : Disk) (ms : List Message)
+        → (answers protected s disk ms).disk ≡ disk_after protected (map supplied (answers protected s disk ms).executed) disk }
     // Over a store that may fail, each does what it does, or what it may do where the device fails.
-    ensures may { (s : Machine) (disk : Disk) (before after : ℕ) (ms : List Message) (r : Stepped)
-        → MayAnswer s disk before ms r after → Leads disk r.executed r.disk }
-    ensures answered { (s : Machine) (disk : Disk) (ms : List Message)
-        → response_tags (answers s disk ms).answers
-        ≡ map (λ task. task.0) (tasks_done (answers s disk ms).executed) }
+    ensures may { (protected : Bool) (s : Machine) (disk : Disk) (before after : ℕ) (ms : List Message) (r : Stepped)
+        → MayAnswer protected s disk before ms r after → Leads protected disk r.executed r.disk }
+    ensures answered { (protected : Bool) (s : Machine) (disk : Disk) (ms : List Message)
+        → response_tags (answers protected s disk ms).answers
+        ≡ map (λ task. task.0) (tasks_done (answers protected s disk ms).executed) }
     // A response says of its command what came of it: status, residual and sense data.
-    ensures told { (s : Machine) (disk : Disk) (ms : List Message)
-        → told_in (answers s disk ms).answers ≡ map due_for (answers s disk ms).executed }
-    ensures order { (settings : Settings) (n : ℕ) (disk : Disk) (ms : List Message)
-        → AreInOrder (answers (opening settings n) disk ms) }
+    ensures told { (protected : Bool) (s : Machine) (disk : Disk) (ms : List Message)
+        → told_in (answers protected s disk ms).answers ≡ map (due_for protected) (answers protected s disk ms).executed }
+    ensures order { (protected : Bool) (settings : Settings) (n : ℕ) (disk : Disk) (ms : List Message)
+        → AreInOrder (answers protected (opening settings n) disk ms) }
+{}
+
+/// A store that refuses writes keeps its blocks, whatever comes, also where its device fails.
+pub fn protected_keeps()
+    ensures answered { (s : Machine) (disk : Disk) (before after : ℕ) (ms : List Message)
+        (r : Stepped) → MayAnswer true s disk before ms r after → r.disk ≡ disk }
+    ensures executed { (disk last : Disk) (es : List Execution) → Leads true disk es last
+        → last ≡ disk }
 {}
 
 /// Tasks in their turn, told twice: the first k of them, for where memory runs out, and all. As many
@@ -72,22 +80,22 @@ pub fn tasks_in_turn()
 /// a task, and no R2T was sent for one behind it. MaxCmdSN does not go back while a session is in
 /// full feature phase.
 pub fn queue()
-    ensures tasks { (settings : Settings) (n : ℕ) (disk : Disk) (ms : List Message)
+    ensures tasks { (protected : Bool) (settings : Settings) (n : ℕ) (disk : Disk) (ms : List Message)
         → AllByRecursion HasCmdSn ms
-        → IsQueue (answers (opening settings n) disk ms).machine.tasks }
-    ensures rises { (s : Machine) (disk : Disk) (m : Message) → s.session.exp_cmd_sn < 2 ^ 32
-        → waiting s.tasks ≤ 8 → s.session.phase ≡ Full → is_closed (step s disk m).machine ≡ false
-        → IsNotBefore (max_cmd_sn s) (max_cmd_sn (step s disk m).machine) }
+        → IsQueue (answers protected (opening settings n) disk ms).machine.tasks }
+    ensures rises { (protected : Bool) (s : Machine) (disk : Disk) (m : Message) → s.session.exp_cmd_sn < 2 ^ 32
+        → waiting s.tasks ≤ 8 → s.session.phase ≡ Full → is_closed (step protected s disk m).machine ≡ false
+        → IsNotBefore (max_cmd_sn s) (max_cmd_sn (step protected s disk m).machine) }
 {}
 
 /// Once a login is complete, its stage and the values that it agreed on stay, whatever comes, also
 /// where the session is closed.
 pub fn held_stays()
-    ensures stays { (settings : Settings) (n : ℕ) (disk : Disk) (ms more : List Message)
-        → (answers (opening settings n) disk ms).machine.session.stage ≡ stages.Full
-        → ((answers (opening settings n) disk (ms ++ more)).machine.session.stage ≡ stages.Full)
-        × ((answers (opening settings n) disk (ms ++ more)).machine.session.held
-        ≡ (answers (opening settings n) disk ms).machine.session.held) }
+    ensures stays { (protected : Bool) (settings : Settings) (n : ℕ) (disk : Disk) (ms more : List Message)
+        → (answers protected (opening settings n) disk ms).machine.session.stage ≡ stages.Full
+        → ((answers protected (opening settings n) disk (ms ++ more)).machine.session.stage ≡ stages.Full)
+        × ((answers protected (opening settings n) disk (ms ++ more)).machine.session.held
+        ≡ (answers protected (opening settings n) disk ms).machine.session.held) }
     // So does a fault that closes it.
     ensures closed { (s : Machine) → ((closed s).session.stage ≡ s.session.stage)
         × ((closed s).session.held ≡ s.session.held) }
@@ -97,20 +105,20 @@ pub fn held_stays()
 /// which gave one of them, and so is one in which a command was executed. Any other initiator has
 /// nothing executed, and leaves the blocks as they are.
 pub fn allowed_only()
-    ensures full { (settings : Settings) (names : List (List ℕ)) (n : ℕ) (disk : Disk)
+    ensures full { (protected : Bool) (settings : Settings) (names : List (List ℕ)) (n : ℕ) (disk : Disk)
         (ms : List Message) → settings.access.names ≡ Some names
-        → (answers (opening settings n) disk ms).machine.session.phase ≡ Full
-        → is_among names (answers (opening settings n) disk ms).machine.session.initiator_name
+        → (answers protected (opening settings n) disk ms).machine.session.phase ≡ Full
+        → is_among names (answers protected (opening settings n) disk ms).machine.session.initiator_name
         ≡ true }
-    ensures executed { (settings : Settings) (names : List (List ℕ)) (n : ℕ) (disk : Disk)
+    ensures executed { (protected : Bool) (settings : Settings) (names : List (List ℕ)) (n : ℕ) (disk : Disk)
         (ms : List Message) → settings.access.names ≡ Some names
-        → (answers (opening settings n) disk ms).executed ≢ []
-        → is_among names (answers (opening settings n) disk ms).machine.session.initiator_name
+        → (answers protected (opening settings n) disk ms).executed ≢ []
+        → is_among names (answers protected (opening settings n) disk ms).machine.session.initiator_name
         ≡ true }
     // A login that is refused leaves no name in the session: an empty one.
-    ensures others { (settings : Settings) (names : List (List ℕ)) (n : ℕ) (disk : Disk)
+    ensures others { (protected : Bool) (settings : Settings) (names : List (List ℕ)) (n : ℕ) (disk : Disk)
         (ms : List Message) → settings.access.names ≡ Some names
-        → let r = answers (opening settings n) disk ms in
+        → let r = answers protected (opening settings n) disk ms in
         is_among names r.machine.session.initiator_name ≡ false
         → (r.executed ≡ []) × (r.disk ≡ disk) }
 {}
@@ -118,11 +126,11 @@ pub fn allowed_only()
 /// The order of acceptance is that of CmdSN: the requests that were accepted and aren't immediate
 /// have numbers one after another, from that of the first login request on.
 pub fn command_numbers()
-    ensures count_on { (settings : Settings) (n : ℕ) (disk : Disk) (first : Message)
+    ensures count_on { (protected : Bool) (settings : Settings) (n : ℕ) (disk : Disk) (first : Message)
         (ms : List Message) (request : LoginRequest) → first.head ≡ heads.LoginRequest request
         → AllByRecursion HasCmdSn (first ∷ ms)
         → CountOn request.cmd_sn
-        (cmd_sns (answers (opening settings n) disk (first ∷ ms)).accepted) }
+        (cmd_sns (answers protected (opening settings n) disk (first ∷ ms)).accepted) }
     // In a stream of bytes each CmdSN is a number of 32 bits.
     ensures streams { (stream : List ℕ) (ms : List Message) → AreBytes stream
         → StreamMeans stream ms → AllByRecursion HasCmdSn ms }
@@ -131,64 +139,64 @@ pub fn command_numbers()
 /// Status numbers: the answers that carry StatSN and advance it have numbers one after another,
 /// round the circle of 2^32.
 pub fn status_numbers()
-    ensures count_on { (s : Machine) (disk : Disk) (ms : List Message) → s.session.stat_sn < 2 ^ 32
-        → CountOn s.session.stat_sn (stat_sns (answers s disk ms).answers) }
-    ensures next { (s : Machine) (disk : Disk) (ms : List Message) → s.session.stat_sn < 2 ^ 32
-        → (answers s disk ms).machine.session.stat_sn
-        ≡ (s.session.stat_sn + length (stat_sns (answers s disk ms).answers)) % 2 ^ 32 }
+    ensures count_on { (protected : Bool) (s : Machine) (disk : Disk) (ms : List Message) → s.session.stat_sn < 2 ^ 32
+        → CountOn s.session.stat_sn (stat_sns (answers protected s disk ms).answers) }
+    ensures next { (protected : Bool) (s : Machine) (disk : Disk) (ms : List Message) → s.session.stat_sn < 2 ^ 32
+        → (answers protected s disk ms).machine.session.stat_sn
+        ≡ (s.session.stat_sn + length (stat_sns (answers protected s disk ms).answers)) % 2 ^ 32 }
 {}
 
 /// Tiling: whatever came before, the Data-In that a message leads to are those of the commands that
 /// are executed, one after another, and tile the data of each. Also whatever came before, the pieces
 /// of a write that is executed tile its transfer.
 pub fn tiling()
-    ensures data_in { (settings : Settings) (n : ℕ) (disk : Disk) (ms : List Message) (m : Message)
+    ensures data_in { (protected : Bool) (settings : Settings) (n : ℕ) (disk : Disk) (ms : List Message) (m : Message)
         → IsInRange settings.preferences
-        → let r = answers (opening settings n) disk ms in TilesDataIn (step r.machine r.disk m) }
-    ensures writes { (settings : Settings) (n : ℕ) (disk : Disk) (ms : List Message) (m : Message)
-        → let r = answers (opening settings n) disk ms in
-        AllByRecursion IsTiled (step r.machine r.disk m).executed }
+        → let r = answers protected (opening settings n) disk ms in TilesDataIn protected (step protected r.machine r.disk m) }
+    ensures writes { (protected : Bool) (settings : Settings) (n : ℕ) (disk : Disk) (ms : List Message) (m : Message)
+        → let r = answers protected (opening settings n) disk ms in
+        AllByRecursion IsTiled (step protected r.machine r.disk m).executed }
 {}
 
 /// Ready-to-transfer bounds: whatever came before, an R2T asks for at most a burst, and for nothing
 /// past the transfer of the write that is the first task. Also whatever came before, at most one R2T
 /// is unanswered.
 pub fn ready_to_transfer_bounds()
-    ensures modest { (settings : Settings) (n : ℕ) (disk : Disk) (ms : List Message) (m : Message)
-        → let r = answers (opening settings n) disk ms in let t = step r.machine r.disk m in
+    ensures modest { (protected : Bool) (settings : Settings) (n : ℕ) (disk : Disk) (ms : List Message) (m : Message)
+        → let r = answers protected (opening settings n) disk ms in let t = step protected r.machine r.disk m in
         AllByRecursion (IsModest t.machine.session.held (total_of t.machine.tasks)) (r2t_ranges t.answers) }
-    ensures one { (settings : Settings) (n : ℕ) (disk : Disk) (ms : List Message)
-        → length (r2t_ranges (answers (opening settings n) disk ms).answers)
-        ≤ r2ts_answered (opening settings n) disk ms + 1 }
+    ensures one { (protected : Bool) (settings : Settings) (n : ℕ) (disk : Disk) (ms : List Message)
+        → length (r2t_ranges (answers protected (opening settings n) disk ms).answers)
+        ≤ r2ts_answered protected (opening settings n) disk ms + 1 }
 {}
 
 /// Silence outside the window: whatever came before, a request that isn't immediate and comes
 /// outside the window changes nothing and has no answer.
 pub fn silence_outside_the_window()
-    ensures silent { (settings : Settings) (n : ℕ) (disk : Disk) (ms : List Message) (m : Message)
-        → let r = answers (opening settings n) disk ms in IsOutside r.machine m
-        → step r.machine r.disk m ≡ unchanged r.machine r.disk }
+    ensures silent { (protected : Bool) (settings : Settings) (n : ℕ) (disk : Disk) (ms : List Message) (m : Message)
+        → let r = answers protected (opening settings n) disk ms in IsOutside r.machine m
+        → step protected r.machine r.disk m ≡ unchanged r.machine r.disk }
 {}
 
 /// What is held stays in range, and a segment of the length that the target declared is one that
 /// its framer takes.
 pub fn held_in_range()
-    ensures held { (settings : Settings) (n : ℕ) (disk : Disk) (ms : List Message)
+    ensures held { (protected : Bool) (settings : Settings) (n : ℕ) (disk : Disk) (ms : List Message)
         → IsInRange settings.preferences
-        → IsHeld (answers (opening settings n) disk ms).machine.session.held }
-    ensures limit { (settings : Settings) (n : ℕ) (disk : Disk) (ms : List Message)
-        → (answers (opening settings n) disk ms).machine.session.held.target_max_recv ≤ limit settings }
+        → IsHeld (answers protected (opening settings n) disk ms).machine.session.held }
+    ensures limit { (protected : Bool) (settings : Settings) (n : ℕ) (disk : Disk) (ms : List Message)
+        → (answers protected (opening settings n) disk ms).machine.session.held.target_max_recv ≤ limit settings }
 {}
 
 /// Messages in two parts are answered as at once, also over a store that may fail.
 pub fn in_two_parts()
-    ensures together { (s : Machine) (disk : Disk) (ms more : List Message)
-        → answers s disk (ms ++ more) ≡ then_stepped (answers s disk ms)
-        (answers (answers s disk ms).machine (answers s disk ms).disk more) }
-    ensures may { (s : Machine) (disk : Disk) (before now after : ℕ) (ms more : List Message)
-        (a b : Stepped) → MayAnswer s disk before ms a now
-        → MayAnswer a.machine a.disk now more b after
-        → MayAnswer s disk before (ms ++ more) (then_stepped a b) after }
+    ensures together { (protected : Bool) (s : Machine) (disk : Disk) (ms more : List Message)
+        → answers protected s disk (ms ++ more) ≡ then_stepped (answers protected s disk ms)
+        (answers protected (answers protected s disk ms).machine (answers protected s disk ms).disk more) }
+    ensures may { (protected : Bool) (s : Machine) (disk : Disk) (before now after : ℕ) (ms more : List Message)
+        (a b : Stepped) → MayAnswer protected s disk before ms a now
+        → MayAnswer protected a.machine a.disk now more b after
+        → MayAnswer protected s disk before (ms ++ more) (then_stepped a b) after }
 {}
 
 /// Where one piece of a write ended and the next began makes no difference, whatever the store
@@ -197,81 +205,81 @@ pub fn pieces_joined()
     ensures same { (device : Device) (s : Machine) (disk : Disk) (m : Message)
         → joined_stepped (step_on device (joined s) disk m)
         ≡ joined_stepped (step_on device s disk m) }
-    ensures may { (s : Machine) (disk : Disk) (before after : ℕ) (m : Message) (a : Stepped)
-        → MayStep (joined s) disk before m a after
-        → (b : Stepped) × MayStep s disk before m b after × (joined_stepped a ≡ joined_stepped b) }
+    ensures may { (protected : Bool) (s : Machine) (disk : Disk) (before after : ℕ) (m : Message) (a : Stepped)
+        → MayStep protected (joined s) disk before m a after
+        → (b : Stepped) × MayStep protected s disk before m b after × (joined_stepped a ≡ joined_stepped b) }
 {}
 
 /// Two streams of one meaning get the same answers, and so do a stream and its canonical form.
 pub fn one_meaning_one_answer()
-    ensures streams { (settings : Settings) (n : ℕ) (disk : Disk) (s t : List ℕ)
+    ensures streams { (protected : Bool) (settings : Settings) (n : ℕ) (disk : Disk) (s t : List ℕ)
         (ms ns : List Message) → AreBytes s → AreBytes t → StreamMeans s ms
         → StreamMeans t ns → canon ms ≡ canon ns
-        → answers (opening settings n) disk ms ≡ answers (opening settings n) disk ns }
-    ensures canonical { (settings : Settings) (n : ℕ) (disk : Disk) (stream : List ℕ)
+        → answers protected (opening settings n) disk ms ≡ answers protected (opening settings n) disk ns }
+    ensures canonical { (protected : Bool) (settings : Settings) (n : ℕ) (disk : Disk) (stream : List ℕ)
         (ms ns : List Message) → AreBytes stream → StreamMeans stream ms → StreamMeans (canon ms) ns
-        → answers (opening settings n) disk ns ≡ answers (opening settings n) disk ms }
+        → answers protected (opening settings n) disk ns ≡ answers protected (opening settings n) disk ms }
 {}
 
 /// Cuts make no difference, whatever pieces a stream of the profile comes in. What is written, the
 /// blocks and the session are those that its messages lead to, also if the session is closed before
 /// the end.
 pub fn any_pieces()
-    ensures meets { (settings : Settings) (n : ℕ) (store after : Store) (pieces : List (List ℕ))
+    ensures meets { (protected : Bool) (settings : Settings) (n : ℕ) (store after : Store) (pieces : List (List ℕ))
         (target : Connection) (written : List ℕ) (ms : List Message)
-        → FedAll (scene (opening_connection settings n) store []) pieces
+        → FedAll protected (scene (opening_connection settings n) store []) pieces
         (scene target after written)
         → StreamMeans (stream_of pieces) ms
-        → Meets (beginning settings n store.disk) ms target after.disk written }
+        → Meets protected (beginning settings n store.disk) ms target after.disk written }
     // Of any stream, what is written and the blocks are those of its longest prefix in the profile.
-    ensures writes { (settings : Settings) (n : ℕ) (store after : Store)
+    ensures writes { (protected : Bool) (settings : Settings) (n : ℕ) (store after : Store)
         (pieces : List (List ℕ)) (target : Connection) (written : List ℕ) (ms : List Message)
         (given rest : List ℕ) → IsInRange settings.preferences
-        → FedAll (scene (opening_connection settings n) store []) pieces
+        → FedAll protected (scene (opening_connection settings n) store []) pieces
         (scene target after written)
         → Splits longest_segment (stream_of pieces) ms given rest
-        → Writes (beginning settings n store.disk) ms after.disk written }
+        → Writes protected (beginning settings n store.disk) ms after.disk written }
     // The session is where that prefix leads to, or was closed there by what follows it.
-    ensures holds { (settings : Settings) (n : ℕ) (store after : Store)
+    ensures holds { (protected : Bool) (settings : Settings) (n : ℕ) (store after : Store)
         (pieces : List (List ℕ)) (target : Connection) (written : List ℕ) (ms : List Message)
         (given rest : List ℕ) → IsInRange settings.preferences
-        → FedAll (scene (opening_connection settings n) store []) pieces
+        → FedAll protected (scene (opening_connection settings n) store []) pieces
         (scene target after written)
         → Splits longest_segment (stream_of pieces) ms given rest
-        → Holds (beginning settings n store.disk) ms rest target.machine }
+        → Holds protected (beginning settings n store.disk) ms rest target.machine }
     // So it is the same however the stream is cut.
-    ensures alike { (settings : Settings) (n : ℕ) (store first second : Store)
+    ensures alike { (protected : Bool) (settings : Settings) (n : ℕ) (store first second : Store)
         (pieces others : List (List ℕ)) (a b : Connection) (written rewritten : List ℕ)
         (ms : List Message) (given rest : List ℕ) → IsInRange settings.preferences
         → Splits longest_segment (stream_of pieces) ms given rest
         → stream_of others ≡ stream_of pieces
-        → FedAll (scene (opening_connection settings n) store []) pieces (scene a first written)
-        → FedAll (scene (opening_connection settings n) store []) others (scene b second rewritten)
+        → FedAll protected (scene (opening_connection settings n) store []) pieces (scene a first written)
+        → FedAll protected (scene (opening_connection settings n) store []) others (scene b second rewritten)
         → (rewritten ≡ written) × (second.disk ≡ first.disk) × SameSession a.machine b.machine }
 {}
 
 /// A target writes the same bytes for a stream and for its canonical form, in whatever pieces they
 /// come, and holds the same blocks, values, stage and phase afterwards.
 pub fn canonical_form()
-    ensures same { (settings : Settings) (n : ℕ) (store first second : Store)
+    ensures same { (protected : Bool) (settings : Settings) (n : ℕ) (store first second : Store)
         (pieces others : List (List ℕ)) (a b : Connection) (written rewritten : List ℕ)
         (ms : List Message) → AreBytes (stream_of pieces) → StreamMeans (stream_of pieces) ms
         → stream_of others ≡ canon ms
-        → FedAll (scene (opening_connection settings n) store []) pieces (scene a first written)
-        → FedAll (scene (opening_connection settings n) store []) others (scene b second rewritten)
+        → FedAll protected (scene (opening_connection settings n) store []) pieces (scene a first written)
+        → FedAll protected (scene (opening_connection settings n) store []) others (scene b second rewritten)
         → (rewritten ≡ written) × (second.disk ≡ first.disk) × (b.machine ≡ a.machine) }
 {}
 
 /// A call has one outcome: if memory is there and the device doesn't fail, what a piece leads to is
 /// the same each time. This also holds if the piece breaks off within a PDU.
 pub fn one_outcome()
-    ensures alike { (stream piece output written rewritten : List ℕ) (ms : List Message)
+    ensures alike { (protected : Bool) (stream piece output written rewritten : List ℕ) (ms : List Message)
         (old same a b : Connection) (before store first second : Store)
         (result other : Result Phase TargetFault) → (is_closed old.machine ≡ false → HasTaken stream ms old.framing)
         → Alike old same → store.disk ≡ before.disk
-        → Fed (scene old before output) piece result (scene a first written)
+        → Fed protected (scene old before output) piece result (scene a first written)
         → GoesWell result before first
-        → Fed (scene same store output) piece other (scene b second rewritten)
+        → Fed protected (scene same store output) piece other (scene b second rewritten)
         → GoesWell other store second
         → FedAlike result other (scene a first written) (scene b second rewritten) }
 {}

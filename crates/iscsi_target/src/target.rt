@@ -77,23 +77,23 @@ impl Target {
         store: &mut S,
         out: &mut Vec<u8>,
     ) -> Result<Phase, TargetFault>
-        ensures fed { Fed
+        ensures fed { Fed S.protected
             (scene self.old (store_of (S.disk store.old) (S.failures store.old)) out.old.items)
             piece.now result
             (scene self.new (store_of (S.disk store.new) (S.failures store.new)) out.new.items) }
         // Whatever pieces a stream comes in, it has the answers to its PDUs.
         ensures stream { (settings : Settings) (n : ℕ) (disk : Disk) (stream : List ℕ)
             → S.failures store.new ≡ S.failures store.old → is_closed self.new.machine ≡ false
-            → HasAnswered (beginning settings n disk) stream self.old (S.disk store.old)
+            → HasAnswered S.protected (beginning settings n disk) stream self.old (S.disk store.old)
             out.old.items
-            → HasAnswered (beginning settings n disk) (stream ++ piece.now) self.new
+            → HasAnswered S.protected (beginning settings n disk) (stream ++ piece.now) self.new
             (S.disk store.new) out.new.items }
         // Once the store is synced, a crash leaves the blocks that the answered commands led to, and no
         // others.
         ensures lasts { S.failures store.new ≡ 0
             → Lasts (S.synced store.new) (S.disk store.new) (S.kept store.new) }
         // Come what may, a crash leaves each block as before, or as a command of a PDU leaves it.
-        ensures crash { CrashesFed self.old (store_of (S.disk store.old) (S.failures store.old))
+        ensures crash { CrashesFed S.protected self.old (store_of (S.disk store.old) (S.failures store.old))
             piece.now (store_of (S.disk store.new) (S.failures store.new))
             (S.kept store.old) (S.kept store.new) }
     {
@@ -113,7 +113,7 @@ impl Target {
         store: &mut S,
         out: &mut Vec<u8>,
     ) -> Result<(usize, Phase), TargetFault>
-        ensures fed { FedNext
+        ensures fed { FedNext S.protected
             (scene self.old (store_of (S.disk store.old) (S.failures store.old)) out.old.items)
             piece.now result
             (scene self.new (store_of (S.disk store.new) (S.failures store.new)) out.new.items) }
@@ -122,7 +122,7 @@ impl Target {
         ensures lasts { S.failures store.new ≡ 0
             → Lasts (S.synced store.new) (S.disk store.new) (S.kept store.new) }
         // Come what may, a crash leaves each block as before, or as a command of the PDU does.
-        ensures crash { CrashesNext self.old piece.now (S.disk store.old) (S.disk store.new)
+        ensures crash { CrashesNext S.protected self.old piece.now (S.disk store.old) (S.disk store.new)
             (S.kept store.old) (S.kept store.new) }
     {
         if self.machine.is_closed() {
@@ -214,13 +214,13 @@ fn feed_all<S: BlockStore>(
     requires limit { framer.old.limit ≡ limit machine.old.session.settings }
     requires unready { is_ready framer.old ≡ false }
     requires live { is_closed machine.old ≡ false }
-    ensures fed { Feeds (scene (connection machine.old framer.old)
+    ensures fed { Feeds S.protected (scene (connection machine.old framer.old)
         (store_of (S.disk store.old) (S.failures store.old)) out.old.items) piece.now result
         (scene (connection machine.new framer.new)
         (store_of (S.disk store.new) (S.failures store.new)) out.new.items) }
     ensures limit { framer.new.limit ≡ limit machine.new.session.settings }
     ensures unready { is_ready framer.new ≡ false }
-    ensures crash { CrashesFed (connection machine.old framer.old)
+    ensures crash { CrashesFed S.protected (connection machine.old framer.old)
         (store_of (S.disk store.old) (S.failures store.old)) piece.now
         (store_of (S.disk store.new) (S.failures store.new)) (S.kept store.old) (S.kept store.new) }
 {
@@ -250,13 +250,13 @@ fn feed_once<S: BlockStore>(
     requires limit { framer.old.limit ≡ limit machine.old.session.settings }
     requires unready { is_ready framer.old ≡ false }
     requires live { is_closed machine.old ≡ false }
-    ensures fed { FeedsNext (scene (connection machine.old framer.old)
+    ensures fed { FeedsNext S.protected (scene (connection machine.old framer.old)
         (store_of (S.disk store.old) (S.failures store.old)) out.old.items) piece.now result
         (scene (connection machine.new framer.new)
         (store_of (S.disk store.new) (S.failures store.new)) out.new.items) }
     ensures limit { framer.new.limit ≡ limit machine.new.session.settings }
     ensures unready { is_ready framer.new ≡ false }
-    ensures crash { CrashesNext (connection machine.old framer.old) piece.now (S.disk store.old)
+    ensures crash { CrashesNext S.protected (connection machine.old framer.old) piece.now (S.disk store.old)
         (S.disk store.new) (S.kept store.old) (S.kept store.new) }
 {
     let (taken, broken) = feed_one(machine, framer, piece, store, out)?;
@@ -279,17 +279,17 @@ fn feed_one<S: BlockStore>(
     requires limit { framer.old.limit ≡ limit machine.old.session.settings }
     requires unready { is_ready framer.old ≡ false }
     requires live { is_closed machine.old ≡ false }
-    ensures ok { IfOk result (λ done. TakesOne (scene (connection machine.old framer.old)
+    ensures ok { IfOk result (λ done. TakesOne S.protected (scene (connection machine.old framer.old)
         (store_of (S.disk store.old) (S.failures store.old)) out.old.items) piece.now done.0 done.1
         (scene (connection machine.new framer.new)
         (store_of (S.disk store.new) (S.failures store.new)) out.new.items)) }
-    ensures err { IfErr result (λ fault. FailsOne (scene (connection machine.old framer.old)
+    ensures err { IfErr result (λ fault. FailsOne S.protected (scene (connection machine.old framer.old)
         (store_of (S.disk store.old) (S.failures store.old)) out.old.items) piece.now fault
         (scene (connection machine.new framer.new)
         (store_of (S.disk store.new) (S.failures store.new)) out.new.items)) }
     ensures limit { framer.new.limit ≡ limit machine.new.session.settings }
     ensures unready { is_ready framer.new ≡ false }
-    ensures crash { CrashesNext (connection machine.old framer.old) piece.now (S.disk store.old)
+    ensures crash { CrashesNext S.protected (connection machine.old framer.old) piece.now (S.disk store.old)
         (S.disk store.new) (S.kept store.old) (S.kept store.new) }
 {
     let taken = take_bytes(machine, framer, piece)?;
@@ -338,15 +338,15 @@ fn answer_ready<S: BlockStore>(
 ) -> Result<Option<u8>, AllocError>
     requires limit { framer.old.limit ≡ limit machine.old.session.settings }
     requires live { is_closed machine.old ≡ false }
-    ensures ok { IfOk result (λ rule. AnswersReady (scene (connection machine.old framer.old)
+    ensures ok { IfOk result (λ rule. AnswersReady S.protected (scene (connection machine.old framer.old)
         (store_of (S.disk store.old) (S.failures store.old)) out.old.items) rule
         (scene (connection machine.new framer.new)
         (store_of (S.disk store.new) (S.failures store.new)) out.new.items)) }
-    ensures err { OnErr result (ShutsReady (scene (connection machine.old framer.old)
+    ensures err { OnErr result (ShutsReady S.protected (scene (connection machine.old framer.old)
         (store_of (S.disk store.old) (S.failures store.old)) out.old.items)
         (scene (connection machine.new framer.new)
         (store_of (S.disk store.new) (S.failures store.new)) out.new.items)) }
-    ensures crash { CrashesReady (connection machine.old framer.old) (S.disk store.old)
+    ensures crash { CrashesReady S.protected (connection machine.old framer.old) (S.disk store.old)
         (S.disk store.new) (S.kept store.old) (S.kept store.new) }
 {
     let Some(pdu) = framer.pdu() else {

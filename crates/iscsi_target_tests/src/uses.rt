@@ -21,9 +21,9 @@ pub fn answer<S: BlockStore>(
 ) -> bool
     ensures answered { (settings : Settings) (n : ℕ) (disk : Disk) (stream : List ℕ)
         → S.failures store.new ≡ S.failures store.old → IsTrue result
-        → HasAnswered (beginning settings n disk) stream target.old (S.disk store.old)
+        → HasAnswered S.protected (beginning settings n disk) stream target.old (S.disk store.old)
         answers.old.items
-        → HasAnswered (beginning settings n disk) (stream ++ came.now) target.new
+        → HasAnswered S.protected (beginning settings n disk) (stream ++ came.now) target.new
         (S.disk store.new) answers.new.items }
 {
     let _ = target.feed(came, store, answers);

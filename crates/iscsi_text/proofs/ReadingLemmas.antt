@@ -119,7 +119,7 @@ zero_exact c x text zero_digit = elim (decided _ (Decides-or _ _ (Decides-eqb x 
   ])
 ]
 
-number_exact : (bytes : List ℕ) → Exact bytes (number_in bytes)
+pub number_exact : (bytes : List ℕ) → Exact bytes (number_in bytes)
 number_exact [] = λ n spelled. elim spelled.form [ inl d ↦ omega (arith, d.digits.0) | inr x ↦ x ]
 number_exact (c ∷ []) = decimal_exact (c ∷ []) (λ long. absurd (omega arith))
 number_exact (c ∷ x ∷ text) = elim (decided (c == 48) (Decides-eqb c 48)) [

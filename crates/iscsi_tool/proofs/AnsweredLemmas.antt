@@ -1,5 +1,5 @@
 -- What is written, and why answering ends, told of the session.
-use Rattle.std.proofs.Common.{◌≡◌, ◌⊎◌, inl, inr, ℕ, Bool, List, [], ◌++◌, Option, Some, Result, Ok, Err, OnOk, refl, arith}
+use Rattle.std.proofs.Common.{false, ◌≡◌, ◌⊎◌, inl, inr, ℕ, Bool, List, [], ◌++◌, Option, Some, Result, Ok, Err, OnOk, refl, arith}
 use Rattle.hex.specs.Hex.{IsBytes, encode_lower}
 use Rattle.iscsi_stream.specs.declared.fault.ToolFault.TheVariants as tool
 use Rattle.iscsi_stream.specs.declared.fault.ToolFault.{ToolFault}
@@ -16,17 +16,17 @@ use Rattle.iscsi_tool.specs.Spelling.{Finishes}
 use Rattle.iscsi_filters.specs.HexText.{BytesOf, HexTextFails}
 use Rattle.iscsi_tool.proofs.SpellingLemmas.{lent_took}
 
-all_answered : (blocks : ℕ) (read : List ℕ) (disk_now : Disk) (written : List ℕ) → ServesAll target_settings (zeros blocks) read disk_now written →
+all_answered : (blocks : ℕ) (read : List ℕ) (disk_now : Disk) (written : List ℕ) → ServesAll false target_settings (zeros blocks) read disk_now written →
     AnswersAll blocks read written
 all_answered blocks read disk_now written a ms given rest s = (a ms given rest s).output_is
 
-pub done_answered : (blocks : ℕ) (read : List ℕ) (disk_now : Disk) (written : List ℕ) → Serves target_settings (zeros blocks) (Ok tt) read disk_now written
-    × EndsBy target_settings (zeros blocks) (Ok tt) read
+pub done_answered : (blocks : ℕ) (read : List ℕ) (disk_now : Disk) (written : List ℕ) → Serves false target_settings (zeros blocks) (Ok tt) read disk_now written
+    × EndsBy false target_settings (zeros blocks) (Ok tt) read
     → AnswersBytes blocks (Ok tt) read written
 done_answered blocks read disk_now written s = (all_answered blocks read disk_now written s.0, s.1)
 
 pub fault_answered : (fault : SessionFault) (blocks : ℕ) (read : List ℕ) (disk_now : Disk) (written : List ℕ) →
-    Serves target_settings (zeros blocks) (Err fault) read disk_now written × EndsBy target_settings (zeros blocks) (Err fault) read
+    Serves false target_settings (zeros blocks) (Err fault) read disk_now written × EndsBy false target_settings (zeros blocks) (Err fault) read
     → AnswersBytes blocks (Err (filter_fault fault)) read written
 fault_answered session.NoMemory blocks read disk_now written s = (disk_now, s.0)
 fault_answered (session.Target faults.NoMemory) blocks read disk_now written s = absurd s.0
@@ -59,7 +59,7 @@ none_answered blocks = (
 -- the answers that a writer of digits took, and what was written behind them
 pub spells : (blocks : ℕ) (bytes taken rest answered ending : List ℕ) (outcome result : Result (Unit {0}) ToolFault) (is_cut : Bool) (held : Option (List ℕ))
     → bytes ≡ taken ++ rest → AnswersBytes blocks outcome taken answered
-    → OnOk outcome (EndsWell target_settings (zeros blocks) (Some bytes) (Some rest)) → Finishes outcome is_cut result ending
+    → OnOk outcome (EndsWell false target_settings (zeros blocks) (Some bytes) (Some rest)) → Finishes outcome is_cut result ending
     → (result ≡ Err tool.Write) ⊎ SpellsAnswers blocks result bytes (lent_took is_cut held (encode_lower answered) ++ ending)
 spells blocks bytes taken rest answered ending outcome result is_cut held whole answers ends (inl failed) = inl failed
 spells blocks bytes taken rest answered ending outcome result is_cut held whole answers ends (inr f) =

@@ -1,5 +1,5 @@
 -- What `answer` writes for what it has read (RFC 7143, sections 6 and 11).
-use Rattle.std.specs.Prelude.{◌≡◌, ◌⊎◌, ℕ, List, [], ◌∷◌, ◌++◌, Some, Result, Ok, Err, OnOk}
+use Rattle.std.specs.Prelude.{false, ◌≡◌, ◌⊎◌, ℕ, List, [], ◌∷◌, ◌++◌, Some, Result, Ok, Err, OnOk}
 use Rattle.hex.specs.Hex.{encode_lower}
 use Rattle.scsi_disk.specs.Disk.{Disk, zeros}
 use Rattle.iscsi_stream.specs.declared.fault.ToolFault.{ToolFault}
@@ -30,29 +30,29 @@ filter_fault session.Write = tool.Write
 abbrev pub AnswersAll : ℕ → List ℕ → List ℕ → Type 0
 AnswersAll blocks read written =
     (ms : List Message) (given rest : List ℕ) → Splits longest_segment read ms given rest
-    → written ≡ canon (answers (opening target_settings 1) (zeros blocks) ms).answers
+    → written ≡ canon (answers false (opening target_settings 1) (zeros blocks) ms).answers
 
 -- The answers of the target to some first PDUs of what was read are written, whole, and of the PDU
 -- behind them those of some tasks.
 abbrev pub AnswersFirst : ℕ → List ℕ → List ℕ → Type 0
 AnswersFirst blocks read written =
-    (now : Disk) × ServesFirst target_settings (zeros blocks) read now written
+    (now : Disk) × ServesFirst false target_settings (zeros blocks) read now written
 
 -- A front of such answers is written.
 abbrev pub AnswersFront : ℕ → List ℕ → List ℕ → Type 0
 AnswersFront blocks read written =
-    (now : Disk) × ServesFront target_settings (zeros blocks) read now written
+    (now : Disk) × ServesFront false target_settings (zeros blocks) read now written
 
 -- What is written where answering ends, and why it ends so.
 abbrev pub AnswersBytes : ℕ → Result (Unit {0}) ToolFault → List ℕ → List ℕ → Type 0
 AnswersBytes blocks (Ok done) read written =
-    AnswersAll blocks read written × EndsBy target_settings (zeros blocks) (Ok done) read
+    AnswersAll blocks read written × EndsBy false target_settings (zeros blocks) (Ok done) read
 AnswersBytes blocks (Err (tool.Stream fault)) read written = AnswersAll blocks read written
-    × EndsBy target_settings (zeros blocks) (Err (session.Target (faults.Stream fault))) read
+    × EndsBy false target_settings (zeros blocks) (Err (session.Target (faults.Stream fault))) read
 AnswersBytes blocks (Err (tool.Protocol rule)) read written = AnswersAll blocks read written
-    × EndsBy target_settings (zeros blocks) (Err (session.Target (faults.Protocol rule))) read
+    × EndsBy false target_settings (zeros blocks) (Err (session.Target (faults.Protocol rule))) read
 AnswersBytes blocks (Err tool.Read) read written = AnswersAll blocks read written
-    × EndsBy target_settings (zeros blocks) (Err session.Read) read
+    × EndsBy false target_settings (zeros blocks) (Err session.Read) read
 AnswersBytes blocks (Err tool.NoMemory) read written = AnswersFirst blocks read written
 AnswersBytes blocks (Err tool.Write) read written = AnswersFront blocks read written
 AnswersBytes blocks (Err (tool.Text fault)) read written = ⊥
@@ -78,7 +78,7 @@ pub record SpellsAnswers (blocks : ℕ) (outcome : Result (Unit {0}) ToolFault) 
   pub whole : bytes ≡ taken ++ rest
   pub answered : List ℕ
   pub answers : AnswersBytes blocks outcome taken answered
-  pub ends : OnOk outcome (EndsWell target_settings (zeros blocks) (Some bytes) (Some rest))
+  pub ends : OnOk outcome (EndsWell false target_settings (zeros blocks) (Some bytes) (Some rest))
   pub spelled : written ≡ encode_lower answered ++ line_end outcome
 
 -- The answers to the bytes that hex text means are written so.

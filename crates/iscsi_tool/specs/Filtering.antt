@@ -14,7 +14,7 @@ use Rattle.iscsi_tool.specs.Answering.{AnswersBytes, AnswersHex}
 -- is closed.
 abbrev pub Reads : Work → Bool → Option (List ℕ) → Option (List ℕ) → Type 0
 Reads (Answer blocks) false before after =
-    EndsWell target_settings (zeros blocks) before after
+    EndsWell false target_settings (zeros blocks) before after
 Reads _ _ before after = IsAtEnd after
 
 -- A work whose input is refused for what it lacks has read it to its end.

@@ -118,7 +118,7 @@ EndsService storage ends = (said : Result (Unit {0}) DiskFault) × EndsStorage s
 -- A service touches neither by itself, and a job over a capture reads a file of the process.
 abbrev pub Runs : Job → Outcome → List ℕ → List ℕ → Type 0
 Runs (job.Filter filter) ends read written = EndsFilter filter ends read written
-Runs (job.Serve storage service) ends read written =
+Runs (job.Serve storage service read_only) ends read written =
     EndsService storage ends × (read ≡ []) × (written ≡ [])
 Runs (job.Loop blocks piece) ends read written = EndsLoop ends read written
 Runs (job.Compare comparison) ends read written = EndsComparison comparison ends

@@ -1,6 +1,6 @@
 //! The answers of a target to a stream.
 
-ghost use Rattle.std.specs.Prelude.{◌≡◌, ◌⊎◌, ◌<◌, ◌≤◌, ℕ, List, Err, OnOk};
+ghost use Rattle.std.specs.Prelude.{false, ◌≡◌, ◌⊎◌, ◌<◌, ◌≤◌, ℕ, List, Err, OnOk};
 ghost use Rattle.std.specs.Io.KnownBytes.{Appends, Consumes, IsAtEnd};
 ghost use Rattle.hex.specs.Hex.{IsBytes};
 ghost use Rattle.scsi_disk.specs.Disk.{zeros, most_blocks};
@@ -44,7 +44,7 @@ pub fn answer<R: Read, W: Write>(
         × Appends (W.contents w.old) (W.contents w.new) written × IsBytes written
         × AnswersBytes blocks result read written }
     ensures end { OnOk result
-        (EndsWell target_settings (zeros blocks) (R.remaining r.old) (R.remaining r.new)) }
+        (EndsWell false target_settings (zeros blocks) (R.remaining r.old) (R.remaining r.new)) }
     ensures cut { CutAtEnd result (IsAtEnd (R.remaining r.new)) }
 {
     let config = configuration(alloc)?;

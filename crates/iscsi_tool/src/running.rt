@@ -211,7 +211,11 @@ fn run_job<'a, S: AsStr, R: Read, W: Write>(
 {
     match job {
         Job::Filter(filter) => filtered(run_filter(rt.alloc(), filter, r, w)),
-        Job::Serve { storage, service } => served(serve_storage(rt, words, storage, service)),
+        Job::Serve {
+            storage,
+            service,
+            read_only,
+        } => served(serve_storage(rt, words, storage, service, read_only)),
         Job::Loop { blocks, piece } => ended(run_loop(rt, blocks, piece, r, w)),
         Job::Compare(comparison) => compare(rt, comparison, r, w),
         Job::Tell(telling) => filtered(run_telling(rt.alloc(), telling, r, w)),

@@ -24,7 +24,7 @@ HasDisk _ = Unit {0}
 -- 1 to 4096 bytes.
 abbrev pub IsJob : Job → Type 0
 IsJob (job.Filter filter) = HasDisk filter.work
-IsJob (job.Serve storage service) = IsStorage storage × CanServe service
+IsJob (job.Serve storage service read_only) = IsStorage storage × CanServe service
 IsJob (job.Loop blocks piece) =
     (0 < blocks) × (blocks ≤ most_blocks) × (0 < piece) × (piece ≤ 4096)
 IsJob (job.Compare comparison) = Unit {0}

@@ -38,6 +38,8 @@ pub enum Job<'a> {
         storage: Storage<'a>,
         /// How it is served.
         service: Service<'a>,
+        /// No block changes: each write is refused.
+        read_only: bool,
     },
     /// Both ends of a session over a socket, driven by a script on the standard input.
     Loop {
@@ -262,8 +264,16 @@ fn job_of<'a>(alloc: Global, matches: &ArgMatches<'a>) -> Result<Job<'a>, LineFa
         Some(JobWord::Connections) => Ok(connections_of(asked)),
         Some(JobWord::Answer) => answer_of(alloc, asked),
         Some(JobWord::Serve) => {
-            let ServeJob { storage, service } = service_of(alloc, asked)?;
-            Ok(Job::Serve { storage, service })
+            let ServeJob {
+                storage,
+                service,
+                read_only,
+            } = service_of(alloc, asked)?;
+            Ok(Job::Serve {
+                storage,
+                service,
+                read_only,
+            })
         }
         Some(JobWord::Loop) => loop_of(alloc, asked),
         None => Err(no_job(alloc)),

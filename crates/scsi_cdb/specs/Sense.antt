@@ -1,7 +1,7 @@
 -- Sense data (SPC-4, section 4.5.3).
 use Rattle.std.specs.Prelude.{ℕ, List, [], ◌∷◌}
 use Rattle.scsi_cdb.specs.declared.sense.Sense.{Sense}
-use Rattle.scsi_cdb.specs.declared.sense.Sense.TheVariants.{InvalidCode, OutOfRange, InvalidField, NoUnit, ReadError, WriteError}
+use Rattle.scsi_cdb.specs.declared.sense.Sense.TheVariants.{InvalidCode, OutOfRange, InvalidField, NoUnit, ReadError, WriteError, WriteProtected}
 
 -- the sense key, the additional sense code and its qualifier (SPC-4, section 4.5)
 abbrev pub triple_of : Sense → ℕ × ℕ × ℕ
@@ -11,6 +11,7 @@ triple_of InvalidField = (0x5, 0x24, 0x00)
 triple_of NoUnit = (0x5, 0x25, 0x00)
 triple_of ReadError = (0x3, 0x11, 0x00)
 triple_of WriteError = (0x3, 0x0c, 0x00)
+triple_of WriteProtected = (0x7, 0x27, 0x00)
 
 -- fixed format (SPC-4, section 4.5.3): the key in byte 2, the length of what follows in byte 7, the
 -- code and its qualifier in 12 and 13

@@ -18,6 +18,8 @@ pub enum Sense {
     ReadError,
     /// MEDIUM ERROR, WRITE ERROR.
     WriteError,
+    /// DATA PROTECT, WRITE PROTECTED.
+    WriteProtected,
 }
 
 impl Sense {
@@ -32,6 +34,7 @@ impl Sense {
             Sense::NoUnit => (0x5, 0x25, 0x00),
             Sense::ReadError => (0x3, 0x11, 0x00),
             Sense::WriteError => (0x3, 0x0c, 0x00),
+            Sense::WriteProtected => (0x7, 0x27, 0x00),
         }
     }
 

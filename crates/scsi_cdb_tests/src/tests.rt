@@ -275,6 +275,7 @@ const SENSES: &[(Sense, u8, u8)] = &[
     (Sense::NoUnit, 5, 0x25),
     (Sense::ReadError, 3, 0x11),
     (Sense::WriteError, 3, 0x0c),
+    (Sense::WriteProtected, 7, 0x27),
 ];
 
 fn check_sense(rt: &impl Abort, sense: Sense, key: u8, code: u8) {

@@ -6,3 +6,5 @@ pub mod RunLemmas
 pub mod AnsweredLemmas
 pub mod AppendLemmas
 pub mod ReadingLemmas
+pub mod GuardLemmas
+pub mod ProtectedLemmas

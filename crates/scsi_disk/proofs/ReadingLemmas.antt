@@ -16,6 +16,7 @@ use Rattle.scsi_disk.specs.Plan.{is_read, plan_of, transfer, wanted_length}
 use Rattle.scsi_disk.specs.Reading.{WereRead, whole_blocks}
 use Rattle.scsi_disk.proofs.PlanLemmas.{given, joined-add, length-joined, read_gives}
 use Rattle.scsi_disk.proofs.AnsweredLemmas.{does_not_tell, failed, not_err, worked}
+use Rattle.scsi_disk.proofs.GuardLemmas.{plan_stays}
 
 -- what is known of an order that gives whole blocks
 pub record IsWhole (disk : Disk) (order : Order) (range : BlockRange) : Type 0 where
@@ -102,23 +103,25 @@ whole_data disk order range is is_disk =
     ∙ ap (λ (k : ℕ). take n (blocks_from disk k ((512 * range.count + 511) / 512))) is.first
     ∙ read_gives disk order n is_disk is.plan is.reads
 
-pub executed : (disk now : Disk) (order : Order) (range : BlockRange) (before after : ℕ) (bytes : List ℕ) → IsWhole disk order range → IsDisk disk
+pub executed : (protected : Bool) (disk now : Disk) (order : Order) (range : BlockRange) (before after : ℕ) (bytes : List ℕ) → IsWhole disk order range → IsDisk disk
     → now ≡ disk → before ≤ after → WereRead disk range.first range.count before after bytes
-    → Executes before after disk order [] (record { disk = now; outcome = good order (wanted_length order disk.count) bytes })
-executed disk now order range before after bytes is is_disk same rises were =
+    → Executes protected before after disk order [] (record { disk = now; outcome = good order (wanted_length order disk.count) bytes })
+executed protected disk now order range before after bytes is is_disk same rises were =
     let n : ℕ = 512 * range.count in
+    let plan = plan_stays protected (plan_of order disk.count) n is.plan in
     record {
       rises = rises;
-      works = λ none. worked before after 0 0 disk now order [] n is.plan same (good order (wanted_length order disk.count) bytes)
+      works = λ none. worked protected before after 0 0 disk now order [] n plan same (good order (wanted_length order disk.count) bytes)
           (ap (good order (wanted_length order disk.count)) (were.works none ∙ whole_data disk order range is is_disk));
-      fails = λ rose. failed before after 0 0 disk now order [] n is.plan same (good order (wanted_length order disk.count) bytes)
+      fails = λ rose. failed protected before after 0 0 disk now order [] n plan same (good order (wanted_length order disk.count) bytes)
           (inr (were.hides rose, (bytes, were.size, refl)), is.reads, same);
     }
 
-pub not_executed : (disk now : Disk) (order : Order) (range : BlockRange) (before after : ℕ) (o : Outcome) → IsWhole disk order range → now ≡ disk
-    → before < after → o ≡ check order ReadError → Executes before after disk order [] (record { disk = now; outcome = o })
-not_executed disk now order range before after o is same rose told = record {
+pub not_executed : (protected : Bool) (disk now : Disk) (order : Order) (range : BlockRange) (before after : ℕ) (o : Outcome) → IsWhole disk order range → now ≡ disk
+    → before < after → o ≡ check order ReadError → Executes protected before after disk order [] (record { disk = now; outcome = o })
+not_executed protected disk now order range before after o is same rose told = record {
   rises = omega (arith, rose);
   works = λ none. absurd (omega (arith, none, rose));
-  fails = λ _. failed before after 0 0 disk now order [] (512 * range.count) is.plan same o (inl told, is.reads, same);
+  fails = λ _. failed protected before after 0 0 disk now order [] (512 * range.count) (plan_stays protected (plan_of order disk.count) (512 * range.count) is.plan)
+      same o (inl told, is.reads, same);
 }

@@ -1,7 +1,7 @@
 -- What an order answers and leaves. Status and sense are those of SPC-4; residuals are own rules.
-use Rattle.std.specs.Prelude.{◌≡◌, ◌⊎◌, ℕ, ◌-◌, ◌<◌, ◌≤◌, nat_lt, false, IsTrue, if◌then◌else◌, List, [], length as size, length, take, Some, None, unwrap_or}
+use Rattle.std.specs.Prelude.{◌≡◌, ◌⊎◌, ℕ, ◌-◌, ◌<◌, ◌≤◌, nat_lt, IsTrue, Bool, true, false, if◌then◌else◌, List, [], length as size, length, take, Some, None, unwrap_or}
 use Rattle.scsi_cdb.specs.declared.sense.Sense.{Sense}
-use Rattle.scsi_cdb.specs.declared.sense.Sense.TheVariants.{ReadError, WriteError}
+use Rattle.scsi_cdb.specs.declared.sense.Sense.TheVariants.{ReadError, WriteError, WriteProtected}
 use Rattle.scsi_cdb.specs.declared.residual.Residual.{Residual}
 use Rattle.scsi_cdb.specs.declared.residual.Residual.TheVariants.{Exact, Under, Over}
 use Rattle.scsi_disk.specs.declared.order.Order.{Order}
@@ -59,15 +59,20 @@ abbrev pub disk_by : Plan → Disk → Order → List ℕ → Disk
 disk_by (Take length) disk order bytes = written (transfer order.cdb).first bytes disk
 disk_by _ disk order bytes = disk
 
+-- the plan of an order on a store that refuses each write, or on one that takes them
+abbrev pub guarded : Bool → Plan → Plan
+guarded true (Take length) = Refuse WriteProtected
+guarded protected planned = planned
+
 -- a disk after an order, and the outcome
 pub record Effect : Type 0 where
   pub disk : Disk
   pub outcome : Outcome
 
--- the effect of an order, with these bytes, on a disk
-abbrev pub effect : Disk → Order → List ℕ → Effect
-effect disk order bytes =
-    let planned = plan_of order disk.count in
+-- the effect of an order, with these bytes, on a disk whose store refuses each write, or takes them
+abbrev pub effect : Bool → Disk → Order → List ℕ → Effect
+effect protected disk order bytes =
+    let planned = guarded protected (plan_of order disk.count) in
     record {
       disk = disk_by planned disk order bytes;
       outcome = outcome_by planned disk order;
@@ -104,10 +109,11 @@ FailsBy (Give length) disk order bytes after =
     ⊎ ((disk.tells ≡ false) × HasOtherData disk order length after.outcome))
     × IsTrue (is_read order.cdb) × (after.disk ≡ disk)
 
--- An order was executed on a store, whose failures were counted before and after.
-pub record Executes (failures_before failures_after : ℕ) (disk : Disk) (order : Order)
-    (bytes : List ℕ) (after : Effect) : Type 0 where
+-- An order was executed on a store, whose failures were counted before and after. The store refuses
+-- each write, or takes them.
+pub record Executes (protected : Bool) (failures_before failures_after : ℕ) (disk : Disk)
+    (order : Order) (bytes : List ℕ) (after : Effect) : Type 0 where
   pub rises : failures_before ≤ failures_after
-  pub works : failures_after ≡ failures_before → after ≡ effect disk order bytes
+  pub works : failures_after ≡ failures_before → after ≡ effect protected disk order bytes
   pub fails : failures_before < failures_after
-      → FailsBy (plan_of order disk.count) disk order bytes after
+      → FailsBy (guarded protected (plan_of order disk.count)) disk order bytes after

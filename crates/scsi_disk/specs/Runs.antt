@@ -1,5 +1,5 @@
 -- Orders one after another, on one disk.
-use Rattle.std.specs.Prelude.{◌≡◌, ℕ, ◌≤◌, List, [], ◌∷◌, length, take, All}
+use Rattle.std.specs.Prelude.{◌≡◌, ℕ, ◌≤◌, Bool, List, [], ◌∷◌, length, take, All}
 use Rattle.scsi_disk.specs.declared.order.Order.{Order}
 use Rattle.scsi_disk.specs.declared.order.Outcome.{Outcome}
 use Rattle.scsi_disk.specs.Disk.{Disk}
@@ -16,29 +16,31 @@ AreSupplied count orders = All (λ o. IsSupplied count o.0 o.1) orders
 -- ---- on a store that may fail
 
 -- orders ran in turn, each as `Executes` says and the next on the disk that it left
-unfoldable pub RunsIn : ℕ → Disk → List Supplied → ℕ → Disk → List Outcome → Type 0
-RunsIn before disk [] after last told = (after ≡ before) × (last ≡ disk) × (told ≡ [])
-RunsIn before disk (o ∷ orders) after last told =
+unfoldable pub RunsIn : Bool → ℕ → Disk → List Supplied → ℕ → Disk → List Outcome → Type 0
+RunsIn protected before disk [] after last told = (after ≡ before) × (last ≡ disk) × (told ≡ [])
+RunsIn protected before disk (o ∷ orders) after last told =
     (now : ℕ) × (left : Effect) × (more : List Outcome)
-    × Executes before now disk o.0 o.1 left
-    × RunsIn now left.disk orders after last more
+    × Executes protected before now disk o.0 o.1 left
+    × RunsIn protected now left.disk orders after last more
     × (told ≡ left.outcome ∷ more)
 
 -- n first orders ran, and no other did anything
-abbrev pub RunsSome : ℕ → Disk → List Supplied → ℕ → Disk → Type 0
-RunsSome before disk orders after last =
+abbrev pub RunsSome : Bool → ℕ → Disk → List Supplied → ℕ → Disk → Type 0
+RunsSome protected before disk orders after last =
     (n : ℕ) × (told : List Outcome) × (n ≤ length orders)
-    × RunsIn before disk (take n orders) after last told
+    × RunsIn protected before disk (take n orders) after last told
 
 -- ---- where no failure is counted
 
 -- the disk that is left in the end
-unfoldable pub disk_after : List Supplied → Disk → Disk
-disk_after [] disk = disk
-disk_after (o ∷ orders) disk = disk_after orders (effect disk o.0 o.1).disk
+unfoldable pub disk_after : Bool → List Supplied → Disk → Disk
+disk_after protected [] disk = disk
+disk_after protected (o ∷ orders) disk =
+    disk_after protected orders (effect protected disk o.0 o.1).disk
 
 -- the outcome of each order
-unfoldable pub outcomes : List Supplied → Disk → List Outcome
-outcomes [] disk = []
-outcomes (o ∷ orders) disk =
-    (effect disk o.0 o.1).outcome ∷ outcomes orders (effect disk o.0 o.1).disk
+unfoldable pub outcomes : Bool → List Supplied → Disk → List Outcome
+outcomes protected [] disk = []
+outcomes protected (o ∷ orders) disk =
+    (effect protected disk o.0 o.1).outcome
+    ∷ outcomes protected orders (effect protected disk o.0 o.1).disk

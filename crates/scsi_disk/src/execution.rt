@@ -173,6 +173,8 @@ fn settled(
 /// Executes an order on a store.
 ///
 /// Where the plan takes bytes, as many bytes are given; of another order they are not looked at.
+/// A store that refuses writes is not asked for one: the outcome is CHECK CONDITION with
+/// `WriteProtected`.
 /// Where the device of the store does not fail, blocks and outcome are the effect of the order.
 /// Where it fails, the outcome is CHECK CONDITION with `ReadError` or `WriteError`; then each block
 /// of a WRITE is old or new, and no other has changed. Over a store that cannot tell each failure
@@ -193,7 +195,7 @@ pub fn execute<S: BlockStore>(
 ) -> Result<Outcome, AllocError>
     requires { IsSupplied (S.disk store.old).count order.now bytes.now }
     // It has the order's effect, or that of a failure where one was counted.
-    ensures ok { IfOk result (λ outcome. Executes (S.failures store.old) (S.failures store.new)
+    ensures ok { IfOk result (λ outcome. Executes S.protected (S.failures store.old) (S.failures store.new)
         (S.disk store.old) order.now bytes.now
         (record { disk = S.disk store.new; outcome = outcome })) }
     ensures count { (S.disk store.new).count ≡ (S.disk store.old).count }
@@ -202,7 +204,7 @@ pub fn execute<S: BlockStore>(
         → Lasts (S.synced store.old) (S.disk store.old) (S.kept store.old)
         → Lasts (S.synced store.new) (S.disk store.new) (S.kept store.new) }
     // Whatever comes of it, a crash leaves each block old or new.
-    ensures crash { Adds (effect (S.disk store.old) order.now bytes.now).disk
+    ensures crash { Adds (effect S.protected (S.disk store.old) order.now bytes.now).disk
         (S.kept store.old) (S.kept store.new) }
     // Memory ran out.
     ensures err { OnErr result (S.disk store.new ≡ S.disk store.old) }
@@ -223,14 +225,14 @@ pub fn execute_planned<S: BlockStore>(
 ) -> Result<Outcome, AllocError>
     requires planned { planned ≡ plan_of order.now (S.disk store.old).count }
     requires supplied { IsSuppliedBy planned bytes.now }
-    ensures ok { IfOk result (λ outcome. Executes (S.failures store.old) (S.failures store.new)
+    ensures ok { IfOk result (λ outcome. Executes S.protected (S.failures store.old) (S.failures store.new)
         (S.disk store.old) order.now bytes.now
         (record { disk = S.disk store.new; outcome = outcome })) }
     ensures count { (S.disk store.new).count ≡ (S.disk store.old).count }
     ensures lasts { S.failures store.new ≡ S.failures store.old
         → Lasts (S.synced store.old) (S.disk store.old) (S.kept store.old)
         → Lasts (S.synced store.new) (S.disk store.new) (S.kept store.new) }
-    ensures crash { Adds (effect (S.disk store.old) order.now bytes.now).disk
+    ensures crash { Adds (effect S.protected (S.disk store.old) order.now bytes.now).disk
         (S.kept store.old) (S.kept store.new) }
     ensures err { OnErr result (S.disk store.new ≡ S.disk store.old) }
     ensures err_failures { OnErr result (S.failures store.new ≡ S.failures store.old) }
@@ -238,6 +240,9 @@ pub fn execute_planned<S: BlockStore>(
     match planned {
         Plan::Refuse(sense) => Ok(check(alloc, order, sense)),
         Plan::Take(length) => {
+            if store.is_protected() {
+                return Ok(check(alloc, order, Sense::WriteProtected));
+            }
             let answer = take(alloc, order, bytes, length, store);
             settled(alloc, order, answer, Sense::WriteError)
         }

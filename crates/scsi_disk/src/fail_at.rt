@@ -71,6 +71,10 @@ impl BlockStore for FailAt {
 
     ghost lasts = { λ s never synced n c left. left };
 
+    fn is_protected(&self) -> bool {
+        false
+    }
+
     fn blocks(&self) -> u64 {
         self.store.blocks()
     }

@@ -83,6 +83,10 @@ impl BlockStore for MemoryStore {
 
     ghost lasts = { λ s never synced n c left. left };
 
+    fn is_protected(&self) -> bool {
+        false
+    }
+
     fn blocks(&self) -> u64 {
         (self.bytes.len() / 512) as u64
     }

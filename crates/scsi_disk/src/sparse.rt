@@ -244,6 +244,10 @@ impl BlockStore for SparseStore {
 
     ghost lasts = { λ s never synced n c left. left };
 
+    fn is_protected(&self) -> bool {
+        false
+    }
+
     fn blocks(&self) -> u64 {
         self.blocks
     }

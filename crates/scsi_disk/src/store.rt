@@ -1,6 +1,6 @@
 //! What a store of blocks does, and how it fails.
 
-ghost use Rattle.std.specs.Prelude.{◌≡◌, ℕ, List, Bool, true, ◌+◌, ◌*◌, ◌/◌, ◌%◌, ◌≤◌, ◌++◌, length, OnOk, OnErr, IsErrOf};
+ghost use Rattle.std.specs.Prelude.{◌≡◌, ℕ, List, Bool, true, false, ◌+◌, ◌*◌, ◌/◌, ◌%◌, ◌≤◌, ◌++◌, length, OnOk, OnErr, IsErrOf};
 ghost use Rattle.scsi_disk.specs.Disk.{Disk, IsDisk, Appends, blocks_from, written, IsOldOrNew, Tells};
 ghost use Rattle.scsi_disk.specs.Lasting.{Adds, Lasts, Within};
 
@@ -50,6 +50,13 @@ pub trait BlockStore {
 
     /// No write waits for a sync to last.
     ghost synced: { Self → Bool } = { λ _. true };
+
+    /// It refuses each write.
+    ghost protected: { Bool } = { false };
+
+    /// Whether it refuses each write. Then a WRITE is refused before the store is asked.
+    fn is_protected(&self) -> bool
+        ensures { result ≡ protected };
 
     /// How many blocks there are: at least 1, and always as many.
     fn blocks(&self) -> u64
@@ -117,6 +124,8 @@ pub trait BlockStore {
             → (disk self.new ≡ disk self.old) × Within (kept self.old) (kept self.new) }
         ensures each { IsOldOrNew (disk self.old) (written lba bytes.now (disk self.old))
             (disk self.new) }
+        // A store that refuses writes is as it was.
+        ensures protected { protected ≡ true → disk self.new ≡ disk self.old }
         ensures kept { Adds (written lba bytes.now (disk self.old)) (kept self.old) (kept self.new) }
         ensures lasts { failures self.new ≡ failures self.old
             → Lasts (synced self.old) (disk self.old) (kept self.old)

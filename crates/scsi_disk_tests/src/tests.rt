@@ -6,8 +6,8 @@ ghost use Rattle.scsi_disk.specs.Runs.{AreSupplied};
 
 use scsi_cdb::{Bytes, Cdb, Residual, Sense};
 use scsi_disk::{
-    BlockRange, BlockStore, FailAt, MOST_BLOCKS, MemoryStore, Order, Outcome, Plan, SparseStore,
-    StoreFault, execute, failed_read, plan, read_outcome, run_orders, whole_blocks,
+    BlockRange, BlockStore, FailAt, MOST_BLOCKS, MemoryStore, Order, Outcome, Plan, ReadOnly,
+    SparseStore, StoreFault, execute, failed_read, plan, read_outcome, run_orders, whole_blocks,
 };
 use std::alloc::{AllocError, Global};
 use std::fmt::Debug;
@@ -773,6 +773,52 @@ fn either_store(rt: HostRuntime) {
     check_rows(&rt, rt.alloc(), OVER_AN_EXTENT, &mut memory);
     let mut sparse = SparseStore::new(rt.alloc(), 130);
     check_rows(&rt, rt.alloc(), OVER_AN_EXTENT, &mut sparse);
+}
+
+/// Commands to a disk of 130 blocks that is read alone, of which block 63 is of 11.
+const READ_ALONE: Rows = &[
+    (
+        "WRITE of two at 63",
+        [0x2a000000, 0x003f0000, 0x02000000, 0],
+        Data::Writes(1024),
+        Some(Sense::WriteProtected),
+        &[],
+        Residual::Under(1024),
+    ),
+    (
+        "WRITE past the end, which is refused for that",
+        [0x2a000000, 0x00820000, 0x01000000, 0],
+        Data::Writes(512),
+        Some(Sense::OutOfRange),
+        &[],
+        Residual::Under(512),
+    ),
+    (
+        "SYNCHRONIZE CACHE",
+        [0x35000000, 0, 0, 0],
+        Data::Silent,
+        None,
+        &[],
+        Residual::Exact,
+    ),
+    (
+        "READ of three at 62",
+        [0x28000000, 0x003e0000, 0x03000000, 0],
+        Data::Reads(1536),
+        None,
+        &[0x00, 0x11, 0x00],
+        Residual::Exact,
+    ),
+];
+
+#[test]
+fn a_disk_that_is_read_alone(rt: HostRuntime) {
+    let mut memory = MemoryStore::new(rt.alloc(), 130).expect(&rt, "a disk");
+    memory.write(63, &[0x11; 512]).expect(&rt, "a write");
+    let mut store = ReadOnly::new(memory);
+    assert!(rt; store.write(63, &[0x5a; 512]).is_err());
+    check_rows(&rt, rt.alloc(), READ_ALONE, &mut store);
+    same(&rt, &store.failures(), &0, &"failures");
 }
 
 /// The largest disk keeps what was written alone.

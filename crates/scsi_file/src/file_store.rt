@@ -79,6 +79,10 @@ impl<M: Medium> BlockStore for FileStore<M> {
 
     ghost lasts = { λ s. s.lasts };
 
+    fn is_protected(&self) -> bool {
+        false
+    }
+
     fn blocks(&self) -> u64 {
         self.medium.blocks()
     }

@@ -86,6 +86,22 @@ impl HostFile {
         HostFile::of(file, bytes)
     }
 
+    /// Opens an image that is there for reading alone. Several processes may have it so at a time, and
+    /// none of them while another may write it. Nothing is synced: what an earlier process left may be
+    /// lost if the machine stops. A pipe or a device of characters is refused before it is opened.
+    pub fn open_read_only(rt: &HostRuntime, path: &str) -> Result<HostFile, OpenFault> {
+        if is_stream(rt, path) {
+            return Err(OpenFault::NoImage);
+        }
+        let file = match File::open(rt, path) {
+            Ok(file) => share(file)?,
+            Err(error) if error.kind() == ErrorKind::IsADirectory => return Err(OpenFault::NoImage),
+            Err(_) => return Err(OpenFault::NotOpened),
+        };
+        let bytes = measure(&file)?;
+        HostFile::of(file, bytes)
+    }
+
     /// Makes an image of `n` blocks of 00, from 1 to 2^40, at its full size, where there is no
     /// file; it and its name last. Its owner alone may read and write it. After an error there is no
     /// file, unless it was there already.
@@ -178,6 +194,15 @@ impl HostFile {
 // Takes a file for this process alone.
 fn own(file: File) -> Result<File, OpenFault> {
     match file.try_lock() {
+        Ok(()) => Ok(file),
+        Err(TryLockError::WouldBlock) => Err(OpenFault::InUse),
+        Err(TryLockError::Error(_)) => Err(OpenFault::NotOpened),
+    }
+}
+
+// Takes a file together with others that do so.
+fn share(file: File) -> Result<File, OpenFault> {
+    match file.try_lock_shared() {
         Ok(()) => Ok(file),
         Err(TryLockError::WouldBlock) => Err(OpenFault::InUse),
         Err(TryLockError::Error(_)) => Err(OpenFault::NotOpened),

@@ -73,7 +73,7 @@ grows_none before after e = record { more = []; is = e ∙ sym (append-nil befor
 
 leaves_grow : (result : Result Phase TargetFault) (output : List ℕ) (framing : Framing) (rest : List ℕ) (r : Stepped) (counted : ℕ) (new : Machine)
     (after : target.Store) (written : List ℕ)
-    → target.LeavesBy result output (target.remainder framing rest r counted) new after written → Grows output written
+    → target.LeavesBy false result output (target.remainder framing rest r counted) new after written → Grows output written
 leaves_grow (Ok phase) output framing rest r counted new after written l = record { more = canon r.answers; is = l.output_is }
 leaves_grow (Err target_faults.NoMemory) output framing rest r counted new after written l = record {
   more = canon (r.answers ++ l.front.answers);
@@ -86,7 +86,7 @@ leaves_grow (Err target_faults.Closed) output framing rest r counted new after w
 
 target_grows : (b : Bool) (old : target.Connection) (before : target.Store) (output piece : List ℕ) (result : Result Phase TargetFault)
     (new : target.Connection) (after : target.Store) (written : List ℕ)
-    → target.FedIf b (target.scene old before output) piece result (target.scene new after written) → Grows output written
+    → target.FedIf false b (target.scene old before output) piece result (target.scene new after written) → Grows output written
 target_grows true old before output piece result new after written f = grows_none output written f.output_is
 target_grows false old before output piece result new after written f =
     leaves_grow result output f.framing (drop f.count piece) f.stepped f.answered.failures new.machine after written f.leaves

@@ -55,10 +55,10 @@ target_receives c t old same new now moved s l none a b calm calm' =
     let took : TargetTook t.moved_to_target old.target = target_took (target_machine.is_closed old.target.machine) c t old s refl none in
     let x : target.FedAlike a.result b.result (target.scene new.target (store_of new.blocks) new.to_initiator)
     (target.scene now.target (store_of now.blocks) now.to_initiator) =
-    one_outcome t.moved_to_target moved old.to_initiator new.to_initiator now.to_initiator took.messages old.target same.target new.target now.target
+    one_outcome false t.moved_to_target moved old.to_initiator new.to_initiator now.to_initiator took.messages old.target same.target new.target now.target
     (store_of old.blocks) (store_of same.blocks) (store_of new.blocks) (store_of now.blocks) a.result b.result took.taken l.target l.disk a.fed
     (record { memory = target_memory a.result (ap target_ran_out (sym a.fault) ∙ calm); device = refl })
-    (subst (λ (out : List ℕ). target.Fed (target.scene same.target (store_of same.blocks) out) moved b.result
+    (subst (λ (out : List ℕ). target.Fed false (target.scene same.target (store_of same.blocks) out) moved b.result
     (target.scene now.target (store_of now.blocks) now.to_initiator)) l.to_initiator
     b.fed)
     (record { memory = target_memory b.result (ap target_ran_out (sym b.fault) ∙ calm'); device = refl }) in

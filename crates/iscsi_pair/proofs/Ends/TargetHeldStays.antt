@@ -1,5 +1,5 @@
 -- What a target holds after its login stays.
-use Rattle.std.proofs.Common.{◌∙◌, List, [], ◌∷◌, refl}
+use Rattle.std.proofs.Common.{false, ◌∙◌, List, [], ◌∷◌, refl}
 use Rattle.scsi_disk.specs.Disk.{Disk}
 use Rattle.iscsi_stream.specs.Stream.{Message}
 use Rattle.iscsi_target.specs.State.{Machine}
@@ -8,10 +8,10 @@ use Rattle.iscsi_target.proofs.KeepingLemmas.{IsLater, Stays, step_stays}
 use Rattle.iscsi_target.specs.Execution.{reliable}
 
 -- what is held after the login stays, whatever comes
-pub held_stays : (s : Machine) (disk : Disk) (ms : List Message) → IsLater s.session.phase → Stays s (answers s disk ms).machine
+pub held_stays : (s : Machine) (disk : Disk) (ms : List Message) → IsLater s.session.phase → Stays s (answers false s disk ms).machine
 unfolding answers
 held_stays s disk [] l = record { stage = refl; held = refl; has_text = refl; name = refl; later = λ l. l }
 held_stays s disk (m ∷ ms) l =
-    let k : Stays s (step s disk m).machine = step_stays reliable s disk m l in
-    let n = held_stays (step s disk m).machine (step s disk m).disk ms (k.later l) in
+    let k : Stays s (step false s disk m).machine = step_stays (reliable false) s disk m l in
+    let n = held_stays (step false s disk m).machine (step false s disk m).disk ms (k.later l) in
     record { stage = n.stage ∙ k.stage; held = n.held ∙ k.held; has_text = n.has_text ∙ k.has_text; name = n.name ∙ k.name; later = λ x. n.later (k.later x) }

@@ -63,7 +63,7 @@ front_output c moved out t fault f well =
 
 -- an end that hasn't failed has taken all bytes moved
 pub record TargetLives (c : Opening) (moved out : List ℕ) (t : Connection) (blocks : List ℕ) : Type 0 where
-  pub has : HasAnswered (beginning c.target c.first_stat_sn (disk_of c.blocks)) moved t (disk_of blocks) out
+  pub has : HasAnswered false (beginning c.target c.first_stat_sn (disk_of c.blocks)) moved t (disk_of blocks) out
   pub unready : is_ready t.framing ≡ false
   pub limit : t.framing.limit ≡ limit c.target
 
@@ -241,8 +241,8 @@ stands_behind prior output r counted after written s =
 
 leaves_behind : (result : Result Phase TargetFault) (prior output : List ℕ) (framing : Framing) (rest : List ℕ) (r : Stepped) (counted : ℕ) (new : Machine)
     (after : Store) (written : List ℕ)
-    → LeavesBy result output (remainder framing rest r counted) new after written
-    → LeavesBy result (prior ++ output) (remainder framing rest r counted) new after (prior ++ written)
+    → LeavesBy false result output (remainder framing rest r counted) new after written
+    → LeavesBy false result (prior ++ output) (remainder framing rest r counted) new after (prior ++ written)
 leaves_behind (Ok phase) prior output framing rest r counted new after written l = stands_behind prior output r counted after written l
 leaves_behind (Err faults.NoMemory) prior output framing rest r counted new after written l = record {
   front = l.front;
@@ -257,8 +257,8 @@ leaves_behind (Err faults.Closed) prior output framing rest r counted new after 
 
 feeds_behind : (prior : List ℕ) (old : Connection) (before : Store) (output piece : List ℕ) (result : Result Phase TargetFault) (new : Connection)
     (after : Store) (written : List ℕ)
-    → Feeds (scene old before output) piece result (scene new after written)
-    → Feeds (scene old before (prior ++ output)) piece result (scene new after (prior ++ written))
+    → Feeds false (scene old before output) piece result (scene new after written)
+    → Feeds false (scene old before (prior ++ output)) piece result (scene new after (prior ++ written))
 feeds_behind prior old before output piece result new after written f = record {
   framing = f.framing;
   count = f.count;
@@ -283,7 +283,7 @@ kept_shut new r e = record { stage = ap (λ (m : Machine). m.session.stage) e; h
 -- where memory was there
 left_whole : (c : Opening) (ms : List Message) (out : List ℕ) (r : Stepped) (counted : ℕ) (new : Machine) (after : Store) (written : List ℕ)
     (fault : Option TargetFault)
-    → Told (beginning c.target c.first_stat_sn (disk_of c.blocks)) ms r r.disk (out ++ canon r.answers) → Stands out r counted after written
+    → Told false (beginning c.target c.first_stat_sn (disk_of c.blocks)) ms r r.disk (out ++ canon r.answers) → Stands out r counted after written
     → Kept new r.machine
     → Left c ms written new fault
 left_whole c ms out r counted new after written fault t s k = record {
@@ -297,8 +297,8 @@ left_whole c ms out r counted new after written fault t s k = record {
 -- where memory ran out
 left_short : (c : Opening) (ms : List Message) (out : List ℕ) (framing : Framing) (rest : List ℕ) (r : Stepped) (counted : ℕ) (new : Machine) (after : Store)
     (written : List ℕ)
-    → Told (beginning c.target c.first_stat_sn (disk_of c.blocks)) ms r r.disk (out ++ canon r.answers)
-    → StopsShort out (remainder framing rest r counted) new after written
+    → Told false (beginning c.target c.first_stat_sn (disk_of c.blocks)) ms r r.disk (out ++ canon r.answers)
+    → StopsShort false out (remainder framing rest r counted) new after written
     → Left c ms written new (Some faults.NoMemory)
 left_short c ms out framing rest r counted new after written t l =
     let wrote : written ≡ canon ((said c ms).answers ++ l.front.answers) =
@@ -315,7 +315,7 @@ left_short c ms out framing rest r counted new after written t l =
             t.machine;
       }
       | inr at ↦
-          (let k : Stays r.machine l.front.machine = stop_stays r.machine r.disk counted at.message l.front after.failures at.stops in
+          (let k : Stays r.machine l.front.machine = stop_stays false r.machine r.disk counted at.message l.front after.failures at.stops in
           record {
             extra = l.front.answers;
             output = wrote;
@@ -327,8 +327,8 @@ left_short c ms out framing rest r counted new after written t l =
 
 left_by : (result : Result Phase TargetFault) (c : Opening) (ms : List Message) (out : List ℕ) (framing : Framing) (piece rest : List ℕ) (n : ℕ) (r : Stepped)
     (counted : ℕ) (new : Connection) (after : Store) (written : List ℕ)
-    → Told (beginning c.target c.first_stat_sn (disk_of c.blocks)) ms r r.disk (out ++ canon r.answers)
-    → LeavesBy result out (remainder framing rest r counted) new.machine after written → Ends piece result framing n r new
+    → Told false (beginning c.target c.first_stat_sn (disk_of c.blocks)) ms r r.disk (out ++ canon r.answers)
+    → LeavesBy false result out (remainder framing rest r counted) new.machine after written → Ends piece result framing n r new
     → Left c ms written new.machine (result_err result)
 left_by (Ok phase) c ms out framing piece rest n r counted new after written t l e = left_whole c ms out r counted new.machine after written None t l
     (kept_joined new.machine r.machine e.1)
@@ -367,8 +367,8 @@ ends_unready piece (Err fault) v n r new e u none live = absurd (cc none)
 
 feeds_failed : (result : Result Phase TargetFault) (c : Opening) (moved out bytes : List ℕ) (old : Connection) (blocks : List ℕ) (new : Connection)
     (after written : List ℕ)
-    → (l : TargetLives c moved out old blocks) → (f : Feeds (scene old (store_of blocks) out) bytes result (scene new (store_of after) written))
-    → Told (beginning c.target c.first_stat_sn (disk_of c.blocks)) (l.has.messages ++ f.messages) f.stepped f.stepped.disk (out ++ canon f.stepped.answers)
+    → (l : TargetLives c moved out old blocks) → (f : Feeds false (scene old (store_of blocks) out) bytes result (scene new (store_of after) written))
+    → Told false (beginning c.target c.first_stat_sn (disk_of c.blocks)) (l.has.messages ++ f.messages) f.stepped f.stepped.disk (out ++ canon f.stepped.answers)
     → HasTaken (moved ++ take f.count bytes) (l.has.messages ++ f.messages) f.framing
     → new.machine.session.stage ≡ (said c (l.has.messages ++ f.messages)).machine.session.stage → Ends bytes result f.framing f.count f.stepped new
     → TargetFailed (result_err result) c (moved ++ bytes) written new
@@ -390,9 +390,9 @@ feeds_failed (Err (faults.Stream fault)) c moved out bytes old blocks new after 
   stage = s;
 }
 feeds_failed (Err (faults.Protocol rule)) c moved out bytes old blocks new after written l f t h s e =
-    let is : f.stepped ≡ answers old.machine (disk_of blocks) f.messages = f.answered.works refl in
+    let is : f.stepped ≡ answers false old.machine (disk_of blocks) f.messages = f.answered.works refl in
     let over : is_closed f.stepped.machine ≡ true =
-    ap (λ (r : Stepped). is_closed r.machine) is ∙ answers_close old.machine (disk_of blocks) f.messages rule (ap (λ (r : Stepped). r.rule) (sym is) ∙ e.0) in
+    ap (λ (r : Stepped). is_closed r.machine) is ∙ answers_close false old.machine (disk_of blocks) f.messages rule (ap (λ (r : Stepped). r.rule) (sym is) ∙ e.0) in
     record {
       limit = f.framing.limit;
       messages = l.has.messages ++ f.messages;
@@ -409,12 +409,12 @@ feeds_failed (Err faults.Closed) c moved out bytes old blocks new after written 
 
 feeds_side : (c : Opening) (moved out bytes : List ℕ) (old : Connection) (blocks : List ℕ) (result : Result Phase TargetFault) (new : Connection)
     (after written : List ℕ)
-    → TargetLives c moved out old blocks → Feeds (scene old (store_of blocks) out) bytes result (scene new (store_of after) written)
+    → TargetLives c moved out old blocks → Feeds false (scene old (store_of blocks) out) bytes result (scene new (store_of after) written)
     → TargetSide c (moved ++ bytes) written new after (result_err result)
 feeds_side c moved out bytes old blocks result new after written l f =
-    let t : Told (beginning c.target c.first_stat_sn (disk_of c.blocks)) (l.has.messages ++ f.messages) f.stepped f.stepped.disk
+    let t : Told false (beginning c.target c.first_stat_sn (disk_of c.blocks)) (l.has.messages ++ f.messages) f.stepped f.stepped.disk
     (out ++ canon f.stepped.answers) =
-    told c.target c.first_stat_sn (disk_of c.blocks) moved old (store_of blocks) out (take f.count bytes) f.framing f.messages f.stepped 0
+    told false c.target c.first_stat_sn (disk_of c.blocks) moved old (store_of blocks) out (take f.count bytes) f.framing f.messages f.stepped 0
     (record { disk = f.stepped.disk; failures = 0 }) (out ++ canon f.stepped.answers) l.has
     (record {
       taken = f.answered.taken;
@@ -429,7 +429,7 @@ feeds_side c moved out bytes old blocks result new after written l f =
     left_by result c (l.has.messages ++ f.messages) out f.framing bytes (drop f.count bytes) f.count f.stepped f.answered.failures new (store_of after) written
     t f.leaves f.ends in
     let stood : result_err result ≡ None → Stands out f.stepped f.answered.failures (store_of after) written =
-    λ none. stands out f.framing (drop f.count bytes) f.stepped f.answered.failures result new.machine (store_of after) written (λ short. let bad : None
+    λ none. stands false out f.framing (drop f.count bytes) f.stepped f.answered.failures result new.machine (store_of after) written (λ short. let bad : None
     ≡ Some faults.NoMemory = sym none ∙ ap result_err short in absurd cc) f.leaves in
     let all : (moved ++ take f.count bytes) ++ drop f.count bytes ≡ moved ++ bytes =
     append_assoc moved (take f.count bytes) (drop f.count bytes) ∙ ap (λ (x : List ℕ). moved ++ x) (take-append-drop f.count bytes) in
@@ -450,7 +450,7 @@ feeds_side c moved out bytes old blocks result new after written l f =
       };
       lives = λ none live. record {
         limit = ap (λ (v : Framing). v.limit) (ends_limit bytes result f.framing f.count f.stepped new f.ends none live) ∙ f.answered.limit ∙ l.limit;
-        has = goes_on c.target c.first_stat_sn (disk_of c.blocks) moved old (store_of blocks) out bytes result new (store_of after) written f refl live l.has;
+        has = goes_on false c.target c.first_stat_sn (disk_of c.blocks) moved old (store_of blocks) out bytes result new (store_of after) written f refl live l.has;
         unready = ends_unready bytes result f.framing f.count f.stepped new f.ends f.answered.ready none live;
       };
     }
@@ -458,7 +458,7 @@ feeds_side c moved out bytes old blocks result new after written l f =
 fed_if : (b : Bool) (c : Opening) (moved prior before bytes : List ℕ) (old : Connection) (blocks : List ℕ) (result : Result Phase TargetFault)
     (new : Connection) (after written : List ℕ)
     → is_closed old.machine ≡ b → TargetSide c moved (prior ++ before) old blocks None
-    → FedIf b (scene old (store_of blocks) before) bytes result (scene new (store_of after) written)
+    → FedIf false b (scene old (store_of blocks) before) bytes result (scene new (store_of after) written)
     → TargetSide c (moved ++ bytes) (prior ++ written) new after (result_err result)
 fed_if true c moved prior before bytes old blocks result new after written is s f = record {
   front = subst (λ (x : List ℕ). TargetFront c (moved ++ bytes) (prior ++ x) new (result_err result)) (sym f.output_is)
@@ -491,7 +491,7 @@ fed_if false c moved prior before bytes old blocks result new after written is s
 pub target_received : (c : Opening) (moved prior before bytes : List ℕ) (old : Connection) (blocks : List ℕ) (result : Result Phase TargetFault) (new :
     Connection)
     (after written : List ℕ)
-    → TargetSide c moved (prior ++ before) old blocks None → Fed (scene old (store_of blocks) before) bytes result (scene new (store_of after) written)
+    → TargetSide c moved (prior ++ before) old blocks None → Fed false (scene old (store_of blocks) before) bytes result (scene new (store_of after) written)
     → TargetSide c (moved ++ bytes) (prior ++ written) new after (result_err result)
 target_received c moved prior before bytes old blocks result new after written s f =
     fed_if (is_closed old.machine) c moved prior before bytes old blocks result new after written refl s f

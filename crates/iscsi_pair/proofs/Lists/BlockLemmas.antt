@@ -1,6 +1,6 @@
 -- The blocks of a target's disk are those of some bytes, whatever it executed.
 use Rattle.std.specs.List.{AllByRecursion}
-use Rattle.std.proofs.Common.{◌≡◌, ◌≤◌, ℕ, ◌+◌, ◌-◌, ◌*◌, ◌/◌, List, [], ◌∷◌, ◌++◌, length, take, drop, refl, sym, ap, ◌∙◌, subst, arith}
+use Rattle.std.proofs.Common.{false, ◌≡◌, ◌≤◌, ℕ, ◌+◌, ◌-◌, ◌*◌, ◌/◌, List, [], ◌∷◌, ◌++◌, length, take, drop, refl, sym, ap, ◌∙◌, subst, arith}
 use Rattle.std.proofs.lemmas.List.{drop_at, length-append, length-drop, length-take-le, take_at}
 use borrow.Rule.Slice.PartMut.{put_mid}
 use Rattle.scsi_disk.specs.Disk.{Disk, disk_of, joined, written}
@@ -79,30 +79,30 @@ by_plan (Take n) xs order pieces is t =
 
 -- an order is executed, with data that tile what it takes
 executes : (xs : List ℕ) (order : Order) (pieces : Pieces) → TilesPlan (plan_of order (length xs / 512)) pieces
-    → HasBlocks (effect (disk_of xs) order (data_of pieces)).disk
+    → HasBlocks (effect false (disk_of xs) order (data_of pieces)).disk
 executes xs order pieces t = by_plan (plan_of order (length xs / 512)) xs order pieces refl t
 
 -- ---- messages
 
 -- orders one after another
-does_blocks : (xs : List ℕ) (es : List Execution) (last : Disk) → Does reliable (disk_of xs) es last → AllByRecursion IsTiled es → HasBlocks last
+does_blocks : (xs : List ℕ) (es : List Execution) (last : Disk) → Does (reliable false) (disk_of xs) es last → AllByRecursion IsTiled es → HasBlocks last
 does_blocks xs [] last d t = record { bytes = xs; is = sym d }
 does_blocks xs (e ∷ es) last d t =
     let tiled : TilesPlan (plan_of e.order (length xs / 512)) e.pieces = subst (λ (x : Disk). TilesPlan (plan_of e.order x.count) e.pieces) d.0 t.0 in
-    let h : HasBlocks (effect e.disk e.order (data_of e.pieces)).disk =
-    subst (λ (x : Disk). HasBlocks (effect x e.order (data_of e.pieces)).disk) (sym d.0) (executes xs e.order e.pieces tiled) in
-    does_blocks h.bytes es last (subst (λ (x : Disk). Does reliable x es last) (sym h.is) d.1) t.1
+    let h : HasBlocks (effect false e.disk e.order (data_of e.pieces)).disk =
+    subst (λ (x : Disk). HasBlocks (effect false x e.order (data_of e.pieces)).disk) (sym d.0) (executes xs e.order e.pieces tiled) in
+    does_blocks h.bytes es last (subst (λ (x : Disk). Does (reliable false) x es last) (sym h.is) d.1) t.1
 
-step_blocks : (s : Machine) (disk : Disk) (m : Message) → IsSound disk.count s.tasks → HasBlocks disk → HasBlocks (step s disk m).disk
+step_blocks : (s : Machine) (disk : Disk) (m : Message) → IsSound disk.count s.tasks → HasBlocks disk → HasBlocks (step false s disk m).disk
 step_blocks s disk m o h =
-    let r : Stepped = step s disk m in
-    does_blocks h.bytes r.executed r.disk (subst (λ (x : Disk). Does reliable x r.executed r.disk) (sym h.is) (step_does reliable s disk m).is)
-    (step_goes disk s m o).tiled
+    let r : Stepped = step false s disk m in
+    does_blocks h.bytes r.executed r.disk (subst (λ (x : Disk). Does (reliable false) x r.executed r.disk) (sym h.is) (step_does (reliable false) s disk m).is)
+    (step_goes false disk s m o).tiled
 
-pub answers_blocks : (s : Machine) (disk : Disk) (ms : List Message) → IsSound disk.count s.tasks → HasBlocks disk → HasBlocks (answers s disk ms).disk
+pub answers_blocks : (s : Machine) (disk : Disk) (ms : List Message) → IsSound disk.count s.tasks → HasBlocks disk → HasBlocks (answers false s disk ms).disk
 unfolding answers
 answers_blocks s disk [] o h = h
 answers_blocks s disk (m ∷ ms) o h =
-    let r : Stepped = step s disk m in
-    answers_blocks r.machine r.disk ms (subst (λ (n : ℕ). IsSound n r.machine.tasks) (sym (step_count s disk m)) (step_goes disk s m o).sound)
+    let r : Stepped = step false s disk m in
+    answers_blocks r.machine r.disk ms (subst (λ (n : ℕ). IsSound n r.machine.tasks) (sym (step_count false s disk m)) (step_goes false disk s m o).sound)
     (step_blocks s disk m o h)

@@ -117,7 +117,7 @@ one_done c past request r served short =
     subst (λ (n : ℕ). Begins i.held i t disk request (local n disk request)) most
     (begins i t disk request served r.in_step none) in
     let out : List Message = (submitted i request).output in
-    let s : target.Stepped = answers t disk out in
+    let s : target.Stepped = answers false t disk out in
     let sent : Stays c (between (submitted i request).machine t disk []) out (so_far r.there r.here g) = hands_in c h i t disk r.there r.here request r.stays
     served none in
     let received : Stays c (between (submitted i request).machine s.machine s.disk s.answers) [] (so_far (after_all r.there out) r.here g) =

@@ -55,9 +55,9 @@ record WaitsOn (c : Opening) (i : initiator.Machine) : Type 0 where
   nearer : IsNearer i initiator
 
 -- one message is one step
-one_step : (t : target.Machine) (disk : Disk) (r : Message) → answers t disk (r ∷ []) ≡ target_machine.step t disk r
+one_step : (t : target.Machine) (disk : Disk) (r : Message) → answers false t disk (r ∷ []) ≡ target_machine.step false t disk r
 unfolding answers
-one_step t disk r = then_nothing (target_machine.step t disk r)
+one_step t disk r = then_nothing (target_machine.step false t disk r)
 
 -- the target receives a login request, and the initiator its answer
 one_round : (c : Opening) (i : initiator.Machine) (t : target.Machine) (there here : Logins) (r : Message) → IsNormal c → Waits c i t there here r
@@ -65,17 +65,17 @@ one_round : (c : Opening) (i : initiator.Machine) (t : target.Machine) (there he
 one_round c i t there here r o p =
     let disk : Disk = disk_of c.blocks in
     let next : Logins = after there r.head in
-    let now : target.Stepped = target_machine.step t disk r in
+    let now : target.Stepped = target_machine.step false t disk r in
     let turn : Round c i now next = round c i t there r disk o.opening p.asking in
     let s : Stepped = step i turn.answer in
     let w : Well c i now s next = goes_well c i t there next r disk o.opening o.suits p.asking p.suited turn in
     let meet : Meets c i now s disk next = meets c i t there next r disk o.opening o.suits o.session p.asking p.suited p.numbered turn in
     let sends : Sends (limits_of c) (Serves c) (between i t disk []) (r ∷ []) (so_far there here none_asked) =
     login_sends c i (r ∷ []) t there here r o refl p.asking p.suited p.numbered p.whole in
-    let received : Stays c (between i (answers t disk (r ∷ [])).machine (answers t disk (r ∷ [])).disk (answers t disk (r ∷ [])).answers) []
+    let received : Stays c (between i (answers false t disk (r ∷ [])).machine (answers false t disk (r ∷ [])).disk (answers false t disk (r ∷ [])).answers) []
     (so_far next here none_asked) =
     received_all (r ∷ []) c none_asked i t disk [] there here p.stays sends.written sends.received in
-    let all : answers t disk (r ∷ []) ≡ now = one_step t disk r in
+    let all : answers false t disk (r ∷ []) ≡ now = one_step t disk r in
     let answered : Stays c (between i now.machine disk (turn.answer ∷ [])) [] (so_far next here none_asked) =
     subst (λ (d : Disk). Stays c (between i now.machine d (turn.answer ∷ [])) [] (so_far next here none_asked)) meet.disk_is
     (subst (λ (ms : List Message). Stays c (between i now.machine now.disk ms) [] (so_far next here none_asked)) turn.is

@@ -92,7 +92,7 @@ write_outcome : (most : ℕ) (c : Opening) (write_cdb read_cdb bytes : List ℕ)
     → (local most (disk_of c.blocks) (requests.Out 0 write_cdb bytes)).outcome ≡ good []
 write_outcome most c write_cdb read_cdb bytes p =
     let disk : Disk = disk_of c.blocks in
-    ap (λ (x : Order). reported (effect disk x bytes).outcome) (write_order c write_cdb read_cdb bytes p)
+    ap (λ (x : Order). reported (effect false disk x bytes).outcome) (write_order c write_cdb read_cdb bytes p)
     ∙ ap (λ (x : Plan). reported (outcome_by x disk (a_write p.named))) (write_plan p.named (length c.blocks / 512) (are_fine c write_cdb read_cdb bytes p))
     ∙ ap (λ (x : Residual). done.Command 0 0x00 [] [] x) (none_over (512 * p.named.blocks))
 
@@ -100,7 +100,7 @@ write_disk : (most : ℕ) (c : Opening) (write_cdb read_cdb bytes : List ℕ) �
     → (local most (disk_of c.blocks) (requests.Out 0 write_cdb bytes)).disk ≡ written p.named.logical_block_address bytes (disk_of c.blocks)
 write_disk most c write_cdb read_cdb bytes p =
     let disk : Disk = disk_of c.blocks in
-    ap (λ (x : Order). (effect disk x bytes).disk) (write_order c write_cdb read_cdb bytes p)
+    ap (λ (x : Order). (effect false disk x bytes).disk) (write_order c write_cdb read_cdb bytes p)
     ∙ ap (λ (x : Plan). disk_by x disk (a_write p.named) bytes) (write_plan p.named (length c.blocks / 512) (are_fine c write_cdb read_cdb bytes p))
 
 -- the read gives them
@@ -112,7 +112,7 @@ read_outcome most c write_cdb read_cdb bytes p =
     let size : ℕ = 512 * p.named.blocks in
     let all : take size (joined disk.block first p.named.blocks) ≡ bytes =
     ap (take size) (joined_back c.blocks bytes first p.named.blocks p.size p.inside) ∙ take_all size bytes (let same = p.size in omega (arith, same)) in
-    ap (λ (x : Order). reported (effect disk x []).outcome) (read_order c write_cdb read_cdb bytes p)
+    ap (λ (x : Order). reported (effect false disk x []).outcome) (read_order c write_cdb read_cdb bytes p)
     ∙ ap (λ (x : Plan). reported (outcome_by x disk (a_read p.named))) (read_plan p.named (length c.blocks / 512) (are_fine c write_cdb read_cdb bytes p))
     ∙ ap (λ (x : Residual). done.Command 0 0x00 [] (take size (joined disk.block first p.named.blocks)) x) (none_over size)
     ∙ ap good all

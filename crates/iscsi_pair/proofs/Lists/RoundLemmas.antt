@@ -49,11 +49,11 @@ some_received : (c : Opening) (h : History) (i : initiator.Machine) (t : target.
     → requests_of events ≡ h.requests → RunsServed (new_pair c) events (level c i t blocks place place_back there here (canon (m ∷ ms)) (canon back)) h.outcomes
     → IsSound (disk_of blocks).count t.tasks → AreWritten (most_back c) here back
     → AreWritten (most_out c) there (m ∷ ms) → ReceivesWell (most_back c) t (disk_of blocks) (after_all here back) (m ∷ ms)
-    → (let r = answers t (disk_of blocks) (m ∷ ms) in Stays c (between i r.machine r.disk (back ++ r.answers)) [] (so_far (after_all there (m ∷ ms)) here h))
+    → (let r = answers false t (disk_of blocks) (m ∷ ms) in Stays c (between i r.machine r.disk (back ++ r.answers)) [] (so_far (after_all there (m ∷ ms)) here h))
 some_received c h i t m ms back there here events blocks place place_back requests_are runs sound written sent received =
     let out : List Message = m ∷ ms in
     let d : Disk = disk_of blocks in
-    let r : target.Stepped = answers t d out in
+    let r : target.Stepped = answers false t d out in
     let b : HasBlocks r.disk = answers_blocks t d out sound (record { bytes = blocks; is = refl }) in
     let event : Event = ToTarget (length (canon out)) in
     let old : World = level c i t blocks place place_back there here (canon out) (canon back) in
@@ -73,19 +73,19 @@ some_received c h i t m ms back there here events blocks place place_back reques
           (sym (canon_append back r.answers))
           (subst (λ (x : List Done). RunsServed (new_pair c) (events ++ event ∷ []) new x) (append-nil h.outcomes) on);
       disk_is = b.is;
-      sound = subst (λ (n : ℕ). IsSound n r.machine.tasks) (sym (answers_count t d out)) (answers_sound t d out sound);
+      sound = subst (λ (n : ℕ). IsSound n r.machine.tasks) (sym (answers_count false t d out)) (answers_sound false t d out sound);
       written = written_append (most_back c) here back r.answers written received.answered;
     }
 
 pub received_all : (out : List Message) (c : Opening) (h : History) (i : initiator.Machine) (t : target.Machine) (disk : Disk) (back : List Message)
     (there here : Logins) → Stays c (between i t disk back) out (so_far there here h)
     → AreWritten (most_out c) there out → ReceivesWell (most_back c) t disk (after_all here back) out
-    → (let r = answers t disk out in Stays c (between i r.machine r.disk (back ++ r.answers)) [] (so_far (after_all there out) here h))
+    → (let r = answers false t disk out in Stays c (between i r.machine r.disk (back ++ r.answers)) [] (so_far (after_all there out) here h))
 unfolding answers
 received_all [] c h i t disk back there here s sent received =
     subst (λ (x : List Message). Stays c (between i t disk x) [] (so_far there here h)) (sym (append-nil back)) s
 received_all (m ∷ ms) c h i t disk back there here s sent received =
-    subst (λ (d : Disk). (let r = answers t d (m ∷ ms) in Stays c (between i r.machine r.disk (back ++ r.answers)) []
+    subst (λ (d : Disk). (let r = answers false t d (m ∷ ms) in Stays c (between i r.machine r.disk (back ++ r.answers)) []
     (so_far (after_all there (m ∷ ms)) here h))) s.disk_is
     (some_received c h i t m ms back there here s.events s.blocks s.place s.place_back s.requests_are s.runs
     (subst (λ (d : Disk). IsSound d.count t.tasks) (sym s.disk_is) s.sound) s.written sent
@@ -177,7 +177,7 @@ arrives zero c h held i t disk back there here x a s l = subst (Arrives c h) l (
 arrives (suc n) c h held i t disk [] there here x a s l = absurd l
 arrives (suc n) c h held i t disk (m ∷ more) there here x a s l =
     let out : List Message = (step i m).output in
-    let r : target.Stepped = answers t disk out in
+    let r : target.Stepped = answers false t disk out in
     let one : Stays c (between (step i m).machine t disk more) out (so_far there (after here m.head) h) =
     received_one c h i t disk m more there here s (ap is_closed_phase l.0.full) l.0.fault in
     let on : Stays c (between (step i m).machine r.machine r.disk (more ++ r.answers)) [] (so_far (after_all there out) (after here m.head) h) =

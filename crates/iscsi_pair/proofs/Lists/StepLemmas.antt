@@ -144,19 +144,19 @@ long_messages most logins m ms w =
 -- ---- messages reach the target
 
 -- a store that never fails counts no failure
-reliable_runs : (es : List Execution) → RunsIn reliable 0 es 0
+reliable_runs : (es : List Execution) → RunsIn false (reliable false) 0 es 0
 reliable_runs [] = refl
 reliable_runs (e ∷ es) = (0, record { rises = omega arith; works = λ same. refl; fails = λ lt. absurd (omega (arith, lt)) }, reliable_runs es)
 
-reliable_answers : (s : target.Machine) (disk : Disk) (ms : List Message) → MayAnswer s disk 0 ms (answers s disk ms) 0
+reliable_answers : (s : target.Machine) (disk : Disk) (ms : List Message) → MayAnswer false s disk 0 ms (answers false s disk ms) 0
 unfolding MayAnswer answers
 reliable_answers s disk [] = (refl, refl)
 reliable_answers s disk (m ∷ ms) =
-    let first : target.Stepped = target_machine.step s disk m in (
+    let first : target.Stepped = target_machine.step false s disk m in (
       first,
-      answers first.machine first.disk ms,
+      answers false first.machine first.disk ms,
       0,
-      record { device = reliable; is = refl; runs = reliable_runs first.executed },
+      record { device = reliable false; is = refl; runs = reliable_runs first.executed },
       reliable_answers first.machine first.disk ms,
       refl,
     )
@@ -174,23 +174,23 @@ ends_by false bytes v r new is same = inr (record { live = is; all = refl; frami
 -- all that is queued for it comes at once
 pub target_receives : (c : Opening) (i : initiator.Machine) (t : target.Machine) (blocks : List ℕ) (place place_back : Spot) (there here : Logins)
     (m : Message) (ms : List Message) (back after_blocks : List ℕ)
-    → target_machine.is_closed t ≡ false → AreWritten (target_session.limit c.target) there (m ∷ ms) → (answers t (disk_of blocks) (m ∷ ms)).rule ≡ None
-    → disk_of after_blocks ≡ (answers t (disk_of blocks) (m ∷ ms)).disk
+    → target_machine.is_closed t ≡ false → AreWritten (target_session.limit c.target) there (m ∷ ms) → (answers false t (disk_of blocks) (m ∷ ms)).rule ≡ None
+    → disk_of after_blocks ≡ (answers false t (disk_of blocks) (m ∷ ms)).disk
     → Happens (level c i t blocks place place_back there here (canon (m ∷ ms)) back) (ToTarget (length (canon (m ∷ ms))))
-    (level c i (answers t (disk_of blocks) (m ∷ ms)).machine after_blocks (spot_after place (m ∷ ms)) place_back (after_all there (m ∷ ms)) here []
-    (back ++ canon (answers t (disk_of blocks) (m ∷ ms)).answers))
+    (level c i (answers false t (disk_of blocks) (m ∷ ms)).machine after_blocks (spot_after place (m ∷ ms)) place_back (after_all there (m ∷ ms)) here []
+    (back ++ canon (answers false t (disk_of blocks) (m ∷ ms)).answers))
 target_receives c i t blocks place place_back there here m ms back after_blocks open_ written rule disk =
     let limit : ℕ = target_session.limit c.target in
     let out : List Message = m ∷ ms in
     let bytes : List ℕ = canon out in
-    let a : target.Stepped = answers t (disk_of blocks) out in
-    let r : target.Stepped = answers (joined t) (disk_of blocks) out in
-    let same : joined_stepped r ≡ joined_stepped a = answers_joined t (disk_of blocks) out in
+    let a : target.Stepped = answers false t (disk_of blocks) out in
+    let r : target.Stepped = answers false (joined t) (disk_of blocks) out in
+    let same : joined_stepped r ≡ joined_stepped a = answers_joined false t (disk_of blocks) out in
     let old : World = level c i t blocks place place_back there here bytes back in
     let new : World = level c i a.machine after_blocks (spot_after place out) place_back (after_all there out) here [] (back ++ canon a.answers) in
     let all : take (length bytes) bytes ≡ bytes = take_all (length bytes) bytes (omega arith) in
     let v : Framing = clean limit (spot_after place out) (after_all there out) in
-    let feeds : target_calls.Feeds (target_calls.scene old.target (store_of blocks) back) bytes (Ok r.machine.session.phase)
+    let feeds : target_calls.Feeds false (target_calls.scene old.target (store_of blocks) back) bytes (Ok r.machine.session.phase)
     (target_calls.scene new.target (store_of after_blocks) (back ++ canon a.answers)) = record {
       framing = v;
       count = length bytes;
@@ -222,7 +222,7 @@ target_receives c i t blocks place place_back there here m ms back after_blocks 
     let receives : TargetReceives bytes old new = record {
       result = Ok r.machine.session.phase;
       fed = subst
-          (λ (b : Bool). target_calls.FedIf b (target_calls.scene old.target (store_of blocks) back) bytes (Ok r.machine.session.phase)
+          (λ (b : Bool). target_calls.FedIf false b (target_calls.scene old.target (store_of blocks) back) bytes (Ok r.machine.session.phase)
           (target_calls.scene new.target (store_of after_blocks) (back ++ canon a.answers))) (sym open_) feeds;
       dropped = sym (drop-length bytes);
       initiator = refl;

@@ -1,5 +1,5 @@
 -- An initiator that has completed its login holds what the target holds.
-use Rattle.std.proofs.Common.{◌≡◌, inl, inr, ℕ, List, ◌++◌, refl, sym, ap, ◌∙◌, append_assoc}
+use Rattle.std.proofs.Common.{false, ◌≡◌, inl, inr, ℕ, List, ◌++◌, refl, sym, ap, ◌∙◌, append_assoc}
 use Rattle.scsi_disk.specs.Disk.{disk_of}
 use Rattle.iscsi_stream.specs.Segment.{no_login}
 use Rattle.iscsi_stream.specs.Stream.{Message}
@@ -44,10 +44,10 @@ world_agrees c u w o s full =
     sym (append_assoc t.given t.rest (w.to_target ++ i.lost)) ∙ ap (λ (x : List ℕ). x ++ (w.to_target ++ i.lost)) (sym t.whole)
     ∙ sym (append_assoc u.moved_to_target w.to_target i.lost) ∙ ap (λ (x : List ℕ). x ++ i.lost) s.to_target ∙ i.output
     ∙ ap (λ (x : List Message). canon (x ++ sent (begun c) i.inputs)) a.is in
-    let back : i.given ++ (i.rest ++ w.to_initiator) ≡ canon ((answers (target.opening c.target c.first_stat_sn) (disk_of c.blocks) t.messages).answers
+    let back : i.given ++ (i.rest ++ w.to_initiator) ≡ canon ((answers false (target.opening c.target c.first_stat_sn) (disk_of c.blocks) t.messages).answers
     ++ t.extra) =
     sym (append_assoc i.given i.rest w.to_initiator) ∙ ap (λ (x : List ℕ). x ++ w.to_initiator) (sym i.whole) ∙ s.to_initiator ∙ t.output in
-    let only : OnlyLater t.extra (answers (target.opening c.target c.first_stat_sn) (disk_of c.blocks) t.messages) = elim t.only [
+    let only : OnlyLater t.extra (answers false (target.opening c.target c.first_stat_sn) (disk_of c.blocks) t.messages) = elim t.only [
       | inl none ↦ inl none
       | inr short ↦ inr short.1
     ] in
@@ -59,8 +59,8 @@ world_agrees c u w o s full =
       left_there = rest;
       left_here = i.rest ++ w.to_initiator;
     } in
-    let same : Same (answers (target.opening c.target c.first_stat_sn) (disk_of c.blocks) t.messages) (after_all (begun c) i.inputs) =
-    ended_same way (answers (target.opening c.target c.first_stat_sn) (disk_of c.blocks) t.messages) (after_all (begun c) i.inputs)
+    let same : Same (answers false (target.opening c.target c.first_stat_sn) (disk_of c.blocks) t.messages) (after_all (begun c) i.inputs) =
+    ended_same way (answers false (target.opening c.target c.first_stat_sn) (disk_of c.blocks) t.messages) (after_all (begun c) i.inputs)
     (exchange_ends i.inputs way (Unit {0}) anything (begun c) (target.opening c.target c.first_stat_sn) (disk_of c.blocks) t.messages o (any_turns c) tt
     (record {
       there = no_login;

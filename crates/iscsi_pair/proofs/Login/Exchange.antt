@@ -141,8 +141,8 @@ pub record LoginExchange (w : Way) (inputs : List Input) (i : initiator.Machine)
   pub sends : given ++ w.left_there ≡ canonical_bytes request ++ canon (sent i inputs)
   pub received : List ℕ
   pub receives : ReadsAs w.initiator_limit here received (coming inputs)
-  pub answered : received ++ w.left_here ≡ canon ((answers t disk ms).answers ++ w.extra)
-  pub only : OnlyLater w.extra (answers t disk ms)
+  pub answered : received ++ w.left_here ≡ canon ((answers false t disk ms).answers ++ w.extra)
+  pub only : OnlyLater w.extra (answers false t disk ms)
 
 -- what both ends keep from request to request
 abbrev pub Kept : Type 1
@@ -151,15 +151,15 @@ Kept = initiator.Machine → target.Machine → Type 0
 -- An answer closes the session, where one may, or both ends have completed the login, or the next request keeps it.
 abbrev pub Turns : Opening → Type 0 → Kept → Type 0
 Turns c MayClose P = (i : initiator.Machine) (t : target.Machine) (there : Logins) (r : Message) (disk : Disk) → Asking c i t there r → P i t
-    → (turn : Round c i (target_machine.step t disk r) (logins_after there r.head))
+    → (turn : Round c i (target_machine.step false t disk r) (logins_after there r.head))
     → (MayClose × Closes i (step i turn.answer))
-    ⊎ (Agreed (step i turn.answer) (target_machine.step t disk r).machine
-    ⊎ (Asks_on c (step i turn.answer) (target_machine.step t disk r).machine (logins_after there r.head)
-    × P (step i turn.answer).machine (target_machine.step t disk r).machine))
+    ⊎ (Agreed (step i turn.answer) (target_machine.step false t disk r).machine
+    ⊎ (Asks_on c (step i turn.answer) (target_machine.step false t disk r).machine (logins_after there r.head)
+    × P (step i turn.answer).machine (target_machine.step false t disk r).machine))
 
 -- How it ends: the initiator receives no more, an answer has closed its session in the login, or both have completed it.
 pub data Ended (w : Way) (MayClose : Type 0) (P : Kept) (r : target.Machine) (m : initiator.Machine) : Type 0 where
-  Waiting : (t : target.Machine) (disk : Disk) (ms : List Message) → P m t → LoginExchange w [] m t disk ms → r ≡ (answers t disk ms).machine
+  Waiting : (t : target.Machine) (disk : Disk) (ms : List Message) → P m t → LoginExchange w [] m t disk ms → r ≡ (answers false t disk ms).machine
       → Ended w MayClose P r m
   Closing : MayClose → m.phase ≡ phases.Closed → IsStart m.stage → Ended w MayClose P r m
   Agreeing : r.session.stage ≡ stages.Full → r.session.held ≡ m.held → m.stage ≡ stages.Full → Ended w MayClose P r m
@@ -187,17 +187,17 @@ skipped w input inputs i t disk ms x come same = record {
 -- so it ends
 pub exchange_ends : (inputs : List Input) (w : Way) (MayClose : Type 0) (P : Kept) (i : initiator.Machine) (t : target.Machine) (disk : Disk)
     (ms : List Message) → IsOpening w.opening → Turns w.opening MayClose P → P i t → LoginExchange w inputs i t disk ms
-    → Ended w MayClose P (answers t disk ms).machine (after_all i inputs)
+    → Ended w MayClose P (answers false t disk ms).machine (after_all i inputs)
 unfolding answers
 exchange_ends [] w MayClose P i t disk ms o turns p x = Waiting t disk ms p x refl
 exchange_ends (Takes ∷ inputs) w MayClose P i t disk ms o turns p x =
     let same : taken i ≡ i = ap (λ (d : Option Done). record i { done = d }) (sym x.asking.no_outcome) in
-    subst (λ (m : initiator.Machine). Ended w MayClose P (answers t disk ms).machine (after_all m inputs)) (sym same)
+    subst (λ (m : initiator.Machine). Ended w MayClose P (answers false t disk ms).machine (after_all m inputs)) (sym same)
     (exchange_ends inputs w MayClose P i t disk ms o turns p
     (skipped w Takes inputs i t disk ms x refl (ap (λ (m : initiator.Machine). canon (sent m inputs)) same)))
 exchange_ends (Asks request ∷ inputs) w MayClose P i t disk ms o turns p x =
     let s = refused phases.Login i request refusals.NotReady x.asking.phase refl in
-    subst (λ (m : Submitted). Ended w MayClose P (answers t disk ms).machine (after_all m.machine inputs)) (sym s)
+    subst (λ (m : Submitted). Ended w MayClose P (answers false t disk ms).machine (after_all m.machine inputs)) (sym s)
     (exchange_ends inputs w MayClose P i t disk ms o turns p
     (skipped w (Asks request) inputs i t disk ms x refl (ap (λ (m : Submitted). canon (m.output ++ sent m.machine inputs)) s)))
 exchange_ends (Comes m ∷ inputs) w MayClose P i t disk [] o turns p x =
@@ -208,16 +208,16 @@ exchange_ends (Comes m ∷ inputs) w MayClose P i t disk (n ∷ ms) o turns p x 
     let one : (n ≡ r) × IsFirst w.target_limit x.there w.left_there (canon (sent i (Comes m ∷ inputs))) r ms =
     first_is w.target_limit x.there x.given w.left_there (canon (sent i (Comes m ∷ inputs))) n r ms
     (asking_readable c i t x.there r o x.asking) x.reads x.sends in
-    let turn : Round c i (target_machine.step t disk r) (logins_after x.there r.head) = round c i t x.there r disk o x.asking in
-    let now : target.Stepped = target_machine.step t disk r in
-    let later : target.Stepped = answers now.machine now.disk ms in
-    let said : canon ((answers t disk (n ∷ ms)).answers ++ w.extra) ≡ canonical_bytes turn.answer ++ canon (later.answers ++ w.extra) =
-    ap (λ (v : Message). canon ((answers t disk (v ∷ ms)).answers ++ w.extra)) one.0
+    let turn : Round c i (target_machine.step false t disk r) (logins_after x.there r.head) = round c i t x.there r disk o x.asking in
+    let now : target.Stepped = target_machine.step false t disk r in
+    let later : target.Stepped = answers false now.machine now.disk ms in
+    let said : canon ((answers false t disk (n ∷ ms)).answers ++ w.extra) ≡ canonical_bytes turn.answer ++ canon (later.answers ++ w.extra) =
+    ap (λ (v : Message). canon ((answers false t disk (v ∷ ms)).answers ++ w.extra)) one.0
     ∙ ap (λ (xs : List Message). canon ((xs ++ later.answers) ++ w.extra)) turn.is in
     let two : (m ≡ turn.answer) × IsFirst w.initiator_limit x.here w.left_here (canon (later.answers ++ w.extra)) turn.answer (coming inputs) =
     first_is w.initiator_limit x.here x.received w.left_here (canon (later.answers ++ w.extra)) m turn.answer (coming inputs)
     (turn.readable x.here x.first) x.receives (x.answered ∙ said) in
-    let only : OnlyLater w.extra later = subst (λ (v : Message). OnlyLater w.extra (answers t disk (v ∷ ms))) one.0 x.only in
+    let only : OnlyLater w.extra later = subst (λ (v : Message). OnlyLater w.extra (answers false t disk (v ∷ ms))) one.0 x.only in
     let s : Stepped = step i turn.answer in
     let sent_is : one.1.given ++ w.left_there ≡ canon (s.output ++ sent s.machine inputs) =
     one.1.rest ∙ ap (λ (v : Message). canon (sent i (Comes v ∷ inputs))) two.0 in
@@ -246,8 +246,8 @@ exchange_ends (Comes m ∷ inputs) w MayClose P i t disk (n ∷ ms) o turns p x 
         })
       ]
     ] in
-    subst (λ (v : Message). Ended w MayClose P (answers t disk (v ∷ ms)).machine (after_all i (Comes m ∷ inputs))) (sym one.0)
-    (subst (λ (v : Message). Ended w MayClose P (answers t disk (r ∷ ms)).machine (after_all i (Comes v ∷ inputs))) (sym two.0) core)
+    subst (λ (v : Message). Ended w MayClose P (answers false t disk (v ∷ ms)).machine (after_all i (Comes m ∷ inputs))) (sym one.0)
+    (subst (λ (v : Message). Ended w MayClose P (answers false t disk (r ∷ ms)).machine (after_all i (Comes v ∷ inputs))) (sym two.0) core)
 
 -- ---- nothing is kept
 

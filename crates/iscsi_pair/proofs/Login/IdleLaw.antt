@@ -40,7 +40,7 @@ not_waiting limit logins rest more m h r short e = h.none (canonical_bytes m) (s
 
 -- where the initiator receives no more, and each end holds no whole PDU of the other, the login is completed
 none_waits : (ms : List Message) (w : Way) (i : initiator.Machine) (t : target.Machine) (disk : Disk) → IsOpening w.opening → LoginExchange w [] i t disk ms
-    → HoldsNone w.target_limit w.left_there ⊎ (target_machine.is_closed (answers t disk ms).machine ≡ true)
+    → HoldsNone w.target_limit w.left_there ⊎ (target_machine.is_closed (answers false t disk ms).machine ≡ true)
     → HoldsNone w.initiator_limit w.left_here → ⊥
 unfolding answers
 none_waits [] w i t disk o x (inl h) there =
@@ -53,11 +53,11 @@ none_waits (n ∷ ms) w i t disk o x here there =
     let r : Message = x.request in
     let one : (n ≡ r) × IsFirst w.target_limit x.there w.left_there (canon (sent i [])) r ms =
     first_is w.target_limit x.there x.given w.left_there (canon (sent i [])) n r ms (asking_readable c i t x.there r o x.asking) x.reads x.sends in
-    let turn : Round c i (target_machine.step t disk r) (logins_after x.there r.head) = round c i t x.there r disk o x.asking in
-    let now : target.Stepped = target_machine.step t disk r in
-    let later : target.Stepped = answers now.machine now.disk ms in
-    let said_ : canon ((answers t disk (n ∷ ms)).answers ++ w.extra) ≡ canonical_bytes turn.answer ++ canon (later.answers ++ w.extra) =
-    ap (λ (v : Message). canon ((answers t disk (v ∷ ms)).answers ++ w.extra)) one.0
+    let turn : Round c i (target_machine.step false t disk r) (logins_after x.there r.head) = round c i t x.there r disk o x.asking in
+    let now : target.Stepped = target_machine.step false t disk r in
+    let later : target.Stepped = answers false now.machine now.disk ms in
+    let said_ : canon ((answers false t disk (n ∷ ms)).answers ++ w.extra) ≡ canonical_bytes turn.answer ++ canon (later.answers ++ w.extra) =
+    ap (λ (v : Message). canon ((answers false t disk (v ∷ ms)).answers ++ w.extra)) one.0
     ∙ ap (λ (xs : List Message). canon ((xs ++ later.answers) ++ w.extra)) turn.is in
     not_waiting w.initiator_limit x.here w.left_here (canon (later.answers ++ w.extra)) turn.answer there (turn.readable x.here x.first) turn.short
     (ap (λ (z : List ℕ). z ++ w.left_here) (sym (nothing_read w.initiator_limit x.here x.received x.receives)) ∙ x.answered ∙ said_)
@@ -97,7 +97,7 @@ idle_open c u w l ms given rest o s none_out none_back i live p whole here out =
     let e : given ++ rest ≡ canonical_bytes a.request ++ canon (sent (begun c) i.inputs) =
     sym whole ∙ all_moved u.moved_to_target w.to_target u.queued_for_target none_out s.to_target ∙ i.output
     ∙ ap (λ (x : List Message). canon (x ++ sent (begun c) i.inputs)) a.is in
-    let f : i.taken.given ++ i.taken.rest ≡ canon (answers (target.opening c.target c.first_stat_sn) (disk_of c.blocks) ms).answers =
+    let f : i.taken.given ++ i.taken.rest ≡ canon (answers false (target.opening c.target c.first_stat_sn) (disk_of c.blocks) ms).answers =
     sym i.taken.whole ∙ all_moved u.moved_to_initiator w.to_initiator u.queued_for_initiator none_back s.to_initiator ∙ out in
     let way : Way = record {
       opening = c;
@@ -108,7 +108,7 @@ idle_open c u w l ms given rest o s none_out none_back i live p whole here out =
       left_here = i.taken.rest;
     } in
     ap (λ (m : initiator.Machine). m.stage) i.machine
-    ∙ ended_idle way (answers (target.opening c.target c.first_stat_sn) (disk_of c.blocks) ms).machine (after_all (begun c) i.inputs) o
+    ∙ ended_idle way (answers false (target.opening c.target c.first_stat_sn) (disk_of c.blocks) ms).machine (after_all (begun c) i.inputs) o
     (exchange_ends i.inputs way (Unit {0}) anything (begun c) (target.opening c.target c.first_stat_sn) (disk_of c.blocks) ms o (any_turns c) tt
     (record {
       there = no_login;
@@ -122,7 +122,7 @@ idle_open c u w l ms given rest o s none_out none_back i live p whole here out =
       sends = e;
       received = i.taken.given;
       receives = i.taken.reads;
-      answered = f ∙ ap canon (sym (append-nil (answers (target.opening c.target c.first_stat_sn) (disk_of c.blocks) ms).answers));
+      answered = f ∙ ap canon (sym (append-nil (answers false (target.opening c.target c.first_stat_sn) (disk_of c.blocks) ms).answers));
       only = inl refl;
     })) here (holds_none u.moved_to_initiator (coming i.inputs) w.initiator.framing i.taken i.unready limit_)
     (ap is_closed (sym i.machine) ∙ live)

@@ -277,8 +277,8 @@ meets_by c i t s disk next o y full same = record {
 
 last_meets : (c : Opening) (i : initiator.Machine) (t : target.Machine) (logins next : Logins) (r : Message) (disk : Disk) → IsOpening c
     → c.initiator.proposal.session ≡ sessions.Normal
-    → Asking c i t logins r → Suited c i t → Numbered c i t → (turn : Round c i (target_machine.step t disk r) next) → LastTurn i t disk r turn.answer
-    → Meets c i (target_machine.step t disk r) (step i turn.answer) disk next
+    → Asking c i t logins r → Suited c i t → Numbered c i t → (turn : Round c i (target_machine.step false t disk r) next) → LastTurn i t disk r turn.answer
+    → Meets c i (target_machine.step false t disk r) (step i turn.answer) disk next
 last_meets c i t logins next r disk o normal a s b turn q =
     let h : LoginRequest = login_request i true in
     let e : target_session.Session = emptied t.session h in
@@ -293,7 +293,7 @@ last_meets c i t logins next r disk o normal a s b turn q =
     (record { settings = same.settings ∙ a.target_settings; stat_sn = refl; exp_cmd_sn = refl; told_sn = refl; told_exp = refl; told_max = refl })
     (none_left u.machine.session t.tasks b.no_task)
     (enters_kept (following_stage i.stage) w) refl
-    (subst (λ (x : target.Stepped). IsFit x.machine) q.there (step_fit t disk r b.fit))
+    (subst (λ (x : target.Stepped). IsFit x.machine) q.there (step_fit false t disk r b.fit))
     (λ is. normal_for c i t e o normal a.settings same.has_text k.session_type b.session s.texts) in
     subst (λ (x : target.Stepped). Meets c i x (step i turn.answer) disk next) (sym q.there)
     (subst (λ (x : Stepped). Meets c i u x disk next) (sym q.now)
@@ -302,8 +302,8 @@ last_meets c i t logins next r disk o normal a s b turn q =
 -- ---- a request whose text goes on
 
 part_meets : (c : Opening) (i : initiator.Machine) (t : target.Machine) (logins next : Logins) (r : Message) (disk : Disk) → IsOpening c
-    → Asking c i t logins r → Numbered c i t → (turn : Round c i (target_machine.step t disk r) next) → PartTurn i t disk r turn.answer
-    → Meets c i (target_machine.step t disk r) (step i turn.answer) disk next
+    → Asking c i t logins r → Numbered c i t → (turn : Round c i (target_machine.step false t disk r) next) → PartTurn i t disk r turn.answer
+    → Meets c i (target_machine.step false t disk r) (step i turn.answer) disk next
 part_meets c i t logins next r disk o a b turn q =
     let h : LoginRequest = login_request i false in
     let e : target_session.Session = entered t.session h in
@@ -318,7 +318,7 @@ part_meets c i t logins next r disk o a b turn q =
     (record { settings = same.settings ∙ a.target_settings; stat_sn = refl; exp_cmd_sn = refl; told_sn = refl; told_exp = refl; told_max = refl })
     (none_left u.machine.session t.tasks b.no_task)
     (record { settings = refl; exp_stat_sn = refl; held = refl; window = refl; cmd_sn = refl; tag = refl; outstanding = refl; none_done = refl }) refl
-    (subst (λ (x : target.Stepped). IsFit x.machine) q.there (step_fit t disk r b.fit))
+    (subst (λ (x : target.Stepped). IsFit x.machine) q.there (step_fit false t disk r b.fit))
     (λ is. k.session_type ∙ b.session (sym same.has_text ∙ is)) in
     subst (λ (x : target.Stepped). Meets c i x (step i turn.answer) disk next) (sym q.there)
     (subst (λ (x : Stepped). Meets c i u x disk next) (sym q.now)
@@ -329,8 +329,8 @@ part_meets c i t logins next r disk o a b turn q =
 -- a round of the login counts on, and where it ends the login both ends are in step
 pub meets : (c : Opening) (i : initiator.Machine) (t : target.Machine) (logins next : Logins) (r : Message) (disk : Disk) → IsOpening c → Suits c
     → c.initiator.proposal.session ≡ sessions.Normal
-    → Asking c i t logins r → Suited c i t → Numbered c i t → (turn : Round c i (target_machine.step t disk r) next)
-    → Meets c i (target_machine.step t disk r) (step i turn.answer) disk next
+    → Asking c i t logins r → Suited c i t → Numbered c i t → (turn : Round c i (target_machine.step false t disk r) next)
+    → Meets c i (target_machine.step false t disk r) (step i turn.answer) disk next
 meets c i t logins next r disk o suits normal a s b turn = elim (turns c i t logins next r disk o suits a s turn) [
   | inl q ↦ last_meets c i t logins next r disk o normal a s b turn q
   | inr q ↦ part_meets c i t logins next r disk o a b turn q
@@ -341,7 +341,7 @@ meets c i t logins next r disk o suits normal a s b turn = elim (turns c i t log
 -- the target of a new pair may hold what it holds
 opening_fit : (settings : target_settings.Settings) (n : ℕ) → IsFit (target.opening settings n)
 unfolding answers
-opening_fit settings n = reached_fit settings n (disk_of []) []
+opening_fit settings n = reached_fit false settings n (disk_of []) []
 
 -- a new pair has counted nothing
 pub first_numbered : (c : Opening) → IsOpening c → Numbered c (start_step (initiator.opening c.initiator)).machine (target.opening c.target c.first_stat_sn)

@@ -1,5 +1,5 @@
 -- Each round of a login brings it nearer to its end.
-use Rattle.std.proofs.Common.{◌≡◌, ◌<◌, ◌≤◌, ◌⊎◌, inl, inr, ℕ, ◌-◌, true, List, ◌++◌, length, drop, refl, sym, ap, ◌∙◌, subst, arith}
+use Rattle.std.proofs.Common.{false, ◌≡◌, ◌<◌, ◌≤◌, ◌⊎◌, inl, inr, ℕ, ◌-◌, true, List, ◌++◌, length, drop, refl, sym, ap, ◌∙◌, subst, arith}
 use Rattle.std.proofs.lemmas.List.{length-append, length-drop}
 use Rattle.scsi_disk.specs.Disk.{Disk}
 use Rattle.iscsi_text.specs.Canonical.{canonical_text}
@@ -63,7 +63,7 @@ less_left c i t r answer disk same least q =
 
 -- a round leads nearer, unless it completes the login
 pub nearer : (c : Opening) (i : initiator.Machine) (t : target.Machine) (logins next : Logins) (r : Message) (disk : Disk) → IsOpening c → Suits c
-    → (a : Asking c i t logins r) → Suited c i t → (turn : Round c i (target_machine.step t disk r) next) → IsStart (step i turn.answer).machine.stage
+    → (a : Asking c i t logins r) → Suited c i t → (turn : Round c i (target_machine.step false t disk r) next) → IsStart (step i turn.answer).machine.stage
     → IsNearer i (step i turn.answer).machine
 nearer c i t logins next r disk o suits a s turn on = elim (turns c i t logins next r disk o suits a s turn) [
   | inl q ↦ ends_text i.stage i (after_text i t) (step i turn.answer) refl a.stage on q.now

@@ -53,7 +53,7 @@ none_read limit logins given (m ∷ ms) p e = absurd (not_empty limit logins giv
 last_received : (ms : List Message) (c : Opening) (i : initiator.Machine) (t : target.Machine) (out back : Logins) (r : Message) (disk : Disk) (l : ℕ)
     (given x y : List ℕ)
     → IsOpening c → Suits c → Asking c i t out r → Suited c i t → back.response ≡ false → ReadsAs l out given ms → given ++ x ≡ canonical_bytes r ++ []
-    → y ≡ canon (answers t disk ms).answers → AreWell i (answers t disk ms) x y
+    → y ≡ canon (answers false t disk ms).answers → AreWell i (answers false t disk ms) x y
 unfolding answers
 last_received [] c i t out back r disk l given x y o suits a s b p e f = record {
   target = inr (
@@ -73,13 +73,13 @@ last_received (n ∷ ms) c i t out back r disk l given x y o suits a s b p e f =
     let one : (n ≡ r) × IsFirst l out x [] r ms = first_is l out given x [] n r ms (asking_readable c i t out r o a) p e in
     let none = both_none one.1.given x one.1.rest in
     let last : ms ≡ [] = none_read l (logins_after out r.head) one.1.given ms one.1.reads none.0 in
-    let turn : Round c i (target_machine.step t disk r) (logins_after out r.head) = round c i t out r disk o a in
-    let w : Well c i (target_machine.step t disk r) (step i turn.answer) (logins_after out r.head) =
+    let turn : Round c i (target_machine.step false t disk r) (logins_after out r.head) = round c i t out r disk o a in
+    let w : Well c i (target_machine.step false t disk r) (step i turn.answer) (logins_after out r.head) =
     goes_well c i t out (logins_after out r.head) r disk o suits a s turn in
-    let now : target.Stepped = target_machine.step t disk r in
-    let all : answers t disk (n ∷ ms) ≡ answers t disk (r ∷ []) = ap (λ (m : Message). answers t disk (m ∷ ms)) one.0
-    ∙ ap (λ (xs : List Message). answers t disk (r ∷ xs)) last in
-    let there : AreWell i (answers t disk (r ∷ [])) x y = record {
+    let now : target.Stepped = target_machine.step false t disk r in
+    let all : answers false t disk (n ∷ ms) ≡ answers false t disk (r ∷ []) = ap (λ (m : Message). answers false t disk (m ∷ ms)) one.0
+    ∙ ap (λ (xs : List Message). answers false t disk (r ∷ xs)) last in
+    let there : AreWell i (answers false t disk (r ∷ [])) x y = record {
       target = elim w.on [
         | inl agreed ↦ inl agreed.target_stage
         | inr asks ↦ inr (w.open_, inl none.1)
@@ -110,10 +110,10 @@ suited_turns c o suits i t there r disk a s turn =
 ended_well : (w : Way) (r : target.Stepped) (m : initiator.Machine) → IsOpening w.opening → Suits w.opening → w.extra ≡ []
     → Ended w ⊥ (Suited w.opening) r.machine m → AreWell m r w.left_there w.left_here
 ended_well w r m o suits none (Waiting t disk ms s x is) =
-    let q : AreWell m (answers t disk ms) w.left_there w.left_here =
+    let q : AreWell m (answers false t disk ms) w.left_there w.left_here =
     last_received ms w.opening m t x.there x.here x.request disk w.target_limit x.given w.left_there w.left_here o suits x.asking s x.first x.reads x.sends
     (ap (λ (z : List ℕ). z ++ w.left_here) (sym (nothing_read w.initiator_limit x.here x.received x.receives)) ∙ x.answered
-    ∙ ap (λ (e : List Message). canon ((answers t disk ms).answers ++ e)) none ∙ ap canon (append-nil (answers t disk ms).answers)) in
+    ∙ ap (λ (e : List Message). canon ((answers false t disk ms).answers ++ e)) none ∙ ap canon (append-nil (answers false t disk ms).answers)) in
     record {
       target = subst
           (λ (z : target.Machine). (z.session.stage ≡ stages.Full) ⊎ ((target_machine.is_closed z ≡ false) × Waits w.left_there)) (sym is) q.target;
@@ -125,7 +125,7 @@ ended_well w r m o suits none (Agreeing stage held own) = record { target = inl 
 -- so no end closes before its login is completed
 pub stay_well : (inputs : List Input) (w : Way) (i : initiator.Machine) (t : target.Machine) (disk : Disk) (ms : List Message) → IsOpening w.opening
     → Suits w.opening → w.extra ≡ [] → Suited w.opening i t → LoginExchange w inputs i t disk ms
-    → AreWell (after_all i inputs) (answers t disk ms) w.left_there w.left_here
+    → AreWell (after_all i inputs) (answers false t disk ms) w.left_there w.left_here
 stay_well inputs w i t disk ms o suits none s x =
-    ended_well w (answers t disk ms) (after_all i inputs) o suits none
+    ended_well w (answers false t disk ms) (after_all i inputs) o suits none
     (exchange_ends inputs w ⊥ (Suited w.opening) i t disk ms o (suited_turns w.opening o suits) s x)

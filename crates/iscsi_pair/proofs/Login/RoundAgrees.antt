@@ -458,7 +458,7 @@ target_fits c t o e = subst SettingsFit (sym e) (record { preferences = o.prefer
 last_round : (c : Opening) (i : initiator.Machine) (t : target.Machine) (logins : Logins) (r : Message) (disk : Disk) (segment : Segment) → IsOpening c
     → Asking c i t logins r
     → i.unsent_text ≡ [] → is_over_limit t segment ≡ false → target_login.text_ending t.session.gathered segment ≡ Some (offered i)
-    → Round c i (target_machine.step t disk (login_message i true segment)) (after logins (login_message i true segment).head)
+    → Round c i (target_machine.step false t disk (login_message i true segment)) (after logins (login_message i true segment).head)
 last_round c i t logins r disk segment o a left short read =
     let h : LoginRequest = login_request i true in
     let next : Logins = after logins (login_message i true segment).head in
@@ -473,7 +473,7 @@ last_round c i t logins r disk segment o a left short read =
 part_round : (c : Opening) (i : initiator.Machine) (t : target.Machine) (logins : Logins) (r : Message) (disk : Disk) (bytes : List ℕ) (byte : ℕ)
     (more : List ℕ) → IsOpening c → Asking c i t logins r
     → i.unsent_text ≡ byte ∷ more → is_over_limit t (Bytes bytes) ≡ false → t.session.gathered ++ (bytes ++ i.unsent_text) ≡ canonical_text (offered i)
-    → Round c i (target_machine.step t disk (login_message i false (Bytes bytes))) (after logins (login_message i false (Bytes bytes)).head)
+    → Round c i (target_machine.step false t disk (login_message i false (Bytes bytes))) (after logins (login_message i false (Bytes bytes)).head)
 part_round c i t logins r disk bytes byte more o a left short text =
     let h : LoginRequest = login_request i false in
     let next : Logins = after logins (login_message i false (Bytes bytes)).head in
@@ -491,12 +491,12 @@ fits_limit t bytes le = le-ltb (target_session.limit t.session.settings) (length
 -- the message that is on its way, by what is left behind it
 round_at : (left : List ℕ) (c : Opening) (i : initiator.Machine) (t : target.Machine) (logins : Logins) (r : Message) (disk : Disk) → IsOpening c
     → (a : Asking c i t logins r) → i.unsent_text ≡ left
-    → Round c i (target_machine.step t disk (login_message i (is_sent left) a.segment)) (after logins (login_message i (is_sent left) a.segment).head)
+    → Round c i (target_machine.step false t disk (login_message i (is_sent left) a.segment)) (after logins (login_message i (is_sent left) a.segment).head)
 round_at [] c i t logins r disk o a left =
     elim a.how [
-      | inl w ↦ subst (λ (x : Segment). Round c i (target_machine.step t disk (login_message i true x)) (after logins (login_message i true x).head)) (sym w.is)
+      | inl w ↦ subst (λ (x : Segment). Round c i (target_machine.step false t disk (login_message i true x)) (after logins (login_message i true x).head)) (sym w.is)
           (last_round c i t logins r disk (Text (offered i)) o a left refl refl)
-      | inr p ↦ subst (λ (x : Segment). Round c i (target_machine.step t disk (login_message i true x)) (after logins (login_message i true x).head)) (sym p.is)
+      | inr p ↦ subst (λ (x : Segment). Round c i (target_machine.step false t disk (login_message i true x)) (after logins (login_message i true x).head)) (sym p.is)
           (last_round c i t logins r disk (Bytes p.bytes) o a left (fits_limit t p.bytes p.short)
           (ap text_in (ap (λ (x : List ℕ). t.session.gathered ++ x) (sym (append-nil p.bytes) ∙ ap (λ (x : List ℕ). p.bytes ++ x) (sym left)) ∙ p.text)
           ∙ offered_read c i o a.settings a.stage))
@@ -504,15 +504,15 @@ round_at [] c i t logins r disk o a left =
 round_at (byte ∷ more) c i t logins r disk o a left =
     elim a.how [
       | inl w ↦ absurd (let bad : [] ≡ byte ∷ more = sym w.unsent_text ∙ left in cc)
-      | inr p ↦ subst (λ (x : Segment). Round c i (target_machine.step t disk (login_message i false x)) (after logins (login_message i false x).head))
+      | inr p ↦ subst (λ (x : Segment). Round c i (target_machine.step false t disk (login_message i false x)) (after logins (login_message i false x).head))
           (sym p.is)
           (part_round c i t logins r disk p.bytes byte more o a left (fits_limit t p.bytes p.short) p.text)
     ]
 
 pub round : (c : Opening) (i : initiator.Machine) (t : target.Machine) (logins : Logins) (r : Message) (disk : Disk) → IsOpening c → Asking c i t logins r
-    → Round c i (target_machine.step t disk r) (after logins r.head)
+    → Round c i (target_machine.step false t disk r) (after logins r.head)
 round c i t logins r disk o a =
-    subst (λ (x : Message). Round c i (target_machine.step t disk x) (after logins x.head)) (sym a.request)
+    subst (λ (x : Message). Round c i (target_machine.step false t disk x) (after logins x.head)) (sym a.request)
     (round_at i.unsent_text c i t logins r disk o a refl)
 
 -- ---- the first request

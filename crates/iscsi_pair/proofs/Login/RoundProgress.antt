@@ -385,7 +385,7 @@ part_head e h = record (login.response e h) { stat_sn = Some e.stat_sn }
 
 -- both ends behind a request that ends its text
 pub record LastTurn (i : initiator.Machine) (t : target.Machine) (disk : Disk) (r answer : Message) : Type 0 where
-  pub there : target_machine.step t disk r ≡ target.on disk t.tasks (text_answered (emptied t.session (login_request i true)) (login_request i true)
+  pub there : target_machine.step false t disk r ≡ target.on disk t.tasks (text_answered (emptied t.session (login_request i true)) (login_request i true)
       (offered i))
   pub now : step i answer ≡ begins_stage (following_stage i.stage) (with_answer i (text_head (emptied t.session (login_request i true)) (login_request i true))
       (answer_pairs (emptied t.session (login_request i true)) (offered i)))
@@ -395,7 +395,7 @@ pub record PartTurn (i : initiator.Machine) (t : target.Machine) (disk : Disk) (
   -- some of it is left
   pub some : 0 < length i.unsent_text
   pub bytes : List ℕ
-  pub there : target_machine.step t disk r ≡ target.on disk t.tasks (gather (entered t.session (login_request i false)) (login_request i false) bytes)
+  pub there : target_machine.step false t disk r ≡ target.on disk t.tasks (gather (entered t.session (login_request i false)) (login_request i false) bytes)
   pub now : step i answer ≡ sends_more (counted i (part_head (entered t.session (login_request i false)) (login_request i false)))
 
 -- a request that ends its text is answered, and the answer is taken
@@ -403,7 +403,7 @@ last_turn : (c : Opening) (i : initiator.Machine) (t : target.Machine) (logins n
     → Suits c → Asking c i t logins r → Suited c i t
     → i.unsent_text ≡ [] → is_over_limit t segment ≡ false → text_ending t.session.gathered segment ≡ Some (offered i)
     → length t.session.gathered + length (segment_bytes segment) ≤ 16384
-    → (turn : Round c i (target_machine.step t disk (login_message i true segment)) next) → LastTurn i t disk (login_message i true segment) turn.answer
+    → (turn : Round c i (target_machine.step false t disk (login_message i true segment)) next) → LastTurn i t disk (login_message i true segment) turn.answer
 last_turn c i t logins next r disk segment o suits a s left fits read size turn =
     let h : LoginRequest = login_request i true in
     let e : target_session.Session = emptied t.session h in
@@ -419,7 +419,7 @@ last_turn c i t logins next r disk segment o suits a s left fits read size turn 
     answers_well t.session h segment given (not_refused c i t true a.stage s) (subst (λ (x : List ℕ). length x + length (segment_bytes segment) ≤ 16384)
     (sym same.gathered) size) refl
     (ap (λ (x : List ℕ). text_ending x segment) same.gathered ∙ read) good in
-    let there : target_machine.step t disk (login_message i true segment) ≡ target.on disk t.tasks (text_answered e h given) =
+    let there : target_machine.step false t disk (login_message i true segment) ≡ target.on disk t.tasks (text_answered e h given) =
     login_step_is t disk h segment a.logs_in.phase fits ∙ ap (target.on disk t.tasks) q in
     let is : turn.answer ≡ answering (text_head e h) (answer_pairs e given) =
     one_answer turn.answer (answering (text_head e h) (answer_pairs e given)) (sym turn.is ∙ ap (λ (x : target.Stepped). x.answers) there) in
@@ -437,7 +437,7 @@ last_turn c i t logins next r disk segment o suits a s left fits read size turn 
 part_turn : (c : Opening) (i : initiator.Machine) (t : target.Machine) (logins next : Logins) (r : Message) (disk : Disk) (segment : Segment) (bytes : List ℕ)
     (byte : ℕ) (more : List ℕ) → Asking c i t logins r → Suited c i t
     → i.unsent_text ≡ byte ∷ more → segment ≡ Bytes bytes → is_over_limit t segment ≡ false → length t.session.gathered + length bytes ≤ 16384
-    → (turn : Round c i (target_machine.step t disk (login_message i false segment)) next) → PartTurn i t disk (login_message i false segment) turn.answer
+    → (turn : Round c i (target_machine.step false t disk (login_message i false segment)) next) → PartTurn i t disk (login_message i false segment) turn.answer
 part_turn c i t logins next r disk segment bytes byte more a s left part fits size turn =
     let h : LoginRequest = login_request i false in
     let e : target_session.Session = entered t.session h in
@@ -445,7 +445,7 @@ part_turn c i t logins next r disk segment bytes byte more a s left part fits si
     let q : login.login_request t.session h segment ≡ gather e h bytes =
     ap (login.login_request t.session h) part ∙ gathers_well t.session h bytes (not_refused c i t false a.stage s)
     (subst (λ (x : List ℕ). length x + length bytes ≤ 16384) (sym same.gathered) size) refl in
-    let there : target_machine.step t disk (login_message i false segment) ≡ target.on disk t.tasks (gather e h bytes) =
+    let there : target_machine.step false t disk (login_message i false segment) ≡ target.on disk t.tasks (gather e h bytes) =
     login_step_is t disk h segment a.logs_in.phase fits ∙ ap (target.on disk t.tasks) q in
     let is : turn.answer ≡ answering (part_head e h) [] = one_answer turn.answer (answering (part_head e h) [])
     (sym turn.is ∙ ap (λ (x : target.Stepped). x.answers) there) in
@@ -476,7 +476,7 @@ part_fits gathered bytes left text e le =
 turns_at : (left : List ℕ) (c : Opening) (i : initiator.Machine) (t : target.Machine) (logins next : Logins) (r : Message) (disk : Disk) → IsOpening c → Suits c
     → Asking c i t logins r → Suited c i t → i.unsent_text ≡ left
     → (segment : Segment) → (IsWhole i t logins segment ⊎ IsPart i t logins segment)
-    → (turn : Round c i (target_machine.step t disk (login_message i (is_sent left) segment)) next)
+    → (turn : Round c i (target_machine.step false t disk (login_message i (is_sent left) segment)) next)
     → LastTurn i t disk (login_message i (is_sent left) segment) turn.answer ⊎ PartTurn i t disk (login_message i (is_sent left) segment) turn.answer
 unfolding segment_bytes
 turns_at [] c i t logins next r disk o suits a s left segment (inl w) turn =
@@ -497,9 +497,9 @@ turns_at (byte ∷ more) c i t logins next r disk o suits a s left segment (inr 
 -- a round ends a text, or its text goes on
 pub turns : (c : Opening) (i : initiator.Machine) (t : target.Machine) (logins next : Logins) (r : Message) (disk : Disk) → IsOpening c → Suits c
     → Asking c i t logins r → Suited c i t
-    → (turn : Round c i (target_machine.step t disk r) next) → LastTurn i t disk r turn.answer ⊎ PartTurn i t disk r turn.answer
+    → (turn : Round c i (target_machine.step false t disk r) next) → LastTurn i t disk r turn.answer ⊎ PartTurn i t disk r turn.answer
 turns c i t logins next r disk o suits a s =
-    subst (λ (x : Message). (turn : Round c i (target_machine.step t disk x) next) → LastTurn i t disk x turn.answer ⊎ PartTurn i t disk x turn.answer)
+    subst (λ (x : Message). (turn : Round c i (target_machine.step false t disk x) next) → LastTurn i t disk x turn.answer ⊎ PartTurn i t disk x turn.answer)
     (sym a.request)
     (turns_at i.unsent_text c i t logins next r disk o suits a s refl a.segment a.how)
 
@@ -537,13 +537,13 @@ next_suited c i t disk h g answer there s is hs number =
 -- behind the text of the security stage the next one suits too; behind another there is none
 suited_by : (c : Opening) (i : initiator.Machine) (t : target.Machine) (logins next : Logins) (r answer : Message) (disk : Disk) → Asking c i t logins r
     → Suited c i t → LastTurn i t disk r answer
-    → (stage : Stage) → i.stage ≡ stage → Asks_on c (step i answer) (target_machine.step t disk r).machine next
-    → Suited c (step i answer).machine (target_machine.step t disk r).machine
+    → (stage : Stage) → i.stage ≡ stage → Asks_on c (step i answer) (target_machine.step false t disk r).machine next
+    → Suited c (step i answer).machine (target_machine.step false t disk r).machine
 suited_by c i t logins next r answer disk a s q stages.Security is asks =
     let h : LoginRequest = login_request i true in
     let e : target_session.Session = emptied t.session h in
     let w : initiator.Machine = with_answer i (text_head e h) (answer_pairs e (offered i)) in
-    subst (λ (x : Stepped). Suited c x.machine (target_machine.step t disk r).machine) (sym (q.now ∙ ap (λ (x : Stage). begins_stage (following_stage x) w) is))
+    subst (λ (x : Stepped). Suited c x.machine (target_machine.step false t disk r).machine) (sym (q.now ∙ ap (λ (x : Stage). begins_stage (following_stage x) w) is))
     (subst (λ (x : target.Stepped). Suited c (begins_stage stages.Operational w).machine x.machine) (sym q.there)
     (next_suited c i t disk h (text_head e h) (answer_pairs e (offered i)) a.settings s is refl refl))
 suited_by c i t logins next r answer disk a s q stages.Operational is asks =
@@ -554,8 +554,8 @@ suited_by c i t logins next r answer disk a s q stages.Full is asks = absurd (su
 
 -- behind a request that ends its text
 last_well : (c : Opening) (i : initiator.Machine) (t : target.Machine) (logins next : Logins) (r : Message) (disk : Disk) → Asking c i t logins r → Suited c i t
-    → (turn : Round c i (target_machine.step t disk r) next) → LastTurn i t disk r turn.answer
-    → Well c i (target_machine.step t disk r) (step i turn.answer) next
+    → (turn : Round c i (target_machine.step false t disk r) next) → LastTurn i t disk r turn.answer
+    → Well c i (target_machine.step false t disk r) (step i turn.answer) next
 last_well c i t logins next r disk a s turn q =
     let h : LoginRequest = login_request i true in
     let e : target_session.Session = emptied t.session h in
@@ -563,7 +563,7 @@ last_well c i t logins next r disk a s turn q =
     let on_ : GoesOn (begins_stage (following_stage i.stage) w) = enters_on (following_stage i.stage) w a.phase in
     let live : is_closed (step i turn.answer).machine ≡ false = ap (λ (x : Stepped). is_closed x.machine) q.now ∙ on_.live in
     record {
-      on = leads_on c i (step i turn.answer) (target_machine.step t disk r).machine next turn.leads live (suited_by c i t logins next r turn.answer disk a s q
+      on = leads_on c i (step i turn.answer) (target_machine.step false t disk r).machine next turn.leads live (suited_by c i t logins next r turn.answer disk a s q
           i.stage refl);
       open_ = ap (λ (x : target.Stepped). target_machine.is_closed x.machine) q.there ∙ phase_open (login.stage_after e h);
       rule = ap (λ (x : target.Stepped). x.rule) q.there;
@@ -573,8 +573,8 @@ last_well c i t logins next r disk a s turn q =
 
 -- behind a request whose text goes on
 part_well : (c : Opening) (i : initiator.Machine) (t : target.Machine) (logins next : Logins) (r : Message) (disk : Disk) → Asking c i t logins r → Suited c i t
-    → (turn : Round c i (target_machine.step t disk r) next) → PartTurn i t disk r turn.answer
-    → Well c i (target_machine.step t disk r) (step i turn.answer) next
+    → (turn : Round c i (target_machine.step false t disk r) next) → PartTurn i t disk r turn.answer
+    → Well c i (target_machine.step false t disk r) (step i turn.answer) next
 part_well c i t logins next r disk a s turn q =
     let h : LoginRequest = login_request i false in
     let e : target_session.Session = entered t.session h in
@@ -589,11 +589,11 @@ part_well c i t logins next r disk a s turn q =
         | inr f ↦ inr (record { one = same.has_text ∙ f.one; seen_keys = same.seen_keys ∙ f.seen_keys; start = f.start; stage = f.stage })
       ];
     } in
-    let suited : Suited c (step i turn.answer).machine (target_machine.step t disk r).machine =
-    subst (λ (x : Stepped). Suited c x.machine (target_machine.step t disk r).machine) (sym q.now)
+    let suited : Suited c (step i turn.answer).machine (target_machine.step false t disk r).machine =
+    subst (λ (x : Stepped). Suited c x.machine (target_machine.step false t disk r).machine) (sym q.now)
     (subst (λ (x : target.Stepped). Suited c n.machine x.machine) (sym q.there) begun) in
     record {
-      on = leads_on c i (step i turn.answer) (target_machine.step t disk r).machine next turn.leads live (λ asks. suited);
+      on = leads_on c i (step i turn.answer) (target_machine.step false t disk r).machine next turn.leads live (λ asks. suited);
       open_ = ap (λ (x : target.Stepped). target_machine.is_closed x.machine) q.there ∙ ap is_closed_phase (entered_phase t.session h ∙ a.logs_in.phase);
       rule = ap (λ (x : target.Stepped). x.rule) q.there;
       live = live;
@@ -603,7 +603,7 @@ part_well c i t logins next r disk a s turn q =
 -- where both ends suit each other the login goes on
 pub goes_well : (c : Opening) (i : initiator.Machine) (t : target.Machine) (logins next : Logins) (r : Message) (disk : Disk) → IsOpening c → Suits c
     → Asking c i t logins r → Suited c i t
-    → (turn : Round c i (target_machine.step t disk r) next) → Well c i (target_machine.step t disk r) (step i turn.answer) next
+    → (turn : Round c i (target_machine.step false t disk r) next) → Well c i (target_machine.step false t disk r) (step i turn.answer) next
 goes_well c i t logins next r disk o suits a s turn = elim (turns c i t logins next r disk o suits a s turn) [
   | inl q ↦ last_well c i t logins next r disk a s turn q
   | inr q ↦ part_well c i t logins next r disk a s turn q

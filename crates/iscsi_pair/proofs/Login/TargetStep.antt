@@ -45,11 +45,11 @@ pub record LogsIn (s : Session) : Type 0 where
   pub cmd_sn : s.exp_cmd_sn < 2 ^ 32
 
 pub login_step_is : (s : Machine) (disk : Disk) (h : LoginRequest) (segment : Segment) → s.session.phase ≡ phases.Login → is_over_limit s segment ≡ false
-    → step s disk (record { head = heads.LoginRequest h; segment = segment }) ≡ on disk s.tasks (login_request s.session h segment)
+    → step false s disk (record { head = heads.LoginRequest h; segment = segment }) ≡ on disk s.tasks (login_request s.session h segment)
 login_step_is s disk h segment p short =
     let m : Message = record { head = heads.LoginRequest h; segment = segment } in
     let open_ : is_closed s ≡ false = ap is_closed_phase p in
-    rw (open_, short) (ap (λ (x : Phase). phase_step reliable x s disk m) p)
+    rw (open_, short) (ap (λ (x : Phase). phase_step (reliable false) x s disk m) p)
 
 -- ---- refusals
 

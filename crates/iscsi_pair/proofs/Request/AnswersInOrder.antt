@@ -45,16 +45,16 @@ short_message head bytes most le = le
 -- ---- what the target receives
 
 was_open : (b : Bool) (t : target.Machine) (disk : Disk) (ms : List Message) → target_machine.is_closed t ≡ b
-    → target_machine.is_closed (answers t disk ms).machine ≡ false → b ≡ false
-was_open true t disk ms shut live = absurd (apart (ap (λ (r : target.Stepped). target_machine.is_closed r.machine) (closed_answers t disk ms shut) ∙ shut) live)
+    → target_machine.is_closed (answers false t disk ms).machine ≡ false → b ≡ false
+was_open true t disk ms shut live = absurd (apart (ap (λ (r : target.Stepped). target_machine.is_closed r.machine) (closed_answers false t disk ms shut) ∙ shut) live)
 was_open false t disk ms e live = refl
 
 -- where it is open in the end, it was when each message came
-pub open_all : (t : target.Machine) (disk : Disk) (ms : List Message) → target_machine.is_closed (answers t disk ms).machine ≡ false → IsOpenFor t disk ms
+pub open_all : (t : target.Machine) (disk : Disk) (ms : List Message) → target_machine.is_closed (answers false t disk ms).machine ≡ false → IsOpenFor t disk ms
 unfolding answers
 open_all t disk [] live = tt
 open_all t disk (m ∷ ms) live =
-    let s : target.Stepped = target_machine.step t disk m in
+    let s : target.Stepped = target_machine.step false t disk m in
     (was_open (target_machine.is_closed t) t disk (m ∷ ms) refl live, open_all s.machine s.disk ms live)
 
 -- These go out and are received: both they and the answers are read as they were written, the session is open when each comes, and
@@ -62,11 +62,11 @@ open_all t disk (m ∷ ms) live =
 pub record AreReceived (held : Held) (t : target.Machine) (disk : Disk) (out : List Message) : Type 0 where
   pub written : ArePlain held.target_max_recv out
   pub open_ : IsOpenFor t disk out
-  pub rule : (answers t disk out).rule ≡ None
-  pub answered : ArePlain held.initiator_max_recv (answers t disk out).answers
+  pub rule : (answers false t disk out).rule ≡ None
+  pub answered : ArePlain held.initiator_max_recv (answers false t disk out).answers
 
 -- by where they lead
-pub received_by : (held : Held) (t : target.Machine) (disk : Disk) (out : List Message) (r : target.Stepped) → answers t disk out ≡ r
+pub received_by : (held : Held) (t : target.Machine) (disk : Disk) (out : List Message) (r : target.Stepped) → answers false t disk out ≡ r
     → ArePlain held.target_max_recv out
     → target_machine.is_closed r.machine ≡ false → r.rule ≡ None → ArePlain held.initiator_max_recv r.answers → AreReceived held t disk out
 received_by held t disk out r e written live rule answered = record {
@@ -97,7 +97,7 @@ Leads held (suc n) from x = elim from.answers [
   | [] ↦ ⊥
   | m ∷ more ↦ ReceivesOne held from.initiator from.target from.disk m
       × (let s = step from.initiator m in
-      let r = answers from.target from.disk s.output in
+      let r = answers false from.target from.disk s.output in
       Leads held n (between s.machine r.machine r.disk (more ++ r.answers)) x)
 ]
 
@@ -128,7 +128,7 @@ receives_quiet low most le held i n t disk m more x e full busy none l = (
       fault = ap (λ (s : Stepped). s.fault) e;
       sends_ = subst (λ (s : Stepped). AreReceived held t disk s.output) (sym e) (none_received held t disk);
     },
-    subst (λ (s : Stepped). let r = answers t disk s.output in Leads held l.0 (between s.machine r.machine r.disk (more ++ r.answers)) x) (sym e)
+    subst (λ (s : Stepped). let r = answers false t disk s.output in Leads held l.0 (between s.machine r.machine r.disk (more ++ r.answers)) x) (sym e)
         (subst (λ (ms : List Message). Leads held l.0 (between n t disk ms) x) (sym (append-nil more)) l.2),
   ),
 )
@@ -137,7 +137,7 @@ receives_quiet low most le held i n t disk m more x e full busy none l = (
 pub receives_sends : (low most : ℕ) → low + 1 ≤ most → (held : Held) (i n : initiator.Machine) (t : target.Machine) (disk : Disk) (m : Message) (out : List Message) (r : target.Stepped)
     (x : Exchange)
     → step i m ≡ sends n out → i.phase ≡ phases.Full → is_some i.outstanding ≡ true
-    → i.done ≡ None → AreReceived held t disk out → answers t disk out ≡ r → LeadsWithin low held (between n r.machine r.disk r.answers) x
+    → i.done ≡ None → AreReceived held t disk out → answers false t disk out ≡ r → LeadsWithin low held (between n r.machine r.disk r.answers) x
     → LeadsWithin most held (between i t disk (m ∷ [])) x
 receives_sends low most le held i n t disk m out r x e full busy none received is l = (
   suc l.0,
@@ -150,7 +150,7 @@ receives_sends low most le held i n t disk m out r x e full busy none received i
       fault = ap (λ (s : Stepped). s.fault) e;
       sends_ = subst (λ (s : Stepped). AreReceived held t disk s.output) (sym e) received;
     },
-    subst (λ (s : Stepped). let r' = answers t disk s.output in Leads held l.0 (between s.machine r'.machine r'.disk ([] ++ r'.answers)) x) (sym e)
+    subst (λ (s : Stepped). let r' = answers false t disk s.output in Leads held l.0 (between s.machine r'.machine r'.disk ([] ++ r'.answers)) x) (sym e)
         (subst (λ (r' : target.Stepped). Leads held l.0 (between n r'.machine r'.disk ([] ++ r'.answers)) x) (sym is) l.2),
   ),
 )
@@ -166,7 +166,7 @@ pub record Ends (most : ℕ) (held : Held) (i : initiator.Machine) (r : target.S
 -- What a request that is handed in sends is received, and it comes to this outcome.
 pub record Begins (held : Held) (m : initiator.Machine) (t : target.Machine) (disk : Disk) (request : Request) (here : Local) : Type 0 where
   pub received : AreReceived held t disk (submitted m request).output
-  pub ends : Ends most_answers held (submitted m request).machine (answers t disk (submitted m request).output) here
+  pub ends : Ends most_answers held (submitted m request).machine (answers false t disk (submitted m request).output) here
 
 -- where answers lead is where they lead one by one
 pub leads_after : (n : ℕ) (held : Held) (i : initiator.Machine) (t : target.Machine) (disk : Disk) (back : List Message) (x : Exchange)
@@ -176,5 +176,5 @@ leads_after zero held i t disk back x l = l
 leads_after (suc n) held i t disk [] x l = absurd l
 leads_after (suc n) held i t disk (m ∷ more) x l =
     let s : Stepped = step i m in
-    let r : target.Stepped = answers t disk s.output in
+    let r : target.Stepped = answers false t disk s.output in
     leads_after n held s.machine r.machine r.disk (more ++ r.answers) x l.1

@@ -42,14 +42,14 @@ written_append most logins (m ∷ a) b p q = (p.0, written_append most (after lo
 abbrev pub IsOpenFor : target.Machine → Disk → List Message → Type 0
 IsOpenFor t disk [] = Unit {0}
 IsOpenFor t disk (m ∷ ms) =
-    (target_machine.is_closed t ≡ false) × IsOpenFor (target_machine.step t disk m).machine (target_machine.step t disk m).disk ms
+    (target_machine.is_closed t ≡ false) × IsOpenFor (target_machine.step false t disk m).machine (target_machine.step false t disk m).disk ms
 
 -- The target receives these well: its session is open when each comes, none breaks a rule, and the answers are read as they
 -- were written.
 pub record ReceivesWell (most : ℕ) (t : target.Machine) (disk : Disk) (logins : Logins) (ms : List Message) : Type 0 where
   pub open_ : IsOpenFor t disk ms
-  pub rule : (answers t disk ms).rule ≡ None
-  pub answered : AreWritten most logins (answers t disk ms).answers
+  pub rule : (answers false t disk ms).rule ≡ None
+  pub answered : AreWritten most logins (answers false t disk ms).answers
 
 -- ---- what is kept
 
@@ -93,7 +93,7 @@ Relation = Exchange → SoFar → Type 0
 pub record Sends (most : Limits) (P : Relation) (x : Exchange) (out : List Message) (s : SoFar) : Type 0 where
   pub written : AreWritten most.out s.there out
   pub received : ReceivesWell most.back x.target x.disk s.here out
-  pub kept : (let r = answers x.target x.disk out in
+  pub kept : (let r = answers false x.target x.disk out in
       P (between x.initiator r.machine r.disk (x.answers ++ r.answers)) (so_far (after_all s.there out) (after_all s.here r.answers) s.history))
 
 -- the initiator receives an answer well, with those of the exchange behind it

@@ -70,7 +70,7 @@ pub comes_to : (m : initiator.Machine) (t : target.Machine) (disk : Disk) (reque
 comes_to m t disk request served a e =
     let here : Local = local m.held.initiator_max_recv disk request in
     let b : Begins m.held m t disk request here = begins m t disk request served a e in
-    let r : Stepped = answers t disk (submitted m request).output in (
+    let r : Stepped = answers false t disk (submitted m request).output in (
       b.ends.leads.0,
       subst (HasEnded m.held here.outcome here.disk) (sym (leads_after b.ends.leads.0 m.held (submitted m request).machine r.machine r.disk
           r.answers b.ends.last b.ends.leads.2)) b.ends.ended,

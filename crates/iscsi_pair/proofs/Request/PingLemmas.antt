@@ -51,13 +51,13 @@ ping_message m bytes = record { head = heads.NopOut (ping m); segment = Bytes by
 -- the target answers
 ping_taken : (m : initiator.Machine) (t : target.Machine) (disk : Disk) (bytes : List ℕ) → m.cmd_sn < 2 ^ 32 → m.initiator_task_tag ≤ 0xffff_fffe
     → length bytes ≤ t.session.held.target_max_recv → t.session.held.target_max_recv ≤ target_session.limit t.session.settings
-    → step_on reliable (ready t m.cmd_sn) disk (ping_message m bytes)
+    → step_on (reliable false) (ready t m.cmd_sn) disk (ping_message m bytes)
     ≡ having_accepted (ping_message m bytes ∷ []) (on disk [] (send_response (ready t (next_sn m.cmd_sn)).session
     (nop_in_head (ready t (next_sn m.cmd_sn)).session 0
     (ping m)) (take t.session.held.initiator_max_recv bytes)))
 unfolding segment_bytes
 ping_taken m t disk bytes lt tag short limit =
-    request_alone reliable (ready t m.cmd_sn).session disk (ping_message m bytes)
+    request_alone (reliable false) (ready t m.cmd_sn).session disk (ping_message m bytes)
     (record {
       phase = refl;
       within = le-ltb (target_session.limit t.session.settings) (length bytes) (omega (arith, short, limit));
@@ -134,10 +134,10 @@ local_ping m t disk bytes a e =
     let answer : Message = target_session.message (nop_in_head t'.session 0 (ping m)) given in
     let executed : target.Stepped = having_accepted (ping_message m bytes ∷ []) (on disk []
     (send_response t'.session (nop_in_head t'.session 0 (ping m)) given)) in
-    let r : answers t disk (submitted m request).output ≡ executed =
-    ap (λ (s : Submitted). answers t disk s.output) sent
-    ∙ then_nothing (step_on reliable t disk (ping_message m bytes))
-    ∙ ap (λ (x : target.Machine). step_on reliable x disk (ping_message m bytes)) is_t
+    let r : answers false t disk (submitted m request).output ≡ executed =
+    ap (λ (s : Submitted). answers false t disk s.output) sent
+    ∙ then_nothing (step_on (reliable false) t disk (ping_message m bytes))
+    ∙ ap (λ (x : target.Machine). step_on (reliable false) x disk (ping_message m bytes)) is_t
     ∙ ping_taken m t disk bytes a.cmd_sn_fits a.tag_fits (subst (λ (h : Held). length bytes ≤ h.target_max_recv) (sym a.held) short)
     (subst (λ (h : Held). h.target_max_recv ≤ target_session.limit t.session.settings) (sym a.held) a.segment)
     ∙ ap (λ (h : Held). having_accepted (ping_message m bytes ∷ []) (on disk [] (send_response t'.session (nop_in_head t'.session 0 (ping m))
@@ -168,9 +168,9 @@ local_ping m t disk bytes a e =
           (plain_one m.held.initiator_max_recv answer
           (λ logins. pong_readable logins t' (ping m) given (omega (arith, tag)) a.stat_sn_fits fits (omega (arith, few, a.is_held.initiator_max_recv.1)))
           (short_message answer.head given m.held.initiator_max_recv few));
-      ends = subst (λ (s : Submitted). Ends most_answers m.held s.machine (answers t disk (submitted m request).output) (record { outcome = done.Ping given; disk = disk }))
+      ends = subst (λ (s : Submitted). Ends most_answers m.held s.machine (answers false t disk (submitted m request).output) (record { outcome = done.Ping given; disk = disk }))
           (sym sent)
-          (subst (λ (x : initiator.Machine). Ends most_answers m.held x (answers t disk (submitted m request).output) (record { outcome = done.Ping given; disk = disk }))
+          (subst (λ (x : initiator.Machine). Ends most_answers m.held x (answers false t disk (submitted m request).output) (record { outcome = done.Ping given; disk = disk }))
           (sym is_m)
           (subst (λ (x : target.Stepped). Ends most_answers m.held (pinging begun_ m.window) x (record { outcome = done.Ping given; disk = disk })) (sym r) ends_));
     }
@@ -181,11 +181,11 @@ abbrev logout_message : initiator.Machine → Message
 logout_message m = record { head = heads.LogoutRequest (logout_request m); segment = Bytes [] }
 
 logout_taken : (m : initiator.Machine) (t : target.Machine) (disk : Disk) → m.cmd_sn < 2 ^ 32
-    → step_on reliable (ready t m.cmd_sn) disk (logout_message m) ≡ having_accepted (logout_message m ∷ [])
+    → step_on (reliable false) (ready t m.cmd_sn) disk (logout_message m) ≡ having_accepted (logout_message m ∷ [])
     (on disk [] (logged_out (ready t (next_sn m.cmd_sn)).session 0 (logout_request m)))
 unfolding segment_bytes
 logout_taken m t disk lt =
-    request_alone reliable (ready t m.cmd_sn).session disk (logout_message m)
+    request_alone (reliable false) (ready t m.cmd_sn).session disk (logout_message m)
     (record {
       phase = refl;
       within = le-ltb (target_session.limit t.session.settings) 0 (omega arith);
@@ -241,10 +241,10 @@ local_logout m t disk a e =
     let is_m : (accepted m request).machine ≡ leaving begun_ m.window = λ i. record begun_ { phase = a.initiator_phase i; outstanding = Some opens.Logout } in
     let answer : Message = target_session.message (logout_head t'.session 0 (logout_request m)) [] in
     let executed : target.Stepped = having_accepted (logout_message m ∷ []) (on disk [] (logged_out t'.session 0 (logout_request m))) in
-    let r : answers t disk (submitted m request).output ≡ executed =
-    ap (λ (s : Submitted). answers t disk s.output) sent
-    ∙ then_nothing (step_on reliable t disk (logout_message m))
-    ∙ ap (λ (x : target.Machine). step_on reliable x disk (logout_message m)) is_t
+    let r : answers false t disk (submitted m request).output ≡ executed =
+    ap (λ (s : Submitted). answers false t disk s.output) sent
+    ∙ then_nothing (step_on (reliable false) t disk (logout_message m))
+    ∙ ap (λ (x : target.Machine). step_on (reliable false) x disk (logout_message m)) is_t
     ∙ logout_taken m t disk a.cmd_sn_fits in
     let last : Exchange = record { initiator = left begun_ t' m.window; target = executed.machine; disk = disk; answers = [] } in
     let ends_ : Ends most_answers m.held (leaving begun_ m.window) executed (record { outcome = done.Closed; disk = disk }) = record {
@@ -275,9 +275,9 @@ local_logout m t disk a e =
             (plain_one m.held.initiator_max_recv answer (λ logins. left_readable logins t' (logout_request m) (omega (arith, tag)) a.stat_sn_fits fits)
             (short_message answer.head [] m.held.initiator_max_recv (omega arith)));
       };
-      ends = subst (λ (s : Submitted). Ends most_answers m.held s.machine (answers t disk (submitted m request).output) (record { outcome = done.Closed; disk = disk }))
+      ends = subst (λ (s : Submitted). Ends most_answers m.held s.machine (answers false t disk (submitted m request).output) (record { outcome = done.Closed; disk = disk }))
           (sym sent)
-          (subst (λ (x : initiator.Machine). Ends most_answers m.held x (answers t disk (submitted m request).output) (record { outcome = done.Closed; disk = disk }))
+          (subst (λ (x : initiator.Machine). Ends most_answers m.held x (answers false t disk (submitted m request).output) (record { outcome = done.Closed; disk = disk }))
           (sym is_m)
           (subst (λ (x : target.Stepped). Ends most_answers m.held (leaving begun_ m.window) x (record { outcome = done.Closed; disk = disk })) (sym r) ends_));
     }

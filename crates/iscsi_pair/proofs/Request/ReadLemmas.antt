@@ -390,7 +390,7 @@ window_now n lt =
 
 -- a command that takes no data waits for none
 planned_now : (p : Plan) (t : target.Machine) (cmd_sn : ℕ) (disk : Disk) (h : ScsiCommand) → ((total : ℕ) → p ≡ Take total → total ≡ 0)
-    → planned reliable (ready t cmd_sn) disk h [] p ≡ execute reliable (ready t cmd_sn) disk h.initiator_task_tag (order_of h) []
+    → planned (reliable false) (ready t cmd_sn) disk h [] p ≡ execute (reliable false) (ready t cmd_sn) disk h.initiator_task_tag (order_of h) []
 planned_now (Take total) t cmd_sn disk h none = (let e : total ≡ 0 = none total refl in rw e refl)
 planned_now (Give n) t cmd_sn disk h none = refl
 planned_now (Refuse sense) t cmd_sn disk h none = refl
@@ -429,14 +429,14 @@ outcome_few (Give n) disk order most few = omega (arith, few n refl, length-take
 
 -- the command is executed
 read_taken : (m : initiator.Machine) (t : target.Machine) (disk : Disk) (lun : ℕ) (cdb : List ℕ) (expected : ℕ) → m.cmd_sn < 2 ^ 32
-    → step_on reliable (ready t m.cmd_sn) disk (read_command m lun cdb expected)
-    ≡ having_accepted (read_command m lun cdb expected ∷ []) (execute reliable (ready t (next_sn m.cmd_sn)) disk (next_tag m.initiator_task_tag)
+    → step_on (reliable false) (ready t m.cmd_sn) disk (read_command m lun cdb expected)
+    ≡ having_accepted (read_command m lun cdb expected ∷ []) (execute (reliable false) (ready t (next_sn m.cmd_sn)) disk (next_tag m.initiator_task_tag)
     (reading_order lun cdb expected) [])
 unfolding segment_bytes
 read_taken m t disk lun cdb expected lt =
     let order : Order = reading_order lun cdb expected in
     let h : ScsiCommand = record (command m true lun cdb) { read = not (expected == 0); expected_data_transfer_length = expected } in
-    request_alone reliable (ready t m.cmd_sn).session disk (read_command m lun cdb expected)
+    request_alone (reliable false) (ready t m.cmd_sn).session disk (read_command m lun cdb expected)
     (record {
       phase = refl;
       within = le-ltb (target_session.limit t.session.settings) 0 (omega arith);
@@ -517,12 +517,12 @@ stat_sn_sent m t a = subst (λ (n : Option ℕ). unwrap_or n 0 < 2 ^ 32) (sym a.
 
 pub local_read : (m : initiator.Machine) (t : target.Machine) (disk : Disk) (lun : ℕ) (cdb : List ℕ) (expected : ℕ) → lun < 2 ^ 64 → length cdb ≡ 16
     → AreBytes cdb → AreInStep m t → (submitted m (requests.In lun cdb expected)).refusal ≡ None
-    → (let after : Effect = effect disk (reading_order lun cdb expected) [] in Begins m.held m t disk (requests.In lun cdb expected) (local_command after))
+    → (let after : Effect = effect false disk (reading_order lun cdb expected) [] in Begins m.held m t disk (requests.In lun cdb expected) (local_command after))
 unfolding answers
 local_read m t disk lun cdb expected on_ size are a e =
     let request : Request = requests.In lun cdb expected in
     let order : Order = reading_order lun cdb expected in
-    let after : Effect = effect disk order [] in
+    let after : Effect = effect false disk order [] in
     let n : ℕ = next_sn m.cmd_sn in
     let fits : n < 2 ^ 32 = mod-lt (m.cmd_sn + 1) (omega arith) in
     let few : expected ≤ 4194304 = few_expected m lun cdb expected a.initiator_phase e in
@@ -544,12 +544,12 @@ local_read m t disk lun cdb expected on_ size are a e =
       outstanding =
           Some (opens.In r0);
     } in
-    let executed : target.Stepped = having_accepted (read_command m lun cdb expected ∷ []) (execute reliable t' disk (next_tag m.initiator_task_tag) order
+    let executed : target.Stepped = having_accepted (read_command m lun cdb expected ∷ []) (execute (reliable false) t' disk (next_tag m.initiator_task_tag) order
     []) in
-    let r : answers t disk (submitted m request).output ≡ executed =
-    ap (λ (s : Submitted). answers t disk s.output) sent
-    ∙ then_nothing (step_on reliable t disk (read_command m lun cdb expected))
-    ∙ ap (λ (x : target.Machine). step_on reliable x disk (read_command m lun cdb expected)) is_t
+    let r : answers false t disk (submitted m request).output ≡ executed =
+    ap (λ (s : Submitted). answers false t disk s.output) sent
+    ∙ then_nothing (step_on (reliable false) t disk (read_command m lun cdb expected))
+    ∙ ap (λ (x : target.Machine). step_on (reliable false) x disk (read_command m lun cdb expected)) is_t
     ∙ read_taken m t disk lun cdb expected a.cmd_sn_fits in
     let tag : next_tag m.initiator_task_tag ≤ 0xffff_fffe = tag_after m.initiator_task_tag a.tag_fits in
     let room : length after.outcome.bytes ≤ expected = outcome_few (plan_of order disk.count) disk order expected
@@ -589,7 +589,7 @@ local_read m t disk lun cdb expected on_ size are a e =
           (subst (λ (k : Held). ArePlain k.initiator_max_recv executed.answers) a.held
           (command_written t' (next_tag m.initiator_task_tag) after.outcome (subst IsHeld (sym a.held) a.is_held) (omega (arith, tag)) fits a.stat_sn_fits
           (omega (arith, room, few)) (outcome_fits disk order [] few)));
-      ends = subst (λ (s : Submitted). Ends most_answers m.held s.machine (answers t disk (submitted m request).output) (local_command after)) (sym sent)
-          (subst (λ (x : initiator.Machine). Ends most_answers m.held x (answers t disk (submitted m request).output) (local_command after)) (sym is_m)
+      ends = subst (λ (s : Submitted). Ends most_answers m.held s.machine (answers false t disk (submitted m request).output) (local_command after)) (sym sent)
+          (subst (λ (x : initiator.Machine). Ends most_answers m.held x (answers false t disk (submitted m request).output) (local_command after)) (sym is_m)
           (subst (λ (x : target.Stepped). Ends most_answers m.held (reading begun_ r0 m.window) x (local_command after)) (sym r) ends_));
     }

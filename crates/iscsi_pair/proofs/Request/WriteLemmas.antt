@@ -90,10 +90,10 @@ data_message h piece = record { head = heads.DataOut h; segment = Bytes piece }
 data_taken : (t : target.Machine) (cmd_sn : ℕ) (w : Write) (disk : Disk) (h : DataOut) (piece : List ℕ) → length piece ≤ t.session.held.target_max_recv
     → t.session.held.target_max_recv ≤ target_session.limit t.session.settings
     → h.initiator_task_tag ≡ w.initiator_task_tag → is_in_sequence (first_burst t.session.held) w h (received w + length piece) w.due ≡ true
-    → step_on reliable (writer t cmd_sn w) disk (data_message h piece) ≡ proceed reliable (ready t cmd_sn) disk (with_data w h piece)
+    → step_on (reliable false) (writer t cmd_sn w) disk (data_message h piece) ≡ proceed (reliable false) (ready t cmd_sn) disk (with_data w h piece)
 unfolding segment_bytes
 data_taken t cmd_sn w disk h piece short limit tag due =
-    data_alone reliable (writer t cmd_sn w).session disk w (data_message h piece) h
+    data_alone (reliable false) (writer t cmd_sn w).session disk w (data_message h piece) h
     (record {
       phase = refl;
       within = le-ltb (target_session.limit t.session.settings) (length piece) (omega (arith, short, limit));
@@ -178,7 +178,7 @@ piece_taken : (t : target.Machine) (cmd_sn : ℕ) (w : Write) (disk : Disk) (h :
     → w.due ≡ due h.data_sn → h.is_final ≡ false → h.buffer_offset ≡ received w → h.initiator_task_tag ≡ w.initiator_task_tag → 0 < length piece
     → length piece ≤ t.session.held.target_max_recv
     → t.session.held.target_max_recv ≤ target_session.limit t.session.settings → received w + length piece < end → end ≤ w.total
-    → step_on reliable (writer t cmd_sn w) disk (data_message h piece)
+    → step_on (reliable false) (writer t cmd_sn w) disk (data_message h piece)
     ≡ unchanged (writer t cmd_sn (record w { pieces = with_piece w.pieces h.buffer_offset piece; due = due (next_sn h.data_sn) })) disk
 piece_taken t cmd_sn w disk h piece end due s is_due final at tag some short limit before_ room =
     let v : Write = record w { pieces = with_piece w.pieces h.buffer_offset piece; due = due (next_sn h.data_sn) } in
@@ -198,14 +198,14 @@ piece_taken t cmd_sn w disk h piece end due s is_due final at tag some short lim
       room,
     )) in
     data_taken t cmd_sn w disk h piece short limit tag here
-    ∙ ap (proceed reliable (ready t cmd_sn) disk) is
+    ∙ ap (proceed (reliable false) (ready t cmd_sn) disk) is
     ∙ rw (part, s.busy (next_sn h.data_sn)) refl
 
 -- what a whole sequence leads to
 record SequenceTaken (t : target.Machine) (cmd_sn : ℕ) (w : Write) (disk : Disk) (ms : List Message) (bytes : List ℕ) : Type 0 where
   came : Pieces
   whole : data_of came ≡ data_of w.pieces ++ bytes
-  is : answers (writer t cmd_sn w) disk ms ≡ proceed reliable (ready t cmd_sn) disk (record w { pieces = came; due = Nothing })
+  is : answers false (writer t cmd_sn w) disk ms ≡ proceed (reliable false) (ready t cmd_sn) disk (record w { pieces = came; due = Nothing })
 
 sequence_taken : (t : target.Machine) (cmd_sn : ℕ) (w : Write) (disk : Disk) (h : DataOut) (piece : List ℕ) (more : List (List ℕ)) (end : ℕ) (due : ℕ → Due)
     → IsSequence (first_burst t.session.held) w.total h.target_transfer_tag end due
@@ -222,7 +222,7 @@ sequence_taken t cmd_sn w disk h piece [] end due s is_due at tag all limit up r
     record {
       came = with_piece w.pieces h.buffer_offset piece;
       whole = received_more w h.buffer_offset piece all.0.0 ∙ ap (λ (x : List ℕ). data_of w.pieces ++ x) (sym (append-nil piece));
-      is = then_nothing (step_on reliable (writer t cmd_sn w) disk (data_message h' piece)) ∙ data_taken t cmd_sn w disk h' piece all.0.1 limit tag here;
+      is = then_nothing (step_on (reliable false) (writer t cmd_sn w) disk (data_message h' piece)) ∙ data_taken t cmd_sn w disk h' piece all.0.1 limit tag here;
     }
 sequence_taken t cmd_sn w disk h piece (second ∷ more) end due s is_due at tag all limit up room =
     let h' : DataOut = record h { is_final = false } in
@@ -231,7 +231,7 @@ sequence_taken t cmd_sn w disk h piece (second ∷ more) end due s is_due at tag
     let len = length-append piece (joined (second ∷ more)) in
     let len2 = length-append second (joined more) in
     let now = ap (λ (x : List ℕ). length x) (received_more w h.buffer_offset piece all.0.0) ∙ length-append (data_of w.pieces) piece in
-    let one : step_on reliable (writer t cmd_sn w) disk (data_message h' piece) ≡ unchanged (writer t cmd_sn v) disk =
+    let one : step_on (reliable false) (writer t cmd_sn w) disk (data_message h' piece) ≡ unchanged (writer t cmd_sn v) disk =
     piece_taken t cmd_sn w disk h' piece end due s is_due refl at tag all.0.0 all.0.1 limit (omega (arith, up, len, len2, all.1.0.0)) room in
     let r : SequenceTaken t cmd_sn v disk (data_outs h2 (second ∷ more)) (joined (second ∷ more)) =
     sequence_taken t cmd_sn v disk h2 second more end due s refl (omega (arith, at, now)) tag all.1 limit (omega (arith, up, len, now)) room in
@@ -239,7 +239,7 @@ sequence_taken t cmd_sn w disk h piece (second ∷ more) end due s is_due at tag
       came = r.came;
       whole = r.whole ∙ ap (λ (x : List ℕ). x ++ joined (second ∷ more)) (received_more w h.buffer_offset piece all.0.0) ∙ append_assoc (data_of w.pieces) piece
           (joined (second ∷ more));
-      is = ap (λ (x : Stepped). then_stepped x (answers x.machine x.disk (data_outs h2 (second ∷ more)))) one ∙ r.is;
+      is = ap (λ (x : Stepped). then_stepped x (answers false x.machine x.disk (data_outs h2 (second ∷ more)))) one ∙ r.is;
     }
 
 -- ---- the pieces of a sequence
@@ -371,7 +371,7 @@ record Throughout (m : initiator.Machine) (t : target.Machine) (cmd_sn : ℕ) (b
   cmd_sn_is : cmd_sn ≡ m.cmd_sn
   cmd_sn_fits : m.cmd_sn < 2 ^ 32
   few : length bytes ≤ 4194304
-  none_given : (effect disk order bytes).outcome.bytes ≡ []
+  none_given : (effect false disk order bytes).outcome.bytes ≡ []
   stat_sn_fits : t.session.stat_sn < 2 ^ 32
   stat_sn_sends : sent_exp_stat_sn m < 2 ^ 32
   lun : order.lun < 2 ^ 64
@@ -405,12 +405,12 @@ record IsAnswered (held : Held) (r : Stepped) : Type 0 where
 
 -- the response to a command is read as it was written
 executed_written : (m : initiator.Machine) (t : target.Machine) (cmd_sn : ℕ) (bytes : List ℕ) (order : Order) (disk : Disk) (tag : ℕ) (pieces_ : Pieces)
-    → Throughout m t cmd_sn bytes order disk → tag ≡ m.initiator_task_tag → IsAnswered m.held (execute reliable (ready t cmd_sn) disk tag order pieces_)
+    → Throughout m t cmd_sn bytes order disk → tag ≡ m.initiator_task_tag → IsAnswered m.held (execute (reliable false) (ready t cmd_sn) disk tag order pieces_)
 executed_written m t cmd_sn bytes order disk tag pieces_ a same = record {
   live = refl;
   rule = refl;
-  answered = subst (λ (k : Held). ArePlain k.initiator_max_recv (execute reliable (ready t cmd_sn) disk tag order pieces_).answers) a.held
-      (command_written (ready t cmd_sn) tag (effect disk order (data_of pieces_)).outcome (subst IsHeld (sym a.held) a.is_held)
+  answered = subst (λ (k : Held). ArePlain k.initiator_max_recv (execute (reliable false) (ready t cmd_sn) disk tag order pieces_).answers) a.held
+      (command_written (ready t cmd_sn) tag (effect false disk order (data_of pieces_)).outcome (subst IsHeld (sym a.held) a.is_held)
       (omega (arith, same, a.tag_fits)) (omega (arith, a.cmd_sn_is, a.cmd_sn_fits)) a.stat_sn_fits
       (omega (arith, ap (λ (x : List ℕ). length x) a.none_given)) (outcome_fits disk order (data_of pieces_) a.expected));
 }
@@ -419,10 +419,10 @@ executed_written m t cmd_sn bytes order disk tag pieces_ a same = record {
 response_ends : (most : ℕ) → 1 ≤ most → (m : initiator.Machine) (t : target.Machine) (cmd_sn : ℕ) (open_ : Outstanding) (window : Window) (bytes : List ℕ) (order : Order) (disk : Disk)
     (tag : ℕ) (pieces_ : Pieces)
     → Throughout m t cmd_sn bytes order disk → IsNear cmd_sn window → Awaits open_ [] → tag ≡ m.initiator_task_tag
-    → effect disk order (data_of pieces_) ≡ effect disk order bytes
-    → Ends most m.held (waiting m open_ window) (execute reliable (ready t cmd_sn) disk tag order pieces_) (local_command (effect disk order bytes))
+    → effect false disk order (data_of pieces_) ≡ effect false disk order bytes
+    → Ends most m.held (waiting m open_ window) (execute (reliable false) (ready t cmd_sn) disk tag order pieces_) (local_command (effect false disk order bytes))
 response_ends most le m t cmd_sn open_ window bytes order disk tag pieces_ a near d same data_ =
-    let after : Effect = effect disk order bytes in
+    let after : Effect = effect false disk order bytes in
     let s : target.Machine = ready t cmd_sn in
     let response : Message = message (response_head s.session (target.waiting s.tasks) m.initiator_task_tag after.outcome 0)
     (sense_segment after.outcome.sense) in
@@ -431,18 +431,18 @@ response_ends most le m t cmd_sn open_ window bytes order disk tag pieces_ a nea
     let one : step (waiting m open_ window) response ≡ quiet ended_ =
     outcome_received m s open_ [] window after.outcome.status after.outcome.sense after.outcome.bytes after.outcome.residual 0 d a.stat_sn
     (omega (arith, a.is_held.initiator_max_recv.0)) in
-    let is : (execute reliable s disk tag order pieces_).answers ≡ response ∷ [] =
+    let is : (execute (reliable false) s disk tag order pieces_).answers ≡ response ∷ [] =
     ap (λ (x : Effect). command_answers s.session (target.waiting s.tasks) tag x.outcome (data_in_parts s.session.held x.outcome.bytes)) data_
     ∙ ap (λ (x : List ℕ). command_answers s.session (target.waiting s.tasks) tag after.outcome (data_in_parts s.session.held x)) a.none_given
     ∙ ap (λ (x : ℕ). command_answers s.session (target.waiting s.tasks) x after.outcome []) same in
-    let disk_is : (execute reliable s disk tag order pieces_).disk ≡ after.disk = ap (λ (x : Effect). x.disk) data_ in
+    let disk_is : (execute (reliable false) s disk tag order pieces_).disk ≡ after.disk = ap (λ (x : Effect). x.disk) data_ in
     let again : AreInStep (taken (finished m (ready t m.cmd_sn) window after.outcome [])) (counted_on (ready t m.cmd_sn)) =
     in_step_again m t window a.held a.is_held (subst (λ (h : Held). h.target_max_recv ≤ target_session.limit t.session.settings) a.held a.segment) a.tag_fits
     a.cmd_sn_fits
     (tells_eight m.cmd_sn window a.cmd_sn_fits (subst (λ (x : ℕ). IsNear x window) a.cmd_sn_is near)) in
     record {
       last = last;
-      leads = subst (λ (ms : List Message). LeadsWithin most m.held (between (waiting m open_ window) (counted_on s) (execute reliable s disk tag order pieces_).disk ms)
+      leads = subst (λ (ms : List Message). LeadsWithin most m.held (between (waiting m open_ window) (counted_on s) (execute (reliable false) s disk tag order pieces_).disk ms)
           last)
           (sym is)
           (subst (λ (x : Disk). LeadsWithin most m.held (between (waiting m open_ window) (counted_on s) x (response ∷ [])) last) (sym disk_is)
@@ -474,25 +474,25 @@ write_exchange m t cmd_sn order disk = record { initiator = m; target = t; cmd_s
 -- the write goes on from where all that was due came
 abbrev GoesOn : ℕ → WriteExchange → Writing → Write → Window → Type 0
 GoesOn most c v w window =
-    Ends most c.initiator.held (writing c.initiator v window) (proceed reliable (ready c.target c.cmd_sn) c.disk w)
-    (local_command (effect c.disk c.order v.bytes))
+    Ends most c.initiator.held (writing c.initiator v window) (proceed (reliable false) (ready c.target c.cmd_sn) c.disk w)
+    (local_command (effect false c.disk c.order v.bytes))
 
 -- where all came the command is executed
 whole_is : (m : initiator.Machine) (t : target.Machine) (cmd_sn : ℕ) (v : Writing) (w : Write) (order : Order) (disk : Disk) → InHand m v w order
     → is_whole w ≡ true
-    → proceed reliable (ready t cmd_sn) disk w ≡ execute reliable (ready t cmd_sn) disk w.initiator_task_tag order w.pieces
-whole_is m t cmd_sn v w order disk i whole = rw whole (ap (λ (x : Order). execute reliable (ready t cmd_sn) disk w.initiator_task_tag x w.pieces) i.order_is)
+    → proceed (reliable false) (ready t cmd_sn) disk w ≡ execute (reliable false) (ready t cmd_sn) disk w.initiator_task_tag order w.pieces
+whole_is m t cmd_sn v w order disk i whole = rw whole (ap (λ (x : Order). execute (reliable false) (ready t cmd_sn) disk w.initiator_task_tag x w.pieces) i.order_is)
 
 -- else the target asks for more
 part_is : (m : initiator.Machine) (t : target.Machine) (cmd_sn : ℕ) (v : Writing) (w : Write) (order : Order) (disk : Disk) → InHand m v w order
     → is_whole w ≡ false
-    → proceed reliable (ready t cmd_sn) disk w ≡ send_r2t (ready t cmd_sn) disk w
+    → proceed (reliable false) (ready t cmd_sn) disk w ≡ send_r2t (ready t cmd_sn) disk w
 part_is m t cmd_sn v w order disk i part = rw (part, i.due) refl
 
 -- what the target answers then is read as it was written
 proceed_written : (m : initiator.Machine) (t : target.Machine) (cmd_sn : ℕ) (v : Writing) (w : Write) (order : Order) (disk : Disk)
     → Throughout m t cmd_sn v.bytes order disk → InHand m v w order
-    → (whole : Bool) → is_whole w ≡ whole → IsAnswered m.held (proceed reliable (ready t cmd_sn) disk w)
+    → (whole : Bool) → is_whole w ≡ whole → IsAnswered m.held (proceed (reliable false) (ready t cmd_sn) disk w)
 proceed_written m t cmd_sn v w order disk a i true whole =
     subst (IsAnswered m.held) (sym (whole_is m t cmd_sn v w order disk i whole)) (executed_written m t cmd_sn v.bytes order disk w.initiator_task_tag w.pieces a
     i.tag)
@@ -517,9 +517,9 @@ all_came : (most : ℕ) → 1 ≤ most → (m : initiator.Machine) (t : target.M
 all_came most le m t cmd_sn v w window order disk a near i whole =
     let all : v.sent ≡ length v.bytes = sym (received_is m v w order i) ∙ sym (eqb-true w.total (received w) whole) ∙ i.total in
     let bytes : data_of w.pieces ≡ v.bytes = i.came ∙ take_all v.sent v.bytes (omega (arith, all)) in
-    subst (λ (r : Stepped). Ends most m.held (writing m v window) r (local_command (effect disk order v.bytes)))
+    subst (λ (r : Stepped). Ends most m.held (writing m v window) r (local_command (effect false disk order v.bytes)))
     (sym (whole_is m t cmd_sn v w order disk i whole))
-    (response_ends most le m t cmd_sn (opens.Out v) window v.bytes order disk w.initiator_task_tag w.pieces a near (λ h. refl) i.tag (ap (effect disk order) bytes))
+    (response_ends most le m t cmd_sn (opens.Out v) window v.bytes order disk w.initiator_task_tag w.pieces a near (λ h. refl) i.tag (ap (effect false disk order) bytes))
 
 -- what isn't equal and not more is less
 below : (n total : ℕ) (part : (total == n) ≡ false) → n ≤ total → n < total
@@ -543,9 +543,9 @@ record Turned (c : WriteExchange) (v : Writing) (w : Write) (window : Window) : 
   n : ℕ
   some : 0 < n
   hand : InHand c.initiator (more_sent v n) (more_came c.target w came) c.order
-  leads : (low most : ℕ) → low + 1 ≤ most → (x : Exchange) → (let r = proceed reliable (ready c.target c.cmd_sn) c.disk (more_came c.target w came) in
+  leads : (low most : ℕ) → low + 1 ≤ most → (x : Exchange) → (let r = proceed (reliable false) (ready c.target c.cmd_sn) c.disk (more_came c.target w came) in
       LeadsWithin low c.initiator.held (between (writing c.initiator (more_sent v n) window_now) r.machine r.disk r.answers) x)
-      → (let r = proceed reliable (ready c.target c.cmd_sn) c.disk w in
+      → (let r = proceed (reliable false) (ready c.target c.cmd_sn) c.disk w in
       LeadsWithin most c.initiator.held (between (writing c.initiator v window) r.machine r.disk r.answers) x)
 
 turn : (m : initiator.Machine) (t : target.Machine) (cmd_sn : ℕ) (v : Writing) (w : Write) (window : Window) (order : Order) (disk : Disk)
@@ -579,8 +579,8 @@ turn m t cmd_sn v w window order disk a i part =
     batch_taken t cmd_sn (with_r2t t.session.held w) disk h batch (received w + n) (λ data_sn. Solicited w.r2t_count data_sn (received w + n))
     (solicited (first_burst t.session.held) w.total w.r2t_count (received w + n)) refl (sym at) (sym i.tag) lt a.segment
     (omega (arith, size, some)) (omega (arith, size)) (omega (arith, at, i.total, room)) in
-    let sent_ : answers (writer t cmd_sn (with_r2t t.session.held w)) disk out ≡ proceed reliable (ready t cmd_sn) disk (more_came t w r.came) =
-    ap (λ (k : Held). answers (writer t cmd_sn (with_r2t t.session.held w)) disk (data_outs h (chunks k.target_max_recv batch))) (sym a.held) ∙ r.is in
+    let sent_ : answers false (writer t cmd_sn (with_r2t t.session.held w)) disk out ≡ proceed (reliable false) (ready t cmd_sn) disk (more_came t w r.came) =
+    ap (λ (k : Held). answers false (writer t cmd_sn (with_r2t t.session.held w)) disk (data_outs h (chunks k.target_max_recv batch))) (sym a.held) ∙ r.is in
     let hand_ : InHand m (more_sent v n) (more_came t w r.came) order = record {
       tag = i.tag;
       waits = i.waits;
@@ -597,7 +597,7 @@ turn m t cmd_sn v w window order disk a i part =
     sequence_written m (then_some (is_tag w.r2t_count) w.order.lun) w.r2t_count v.sent batch a.is_held a.tag_fits a.stat_sn_sends
     (some_then (is_tag w.r2t_count) w.order.lun)
     (lun_fits (is_tag w.r2t_count) w.order.lun on_) (omega (arith, i.few, i.sent, a.few)) (omega (arith, size, room, a.few)) in
-    let now : Stepped = proceed reliable (ready t cmd_sn) disk (more_came t w r.came) in
+    let now : Stepped = proceed (reliable false) (ready t cmd_sn) disk (more_came t w r.came) in
     let then_ : IsAnswered m.held now = proceed_written m t cmd_sn (more_sent v n) (more_came t w r.came) order disk a hand_ (is_whole (more_came t w r.came))
     refl in
     let are_received : AreReceived m.held (writer t cmd_sn (with_r2t t.session.held w)) disk out =
@@ -716,18 +716,18 @@ outcome_none (Give n) disk order none = ap (λ (x : ℕ). take x (wanted_data di
 
 dropped : (t : target.Machine) (cmd_sn : ℕ) (disk : Disk) (h : DataOut) (ps : List (List ℕ))
     → t.session.held.target_max_recv ≤ target_session.limit t.session.settings → ArePieces t.session.held.target_max_recv ps
-    → answers (ready t cmd_sn) disk (data_outs h ps) ≡ unchanged (ready t cmd_sn) disk
+    → answers false (ready t cmd_sn) disk (data_outs h ps) ≡ unchanged (ready t cmd_sn) disk
 unfolding answers segment_bytes
 dropped t cmd_sn disk h [] limit all = refl
 dropped t cmd_sn disk h (piece ∷ more) limit all =
     let h' : DataOut = record h { is_final = is_last more } in
     let h2 : DataOut = record h { data_sn = next_sn h.data_sn; buffer_offset = h.buffer_offset + length piece } in
-    let one : step_on reliable (ready t cmd_sn) disk (data_message h' piece) ≡ unchanged (ready t cmd_sn) disk =
+    let one : step_on (reliable false) (ready t cmd_sn) disk (data_message h' piece) ≡ unchanged (ready t cmd_sn) disk =
     rw (
       le-ltb (target_session.limit t.session.settings) (length piece) (omega (arith, all.0.1, limit)),
       le-ltb t.session.held.target_max_recv (length piece) all.0.1,
     ) refl in
-    ap (λ (x : Stepped). then_stepped x (answers x.machine x.disk (data_outs h2 more))) one ∙ dropped t cmd_sn disk h2 more limit all.1
+    ap (λ (x : Stepped). then_stepped x (answers false x.machine x.disk (data_outs h2 more))) one ∙ dropped t cmd_sn disk h2 more limit all.1
 
 -- ---- the command, and the data that follow it unasked
 
@@ -747,14 +747,14 @@ unasked_data m bytes = sequence (begun_write m) None reserved_tag (length (immed
 command_taken : (m : initiator.Machine) (t : target.Machine) (disk : Disk) (lun : ℕ) (cdb bytes : List ℕ) → m.cmd_sn < 2 ^ 32 → t.session.held ≡ m.held
     → t.session.held.target_max_recv ≤ target_session.limit t.session.settings
     → length (immediate m bytes) ≤ t.session.held.target_max_recv
-    → step_on reliable (ready t m.cmd_sn) disk (write_message m lun cdb bytes)
-    ≡ having_accepted (write_message m lun cdb bytes ∷ []) (planned reliable (ready t (next_sn m.cmd_sn)) disk (write_head m lun cdb bytes) (immediate m bytes)
+    → step_on (reliable false) (ready t m.cmd_sn) disk (write_message m lun cdb bytes)
+    ≡ having_accepted (write_message m lun cdb bytes ∷ []) (planned (reliable false) (ready t (next_sn m.cmd_sn)) disk (write_head m lun cdb bytes) (immediate m bytes)
     (plan_of (writing_order lun cdb bytes) disk.count))
 unfolding segment_bytes
 command_taken m t disk lun cdb bytes lt held limit short =
     let kept : breaks_burst_rules t.session.held (write_head m lun cdb bytes) (length (immediate m bytes)) ≡ false =
     ap (λ (k : Held). breaks_burst_rules k (write_head m lun cdb bytes) (length (immediate m bytes))) held ∙ burst_kept m lun cdb bytes in
-    request_alone reliable (ready t m.cmd_sn).session disk (write_message m lun cdb bytes)
+    request_alone (reliable false) (ready t m.cmd_sn).session disk (write_message m lun cdb bytes)
     (record {
       phase = refl;
       within = le-ltb (target_session.limit t.session.settings) (length (immediate m bytes)) (omega (arith, short, limit));
@@ -766,12 +766,12 @@ command_taken m t disk lun cdb bytes lt held limit short =
 -- the answers to the command and the data behind it
 abbrev first_answers : initiator.Machine → target.Machine → Disk → ℕ → List ℕ → List ℕ → Plan → Stepped
 first_answers m t disk lun cdb bytes p =
-    let r = planned reliable (ready t (next_sn m.cmd_sn)) disk (write_head m lun cdb bytes) (immediate m bytes) p in
-    then_stepped r (answers r.machine r.disk (unasked_data m bytes))
+    let r = planned (reliable false) (ready t (next_sn m.cmd_sn)) disk (write_head m lun cdb bytes) (immediate m bytes) p in
+    then_stepped r (answers false r.machine r.disk (unasked_data m bytes))
 
 -- The target answers well, and it comes to the outcome of this order.
 abbrev Comes : initiator.Machine → initiator.Machine → Order → List ℕ → Disk → Stepped → Type 0
-Comes m i order bytes disk r = IsAnswered m.held r × Ends (length bytes + 1) m.held i r (local_command (effect disk order bytes))
+Comes m i order bytes disk r = IsAnswered m.held r × Ends (length bytes + 1) m.held i r (local_command (effect false disk order bytes))
 
 same_effect : (p : Plan) (disk : Disk) (order : Order) (bytes : List ℕ) → ((n : ℕ) → p ≡ Take n → ⊥) → disk_by p disk order [] ≡ disk_by p disk order bytes
 same_effect (Take n) disk order bytes none = absurd (none n refl)
@@ -783,13 +783,13 @@ executed_alone : (m : initiator.Machine) (t : target.Machine) (disk : Disk) (lun
     → Throughout (begun_write m) t (next_sn m.cmd_sn) bytes (writing_order lun cdb bytes) disk → IsNear (next_sn m.cmd_sn) window
     → ((n : ℕ) → plan_of (writing_order lun cdb bytes) disk.count ≡ Take n → ⊥)
     → Comes m (writing (begun_write m) (first_sent m bytes) window) (writing_order lun cdb bytes) bytes disk
-    (let r = execute reliable (ready t (next_sn m.cmd_sn)) disk (next_tag m.initiator_task_tag) (writing_order lun cdb bytes) [] in
-    then_stepped r (answers r.machine r.disk (unasked_data m bytes)))
+    (let r = execute (reliable false) (ready t (next_sn m.cmd_sn)) disk (next_tag m.initiator_task_tag) (writing_order lun cdb bytes) [] in
+    then_stepped r (answers false r.machine r.disk (unasked_data m bytes)))
 executed_alone m t disk lun cdb bytes window a near none =
     let order : Order = writing_order lun cdb bytes in
     let n : ℕ = next_sn m.cmd_sn in
-    let r : Stepped = execute reliable (ready t n) disk (next_tag m.initiator_task_tag) order [] in
-    let after : Effect = effect disk order bytes in
+    let r : Stepped = execute (reliable false) (ready t n) disk (next_tag m.initiator_task_tag) order [] in
+    let after : Effect = effect false disk order bytes in
     let i : initiator.Machine = writing (begun_write m) (first_sent m bytes) window in
     let uns : List ℕ = initiator_writes.unsolicited m bytes in
     let h : DataOut = record {
@@ -802,10 +802,10 @@ executed_alone m t disk lun cdb bytes window a near none =
       buffer_offset = length (immediate m bytes);
     } in
     let lt : 0 < t.session.held.target_max_recv = subst (λ (x : Held). 0 < x.target_max_recv) (sym a.held) (omega (arith, a.is_held.target_max_recv.0)) in
-    let gone : answers r.machine r.disk (unasked_data m bytes) ≡ unchanged r.machine r.disk =
-    ap (λ (k : Held). answers r.machine r.disk (data_outs h (chunks k.target_max_recv uns))) (sym a.held)
+    let gone : answers false r.machine r.disk (unasked_data m bytes) ≡ unchanged r.machine r.disk =
+    ap (λ (k : Held). answers false r.machine r.disk (data_outs h (chunks k.target_max_recv uns))) (sym a.held)
     ∙ dropped (counted_on t) n r.disk h (chunks t.session.held.target_max_recv uns) a.segment (pieces_are (length uns) t.session.held.target_max_recv uns lt) in
-    let same : effect disk order [] ≡ after = λ i_. record {
+    let same : effect false disk order [] ≡ after = λ i_. record {
       disk = same_effect (plan_of order disk.count) disk order bytes none i_;
       outcome =
           after.outcome;
@@ -832,8 +832,8 @@ none_unasked : (m : initiator.Machine) (t : target.Machine) (disk : Disk) (lun :
     → Throughout (begun_write m) t (next_sn m.cmd_sn) bytes (writing_order lun cdb bytes) disk → IsNear (next_sn m.cmd_sn) window → total ≡ length bytes
     → has_more m bytes ≡ false
     → Comes m (writing (begun_write m) (first_sent m bytes) window) (writing_order lun cdb bytes) bytes disk
-    (let r = proceed reliable (ready t (next_sn m.cmd_sn)) disk (first_write m lun cdb bytes total) in
-    then_stepped r (answers r.machine r.disk (unasked_data m bytes)))
+    (let r = proceed (reliable false) (ready t (next_sn m.cmd_sn)) disk (first_write m lun cdb bytes total) in
+    then_stepped r (answers false r.machine r.disk (unasked_data m bytes)))
 unfolding answers
 none_unasked m t disk lun cdb bytes window total a near all none =
     let order : Order = writing_order lun cdb bytes in
@@ -857,8 +857,8 @@ none_unasked m t disk lun cdb bytes window total a near all none =
       few = omega arith;
     } in
     let silent : unasked_data m bytes ≡ [] = ap (λ (x : List ℕ). sequence (begun_write m) None reserved_tag (length imm) x) uns in
-    let r : Stepped = proceed reliable (ready t n) disk w in
-    subst (λ (ms : List Message). Comes m (writing (begun_write m) v window) order bytes disk (then_stepped r (answers r.machine r.disk ms))) (sym silent)
+    let r : Stepped = proceed (reliable false) (ready t n) disk w in
+    subst (λ (ms : List Message). Comes m (writing (begun_write m) v window) order bytes disk (then_stepped r (answers false r.machine r.disk ms))) (sym silent)
     (subst (Comes m (writing (begun_write m) v window) order bytes disk) (sym (then_nothing r)) (
       proceed_written (begun_write m) t n v w order disk a i (is_whole w) refl,
       goes_on (length bytes) (length bytes + 1) (omega arith) (begun_write m) t n v w window order disk a near i
@@ -870,8 +870,8 @@ some_unasked : (m : initiator.Machine) (t : target.Machine) (disk : Disk) (lun :
     → Throughout (begun_write m) t (next_sn m.cmd_sn) bytes (writing_order lun cdb bytes) disk → IsNear (next_sn m.cmd_sn) window → total ≡ length bytes
     → has_more m bytes ≡ true
     → Comes m (writing (begun_write m) (first_sent m bytes) window) (writing_order lun cdb bytes) bytes disk
-    (let r = proceed reliable (ready t (next_sn m.cmd_sn)) disk (first_write m lun cdb bytes total) in
-    then_stepped r (answers r.machine r.disk (unasked_data m bytes)))
+    (let r = proceed (reliable false) (ready t (next_sn m.cmd_sn)) disk (first_write m lun cdb bytes total) in
+    then_stepped r (answers false r.machine r.disk (unasked_data m bytes)))
 some_unasked m t disk lun cdb bytes window total a near all more =
     let order : Order = writing_order lun cdb bytes in
     let n : ℕ = next_sn m.cmd_sn in
@@ -893,7 +893,7 @@ some_unasked m t disk lun cdb bytes window total a near all more =
     let due : w.due ≡ Unsolicited 0 = rw more refl in
     let here : received w ≡ length imm = ap (λ (x : List ℕ). length x) (data_of_one imm) in
     let part : is_whole w ≡ false = ne_eqb total (received w) (λ e. omega (arith, e, here, all, short)) in
-    let first : proceed reliable (ready t n) disk w ≡ unchanged (writer t n w) disk = rw (part, due) refl in
+    let first : proceed (reliable false) (ready t n) disk w ≡ unchanged (writer t n w) disk = rw (part, due) refl in
     let h : DataOut = record {
       is_final = false;
       lun = None;
@@ -929,9 +929,9 @@ some_unasked m t disk lun cdb bytes window total a near all more =
       r2t_count = refl;
       few = omega arith;
     } in
-    let is : (let x = proceed reliable (ready t n) disk w in then_stepped x (answers x.machine x.disk (unasked_data m bytes)))
-    ≡ proceed reliable (ready t n) disk w' =
-    ap (λ (x : Stepped). then_stepped x (answers x.machine x.disk (unasked_data m bytes))) first ∙ ap (answers (writer t n w) disk) data_ ∙ r.is in
+    let is : (let x = proceed (reliable false) (ready t n) disk w in then_stepped x (answers false x.machine x.disk (unasked_data m bytes)))
+    ≡ proceed (reliable false) (ready t n) disk w' =
+    ap (λ (x : Stepped). then_stepped x (answers false x.machine x.disk (unasked_data m bytes))) first ∙ ap (answers false (writer t n w) disk) data_ ∙ r.is in
     subst (Comes m (writing (begun_write m) v window) order bytes disk) (sym is) (
       proceed_written (begun_write m) t n v w' order disk a i (is_whole w') refl,
       goes_on (length bytes) (length bytes + 1) (omega arith) (begun_write m) t n v w' window order disk a near i
@@ -984,12 +984,12 @@ first_few m bytes =
 -- A write between two ends that are in step is received, and comes to the outcome and the disk of its order.
 pub local_write : (m : initiator.Machine) (t : target.Machine) (disk : Disk) (lun : ℕ) (cdb bytes : List ℕ) → lun < 2 ^ 64 → length cdb ≡ 16 → AreBytes cdb
     → AreInStep m t → (submitted m (requests.Out lun cdb bytes)).refusal ≡ None
-    → (let after : Effect = effect disk (writing_order lun cdb bytes) bytes in Begins m.held m t disk (requests.Out lun cdb bytes) (local_command after))
+    → (let after : Effect = effect false disk (writing_order lun cdb bytes) bytes in Begins m.held m t disk (requests.Out lun cdb bytes) (local_command after))
 unfolding answers
 local_write m t disk lun cdb bytes on_ size are a e =
     let request : Request = requests.Out lun cdb bytes in
     let order : Order = writing_order lun cdb bytes in
-    let after : Effect = effect disk order bytes in
+    let after : Effect = effect false disk order bytes in
     let p : Plan = plan_of order disk.count in
     let few : length bytes ≤ 4194304 = few_bytes m lun cdb bytes a.initiator_phase e in
     let sent : submitted m request ≡ accepted m request = submitted_is m request e in
@@ -1029,14 +1029,14 @@ local_write m t disk lun cdb bytes on_ size are a e =
       expected = few;
       none_done = a.none_done;
     } in
-    let first : Stepped = planned reliable (ready t (next_sn m.cmd_sn)) disk (write_head m lun cdb bytes) (immediate m bytes) p in
+    let first : Stepped = planned (reliable false) (ready t (next_sn m.cmd_sn)) disk (write_head m lun cdb bytes) (immediate m bytes) p in
     let x : Comes m i order bytes disk (first_answers m t disk lun cdb bytes p) =
     by_plan p m t disk lun cdb bytes m.window refl all (near_next (next_sn m.cmd_sn) m.cmd_sn m.window a.cmd_sn_fits refl a.window) (has_more m bytes) refl in
-    let r : Stepped = then_stepped (having_accepted (write_message m lun cdb bytes ∷ []) first) (answers first.machine first.disk (unasked_data m bytes)) in
-    let is : answers t disk (submitted m request).output ≡ r =
-    ap (λ (s : Submitted). answers t disk s.output) sent
-    ∙ ap (λ (y : target.Machine). answers y disk (accepted m request).output) is_t
-    ∙ ap (λ (y : Stepped). then_stepped y (answers y.machine y.disk (unasked_data m bytes))) (command_taken m t disk lun cdb bytes a.cmd_sn_fits a.held limit
+    let r : Stepped = then_stepped (having_accepted (write_message m lun cdb bytes ∷ []) first) (answers false first.machine first.disk (unasked_data m bytes)) in
+    let is : answers false t disk (submitted m request).output ≡ r =
+    ap (λ (s : Submitted). answers false t disk s.output) sent
+    ∙ ap (λ (y : target.Machine). answers false y disk (accepted m request).output) is_t
+    ∙ ap (λ (y : Stepped). then_stepped y (answers false y.machine y.disk (unasked_data m bytes))) (command_taken m t disk lun cdb bytes a.cmd_sn_fits a.held limit
     short) in
     let most : ℕ = m.held.target_max_recv in
     let short_ : length (immediate m bytes) ≤ most = subst (λ (h : Held). length (immediate m bytes) ≤ h.target_max_recv) a.held short in
@@ -1058,7 +1058,7 @@ local_write m t disk lun cdb bytes on_ size are a e =
       received = received_by m.held t disk (submitted m request).output r is (subst (λ (s : Submitted). ArePlain most s.output) (sym sent) written) x.0.live
           x.0.rule
           x.0.answered;
-      ends = subst (λ (s : Submitted). Ends most_answers m.held s.machine (answers t disk (submitted m request).output) (local_command after)) (sym sent)
-          (subst (λ (k : initiator.Machine). Ends most_answers m.held k (answers t disk (submitted m request).output) (local_command after)) (sym is_m)
+      ends = subst (λ (s : Submitted). Ends most_answers m.held s.machine (answers false t disk (submitted m request).output) (local_command after)) (sym sent)
+          (subst (λ (k : initiator.Machine). Ends most_answers m.held k (answers false t disk (submitted m request).output) (local_command after)) (sym is_m)
           (subst (λ (y : Stepped). Ends most_answers m.held i y (local_command after)) (sym is) ends_));
     }

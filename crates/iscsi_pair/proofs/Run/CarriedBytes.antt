@@ -53,17 +53,17 @@ rule_parts (Some k) b e = absurd (cc e)
 
 -- the session is open for two parts
 open_joined : (t : target.Machine) (disk : Disk) (ms more : List Message) → IsOpenFor t disk ms
-    → IsOpenFor (answers t disk ms).machine (answers t disk ms).disk more → IsOpenFor t disk (ms ++ more)
+    → IsOpenFor (answers false t disk ms).machine (answers false t disk ms).disk more → IsOpenFor t disk (ms ++ more)
 unfolding answers
 open_joined t disk [] more p q = q
-open_joined t disk (m ∷ ms) more p q = (p.0, open_joined (target_machine.step t disk m).machine (target_machine.step t disk m).disk ms more p.1 q)
+open_joined t disk (m ∷ ms) more p q = (p.0, open_joined (target_machine.step false t disk m).machine (target_machine.step false t disk m).disk ms more p.1 q)
 
 -- and for the second of them
 open_later : (t : target.Machine) (disk : Disk) (ms more : List Message) → IsOpenFor t disk (ms ++ more)
-    → IsOpenFor (answers t disk ms).machine (answers t disk ms).disk more
+    → IsOpenFor (answers false t disk ms).machine (answers false t disk ms).disk more
 unfolding answers
 open_later t disk [] more p = p
-open_later t disk (m ∷ ms) more p = open_later (target_machine.step t disk m).machine (target_machine.step t disk m).disk ms more p.1
+open_later t disk (m ∷ ms) more p = open_later (target_machine.step false t disk m).machine (target_machine.step false t disk m).disk ms more p.1
 
 -- a session that is over receives none of them
 pub open_none : (t : target.Machine) (disk : Disk) (ms : List Message) → IsOpenFor t disk ms → target_machine.is_closed t ≡ true → ms ≡ []
@@ -73,19 +73,19 @@ open_none t disk (m ∷ ms) p over = absurd (apart over p.0)
 -- What both ends keep, where the target has yet to receive these messages and the initiator those.
 pub record Talks (most : ℕ) (P : Relation) (x : Exchange) (out : List Message) (s : SoFar) : Type 0 where
   pub received : ReceivesWell most x.target x.disk s.here out
-  pub kept : (let r = answers x.target x.disk out in
+  pub kept : (let r = answers false x.target x.disk out in
       P (between x.initiator r.machine r.disk (x.answers ++ r.answers)) (record s { here = after_all s.here r.answers }))
 
 -- the initiator sends more
 pub talk_on : (most_out most : ℕ) (P : Relation) (i : initiator.Machine) (t : target.Machine) (disk : Disk) (out more back : List Message) (there here : Logins)
     (h : History) → ReceivesWell most t disk here out
-    → Sends (limits most_out most) P (between i (answers t disk out).machine (answers t disk out).disk (back ++ (answers t disk out).answers)) more
-    (so_far there (after_all here (answers t disk out).answers) h)
+    → Sends (limits most_out most) P (between i (answers false t disk out).machine (answers false t disk out).disk (back ++ (answers false t disk out).answers)) more
+    (so_far there (after_all here (answers false t disk out).answers) h)
     → Talks most P (between i t disk back) (out ++ more) (so_far (after_all there more) here h)
 talk_on most_out most P i t disk out more back there here h received s =
-    let a : target.Stepped = answers t disk out in
-    let b : target.Stepped = answers a.machine a.disk more in
-    let e : answers t disk (out ++ more) ≡ then_stepped a b = answers_append t disk out more in
+    let a : target.Stepped = answers false t disk out in
+    let b : target.Stepped = answers false a.machine a.disk more in
+    let e : answers false t disk (out ++ more) ≡ then_stepped a b = answers_append false t disk out more in
     record {
       received = record {
         open_ = open_joined t disk out more received.open_ s.received.open_;
@@ -111,11 +111,11 @@ record HasReceived (most : ℕ) (P : Relation) (x : Exchange) (r : target.Steppe
 target_received : (most : ℕ) (P : Relation) (i : initiator.Machine) (t : target.Machine) (disk : Disk) (new left back : List Message) (there here : Logins)
     (h : History)
     → Talks most P (between i t disk back) (new ++ left) (so_far there here h)
-    → HasReceived most P (between i t disk back) (answers t disk new) left (so_far there here h)
+    → HasReceived most P (between i t disk back) (answers false t disk new) left (so_far there here h)
 target_received most P i t disk new left back there here h s =
-    let a : target.Stepped = answers t disk new in
-    let b : target.Stepped = answers a.machine a.disk left in
-    let e : answers t disk (new ++ left) ≡ then_stepped a b = answers_append t disk new left in
+    let a : target.Stepped = answers false t disk new in
+    let b : target.Stepped = answers false a.machine a.disk left in
+    let e : answers false t disk (new ++ left) ≡ then_stepped a b = answers_append false t disk new left in
     let rule = rule_parts a.rule b.rule (ap (λ (r : target.Stepped). r.rule) (sym e) ∙ s.received.rule) in
     let written = written_parts most here a.answers b.answers (subst (λ (r : target.Stepped). AreWritten most here r.answers) e s.received.answered) in
     record {
@@ -143,7 +143,7 @@ pub over_none : (most_out most : ℕ) (P : Relation) → IsKept (limits most_out
     → (i : initiator.Machine) (t : target.Machine) (disk : Disk) (out back : List Message) (there here : Logins) (h : History)
     → Talks most P (between i t disk back) out (so_far there here h) → is_closed i ≡ true → back ≡ []
 over_none most_out most P k i t disk out back there here h s over =
-    let a : target.Stepped = answers t disk out in
+    let a : target.Stepped = answers false t disk out in
     (both_none back a.answers (none_comes most_out most P k i a.machine a.disk (back ++ a.answers) there (after_all here a.answers) h s.kept over)).0
 
 -- what holds where the initiator has received some of them, and is there
@@ -199,7 +199,7 @@ initiator_received most_out most P k i t disk out [] left there here h s =
           (sym (append-nil out)) s;
     }
 initiator_received most_out most P k i t disk out (m ∷ new) left there here h s =
-    let a : target.Stepped = answers t disk out in
+    let a : target.Stepped = answers false t disk out in
     let g : Goes (limits most_out most) P (between i a.machine a.disk ((new ++ left) ++ a.answers)) m (so_far there (after_all here a.answers) h) =
     k.receives i a.machine a.disk m ((new ++ left) ++ a.answers) there (after_all here a.answers) h s.kept in
     let one : Talks most P (between (step i m).machine t disk (new ++ left)) (out ++ (step i m).output) (so_far (after_all there (step i m).output) here h) =
@@ -219,7 +219,7 @@ pub initiator_received_first : (most_out most : ℕ) (P Q : Relation) → IsKept
     → Talks most P (between i t disk ((m ∷ new) ++ left)) out (so_far there here h)
     → ReceivesOn (limits most_out most) Q (between i t disk left) (steps i (m ∷ new)) out (so_far there here h)
 initiator_received_first most_out most P Q k better i t disk out m new left there here h s =
-    let a : target.Stepped = answers t disk out in
+    let a : target.Stepped = answers false t disk out in
     let g : Goes (limits most_out most) Q (between i a.machine a.disk ((new ++ left) ++ a.answers)) m (so_far there (after_all here a.answers) h) =
     better i a.machine a.disk m ((new ++ left) ++ a.answers) there (after_all here a.answers) h s.kept in
     let one : Talks most Q (between (step i m).machine t disk (new ++ left)) (out ++ (step i m).output) (so_far (after_all there (step i m).output) here h) =
@@ -247,8 +247,8 @@ pub record Stands (c : Opening) (P : Relation) (h : History) (w : World) : Type 
   pub to_target : Way (target_machine.is_closed session) (target_session.limit c.target) w.target.framing w.to_target out there
   pub to_initiator : Way (is_closed w.initiator.machine) (calls.limit c.initiator) w.initiator.framing w.to_initiator back here
   pub received : ReceivesWell (calls.limit c.initiator) session disk here out
-  pub kept : P (between w.initiator.machine (answers session disk out).machine (answers session disk out).disk (back ++ (answers session disk out).answers))
-      (so_far there (after_all here (answers session disk out).answers) h)
+  pub kept : P (between w.initiator.machine (answers false session disk out).machine (answers false session disk out).disk (back ++ (answers false session disk out).answers))
+      (so_far there (after_all here (answers false session disk out).answers) h)
 
 -- the relation is kept between such ends
 abbrev pub Keeps : Opening → Relation → Type 1
@@ -297,11 +297,11 @@ record TargetTurn {c : Opening} {P : Relation} {h : History} {old : World} (s : 
 target_turn : (c : Opening) (P : Relation) (h : History) (old new : World) (k : ℕ) (moved : List ℕ) (result : Result Phase TargetFault) → Keeps c P
     → (s : Stands c P h old)
     → Unread (target_session.limit c.target) old.target.framing old.to_target s.out s.there → moved ≡ take k old.to_target
-    → (f : target_calls.Feeds (target_calls.scene old.target (store_of old.blocks) old.to_initiator) moved result
+    → (f : target_calls.Feeds false (target_calls.scene old.target (store_of old.blocks) old.to_initiator) moved result
     (target_calls.scene new.target (store_of new.blocks) new.to_initiator))
     → TargetTurn s f.framing (drop f.count moved) (drop (length moved) old.to_target) f.stepped
 target_turn c P h old new k moved result kept s u m f =
-    let a : target.Stepped = answers s.session s.disk f.messages in
+    let a : target.Stepped = answers false s.session s.disk f.messages in
     let piece : List ℕ = take f.count moved in
     let more : List ℕ = drop f.count moved ++ drop (length moved) old.to_target in
     let q : old.to_target ≡ piece ++ more = front_moves k f.count old.to_target moved m in
@@ -316,8 +316,8 @@ target_turn c P h old new k moved result kept s u m f =
     target_received (calls.limit c.initiator) P old.initiator.machine s.session s.disk f.messages on.left s.back s.there s.here h talks in
     record {
       now = a;
-      same = ap joined_stepped (f.answered.works refl) ∙ ap (λ (x : target.Machine). joined_stepped (answers x (disk_of old.blocks) f.messages)) s.machine
-          ∙ ap (λ (d : Disk). joined_stepped (answers (joined s.session) d f.messages)) s.disk_is ∙ answers_joined s.session s.disk f.messages;
+      same = ap joined_stepped (f.answered.works refl) ∙ ap (λ (x : target.Machine). joined_stepped (answers false x (disk_of old.blocks) f.messages)) s.machine
+          ∙ ap (λ (d : Disk). joined_stepped (answers false (joined s.session) d f.messages)) s.disk_is ∙ answers_joined false s.session s.disk f.messages;
       rule = has.rule;
       left = on.left;
       back = s.back ++ a.answers;
@@ -361,8 +361,8 @@ target_stands c P h old new s v unreceived more r t well other machine disk init
       (subst (λ (x : List ℕ). Way (is_closed old.initiator.machine) (calls.limit c.initiator) old.initiator.framing x t.back t.here)
       (ap (λ (x : target.Stepped). old.to_initiator ++ canon x.answers) (sym t.same) ∙ sym output) t.to_initiator);
   received = t.talks.received;
-  kept = subst (λ (i : calls.Connection). P (between i.machine (answers t.now.machine t.now.disk t.left).machine (answers t.now.machine t.now.disk t.left).disk
-      (t.back ++ (answers t.now.machine t.now.disk t.left).answers)) (so_far t.there (after_all t.here (answers t.now.machine t.now.disk t.left).answers) h))
+  kept = subst (λ (i : calls.Connection). P (between i.machine (answers false t.now.machine t.now.disk t.left).machine (answers false t.now.machine t.now.disk t.left).disk
+      (t.back ++ (answers false t.now.machine t.now.disk t.left).answers)) (so_far t.there (after_all t.here (answers false t.now.machine t.now.disk t.left).answers) h))
       (sym initiator_) t.talks.kept;
 }
 
@@ -402,13 +402,13 @@ target_receives : (c : Opening) (P : Relation) (h : History) (old new : World) (
 target_receives c P h old new k byte bytes kept s m e memory =
     elim s.to_target [
       | inl on ↦
-          (let f : target_calls.Feeds (target_calls.scene old.target (store_of old.blocks) old.to_initiator) (byte ∷ bytes) e.result
+          (let f : target_calls.Feeds false (target_calls.scene old.target (store_of old.blocks) old.to_initiator) (byte ∷ bytes) e.result
           (target_calls.scene new.target (store_of new.blocks) new.to_initiator) =
-          subst (λ (b : Bool). target_calls.FedIf b (target_calls.scene old.target (store_of old.blocks) old.to_initiator) (byte ∷ bytes) e.result
+          subst (λ (b : Bool). target_calls.FedIf false b (target_calls.scene old.target (store_of old.blocks) old.to_initiator) (byte ∷ bytes) e.result
           (target_calls.scene new.target (store_of new.blocks) new.to_initiator))
           (ap target_machine.is_closed s.machine ∙ on.0) e.fed in
           let stood : target_calls.Stands old.to_initiator f.stepped f.answered.failures (store_of new.blocks) new.to_initiator =
-          stands old.to_initiator f.framing (drop f.count (byte ∷ bytes)) f.stepped f.answered.failures e.result new.target.machine (store_of new.blocks)
+          stands false old.to_initiator f.framing (drop f.count (byte ∷ bytes)) f.stepped f.answered.failures e.result new.target.machine (store_of new.blocks)
           new.to_initiator
           (λ short. apart (ap target_ran_out (e.fault ∙ ap result_err short)) memory) f.leaves in
           target_ends e.result c P h old new s f.framing f.count (byte ∷ bytes) (drop (length (byte ∷ bytes)) old.to_target) f.stepped

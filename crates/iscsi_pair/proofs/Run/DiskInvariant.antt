@@ -63,8 +63,8 @@ pub record LogsOn (c : Opening) (x : Exchange) (s : SoFar) : Type 0 where
   pub asking : Asking c x.initiator before said request
   pub suited : Suited c x.initiator before
   pub numbered : Numbered c x.initiator before
-  pub turn : Round c x.initiator (target_machine.step before (disk_of c.blocks) request) s.there
-  pub machine : x.target ≡ (target_machine.step before (disk_of c.blocks) request).machine
+  pub turn : Round c x.initiator (target_machine.step false before (disk_of c.blocks) request) s.there
+  pub machine : x.target ≡ (target_machine.step false before (disk_of c.blocks) request).machine
   pub disk_is : x.disk ≡ disk_of c.blocks
   pub back_is : x.answers ≡ turn.answer ∷ []
   pub whole : s.here.response ≡ false
@@ -122,7 +122,7 @@ pub receives_well : (c : Opening) (held : Held) (t : target.Machine) (disk : Dis
 receives_well c held t disk here out a h = record {
   open_ = h.open_;
   rule = h.rule;
-  answered = written_within held.initiator_max_recv (most_back c) here (answers t disk out).answers a.back_ (h.answered here);
+  answered = written_within held.initiator_max_recv (most_back c) here (answers false t disk out).answers a.back_ (h.answered here);
 }
 
 -- ---- the login
@@ -140,13 +140,13 @@ pub login_sends : (c : Opening) (i : initiator.Machine) (out : List Message) (t 
 unfolding answers
 login_sends c i out t there here r o is a s n whole =
     let disk : Disk = disk_of c.blocks in
-    let turn : Round c i (target_machine.step t disk r) (after there r.head) = round c i t there r disk o.opening a in
-    let w : Well c i (target_machine.step t disk r) (step i turn.answer) (after there r.head) =
+    let turn : Round c i (target_machine.step false t disk r) (after there r.head) = round c i t there r disk o.opening a in
+    let w : Well c i (target_machine.step false t disk r) (step i turn.answer) (after there r.head) =
     goes_well c i t there (after there r.head) r disk o.opening o.suits a s turn in
-    let meet : Meets c i (target_machine.step t disk r) (step i turn.answer) disk (after there r.head) =
+    let meet : Meets c i (target_machine.step false t disk r) (step i turn.answer) disk (after there r.head) =
     meets c i t there (after there r.head) r disk o.opening o.suits o.session a s n turn in
-    let all : answers t disk (r ∷ []) ≡ target_machine.step t disk r = then_nothing (target_machine.step t disk r) in
-    let said : (answers t disk (r ∷ [])).answers ≡ turn.answer ∷ [] = ap (λ (x : target.Stepped). x.answers) all ∙ turn.is in
+    let all : answers false t disk (r ∷ []) ≡ target_machine.step false t disk r = then_nothing (target_machine.step false t disk r) in
+    let said : (answers false t disk (r ∷ [])).answers ≡ turn.answer ∷ [] = ap (λ (x : target.Stepped). x.answers) all ∙ turn.is in
     subst (λ (ms : List Message). Sends (limits_of c) (Serves c) (between i t disk []) ms (so_far there here none_asked)) (sym is) (record {
       written = (
         record { readable = asking_readable c i t there r o.opening a; short = (let short = asking_short c i t there r a in omega (arith, short)) },
@@ -217,7 +217,7 @@ pub login_goes : (c : Opening) (i : initiator.Machine) (t : target.Machine) (dis
     → Goes (limits_of c) (Serves c) (between i t disk back) m (so_far there here h)
 login_goes c i t disk m back there here h o l =
     let d : Disk = disk_of c.blocks in
-    let now : target.Stepped = target_machine.step l.before d l.request in
+    let now : target.Stepped = target_machine.step false l.before d l.request in
     let s : Stepped = step i l.turn.answer in
     let w : Well c i now s there = goes_well c i l.before l.said there l.request d o.opening o.suits l.asking l.suited l.turn in
     let meet : Meets c i now s d there = meets c i l.before l.said there l.request d o.opening o.suits o.session l.asking l.suited l.numbered l.turn in

@@ -149,9 +149,9 @@ initiator_stands c P Q h g old new s i output left e talks there back = record {
       (after_all s.there output)) (sym e.queue) there);
   to_initiator = back;
   received = talks.received;
-  kept = subst (λ (x : initiator.Machine). Q (between x (answers s.session s.disk (s.out ++ output)).machine (answers s.session s.disk (s.out ++ output)).disk
-      (left ++ (answers s.session s.disk (s.out ++ output)).answers))
-      (so_far (after_all s.there output) (after_all s.here (answers s.session s.disk (s.out ++ output)).answers) g)) (sym e.initiator) talks.kept;
+  kept = subst (λ (x : initiator.Machine). Q (between x (answers false s.session s.disk (s.out ++ output)).machine (answers false s.session s.disk (s.out ++ output)).disk
+      (left ++ (answers false s.session s.disk (s.out ++ output)).answers))
+      (so_far (after_all s.there output) (after_all s.here (answers false s.session s.disk (s.out ++ output)).answers) g)) (sym e.initiator) talks.kept;
 }
 
 -- a turn that goes on
@@ -359,7 +359,7 @@ accepts : (c : Opening) (P : Relation) (h : History) (old new : World) (request 
 accepts c P h old new request kept s served e there well target_ blocks queue =
     let i : initiator.Machine = old.initiator.machine in
     let out : List Message = (submitted i request).output in
-    let a : target.Stepped = answers s.session s.disk s.out in
+    let a : target.Stepped = answers false s.session s.disk s.out in
     let sends : Sends (limits_of c) P (between (submitted i request).machine a.machine a.disk (s.back ++ a.answers)) out
     (so_far s.there (after_all s.here a.answers) (requested h request)) =
     kept.asks i a.machine a.disk (s.back ++ a.answers) s.there (after_all s.here a.answers) h request s.kept served e.none in
@@ -431,7 +431,7 @@ takes_one (Some d) c P k i t disk back there here h is p = k.takes i t disk back
 takes : (c : Opening) (P : Relation) (h : History) (old : World) → Keeps c P → (s : Stands c P h old)
     → Stands c P (given_out h old.initiator.machine.done) (record old { initiator = calls.after_taking old.initiator })
 takes c P h old k s =
-    let a : target.Stepped = answers s.session s.disk s.out in
+    let a : target.Stepped = answers false s.session s.disk s.out in
     record {
       target_well = s.target_well;
       initiator_well = s.initiator_well;

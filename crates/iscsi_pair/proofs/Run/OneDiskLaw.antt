@@ -1,5 +1,5 @@
 -- One local disk, in every world of a served run.
-use Rattle.std.proofs.Common.{◌≡◌, ◌≤◌, inl, inr, List, [], ◌++◌, length, map, None, sym, ap, ◌∙◌, subst}
+use Rattle.std.proofs.Common.{false, ◌≡◌, ◌≤◌, inl, inr, List, [], ◌++◌, length, map, None, sym, ap, ◌∙◌, subst}
 use Rattle.scsi_disk.specs.Disk.{Disk, disk_of}
 use Rattle.iscsi_stream.specs.declared.logins.Logins.{Logins}
 use Rattle.iscsi_stream.specs.Stream.{Message, after_all}
@@ -33,9 +33,9 @@ pub taken_first : (c : Opening) (events : List Event) (w : World) (outcomes : Li
 taken_first c events w outcomes n r =
     let s : Stands c (Serves c) (history events outcomes) w = served c events w outcomes n r in
     let f : AreFirst c (history events outcomes) =
-    first_outcomes c w.initiator.machine (answers s.session s.disk s.out).machine (answers s.session s.disk s.out).disk
-    (s.back ++ (answers s.session s.disk s.out).answers) s.there
-    (after_all s.here (answers s.session s.disk s.out).answers) (history events outcomes) s.kept in
+    first_outcomes c w.initiator.machine (answers false s.session s.disk s.out).machine (answers false s.session s.disk s.out).disk
+    (s.back ++ (answers false s.session s.disk s.out).answers) s.there
+    (after_all s.here (answers false s.session s.disk s.out).answers) (history events outcomes) s.kept in
     (f.later, f.one, f.is)
 
 -- the target's session, where nothing is on its way
@@ -46,12 +46,12 @@ record IsStill (c : Opening) (w : World) (h : History) : Type 0 where
 
 none_said : (c : Opening) (i : initiator.Machine) (t : target.Machine) (disk : Disk) (out back : List Message) (there here : Logins) (h : History) → out ≡ []
     → back ≡ []
-    → Serves c (between i (answers t disk out).machine (answers t disk out).disk (back ++ (answers t disk out).answers))
-    (so_far there (after_all here (answers t disk out).answers) h) → Serves c (between i t disk []) (so_far there here h)
+    → Serves c (between i (answers false t disk out).machine (answers false t disk out).disk (back ++ (answers false t disk out).answers))
+    (so_far there (after_all here (answers false t disk out).answers) h) → Serves c (between i t disk []) (so_far there here h)
 unfolding answers
 none_said c i t disk out back there here h p q k =
-    let k' = subst (λ (x : List Message). Serves c (between i (answers t disk x).machine (answers t disk x).disk (back ++ (answers t disk x).answers))
-    (so_far there (after_all here (answers t disk x).answers) h)) p k in
+    let k' = subst (λ (x : List Message). Serves c (between i (answers false t disk x).machine (answers false t disk x).disk (back ++ (answers false t disk x).answers))
+    (so_far there (after_all here (answers false t disk x).answers) h)) p k in
     subst (λ (x : List Message). Serves c (between i t disk (x ++ [])) (so_far there here h)) q k'
 
 still : (c : Opening) (events : List Event) (w : World) (outcomes : List Done) → IsNormal c → RunsServed (new_pair c) events w outcomes → w.to_target ≡ []

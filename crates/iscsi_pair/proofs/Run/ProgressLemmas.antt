@@ -137,7 +137,7 @@ login_nears : (k : ℕ) (c : Opening) (i : initiator.Machine) (t : target.Machin
 login_nears k c i t disk m back there here h o l few =
     let g : Goes (limits_of c) (Serves c) (between i t disk back) m (so_far there here h) = login_goes c i t disk m back there here h o l in
     let s : Stepped = step i m in
-    let r : target.Stepped = answers t disk s.output in
+    let r : target.Stepped = answers false t disk s.output in
     let same : m ≡ l.turn.answer = same_first m l.turn.answer back [] l.back_is in
     let near : IsStart s.machine.stage → IsNearer i s.machine = λ on.
     subst (λ (x : Message). IsNearer i (step i x).machine) (sym same)
@@ -247,8 +247,8 @@ while_kept c n k o = record {
 
 -- another relation holds of the same world
 stands_by : (c : Opening) (P Q : Relation) (h : History) (w : World) → (s : Stands c P h w)
-    → Q (between w.initiator.machine (answers s.session s.disk s.out).machine (answers s.session s.disk s.out).disk
-    (s.back ++ (answers s.session s.disk s.out).answers)) (so_far s.there (after_all s.here (answers s.session s.disk s.out).answers) h)
+    → Q (between w.initiator.machine (answers false s.session s.disk s.out).machine (answers false s.session s.disk s.out).disk
+    (s.back ++ (answers false s.session s.disk s.out).answers)) (so_far s.there (after_all s.here (answers false s.session s.disk s.out).answers) h)
     → Stands c Q h w
 stands_by c P Q h w s q = record {
   target_well = s.target_well;
@@ -315,7 +315,7 @@ calm_mid mid new event e calm = calm_first mid ([] ++ event ∷ []) new (runs_mo
 half_on : (k : ℕ) (c : Opening) (n : ℕ) (h : History) (m : Message) (more : List Message) (mid new : World) → IsNormal c → (s : Stands c (While c n k) h mid)
     → total h ≡ n → s.back ≡ m ∷ more → Happens mid (ToInitiator (length mid.to_initiator)) new → keeps_no_memory new ≡ false → TurnsOn c k new
 half_on zero c n h m more mid new o s is waits e calm =
-    absurd (let a : target.Stepped = answers s.session s.disk s.out in
+    absurd (let a : target.Stepped = answers false s.session s.disk s.out in
     let x : Exchange = between mid.initiator.machine a.machine a.disk (s.back ++ a.answers) in
     let none : s.back ++ a.answers ≡ [] = nears_none c x (so_far s.there (after_all s.here a.answers) h) (s.kept.2 is) in
     let bad : m ∷ (more ++ a.answers) ≡ [] = ap (λ (ms : List Message). ms ++ a.answers) (sym waits) ∙ none in cc)

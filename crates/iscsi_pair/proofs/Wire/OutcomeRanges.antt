@@ -111,5 +111,5 @@ fits_by (Give n) disk order e few =
     }
 
 -- what an order that expects so few bytes answers has room
-pub outcome_fits : (disk : Disk) (order : Order) (bytes : List ℕ) → order.expected ≤ 4194304 → HasRoom (effect disk order bytes).outcome
+pub outcome_fits : (disk : Disk) (order : Order) (bytes : List ℕ) → order.expected ≤ 4194304 → HasRoom (effect false disk order bytes).outcome
 outcome_fits disk order bytes few = fits_by (plan_of order disk.count) disk order refl few

@@ -21,10 +21,10 @@ impl<'a> Server<'a> {
         now: Instant,
     )
         // Each seat has a turn, in which it takes a few PDUs at most.
-        ensures turns { RunsInTurns
+        ensures turns { RunsInTurns S.protected
             self.old.hall (store_of (S.disk store.old) (S.failures store.old))
             self.new.hall (store_of (S.disk store.new) (S.failures store.new)) }
-        ensures few { RunsFew (λ k. most_taken)
+        ensures few { RunsFew S.protected (λ k. most_taken)
             self.old.hall (store_of (S.disk store.old) (S.failures store.old))
             self.new.hall (store_of (S.disk store.new) (S.failures store.new)) }
         ensures seats { length self.new.hall.seats ≡ length self.old.hall.seats }
@@ -48,7 +48,7 @@ impl<'a> Server<'a> {
         now: Instant,
         budget: Budget,
     )
-        ensures turn { TurnOf seat budget
+        ensures turn { TurnOf S.protected seat budget
             self.old.hall (store_of (S.disk store.old) (S.failures store.old))
             self.new.hall (store_of (S.disk store.new) (S.failures store.new)) }
         ensures seats { length self.new.hall.seats ≡ length self.old.hall.seats }

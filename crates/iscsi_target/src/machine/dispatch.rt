@@ -34,10 +34,10 @@ impl Machine {
     ) -> Result<Option<u8>, AllocError>
         requires within { is_over_limit self.old received.now.segment ≡ false }
         requires live { is_closed self.old ≡ false }
-        ensures answers { Answers received.now result
+        ensures answers { Answers S.protected received.now result
             (moment self.old (store_of (S.disk store.old) (S.failures store.old)) out.old.items)
             (moment self.new (store_of (S.disk store.new) (S.failures store.new)) out.new.items) }
-        ensures crash { Crashes (commands_at self.old (S.disk store.old).count received.now)
+        ensures crash { Crashes S.protected (commands_at self.old (S.disk store.old).count received.now)
             (S.disk store.old) (S.disk store.new) (S.kept store.old) (S.kept store.new) }
     {
         match self.phase() {
@@ -69,11 +69,11 @@ impl Machine {
         store: &mut S,
         out: &mut Vec<u8>,
     ) -> Result<Option<u8>, AllocError>
-        ensures follows { Follows
+        ensures follows { Follows S.protected
             (full_met self.old (S.disk store.old).count received.now).next result
             (moment self.old (store_of (S.disk store.old) (S.failures store.old)) out.old.items)
             (moment self.new (store_of (S.disk store.new) (S.failures store.new)) out.new.items) }
-        ensures crash { Crashes
+        ensures crash { Crashes S.protected
             (commands_by (full_met self.old (S.disk store.old).count received.now).next)
             (S.disk store.old) (S.disk store.new) (S.kept store.old) (S.kept store.new) }
     {
@@ -108,10 +108,10 @@ impl Machine {
     ) -> Result<Option<u8>, AllocError>
         requires room { waiting self.old.tasks ≤ 7 }
         requires turn { self.old.tasks ≡ [] ⊎ (cmd_sn_of received.now.head ≢ None) }
-        ensures follows { Follows (admitted self.old (S.disk store.old).count received.now) result
+        ensures follows { Follows S.protected (admitted self.old (S.disk store.old).count received.now) result
             (moment self.old (store_of (S.disk store.old) (S.failures store.old)) out.old.items)
             (moment self.new (store_of (S.disk store.new) (S.failures store.new)) out.new.items) }
-        ensures crash { Crashes
+        ensures crash { Crashes S.protected
             (commands_by (admitted self.old (S.disk store.old).count received.now))
             (S.disk store.old) (S.disk store.new) (S.kept store.old) (S.kept store.new) }
     {
@@ -132,10 +132,10 @@ impl Machine {
         store: &mut S,
         out: &mut Vec<u8>,
     ) -> Result<Option<u8>, AllocError>
-        ensures works { Works result
+        ensures works { Works S.protected result
             (moment self.old (store_of (S.disk store.old) (S.failures store.old)) out.old.items)
             (moment self.new (store_of (S.disk store.new) (S.failures store.new)) out.new.items) }
-        ensures crash { Crashes (commands_of self.old.tasks)
+        ensures crash { Crashes S.protected (commands_of self.old.tasks)
             (S.disk store.old) (S.disk store.new) (S.kept store.old) (S.kept store.new) }
     {
         while let Some(task) = self.tasks.take_first() {
@@ -157,10 +157,10 @@ impl Machine {
     ) -> Result<Option<u8>, AllocError>
         requires places { TakePlaces self.old.tasks }
         requires room { length self.old.tasks < 9 }
-        ensures handles { Handles (λ device. begun device self.old (S.disk store.old) task) result
+        ensures handles { Handles S.protected (λ device. begun device self.old (S.disk store.old) task) result
             (moment self.old (store_of (S.disk store.old) (S.failures store.old)) out.old.items)
             (moment self.new (store_of (S.disk store.new) (S.failures store.new)) out.new.items) }
-        ensures crash { Crashes (command_of task)
+        ensures crash { Crashes S.protected (command_of task)
             (S.disk store.old) (S.disk store.new) (S.kept store.old) (S.kept store.new) }
     {
         match task {
@@ -178,11 +178,11 @@ impl Machine {
     ) -> Result<Option<u8>, AllocError>
         requires places { TakePlaces self.old.tasks }
         requires room { length self.old.tasks < 9 }
-        ensures handles { Handles (λ device. handled device self.old (S.disk store.old)
+        ensures handles { Handles S.protected (λ device. handled device self.old (S.disk store.old)
             received.now received.now.head) result
             (moment self.old (store_of (S.disk store.old) (S.failures store.old)) out.old.items)
             (moment self.new (store_of (S.disk store.new) (S.failures store.new)) out.new.items) }
-        ensures crash { Crashes (command_in received.now.head (segment_bytes received.now.segment))
+        ensures crash { Crashes S.protected (command_in received.now.head (segment_bytes received.now.segment))
             (S.disk store.old) (S.disk store.new) (S.kept store.old) (S.kept store.new) }
     {
         match &received.pdu.head {

@@ -50,11 +50,11 @@ impl Machine {
         requires takes { TakesBlocks self.old.session.held }
         requires whole { whole_blocks order.now (plan_of order.now (S.disk store.old).count)
             ≡ Some range }
-        ensures handles { Handles
+        ensures handles { Handles S.protected
             (λ device. execute device self.old (S.disk store.old) tag order.now []) result
             (moment self.old (store_of (S.disk store.old) (S.failures store.old)) out.old.items)
             (moment self.new (store_of (S.disk store.new) (S.failures store.new)) out.new.items) }
-        ensures crash { Crashes []
+        ensures crash { Crashes S.protected []
             (S.disk store.old) (S.disk store.new) (S.kept store.old) (S.kept store.new) }
     {
         self.send_read(tag, order, range, store, out)?;
@@ -74,7 +74,7 @@ impl Machine {
         requires takes { TakesBlocks self.now.session.held }
         requires whole { whole_blocks order.now (plan_of order.now (S.disk store.old).count)
             ≡ Some range }
-        ensures ok { OnOk result (AnswersRead
+        ensures ok { OnOk result (AnswersRead S.protected
             (reply self.now tag out.old.items out.new.items) order.now
             (store_of (S.disk store.old) (S.failures store.old))
             (store_of (S.disk store.new) (S.failures store.new))) }
@@ -106,7 +106,7 @@ impl Machine {
         requires takes { TakesBlocks self.now.session.held }
         requires whole { whole_blocks order.now (plan_of order.now (S.disk store.old).count)
             ≡ Some range }
-        ensures ok { OnOk result (AnswersRead
+        ensures ok { OnOk result (AnswersRead S.protected
             (reply self.now tag out.old.items out.new.items) order.now
             (store_of (S.disk store.old) (S.failures store.old))
             (store_of (S.disk store.new) (S.failures store.new))) }

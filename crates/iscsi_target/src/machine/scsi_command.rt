@@ -34,11 +34,11 @@ impl Machine {
     ) -> Result<Option<u8>, AllocError>
         requires places { TakePlaces self.old.tasks }
         requires room { length self.old.tasks < 9 }
-        ensures handles { Handles (λ device. scsi_command device self.old (S.disk store.old)
+        ensures handles { Handles S.protected (λ device. scsi_command device self.old (S.disk store.old)
             received.now command.now bytes.now) result
             (moment self.old (store_of (S.disk store.old) (S.failures store.old)) out.old.items)
             (moment self.new (store_of (S.disk store.new) (S.failures store.new)) out.new.items) }
-        ensures crash { Crashes ((order_of command.now, bytes.now) ∷ [])
+        ensures crash { Crashes S.protected ((order_of command.now, bytes.now) ∷ [])
             (S.disk store.old) (S.disk store.new) (S.kept store.old) (S.kept store.new) }
     {
         if self.breaks_burst_rules(command, bytes.len()) {
@@ -114,11 +114,11 @@ impl Machine {
     ) -> Result<Option<u8>, AllocError>
         requires planned { planned ≡ plan_of order (S.disk store.old).count }
         requires gives { (n : ℕ) → plan_of order (S.disk store.old).count ≢ Plan.Take n }
-        ensures handles { Handles
+        ensures handles { Handles S.protected
             (λ device. execute device self.old (S.disk store.old) tag order []) result
             (moment self.old (store_of (S.disk store.old) (S.failures store.old)) out.old.items)
             (moment self.new (store_of (S.disk store.new) (S.failures store.new)) out.new.items) }
-        ensures crash { Crashes []
+        ensures crash { Crashes S.protected []
             (S.disk store.old) (S.disk store.new) (S.kept store.old) (S.kept store.new) }
     {
         if let Some(range) = self.blocks_to_send(&order, planned) {

@@ -46,11 +46,11 @@ impl Machine {
         requires fits { length bytes.now ≤ total }
         requires places { TakePlaces self.old.tasks }
         requires room { length self.old.tasks < 9 }
-        ensures handles { Handles (λ device. proceed device self.old (S.disk store.old)
+        ensures handles { Handles S.protected (λ device. proceed device self.old (S.disk store.old)
             (opened command.now total bytes.now)) result
             (moment self.old (store_of (S.disk store.old) (S.failures store.old)) out.old.items)
             (moment self.new (store_of (S.disk store.new) (S.failures store.new)) out.new.items) }
-        ensures crash { Crashes ((order_of command.now, bytes.now) ∷ [])
+        ensures crash { Crashes S.protected ((order_of command.now, bytes.now) ∷ [])
             (S.disk store.old) (S.disk store.new) (S.kept store.old) (S.kept store.new) }
     {
         let write = opened(*out.allocator(), command, total, bytes)?;
@@ -67,11 +67,11 @@ impl Machine {
     ) -> Result<Option<u8>, AllocError>
         requires places { TakePlaces self.old.tasks }
         requires room { length self.old.tasks < 9 }
-        ensures handles { Handles
+        ensures handles { Handles S.protected
             (λ device. proceed device self.old (S.disk store.old) write) result
             (moment self.old (store_of (S.disk store.old) (S.failures store.old)) out.old.items)
             (moment self.new (store_of (S.disk store.new) (S.failures store.new)) out.new.items) }
-        ensures crash { Crashes ((write.order, data_of write.pieces) ∷ [])
+        ensures crash { Crashes S.protected ((write.order, data_of write.pieces) ∷ [])
             (S.disk store.old) (S.disk store.new) (S.kept store.old) (S.kept store.new) }
     {
         if write.is_whole() {
@@ -93,11 +93,11 @@ impl Machine {
         out: &mut Vec<u8>,
     ) -> Result<Option<u8>, AllocError>
         requires { is_whole write.now ≡ true }
-        ensures handles { Handles (λ device. execute device self.old (S.disk store.old)
+        ensures handles { Handles S.protected (λ device. execute device self.old (S.disk store.old)
             write.now.initiator_task_tag write.now.order write.now.pieces) result
             (moment self.old (store_of (S.disk store.old) (S.failures store.old)) out.old.items)
             (moment self.new (store_of (S.disk store.new) (S.failures store.new)) out.new.items) }
-        ensures crash { Crashes ((write.now.order, data_of write.now.pieces) ∷ [])
+        ensures crash { Crashes S.protected ((write.now.order, data_of write.now.pieces) ∷ [])
             (S.disk store.old) (S.disk store.new) (S.kept store.old) (S.kept store.new) }
     {
         out.reserve(RESPONSE_LEN)?;
@@ -163,10 +163,10 @@ impl Machine {
         out: &mut Vec<u8>,
     ) -> Result<Option<u8>, AllocError>
         requires { length bytes.now < 2 ^ 24 }
-        ensures follows { Follows (data_out self.old received.now head.now bytes.now) result
+        ensures follows { Follows S.protected (data_out self.old received.now head.now bytes.now) result
             (moment self.old (store_of (S.disk store.old) (S.failures store.old)) out.old.items)
             (moment self.new (store_of (S.disk store.new) (S.failures store.new)) out.new.items) }
-        ensures crash { Crashes (commands_by (data_out self.old received.now head.now bytes.now))
+        ensures crash { Crashes S.protected (commands_by (data_out self.old received.now head.now bytes.now))
             (S.disk store.old) (S.disk store.new) (S.kept store.old) (S.kept store.new) }
     {
         let Some((place, write)) = self.tasks.take_write(head.initiator_task_tag) else {

@@ -31,6 +31,58 @@ fn images_have_what_is_asked_for(rt: HostRuntime) {
     let _ = fs::remove_file(&rt, PATH);
 }
 
+/// The image of the rows on images that are read alone.
+const SHARED: &str = "shared.img";
+
+#[test]
+fn an_image_is_shared_by_those_who_read_it(rt: HostRuntime) {
+    let _ = fs::remove_file(&rt, SHARED);
+    let image = Image {
+        path: SHARED,
+        origin: Origin::New { blocks: 8 },
+    };
+    let writer = image.open(&rt);
+    let in_use = ImageFault::Open(OpenFault::InUse);
+    same(
+        &rt,
+        &read_alone(&rt, None),
+        &Err(in_use),
+        &"while it is written",
+    );
+    drop(writer);
+    for (blocks, due) in ASKED {
+        same(&rt, &read_alone(&rt, *blocks), due, blocks);
+    }
+    let reader = image_of(None).open_read_only(&rt);
+    same(&rt, &read_alone(&rt, None), &Ok(8), &"while it is read");
+    let found = Image {
+        path: SHARED,
+        origin: Origin::Found { blocks: None },
+    };
+    let written = found.open(&rt);
+    same(
+        &rt,
+        &written.err(),
+        &Some(in_use),
+        &"written while it is read",
+    );
+    drop(reader);
+    let _ = fs::remove_file(&rt, SHARED);
+}
+
+// The shared image, as one of so many blocks.
+fn image_of<'a>(blocks: Option<u64>) -> Image<'a> {
+    Image {
+        path: SHARED,
+        origin: Origin::Found { blocks },
+    }
+}
+
+// How many blocks the shared image has, if it is read alone as one of so many.
+fn read_alone(rt: &HostRuntime, blocks: Option<u64>) -> Result<u64, ImageFault> {
+    Ok(image_of(blocks).open_read_only(rt)?.blocks())
+}
+
 // How many blocks an image of eight has that is made, or why it isn't.
 fn made(rt: &HostRuntime) -> Result<u64, ImageFault> {
     let image = Image {

@@ -10,6 +10,6 @@ returns c = record {
   commands = over_commands;
   status = over_status;
   data_in = over_data_in;
-  writes = λ settings n disk now gs m all. (over_keeps settings n disk now gs m all).tiled;
-  modest = λ settings n disk now gs m all. (over_keeps settings n disk now gs m all).modest;
+  writes = λ protected settings n disk now gs m all. (over_keeps protected settings n disk now gs m all).tiled;
+  modest = λ protected settings n disk now gs m all. (over_keeps protected settings n disk now gs m all).modest;
 }

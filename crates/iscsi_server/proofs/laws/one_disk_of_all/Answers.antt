@@ -7,8 +7,8 @@ use Rattle.iscsi_server.proofs.laws.one_disk_of_all.Goals as goal
 
 pub returns : goal.returns
 returns c = record {
-  may = λ count before after s. runs_lead no_sessions s.seats before after s.events s.runs;
-  follows = λ count before after s same. runs_follows no_sessions s.seats before after s.events s.runs same;
-  blocks = λ count before after s n same. follow_block before.disk after.disk (executed_in s.events)
-      (runs_follows no_sessions s.seats before after s.events s.runs same) n;
+  may = λ protected count before after s. runs_lead protected no_sessions s.seats before after s.events s.runs;
+  follows = λ protected count before after s same. runs_follows protected no_sessions s.seats before after s.events s.runs same;
+  blocks = λ protected count before after s n same. follow_block protected before.disk after.disk (executed_in s.events)
+      (runs_follows protected no_sessions s.seats before after s.events s.runs same) n;
 }

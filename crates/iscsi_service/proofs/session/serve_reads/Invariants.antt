@@ -7,7 +7,7 @@ use Rattle.iscsi_service.proofs.session.serve_reads.Given as goal
 
 abbrev pub invariant-loop-out : goal.invariant-loop-out
 invariant-loop-out g l =
-    (is_closed l.target.machine ≡ false) × SessionUpTo l.fn.config
+    (is_closed l.target.machine ≡ false) × SessionUpTo g.S.BlockStore.protected l.fn.config
     (outside (store_of (g.S.BlockStore.disk l.initial.store) (g.S.BlockStore.failures l.initial.store)) (g.R.Read.remaining l.initial.r)
     (g.W.Write.contents l.initial.w)) l.target
     (outside (store_of (g.S.BlockStore.disk l.store) (g.S.BlockStore.failures l.store)) (g.R.Read.remaining l.r) (g.W.Write.contents l.w))

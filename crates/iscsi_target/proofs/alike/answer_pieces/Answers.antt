@@ -14,7 +14,7 @@ loop-piece-init g c =
     let start : Connection = opening_connection c.args.config c.args.first_statsn in
     record {
       rises = omega arith;
-      fed = λ same. rw (c.new-target.ensures.opening, c.new-output.ensures.items) (fed_nothing start before []);
+      fed = λ same. rw (c.new-target.ensures.opening, c.new-output.ensures.items) (fed_nothing g.S.BlockStore.protected start before []);
     }
 
 pub loop-piece-preserved : goal.loop-piece-preserved
@@ -26,9 +26,9 @@ loop-piece-preserved g c =
     let after : Store = store_of (disk c.feed-fed.new.store) (failures c.feed-fed.new.store) in
     let start : Connection = opening_connection c.args.config c.args.first_statsn in
     let memory : (c.feed-fed.result ≡ Err faults.NoMemory → ⊥) = has_memory c.feed-fed.result (sym c.has_run_out.ensures ∙ c.if-has_run_out.false) in
-    let fed : Fed (scene c.loop-piece.target mid c.loop-piece.output.items) c.piece-item.result.items c.feed-fed.result
+    let fed : Fed g.S.BlockStore.protected (scene c.loop-piece.target mid c.loop-piece.output.items) c.piece-item.result.items c.feed-fed.result
     (scene c.feed-fed.new.self after c.feed-fed.new.out.items) = rw c.deref.ensures.value at c.feed-fed.ensures.fed in
-    let up : failures c.loop-piece.store ≤ failures c.feed-fed.new.store = fed_rises (scene c.loop-piece.target mid c.loop-piece.output.items) c.piece-item.result.items c.feed-fed.result
+    let up : failures c.loop-piece.store ≤ failures c.feed-fed.new.store = fed_rises g.S.BlockStore.protected (scene c.loop-piece.target mid c.loop-piece.output.items) c.piece-item.result.items c.feed-fed.result
     (scene c.feed-fed.new.self after c.feed-fed.new.out.items) memory fed in
     let low = c.loop-piece.invariant.rises in
     let items : Vec ℕ Global → List ℕ = λ piece. piece.items in
@@ -37,8 +37,8 @@ loop-piece-preserved g c =
       fed = λ same.
           (let at_mid : failures c.loop-piece.store ≡ failures c.args.store.now = omega (arith, up, low, same) in
           let well : GoesWell c.feed-fed.result mid after = record { memory = memory; device = omega (arith, up, low, same) } in
-          subst (λ (x : List (List ℕ)). FedAll (scene start before []) x (scene c.feed-fed.new.self after c.feed-fed.new.out.items))
+          subst (λ (x : List (List ℕ)). FedAll g.S.BlockStore.protected (scene start before []) x (scene c.feed-fed.new.self after c.feed-fed.new.out.items))
           (sym (mapped_more items c.args.pieces.now c.loop-piece.piece-index c.piece-item.result (omega arith) (sym c.piece-item.is)))
-          (fed_more start before [] (map items (take c.loop-piece.piece-index c.args.pieces.now)) c.loop-piece.target mid c.loop-piece.output.items
+          (fed_more g.S.BlockStore.protected start before [] (map items (take c.loop-piece.piece-index c.args.pieces.now)) c.loop-piece.target mid c.loop-piece.output.items
           c.piece-item.result.items c.feed-fed.result c.feed-fed.new.self after c.feed-fed.new.out.items (c.loop-piece.invariant.fed at_mid) fed well));
     }

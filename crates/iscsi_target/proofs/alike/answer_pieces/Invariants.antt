@@ -11,7 +11,7 @@ invariant-loop-piece g l =
     record {
       rises : failures l.fn.store ≤ failures l.store;
       fed : failures l.store ≡ failures l.fn.store
-          → FedAll (scene (opening_connection l.fn.config l.first_statsn) (store_of (disk l.fn.store) (failures l.fn.store)) [])
+          → FedAll g.S.BlockStore.protected (scene (opening_connection l.fn.config l.first_statsn) (store_of (disk l.fn.store) (failures l.fn.store)) [])
           (map (λ piece. piece.items) (take l.piece-index l.pieces))
           (scene l.target (store_of (disk l.store) (failures l.store)) l.output.items);
     }

@@ -9,7 +9,7 @@ use Rattle.iscsi_target.proofs.laws.command_numbers.Goals as goal
 
 pub returns : goal.returns
 returns c = record {
-  count_on = λ settings n disk first ms request k all.
-      first_numbers settings n disk first ms request k (subst (λ (h : Head). FitsNumber (login_cmd_sn h)) k all.0.login) all.1;
+  count_on = λ protected settings n disk first ms request k all.
+      first_numbers protected settings n disk first ms request k (subst (λ (h : Head). FitsNumber (login_cmd_sn h)) k all.0.login) all.1;
   streams = λ stream ms bytes p. stream_numbers longest_segment no_login stream ms bytes p;
 }

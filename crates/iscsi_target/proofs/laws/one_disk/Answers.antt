@@ -11,7 +11,7 @@ pub returns : goal.returns
 returns c = record {
   fold = answers_fold;
   may = may_leads;
-  answered = λ s disk ms. answers_tags s disk ms ∙ sym (tags_of_tasks (answers s disk ms).executed);
+  answered = λ protected s disk ms. answers_tags protected s disk ms ∙ sym (tags_of_tasks (answers protected s disk ms).executed);
   told = answers_tell;
   order = opening_in_order;
 }

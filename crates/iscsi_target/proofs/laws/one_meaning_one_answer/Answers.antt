@@ -9,12 +9,12 @@ use Rattle.iscsi_target.proofs.laws.one_meaning_one_answer.Goals as goal
 
 pub returns : goal.returns
 returns c = record {
-  streams = λ settings n disk s t ms ns s_bytes t_bytes p q e.
+  streams = λ protected settings n disk s t ms ns s_bytes t_bytes p q e.
       let first : ReadsAs longest_segment no_login (canon ms) ms = canon_again longest_segment no_login s ms s_bytes p in
       let second : ReadsAs longest_segment no_login (canon ns) ns = canon_again longest_segment no_login t ns t_bytes q in
-      ap (λ (xs : List Message). answers (opening settings n) disk xs)
+      ap (λ (xs : List Message). answers protected (opening settings n) disk xs)
       (one_meaning longest_segment no_login (canon ms) ms ns first (subst (λ (x : List ℕ). ReadsAs longest_segment no_login x ns) (sym e) second));
-  canonical = λ settings n disk stream ms ns bytes p q.
-      ap (λ (xs : List Message). answers (opening settings n) disk xs)
+  canonical = λ protected settings n disk stream ms ns bytes p q.
+      ap (λ (xs : List Message). answers protected (opening settings n) disk xs)
       (one_meaning longest_segment no_login (canon ms) ns ms q (canon_again longest_segment no_login stream ms bytes p));
 }

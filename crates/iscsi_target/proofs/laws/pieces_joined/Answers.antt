@@ -6,5 +6,5 @@ use Rattle.iscsi_target.proofs.laws.pieces_joined.Goals as goal
 pub returns : goal.returns
 returns c = record {
   same = step_joined;
-  may = λ s disk before after m a p. (step_on p.device s disk m, may_apart s disk before after m a p, may_same s disk before after m a p);
+  may = λ protected s disk before after m a p. (step_on p.device s disk m, may_apart protected s disk before after m a p, may_same protected s disk before after m a p);
 }

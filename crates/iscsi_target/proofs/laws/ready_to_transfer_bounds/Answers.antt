@@ -3,4 +3,4 @@ use Rattle.iscsi_target.proofs.UnansweredR2tLaw.{opening_asks}
 use Rattle.iscsi_target.proofs.laws.ready_to_transfer_bounds.Goals as goal
 
 pub returns : goal.returns
-returns c = record { modest = λ settings n disk ms m. (reached_keeps settings n disk ms m).modest; one = opening_asks }
+returns c = record { modest = λ protected settings n disk ms m. (reached_keeps protected settings n disk ms m).modest; one = opening_asks }

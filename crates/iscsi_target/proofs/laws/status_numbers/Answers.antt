@@ -5,8 +5,8 @@ use Rattle.iscsi_target.proofs.laws.status_numbers.Goals as goal
 
 pub returns : goal.returns
 returns c = record {
-  count_on = λ s disk ms lt. count_on s.session.stat_sn (stat_sns (answers s disk ms).answers)
-      (answers s disk ms).machine.session.stat_sn lt (answers_stat_sns s disk ms);
-  next = λ s disk ms lt. count_after s.session.stat_sn (stat_sns (answers s disk ms).answers)
-      (answers s disk ms).machine.session.stat_sn lt (answers_stat_sns s disk ms);
+  count_on = λ protected s disk ms lt. count_on s.session.stat_sn (stat_sns (answers protected s disk ms).answers)
+      (answers protected s disk ms).machine.session.stat_sn lt (answers_stat_sns protected s disk ms);
+  next = λ protected s disk ms lt. count_after s.session.stat_sn (stat_sns (answers protected s disk ms).answers)
+      (answers protected s disk ms).machine.session.stat_sn lt (answers_stat_sns protected s disk ms);
 }

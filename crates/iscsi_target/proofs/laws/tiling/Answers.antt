@@ -3,4 +3,4 @@ use Rattle.iscsi_target.proofs.ReachableLemmas.{reached_data_in}
 use Rattle.iscsi_target.proofs.laws.tiling.Goals as goal
 
 pub returns : goal.returns
-returns c = record { data_in = reached_data_in; writes = λ settings n disk ms m. (reached_keeps settings n disk ms m).tiled }
+returns c = record { data_in = reached_data_in; writes = λ protected settings n disk ms m. (reached_keeps protected settings n disk ms m).tiled }

@@ -27,7 +27,7 @@ returns-in-Err-clause-err g c =
     (store_of (g.S.BlockStore.disk c.args.store.now) (g.S.BlockStore.failures c.args.store.now)) c.args.out.now.items in
     let after : Store = store_of (g.S.BlockStore.disk c.answer_pdu.new.store) (g.S.BlockStore.failures c.answer_pdu.new.store) in
     let new : Moment = moment c.answer_pdu.new.self after c.answer_pdu.new.out.items in
-    let halts : HaltsAt m old new = c.in-Err.ensures.answers.err in
+    let halts : HaltsAt g.S.BlockStore.protected m old new = c.in-Err.ensures.answers.err in
     let within = over_none c.args.machine.now c.continued.result c.in-Some.pdu.head c.in-Some.pdu.bytes.now
     (subst (λ (n : ℕ). length c.in-Some.pdu.bytes.now ≤ n) c.requires.limit c.in-Some.ensures.within) in
     record {
@@ -36,11 +36,11 @@ returns-in-Err-clause-err g c =
       means = c.in-Some.ensures.means;
       unready = ap is_ready gone ∙ unready_after c.args.framer.now c.in-Some.pdu.head;
       limit = ap (λ (v : Framing). v.limit) gone;
-      settings = ap (λ (x : Machine). x.session.settings) c.close.ensures ∙ halts_settings m old new c.requires.live within halts;
+      settings = ap (λ (x : Machine). x.session.settings) c.close.ensures ∙ halts_settings g.S.BlockStore.protected m old new c.requires.live within halts;
       closed_ = c.close.ensures ∙ ap closed (sym c.close.ensures);
-      halts = subst (λ (x : Machine). HaltsAt (message_of c.args.framer.now c.in-Some.pdu.head c.in-Some.pdu.bytes.now) old
+      halts = subst (λ (x : Machine). HaltsAt g.S.BlockStore.protected (message_of c.args.framer.now c.in-Some.pdu.head c.in-Some.pdu.bytes.now) old
           (moment x after c.answer_pdu.new.out.items)) (sym c.close.ensures)
-          (subst (λ (x : Message). HaltsAt x old (moment (closed c.answer_pdu.new.self) after c.answer_pdu.new.out.items)) same (halts_closed m old new halts));
+          (subst (λ (x : Message). HaltsAt g.S.BlockStore.protected x old (moment (closed c.answer_pdu.new.self) after c.answer_pdu.new.out.items)) same (halts_closed g.S.BlockStore.protected m old new halts));
     }
 
 pub returns-in-Ok-clause-crash : goal.returns-in-Ok-clause-crash
@@ -53,7 +53,7 @@ returns-in-Ok-clause-crash g c =
       c.in-Some.pdu.head,
       c.in-Some.pdu.bytes.now,
       c.in-Some.ensures.means,
-      subst (λ (x : Message). Crashes (commands_at c.args.machine.now (g.S.BlockStore.disk c.args.store.now).count x)
+      subst (λ (x : Message). Crashes g.S.BlockStore.protected (commands_at c.args.machine.now (g.S.BlockStore.disk c.args.store.now).count x)
           (g.S.BlockStore.disk c.args.store.now) (g.S.BlockStore.disk c.answer_pdu.new.store) (g.S.BlockStore.kept c.args.store.now)
           (g.S.BlockStore.kept c.answer_pdu.new.store)) same c.answer_pdu.ensures.crash,
     )
@@ -68,7 +68,7 @@ returns-in-Err-clause-crash g c =
       c.in-Some.pdu.head,
       c.in-Some.pdu.bytes.now,
       c.in-Some.ensures.means,
-      subst (λ (x : Message). Crashes (commands_at c.args.machine.now (g.S.BlockStore.disk c.args.store.now).count x)
+      subst (λ (x : Message). Crashes g.S.BlockStore.protected (commands_at c.args.machine.now (g.S.BlockStore.disk c.args.store.now).count x)
           (g.S.BlockStore.disk c.args.store.now) (g.S.BlockStore.disk c.answer_pdu.new.store) (g.S.BlockStore.kept c.args.store.now)
           (g.S.BlockStore.kept c.answer_pdu.new.store)) same c.answer_pdu.ensures.crash,
     )

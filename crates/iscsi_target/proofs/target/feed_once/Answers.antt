@@ -14,8 +14,8 @@ returns-in_err-taken-clause-fed g c =
     let out : List ℕ = c.args.out.now.items in
     let piece : List ℕ = c.args.piece.now in
     let p = err_from_is_err_and c.from_residual.result c.from_residual.ensures.1 in
-    rw (p.1, p.2) (ends_failed old before out piece piece old before out c.in_err-taken.field-0.0 new after c.feed_one.new.out.items
-    (fed_none old before out piece c.requires.unready c.requires.live) c.in_err-taken.ensures.err)
+    rw (p.1, p.2) (ends_failed g.S.BlockStore.protected old before out piece piece old before out c.in_err-taken.field-0.0 new after c.feed_one.new.out.items
+    (fed_none g.S.BlockStore.protected old before out piece c.requires.unready c.requires.live) c.in_err-taken.ensures.err)
 
 pub returns-in-Some-clause-fed : goal.returns-in-Some-clause-fed
 returns-in-Some-clause-fed g c =
@@ -25,10 +25,10 @@ returns-in-Some-clause-fed g c =
     let after : Store = store_of (g.S.BlockStore.disk c.feed_one.new.store) (g.S.BlockStore.failures c.feed_one.new.store) in
     let out : List ℕ = c.args.out.now.items in
     let piece : List ℕ = c.args.piece.now in
-    let fed = fed_one old before out piece piece (drop c.in_ok-taken.taken piece) old before out c.in_ok-taken.taken c.in_ok-taken.broken new after
+    let fed = fed_one g.S.BlockStore.protected old before out piece piece (drop c.in_ok-taken.taken piece) old before out c.in_ok-taken.taken c.in_ok-taken.broken new after
     c.feed_one.new.out.items
-    (fed_none old before out piece c.requires.unready c.requires.live) c.in_ok-taken.ensures.ok refl in
-    ends_broken old before out piece (drop c.in_ok-taken.taken piece) new after c.feed_one.new.out.items c.in-Some.rule fed.fed (fed.rule
+    (fed_none g.S.BlockStore.protected old before out piece c.requires.unready c.requires.live) c.in_ok-taken.ensures.ok refl in
+    ends_broken g.S.BlockStore.protected old before out piece (drop c.in_ok-taken.taken piece) new after c.feed_one.new.out.items c.in-Some.rule fed.fed (fed.rule
     ∙ c.in-Some.is) c.phase-phase.ensures.joined
 
 pub returns-in-None-clause-fed : goal.returns-in-None-clause-fed
@@ -39,5 +39,5 @@ returns-in-None-clause-fed g c =
     let after : Store = store_of (g.S.BlockStore.disk c.feed_one.new.store) (g.S.BlockStore.failures c.feed_one.new.store) in
     let out : List ℕ = c.args.out.now.items in
     let piece : List ℕ = c.args.piece.now in
-    next_fed old before out piece c.in_ok-taken.taken c.phase-phase.result new after c.feed_one.new.out.items c.requires.unready c.requires.live
+    next_fed g.S.BlockStore.protected old before out piece c.in_ok-taken.taken c.phase-phase.result new after c.feed_one.new.out.items c.requires.unready c.requires.live
     (rw c.in-None.is at c.in_ok-taken.ensures.ok) c.phase-phase.ensures.joined c.phase-phase.ensures.phase

@@ -17,7 +17,7 @@ returns-clause-ok g c =
     record {
       framing = c.take_bytes.new.framer;
       takes = c.in_ok-taken.ensures.ok;
-      answers = subst (λ (m : Machine). AnswersReady (scene (connection m c.take_bytes.new.framer) before c.args.out.now.items)
+      answers = subst (λ (m : Machine). AnswersReady g.S.BlockStore.protected (scene (connection m c.take_bytes.new.framer) before c.args.out.now.items)
           c.in_ok-broken.broken (scene new after c.answer_ready.new.out.items))
           c.in_ok-taken.ensures.kept c.in_ok-broken.ensures.ok;
     }
@@ -30,10 +30,10 @@ returns-clause-limit g c =
     let after : Store = store_of (g.S.BlockStore.disk c.answer_ready.new.store) (g.S.BlockStore.failures c.answer_ready.new.store) in
     let out : List ℕ = c.args.out.now.items in
     let piece : List ℕ = c.args.piece.now in
-    let fed = fed_one old before out piece piece (drop c.in_ok-taken.taken piece) old before out c.in_ok-taken.taken c.in_ok-broken.broken new after
+    let fed = fed_one g.S.BlockStore.protected old before out piece piece (drop c.in_ok-taken.taken piece) old before out c.in_ok-taken.taken c.in_ok-broken.broken new after
     c.answer_ready.new.out.items
-    (fed_none old before out piece c.requires.unready c.requires.live) (returns-clause-ok g c) refl in
-    stays_within old before out piece (drop c.in_ok-taken.taken piece) new after c.answer_ready.new.out.items fed.fed c.requires.limit
+    (fed_none g.S.BlockStore.protected old before out piece c.requires.unready c.requires.live) (returns-clause-ok g c) refl in
+    stays_within g.S.BlockStore.protected old before out piece (drop c.in_ok-taken.taken piece) new after c.answer_ready.new.out.items fed.fed c.requires.limit
 
 pub returns-clause-unready : goal.returns-clause-unready
 returns-clause-unready g c =
@@ -43,9 +43,9 @@ returns-clause-unready g c =
     let after : Store = store_of (g.S.BlockStore.disk c.answer_ready.new.store) (g.S.BlockStore.failures c.answer_ready.new.store) in
     let out : List ℕ = c.args.out.now.items in
     let piece : List ℕ = c.args.piece.now in
-    let fed = fed_one old before out piece piece (drop c.in_ok-taken.taken piece) old before out c.in_ok-taken.taken c.in_ok-broken.broken new after
+    let fed = fed_one g.S.BlockStore.protected old before out piece piece (drop c.in_ok-taken.taken piece) old before out c.in_ok-taken.taken c.in_ok-broken.broken new after
     c.answer_ready.new.out.items
-    (fed_none old before out piece c.requires.unready c.requires.live) (returns-clause-ok g c) refl in
+    (fed_none g.S.BlockStore.protected old before out piece c.requires.unready c.requires.live) (returns-clause-ok g c) refl in
     fed.fed.answered.ready
 
 pub returns-in_err-broken-clause-limit : goal.returns-in_err-broken-clause-limit
@@ -55,20 +55,20 @@ returns-in_err-broken-clause-limit g c =
 
 pub returns-in_err-broken-clause-crash : goal.returns-in_err-broken-clause-crash
 returns-in_err-broken-clause-crash g c =
-    subst (λ (m : Machine). CrashesNext (connection m c.args.framer.now) c.args.piece.now (g.S.BlockStore.disk c.args.store.now)
+    subst (λ (m : Machine). CrashesNext g.S.BlockStore.protected (connection m c.args.framer.now) c.args.piece.now (g.S.BlockStore.disk c.args.store.now)
     (g.S.BlockStore.disk c.answer_ready.new.store) (g.S.BlockStore.kept c.args.store.now)
     (g.S.BlockStore.kept c.answer_ready.new.store)) c.in_ok-taken.ensures.kept
-    (next_by (connection c.take_bytes.new.machine c.args.framer.now) c.args.piece.now c.in_ok-taken.taken c.take_bytes.new.framer
+    (next_by g.S.BlockStore.protected (connection c.take_bytes.new.machine c.args.framer.now) c.args.piece.now c.in_ok-taken.taken c.take_bytes.new.framer
     (g.S.BlockStore.disk c.args.store.now) (g.S.BlockStore.disk c.answer_ready.new.store) (g.S.BlockStore.kept c.args.store.now)
     (g.S.BlockStore.kept c.answer_ready.new.store)
     c.in_ok-taken.ensures.ok c.answer_ready.ensures.crash)
 
 pub returns-clause-crash : goal.returns-clause-crash
 returns-clause-crash g c =
-    subst (λ (m : Machine). CrashesNext (connection m c.args.framer.now) c.args.piece.now (g.S.BlockStore.disk c.args.store.now)
+    subst (λ (m : Machine). CrashesNext g.S.BlockStore.protected (connection m c.args.framer.now) c.args.piece.now (g.S.BlockStore.disk c.args.store.now)
     (g.S.BlockStore.disk c.answer_ready.new.store) (g.S.BlockStore.kept c.args.store.now)
     (g.S.BlockStore.kept c.answer_ready.new.store)) c.in_ok-taken.ensures.kept
-    (next_by (connection c.take_bytes.new.machine c.args.framer.now) c.args.piece.now c.in_ok-taken.taken c.take_bytes.new.framer
+    (next_by g.S.BlockStore.protected (connection c.take_bytes.new.machine c.args.framer.now) c.args.piece.now c.in_ok-taken.taken c.take_bytes.new.framer
     (g.S.BlockStore.disk c.args.store.now) (g.S.BlockStore.disk c.answer_ready.new.store) (g.S.BlockStore.kept c.args.store.now)
     (g.S.BlockStore.kept c.answer_ready.new.store)
     c.in_ok-taken.ensures.ok c.answer_ready.ensures.crash)

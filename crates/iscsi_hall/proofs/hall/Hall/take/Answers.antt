@@ -15,7 +15,7 @@ returns-clause-turn g c =
     let before : Store = store_of (g.S.BlockStore.disk c.args.store.now) (g.S.BlockStore.failures c.args.store.now) in
     let after : Store = store_of (g.S.BlockStore.disk c.take.new.store) (g.S.BlockStore.failures c.take.new.store) in
     let new : Hall = the_view (record { alloc = c.self.inside.alloc; seats = with_item c.self.inside.seats c.args.seat (Some c.take.new.self) }) in
-    let takes : Takes c.args.seat c.args.self.now before c.take.result new after =
+    let takes : Takes g.S.BlockStore.protected c.args.seat c.args.self.now before c.take.result new after =
     record {
       before = c.in-Some.fed;
       after = c.take.new.self;
@@ -23,10 +23,10 @@ returns-clause-turn g c =
       now = ap (λ (h : Hall). set h.seats c.args.seat (Some c.take.new.self)) c.self.view_is;
       does = c.take.ensures.takes;
     } in
-    takes_turn c.args.seat c.args.self.now new before after c.take.result takes c.requires.may
+    takes_turn g.S.BlockStore.protected c.args.seat c.args.self.now new before after c.take.result takes c.requires.may
 
 pub returns-clause-crash : goal.returns-clause-crash
 returns-clause-crash g c =
     let was : seat_at c.args.self.now c.args.seat ≡ Some c.in-Some.fed = grind (arith, common_steps) in
-    subst (λ (taken : Option Seat). IfSome taken (λ s. CrashesNext s.connection s.unfed (g.S.BlockStore.disk c.args.store.now)
+    subst (λ (taken : Option Seat). IfSome taken (λ s. CrashesNext g.S.BlockStore.protected s.connection s.unfed (g.S.BlockStore.disk c.args.store.now)
     (g.S.BlockStore.disk c.take.new.store) (g.S.BlockStore.kept c.args.store.now) (g.S.BlockStore.kept c.take.new.store))) (sym was) c.take.ensures.crash

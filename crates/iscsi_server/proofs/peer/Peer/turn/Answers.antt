@@ -4,10 +4,10 @@ use Rattle.iscsi_server.proofs.RunningLemmas.{spent_at, then_at}
 use Rattle.iscsi_server.proofs.peer.Peer.turn.Goals as goal
 
 pub returns-in-Rests-clause-runs : goal.returns-in-Rests-clause-runs
-returns-in-Rests-clause-runs g c = spent_at c.args.seat c.args.budget c.step.new.left c.args.hall.now c.step.new.hall
+returns-in-Rests-clause-runs g c = spent_at g.S.BlockStore.protected c.args.seat c.args.budget c.step.new.left c.args.hall.now c.step.new.hall
     (store_of (g.S.BlockStore.disk c.args.store.now) (g.S.BlockStore.failures c.args.store.now))
     (store_of (g.S.BlockStore.disk c.step.new.store) (g.S.BlockStore.failures c.step.new.store))
-    (then_at c.args.seat c.args.budget c.loop.left c.step.new.left
+    (then_at g.S.BlockStore.protected c.args.seat c.args.budget c.loop.left c.step.new.left
     c.args.hall.now c.loop.hall c.step.new.hall
     (store_of (g.S.BlockStore.disk c.args.store.now) (g.S.BlockStore.failures c.args.store.now))
     (store_of (g.S.BlockStore.disk c.loop.store) (g.S.BlockStore.failures c.loop.store))
@@ -15,10 +15,10 @@ returns-in-Rests-clause-runs g c = spent_at c.args.seat c.args.budget c.step.new
     (c.is_spent.ensures.given c.if-is_spent.false) c.loop.invariant.0 c.in-Rests.ensures.runs)
 
 pub returns-in-Over-clause-runs : goal.returns-in-Over-clause-runs
-returns-in-Over-clause-runs g c = spent_at c.args.seat c.args.budget c.step.new.left c.args.hall.now c.step.new.hall
+returns-in-Over-clause-runs g c = spent_at g.S.BlockStore.protected c.args.seat c.args.budget c.step.new.left c.args.hall.now c.step.new.hall
     (store_of (g.S.BlockStore.disk c.args.store.now) (g.S.BlockStore.failures c.args.store.now))
     (store_of (g.S.BlockStore.disk c.step.new.store) (g.S.BlockStore.failures c.step.new.store))
-    (then_at c.args.seat c.args.budget c.loop.left c.step.new.left
+    (then_at g.S.BlockStore.protected c.args.seat c.args.budget c.loop.left c.step.new.left
     c.args.hall.now c.loop.hall c.step.new.hall
     (store_of (g.S.BlockStore.disk c.args.store.now) (g.S.BlockStore.failures c.args.store.now))
     (store_of (g.S.BlockStore.disk c.loop.store) (g.S.BlockStore.failures c.loop.store))
@@ -27,7 +27,7 @@ returns-in-Over-clause-runs g c = spent_at c.args.seat c.args.budget c.step.new.
 
 pub loop-preserved : goal.loop-preserved
 loop-preserved g c = (
-  then_at c.args.seat c.args.budget c.loop.left c.step.new.left
+  then_at g.S.BlockStore.protected c.args.seat c.args.budget c.loop.left c.step.new.left
       c.args.hall.now c.loop.hall c.step.new.hall
       (store_of (g.S.BlockStore.disk c.args.store.now) (g.S.BlockStore.failures c.args.store.now))
       (store_of (g.S.BlockStore.disk c.loop.store) (g.S.BlockStore.failures c.loop.store))

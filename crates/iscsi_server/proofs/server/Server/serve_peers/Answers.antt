@@ -5,7 +5,7 @@ use Rattle.iscsi_server.proofs.server.Server.serve_peers.Goals as goal
 
 pub loop-seat-preserved : goal.loop-seat-preserved
 loop-seat-preserved g c = (
-  next_turns c.loop-seat.seat c.of-budget.result c.args.self.now.hall c.loop-seat.self.hall c.serve_peer.new.self.hall
+  next_turns g.S.BlockStore.protected c.loop-seat.seat c.of-budget.result c.args.self.now.hall c.loop-seat.self.hall c.serve_peer.new.self.hall
       (store_of (g.S.BlockStore.disk c.args.store.now) (g.S.BlockStore.failures c.args.store.now))
       (store_of (g.S.BlockStore.disk c.loop-seat.store) (g.S.BlockStore.failures c.loop-seat.store))
       (store_of (g.S.BlockStore.disk c.serve_peer.new.store) (g.S.BlockStore.failures c.serve_peer.new.store))

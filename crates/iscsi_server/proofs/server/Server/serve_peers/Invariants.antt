@@ -5,7 +5,7 @@ use Rattle.iscsi_server.specs.Running.{InTurns, most_taken}
 use Rattle.iscsi_server.proofs.server.Server.serve_peers.Given as goal
 
 abbrev pub invariant-loop-seat : goal.invariant-loop-seat
-invariant-loop-seat g l = InTurns l.seat
+invariant-loop-seat g l = InTurns g.S.BlockStore.protected l.seat
     l.fn.self.hall (store_of (g.S.BlockStore.disk l.fn.store) (g.S.BlockStore.failures l.fn.store))
     l.self.hall (store_of (g.S.BlockStore.disk l.store) (g.S.BlockStore.failures l.store))
     × (length l.self.hall.seats ≡ length l.fn.self.hall.seats)

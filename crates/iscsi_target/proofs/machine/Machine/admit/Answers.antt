@@ -24,9 +24,9 @@ returns-then-len-eq0-clause-follows g c =
     let kept : refusal c.args.self.now c.args.received.now ≡ None = sym c.refusal.ensures ∙ search rules in
     let before : Store = (store_of (g.S.BlockStore.disk c.args.store.now) (g.S.BlockStore.failures c.args.store.now)) in
     let after : Store = (store_of (g.S.BlockStore.disk c.handle.new.store) (g.S.BlockStore.failures c.handle.new.store)) in
-    admitted_follows c.handle.result c.args.self.now (g.S.BlockStore.disk c.args.store.now).count c.args.received.now before
+    admitted_follows g.S.BlockStore.protected c.handle.result c.args.self.now (g.S.BlockStore.disk c.args.store.now).count c.args.received.now before
     c.args.out.now.items c.handle.new.self after c.handle.new.out.items kept
-    (alone_works c.handle.result c.args.self.now c.args.received.now before
+    (alone_works g.S.BlockStore.protected c.handle.result c.args.self.now c.args.received.now before
     c.args.out.now.items c.handle.new.self after
     c.handle.new.out.items none (keeps_rules c.args.self.now c.args.received.now kept) c.handle.ensures.handles)
 
@@ -39,9 +39,9 @@ pub returns-in_err-task-clause-follows : goal.returns-in_err-task-clause-follows
 returns-in_err-task-clause-follows g c =
     let kept : refusal c.args.self.now c.args.received.now ≡ None = sym c.refusal.ensures ∙ search rules in
     let before : Store = (store_of (g.S.BlockStore.disk c.args.store.now) (g.S.BlockStore.failures c.args.store.now)) in
-    let h = short_works c.in_err-task.field-0.0 c.args.self.now (c.args.self.now.tasks
+    let h = short_works g.S.BlockStore.protected c.in_err-task.field-0.0 c.args.self.now (c.args.self.now.tasks
     ++ task_of (g.S.BlockStore.disk c.args.store.now).count c.args.received.now ∷ []) before c.args.out.now.items in
-    admitted_follows c.from_residual.result c.args.self.now (g.S.BlockStore.disk c.args.store.now).count c.args.received.now before
+    admitted_follows g.S.BlockStore.protected c.from_residual.result c.args.self.now (g.S.BlockStore.disk c.args.store.now).count c.args.received.now before
     c.args.out.now.items c.args.self.now before c.args.out.now.items kept (record { ok = search rules; err = on_err c.from_residual.result h.err })
 
 pub push-requires-clause-place : goal.push-requires-clause-place
@@ -68,9 +68,9 @@ returns-clause-follows g c =
     let kept : refusal c.args.self.now c.args.received.now ≡ None = sym c.refusal.ensures ∙ search rules in
     let before : Store = (store_of (g.S.BlockStore.disk c.args.store.now) (g.S.BlockStore.failures c.args.store.now)) in
     let after : Store = (store_of (g.S.BlockStore.disk c.work_off.new.store) (g.S.BlockStore.failures c.work_off.new.store)) in
-    admitted_follows c.work_off.result c.args.self.now (g.S.BlockStore.disk c.args.store.now).count c.args.received.now before
+    admitted_follows g.S.BlockStore.protected c.work_off.result c.args.self.now (g.S.BlockStore.disk c.args.store.now).count c.args.received.now before
     c.args.out.now.items c.work_off.new.self after c.work_off.new.out.items kept
-    (subst (λ (x : Machine). Works c.work_off.result (moment x before c.args.out.now.items) (moment c.work_off.new.self after c.work_off.new.out.items))
+    (subst (λ (x : Machine). Works g.S.BlockStore.protected c.work_off.result (moment x before c.args.out.now.items) (moment c.work_off.new.self after c.work_off.new.out.items))
     pushed c.work_off.ensures.works)
 
 pub returns-then-len-eq0-clause-crash : goal.returns-then-len-eq0-clause-crash
@@ -78,7 +78,7 @@ returns-then-len-eq0-clause-crash g c =
     let none : c.args.self.now.tasks ≡ [] = ap (λ (x : Machine). x.tasks) (sym c.self.view_is)
     ∙ no_length c.self.inside.tasks (omega (arith, c.len.ensures.value, c.if-len-eq0.true)) in
     let kept : refusal c.args.self.now c.args.received.now ≡ None = sym c.refusal.ensures ∙ search rules in
-    subst (λ (orders : List Supplied). Crashes orders (g.S.BlockStore.disk c.args.store.now) (g.S.BlockStore.disk c.handle.new.store)
+    subst (λ (orders : List Supplied). Crashes g.S.BlockStore.protected orders (g.S.BlockStore.disk c.args.store.now) (g.S.BlockStore.disk c.handle.new.store)
     (g.S.BlockStore.kept c.args.store.now) (g.S.BlockStore.kept c.handle.new.store))
     (sym (ap commands_by (admitted_none c.args.self.now (g.S.BlockStore.disk c.args.store.now).count c.args.received.now kept)
     ∙ commands_alone (g.S.BlockStore.disk c.args.store.now).count c.args.received.now c.args.self.now.tasks none)) c.handle.ensures.crash
@@ -93,14 +93,14 @@ returns-clause-crash g c =
     ∙ ap (λ (x : Machine). with_tasks x.session (x.tasks ++ task_of (g.S.BlockStore.disk c.args.store.now).count c.args.received.now ∷ [])) c.self.view_is
     in
     let kept : refusal c.args.self.now c.args.received.now ≡ None = sym c.refusal.ensures ∙ search rules in
-    subst (λ (orders : List Supplied). Crashes orders (g.S.BlockStore.disk c.args.store.now) (g.S.BlockStore.disk c.work_off.new.store)
+    subst (λ (orders : List Supplied). Crashes g.S.BlockStore.protected orders (g.S.BlockStore.disk c.args.store.now) (g.S.BlockStore.disk c.work_off.new.store)
     (g.S.BlockStore.kept c.args.store.now) (g.S.BlockStore.kept c.work_off.new.store))
     (ap (λ (x : Machine). commands_of x.tasks) pushed
     ∙ sym (ap commands_by (admitted_none c.args.self.now (g.S.BlockStore.disk c.args.store.now).count c.args.received.now kept))) c.work_off.ensures.crash
 
 pub returns-in-Some-clause-follows : goal.returns-in-Some-clause-follows
 returns-in-Some-clause-follows g c =
-    answered_follows c.reject_and_close.result (g.S.BlockStore.failures c.args.store.now) c.args.self.now
+    answered_follows g.S.BlockStore.protected c.reject_and_close.result (g.S.BlockStore.failures c.args.store.now) c.args.self.now
     (reject_and_close c.args.self.now.session (waiting c.args.self.now.tasks) c.in-Some.rule c.args.received.now)
     (admitted c.args.self.now (g.S.BlockStore.disk c.args.store.now).count c.args.received.now) (g.S.BlockStore.disk c.args.store.now)
     c.reject_and_close.new.self c.args.out.now.items c.reject_and_close.new.out.items

@@ -34,7 +34,7 @@ returns-clause-ok g c =
     let s = c.args.self.now in
     let wanted : c.read_outcome-outcome.result ≡ good order (wanted_length order disk.count) [] =
     c.read_outcome-outcome.ensures ∙ ap (λ (n : ℕ). good order (wanted_length order n) []) c.blocks-blocks.ensures.count in
-    answers_read s c.args.tag order disk (g.S.BlockStore.disk c.append_runs.new.store) c.args.range (failures c.args.store.now)
+    answers_read g.S.BlockStore.protected s c.args.tag order disk (g.S.BlockStore.disk c.append_runs.new.store) c.args.range (failures c.args.store.now)
     (failures c.append_runs.new.store) c.in_ok-count.count c.response_head-head.result c.args.out.now.items c.append_runs.new.out.items
     c.append_response.new.out.items (whole disk order (plan_of order disk.count) c.args.range refl c.requires.whole) c.blocks-blocks.ensures.disk
     c.in_ok-count.ensures.disk c.in_ok-count.ensures.rises c.in_ok-count.ensures.ok

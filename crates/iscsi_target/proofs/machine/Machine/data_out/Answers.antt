@@ -25,7 +25,7 @@ pub returns-in_default-clause-follows : goal.returns-in_default-clause-follows
 returns-in_default-clause-follows g c =
     let none : write_of c.args.self.now.tasks c.args.head.now.initiator_task_tag
     ≡ None = ap (λ (x : Machine). write_of x.tasks c.args.head.now.initiator_task_tag) (sym c.self.view_is) ∙ c.in_default.ensures.none in
-    dropped_follows (g.S.BlockStore.failures c.args.store.now) c.args.self.now (data_out c.args.self.now c.args.received.now c.args.head.now c.args.bytes.now)
+    dropped_follows g.S.BlockStore.protected (g.S.BlockStore.failures c.args.store.now) c.args.self.now (data_out c.args.self.now c.args.received.now c.args.head.now c.args.bytes.now)
     (g.S.BlockStore.disk c.args.store.now) (with_tasks c.self.inside.session c.take_write.new.self) c.args.out.now.items
     (data_dropped c.args.self.now c.args.received.now c.args.head.now c.args.bytes.now none)
     (ap (with_tasks c.self.inside.session) c.in_default.ensures.kept ∙ c.self.view_is)
@@ -33,7 +33,7 @@ returns-in_default-clause-follows g c =
 pub returns-in_err-is_due-clause-follows : goal.returns-in_err-is_due-clause-follows
 returns-in_err-is_due-clause-follows g c = record {
   ok = search rules;
-  err = on_err c.from_residual.result (short_halts (g.S.BlockStore.failures c.args.store.now) c.args.self.now
+  err = on_err c.from_residual.result (short_halts g.S.BlockStore.protected (g.S.BlockStore.failures c.args.store.now) c.args.self.now
       (with_tasks c.self.inside.session c.take_write.new.self) (g.S.BlockStore.disk c.args.store.now) c.args.out.now.items
       (data_out c.args.self.now c.args.received.now c.args.head.now c.args.bytes.now)
       (data_session c.args.self.now c.args.received.now c.args.head.now c.args.bytes.now) (ap closed c.self.view_is));
@@ -57,7 +57,7 @@ returns-then-not-is_due-clause-follows g c =
     c.put_write.ensures ∙ ap (λ (x : Write). insert c.take_write.new.self c.in-Some.place (Data x)) same ∙ c.in-Some.ensures.back c.in-Some.write tag
     ∙ with_same c.args.head.now.initiator_task_tag c.self.inside.tasks c.in-Some.write found tag in
     let whole : with_tasks c.self.inside.session c.put_write.new.self ≡ c.args.self.now = ap (with_tasks c.self.inside.session) put ∙ c.self.view_is in
-    answered_follows c.reject_and_close.result (g.S.BlockStore.failures c.args.store.now) c.args.self.now
+    answered_follows g.S.BlockStore.protected c.reject_and_close.result (g.S.BlockStore.failures c.args.store.now) c.args.self.now
     (reject_and_close c.args.self.now.session (waiting c.args.self.now.tasks) data_out_of_order c.args.received.now)
     (data_out c.args.self.now c.args.received.now c.args.head.now c.args.bytes.now)
     (g.S.BlockStore.disk c.args.store.now) c.reject_and_close.new.self c.args.out.now.items c.reject_and_close.new.out.items
@@ -88,17 +88,17 @@ returns-clause-follows g c =
     (with_write (joined_write (with_data c.in-Some.write c.args.head.now c.args.bytes.now)) c.args.self.now.tasks) =
     ap (with_tasks c.self.inside.session) put ∙ ap (λ (x : Machine). with_tasks x.session
     (with_write (joined_write (with_data c.in-Some.write c.args.head.now c.args.bytes.now)) x.tasks)) c.self.view_is in
-    works_follow c.work_off.result (data_out c.args.self.now c.args.received.now c.args.head.now c.args.bytes.now) c.args.self.now.session
+    works_follow g.S.BlockStore.protected c.work_off.result (data_out c.args.self.now c.args.received.now c.args.head.now c.args.bytes.now) c.args.self.now.session
     (with_write (with_data c.in-Some.write c.args.head.now c.args.bytes.now) c.args.self.now.tasks) c.args.self.now
     (store_of (g.S.BlockStore.disk c.args.store.now) (g.S.BlockStore.failures c.args.store.now)) c.args.out.now.items c.work_off.new.self
     (store_of (g.S.BlockStore.disk c.work_off.new.store) (g.S.BlockStore.failures c.work_off.new.store)) c.work_off.new.out.items
     (data_taken_by c.args.self.now c.args.received.now c.args.head.now c.args.bytes.now c.in-Some.write here due)
-    (works_same c.work_off.result c.args.self.now.session (with_write (joined_write (with_data c.in-Some.write c.args.head.now c.args.bytes.now))
+    (works_same g.S.BlockStore.protected c.work_off.result c.args.self.now.session (with_write (joined_write (with_data c.in-Some.write c.args.head.now c.args.bytes.now))
     c.args.self.now.tasks) (with_write (with_data c.in-Some.write c.args.head.now c.args.bytes.now) c.args.self.now.tasks)
     (store_of (g.S.BlockStore.disk c.args.store.now) (g.S.BlockStore.failures c.args.store.now)) c.args.out.now.items c.work_off.new.self
     (store_of (g.S.BlockStore.disk c.work_off.new.store) (g.S.BlockStore.failures c.work_off.new.store)) c.work_off.new.out.items
     (ones_written (with_data c.in-Some.write c.args.head.now c.args.bytes.now) c.args.self.now.tasks)
-    (subst (λ (x : Machine). Works c.work_off.result (moment x (store_of (g.S.BlockStore.disk c.args.store.now)
+    (subst (λ (x : Machine). Works g.S.BlockStore.protected c.work_off.result (moment x (store_of (g.S.BlockStore.disk c.args.store.now)
     (g.S.BlockStore.failures c.args.store.now)) c.args.out.now.items) (moment c.work_off.new.self (store_of (g.S.BlockStore.disk c.work_off.new.store)
     (g.S.BlockStore.failures c.work_off.new.store)) c.work_off.new.out.items)) whole c.work_off.ensures.works))
 
@@ -125,11 +125,11 @@ returns-clause-crash g c =
     ap (with_tasks c.self.inside.session) put ∙ ap (λ (x : Machine). with_tasks x.session
     (with_write (joined_write (with_data c.in-Some.write c.args.head.now c.args.bytes.now)) x.tasks)) c.self.view_is in
     let v : Write = with_data c.in-Some.write c.args.head.now c.args.bytes.now in
-    subst (λ (x : Next). Crashes (commands_by x) (g.S.BlockStore.disk c.args.store.now) (g.S.BlockStore.disk c.work_off.new.store)
+    subst (λ (x : Next). Crashes g.S.BlockStore.protected (commands_by x) (g.S.BlockStore.disk c.args.store.now) (g.S.BlockStore.disk c.work_off.new.store)
     (g.S.BlockStore.kept c.args.store.now) (g.S.BlockStore.kept c.work_off.new.store))
     (sym (data_taken_by c.args.self.now c.args.received.now c.args.head.now c.args.bytes.now c.in-Some.write here due))
-    (subst (λ (orders : List Supplied). Crashes orders (g.S.BlockStore.disk c.args.store.now) (g.S.BlockStore.disk c.work_off.new.store)
+    (subst (λ (orders : List Supplied). Crashes g.S.BlockStore.protected orders (g.S.BlockStore.disk c.args.store.now) (g.S.BlockStore.disk c.work_off.new.store)
     (g.S.BlockStore.kept c.args.store.now) (g.S.BlockStore.kept c.work_off.new.store))
     (commands_same (with_write (joined_write v) c.args.self.now.tasks) (with_write v c.args.self.now.tasks) (ones_written v c.args.self.now.tasks))
-    (subst (λ (x : Machine). Crashes (commands_of x.tasks) (g.S.BlockStore.disk c.args.store.now) (g.S.BlockStore.disk c.work_off.new.store)
+    (subst (λ (x : Machine). Crashes g.S.BlockStore.protected (commands_of x.tasks) (g.S.BlockStore.disk c.args.store.now) (g.S.BlockStore.disk c.work_off.new.store)
     (g.S.BlockStore.kept c.args.store.now) (g.S.BlockStore.kept c.work_off.new.store)) whole c.work_off.ensures.crash))

@@ -13,7 +13,7 @@ use Rattle.iscsi_target.proofs.machine.Machine.handle.Goals as goal
 
 pub returns-in-ScsiCommand-clause-handles : goal.returns-in-ScsiCommand-clause-handles
 returns-in-ScsiCommand-clause-handles g c = record {
-  ok = serves_if c.scsi_command.result (g.S.BlockStore.failures c.args.store.now) (g.S.BlockStore.failures c.scsi_command.new.store)
+  ok = serves_if g.S.BlockStore.protected c.scsi_command.result (g.S.BlockStore.failures c.args.store.now) (g.S.BlockStore.failures c.scsi_command.new.store)
       (λ (d : Device). handled d c.args.self.now (g.S.BlockStore.disk c.args.store.now) c.args.received.now c.args.received.now.head)
       (λ (d : Device). scsi_command d c.args.self.now (g.S.BlockStore.disk c.args.store.now) c.args.received.now c.in-ScsiCommand.head
       c.received.inside.pdu.bytes.now) c.scsi_command.new.self (g.S.BlockStore.disk c.scsi_command.new.store) c.args.out.now.items c.scsi_command.new.out.items
@@ -25,7 +25,7 @@ returns-in-ScsiCommand-clause-handles g c = record {
 pub returns-in-NopOut-clause-handles : goal.returns-in-NopOut-clause-handles
 returns-in-NopOut-clause-handles g c =
     let other : is_command c.received.inside.pdu.head ≡ false = search rules in
-    leaves_handles c.answer_request.result (g.S.BlockStore.failures c.args.store.now)
+    leaves_handles g.S.BlockStore.protected c.answer_request.result (g.S.BlockStore.failures c.args.store.now)
     (on (g.S.BlockStore.disk c.args.store.now) c.args.self.now.tasks (request_answered c.args.self.now.session (waiting c.args.self.now.tasks)
     c.args.received.now c.args.received.now.head)) (λ (d : Device). handled d c.args.self.now (g.S.BlockStore.disk c.args.store.now) c.args.received.now
     c.args.received.now.head) (g.S.BlockStore.disk c.args.store.now) c.args.self.now c.answer_request.new.self c.args.out.now.items
@@ -36,7 +36,7 @@ returns-in-NopOut-clause-handles g c =
 
 pub returns-in-ScsiCommand-clause-crash : goal.returns-in-ScsiCommand-clause-crash
 returns-in-ScsiCommand-clause-crash g c =
-    subst (λ (orders : List Supplied). Crashes orders (g.S.BlockStore.disk c.args.store.now) (g.S.BlockStore.disk c.scsi_command.new.store)
+    subst (λ (orders : List Supplied). Crashes g.S.BlockStore.protected orders (g.S.BlockStore.disk c.args.store.now) (g.S.BlockStore.disk c.scsi_command.new.store)
     (g.S.BlockStore.kept c.args.store.now) (g.S.BlockStore.kept c.scsi_command.new.store))
     (command_is_in c.received.inside.continued c.received.inside.pdu.head c.received.inside.pdu.bytes.now c.args.received.now c.received.view_is
     c.in-ScsiCommand.head c.in-ScsiCommand.is) c.scsi_command.ensures.crash

@@ -8,8 +8,8 @@ use Rattle.iscsi_target.proofs.machine.Machine.open.Goals as goal
 
 pub returns-clause-crash : goal.returns-clause-crash
 returns-clause-crash g c =
-    subst (λ (bytes : List ℕ). Crashes ((order_of c.args.command.now, bytes) ∷ []) (g.S.BlockStore.disk c.args.store.now)
+    subst (λ (bytes : List ℕ). Crashes g.S.BlockStore.protected ((order_of c.args.command.now, bytes) ∷ []) (g.S.BlockStore.disk c.args.store.now)
     (g.S.BlockStore.disk c.proceed.new.store) (g.S.BlockStore.kept c.args.store.now) (g.S.BlockStore.kept c.proceed.new.store)) (data_of_one c.args.bytes.now)
-    (subst (λ (w : Write). Crashes ((w.order, data_of w.pieces) ∷ []) (g.S.BlockStore.disk c.args.store.now)
+    (subst (λ (w : Write). Crashes g.S.BlockStore.protected ((w.order, data_of w.pieces) ∷ []) (g.S.BlockStore.disk c.args.store.now)
     (g.S.BlockStore.disk c.proceed.new.store) (g.S.BlockStore.kept c.args.store.now)
     (g.S.BlockStore.kept c.proceed.new.store)) c.in_ok-write.ensures c.proceed.ensures.crash)

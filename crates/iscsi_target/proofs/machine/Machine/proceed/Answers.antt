@@ -12,7 +12,7 @@ use Rattle.iscsi_target.proofs.machine.Machine.proceed.Goals as goal
 
 pub returns-then-is_whole-clause-handles : goal.returns-then-is_whole-clause-handles
 returns-then-is_whole-clause-handles g c = record {
-  ok = serves_if c.execute_write.result (g.S.BlockStore.failures c.args.store.now) (g.S.BlockStore.failures c.execute_write.new.store)
+  ok = serves_if g.S.BlockStore.protected c.execute_write.result (g.S.BlockStore.failures c.args.store.now) (g.S.BlockStore.failures c.execute_write.new.store)
       (λ (d : Device). proceed d c.args.self.now (g.S.BlockStore.disk c.args.store.now) c.args.write)
       (λ (d : Device). execute d c.args.self.now (g.S.BlockStore.disk c.args.store.now) c.args.write.initiator_task_tag c.args.write.order c.args.write.pieces)
       c.execute_write.new.self (g.S.BlockStore.disk c.execute_write.new.store) c.args.out.now.items c.execute_write.new.out.items
@@ -23,7 +23,7 @@ returns-then-is_whole-clause-handles g c = record {
 
 pub returns-then-is_idle-clause-handles : goal.returns-then-is_idle-clause-handles
 returns-then-is_idle-clause-handles g c =
-    leaves_handles c.send_r2t.result (g.S.BlockStore.failures c.args.store.now) (send_r2t c.args.self.now (g.S.BlockStore.disk c.args.store.now) c.args.write)
+    leaves_handles g.S.BlockStore.protected c.send_r2t.result (g.S.BlockStore.failures c.args.store.now) (send_r2t c.args.self.now (g.S.BlockStore.disk c.args.store.now) c.args.write)
     (λ (d : Device). proceed d c.args.self.now (g.S.BlockStore.disk c.args.store.now) c.args.write)
     (g.S.BlockStore.disk c.args.store.now) c.args.self.now c.send_r2t.new.self c.args.out.now.items c.send_r2t.new.out.items
     (λ (d : Device). proceeds_asking d c.args.self.now (g.S.BlockStore.disk c.args.store.now) c.args.write (sym c.is_whole.ensures ∙ c.if-is_whole.false)
@@ -34,7 +34,7 @@ returns-clause-handles g c = record {
   ok = let pushed : with_tasks c.self.inside.session c.push_first.new.self ≡ led_by c.args.write c.args.self.now =
       ap (λ (ts : List Task). with_tasks c.self.inside.session ts) c.push_first.ensures
       ∙ ap (λ (m : Machine). with_tasks m.session (Data c.args.write ∷ m.tasks)) c.self.view_is in
-      unchanged_serves (g.S.BlockStore.failures c.args.store.now) (led_by c.args.write c.args.self.now)
+      unchanged_serves g.S.BlockStore.protected (g.S.BlockStore.failures c.args.store.now) (led_by c.args.write c.args.self.now)
       (λ (d : Device). proceed d c.args.self.now (g.S.BlockStore.disk c.args.store.now) c.args.write) (g.S.BlockStore.disk c.args.store.now)
       (with_tasks c.self.inside.session c.push_first.new.self) c.args.out.now.items
       (λ (d : Device). proceeds_waiting d c.args.self.now (g.S.BlockStore.disk c.args.store.now) c.args.write (sym c.is_whole.ensures ∙ c.if-is_whole.false)

@@ -12,7 +12,7 @@ returns-clause-ok g c =
     let failures = g.S.BlockStore.failures in
     let order = c.args.order.now in
     let s = c.args.self.now in
-    on_ok c.append_response.result (answers_failed s c.args.tag order disk (g.S.BlockStore.disk c.append_read.new.store) c.args.range
+    on_ok c.append_response.result (answers_failed g.S.BlockStore.protected s c.args.tag order disk (g.S.BlockStore.disk c.append_read.new.store) c.args.range
     (failures c.args.store.now) (failures c.append_read.new.store) c.in_ok-outcome.outcome c.response_head-head.result c.args.out.now.items
     c.truncate.new.self.items c.append_response.new.out.items (whole disk order (plan_of order disk.count) c.args.range refl c.requires.whole)
     c.append_read.ensures.disk (c.in-Err.ensures.device (ap Err c.in_ok-outcome.ensures.ok.0)) c.in_ok-outcome.ensures.ok.1 (search rules)

@@ -13,14 +13,14 @@ use Rattle.iscsi_target.proofs.machine.Machine.serve.Goals as goal
 pub returns-in-Outside-clause-follows : goal.returns-in-Outside-clause-follows
 returns-in-Outside-clause-follows g c =
     let n : ℕ = (g.S.BlockStore.disk c.args.store.now).count in
-    dropped_follows (g.S.BlockStore.failures c.args.store.now) c.args.self.now (full_met c.args.self.now n c.args.received.now).next
+    dropped_follows g.S.BlockStore.protected (g.S.BlockStore.failures c.args.store.now) c.args.self.now (full_met c.args.self.now n c.args.received.now).next
     (g.S.BlockStore.disk c.args.store.now) c.args.self.now c.args.out.now.items
     (judged c.args.self.now n c.args.received.now _ c.judge.result _ c.judge.ensures c.in-Outside.is) refl
 
 pub returns-in-Breaks-clause-follows : goal.returns-in-Breaks-clause-follows
 returns-in-Breaks-clause-follows g c =
     let n : ℕ = (g.S.BlockStore.disk c.args.store.now).count in
-    answered_follows c.reject_and_close.result (g.S.BlockStore.failures c.args.store.now) c.args.self.now
+    answered_follows g.S.BlockStore.protected c.reject_and_close.result (g.S.BlockStore.failures c.args.store.now) c.args.self.now
     (reject_and_close c.args.self.now.session (waiting c.args.self.now.tasks) c.in-Breaks.rule c.args.received.now)
     (full_met c.args.self.now n c.args.received.now).next (g.S.BlockStore.disk c.args.store.now)
     c.reject_and_close.new.self c.args.out.now.items c.reject_and_close.new.out.items
@@ -30,7 +30,7 @@ returns-in-Breaks-clause-follows g c =
 pub returns-in-NoRoom-clause-follows : goal.returns-in-NoRoom-clause-follows
 returns-in-NoRoom-clause-follows g c =
     let n : ℕ = (g.S.BlockStore.disk c.args.store.now).count in
-    answered_follows c.reject.result (g.S.BlockStore.failures c.args.store.now) c.args.self.now
+    answered_follows g.S.BlockStore.protected c.reject.result (g.S.BlockStore.failures c.args.store.now) c.args.self.now
     (reject c.args.self.now.session (waiting c.args.self.now.tasks) too_many_immediate c.args.received.now)
     (full_met c.args.self.now n c.args.received.now).next (g.S.BlockStore.disk c.args.store.now)
     c.reject.new.self c.args.out.now.items c.reject.new.out.items
@@ -40,7 +40,7 @@ returns-in-NoRoom-clause-follows g c =
 pub returns-in-Data-clause-follows : goal.returns-in-Data-clause-follows
 returns-in-Data-clause-follows g c =
     let n : ℕ = (g.S.BlockStore.disk c.args.store.now).count in
-    follows_as c.data_out.result (data_out c.args.self.now c.args.received.now c.in-Data.head c.received.inside.pdu.bytes.now)
+    follows_as g.S.BlockStore.protected c.data_out.result (data_out c.args.self.now c.args.received.now c.in-Data.head c.received.inside.pdu.bytes.now)
     (full_met c.args.self.now n c.args.received.now).next c.args.self.now
     (store_of (g.S.BlockStore.disk c.args.store.now) (g.S.BlockStore.failures c.args.store.now)) c.args.out.now.items c.data_out.new.self
     (store_of (g.S.BlockStore.disk c.data_out.new.store) (g.S.BlockStore.failures c.data_out.new.store)) c.data_out.new.out.items
@@ -49,7 +49,7 @@ returns-in-Data-clause-follows g c =
 
 pub returns-in-Data-clause-crash : goal.returns-in-Data-clause-crash
 returns-in-Data-clause-crash g c =
-    subst (λ (x : Next). Crashes (commands_by x) (g.S.BlockStore.disk c.args.store.now) (g.S.BlockStore.disk c.data_out.new.store)
+    subst (λ (x : Next). Crashes g.S.BlockStore.protected (commands_by x) (g.S.BlockStore.disk c.args.store.now) (g.S.BlockStore.disk c.data_out.new.store)
     (g.S.BlockStore.kept c.args.store.now) (g.S.BlockStore.kept c.data_out.new.store))
     (judged_data c.args.self.now (g.S.BlockStore.disk c.args.store.now).count c.received.inside.continued c.received.inside.pdu.head
     c.received.inside.pdu.bytes.now c.args.received.now c.received.view_is _ c.judge.result c.in-Data.head c.judge.ensures c.in-Data.is)
@@ -67,14 +67,14 @@ admit-requires-clause-turn g c = inl (subst (MayCome c.args.self.now c.args.rece
 pub returns-in-AtOnce-clause-follows : goal.returns-in-AtOnce-clause-follows
 returns-in-AtOnce-clause-follows g c =
     let n : ℕ = (g.S.BlockStore.disk c.args.store.now).count in
-    follows_as c.admit.result (admitted c.args.self.now n c.args.received.now) (full_met c.args.self.now n c.args.received.now).next c.args.self.now
+    follows_as g.S.BlockStore.protected c.admit.result (admitted c.args.self.now n c.args.received.now) (full_met c.args.self.now n c.args.received.now).next c.args.self.now
     (store_of (g.S.BlockStore.disk c.args.store.now) (g.S.BlockStore.failures c.args.store.now)) c.args.out.now.items c.admit.new.self
     (store_of (g.S.BlockStore.disk c.admit.new.store) (g.S.BlockStore.failures c.admit.new.store)) c.admit.new.out.items
     (sym (judged c.args.self.now n c.args.received.now _ c.judge.result _ c.judge.ensures c.in-AtOnce.is)) c.admit.ensures.follows
 
 pub returns-in-AtOnce-clause-crash : goal.returns-in-AtOnce-clause-crash
 returns-in-AtOnce-clause-crash g c =
-    subst (λ (x : Next). Crashes (commands_by x) (g.S.BlockStore.disk c.args.store.now) (g.S.BlockStore.disk c.admit.new.store)
+    subst (λ (x : Next). Crashes g.S.BlockStore.protected (commands_by x) (g.S.BlockStore.disk c.args.store.now) (g.S.BlockStore.disk c.admit.new.store)
     (g.S.BlockStore.kept c.args.store.now) (g.S.BlockStore.kept c.admit.new.store))
     (sym (judged c.args.self.now (g.S.BlockStore.disk c.args.store.now).count c.args.received.now _ c.judge.result _ c.judge.ensures c.in-AtOnce.is))
     c.admit.ensures.crash
@@ -84,18 +84,18 @@ returns-in-InTurn-clause-follows g c =
     let n : ℕ = (g.S.BlockStore.disk c.args.store.now).count in
     let before : Store = store_of (g.S.BlockStore.disk c.args.store.now) (g.S.BlockStore.failures c.args.store.now) in
     let after : Store = store_of (g.S.BlockStore.disk c.admit-in-InTurn.new.store) (g.S.BlockStore.failures c.admit-in-InTurn.new.store) in
-    follows_as c.admit-in-InTurn.result (admitted (advanced c.args.self.now) n c.args.received.now) (full_met c.args.self.now n c.args.received.now).next
+    follows_as g.S.BlockStore.protected c.admit-in-InTurn.result (admitted (advanced c.args.self.now) n c.args.received.now) (full_met c.args.self.now n c.args.received.now).next
     c.args.self.now before c.args.out.now.items c.admit-in-InTurn.new.self after c.admit-in-InTurn.new.out.items
     (sym (judged c.args.self.now n c.args.received.now _ c.judge.result _ c.judge.ensures c.in-InTurn.is))
-    (in_its_turn c.admit-in-InTurn.result c.args.self.now n c.args.received.now before c.args.out.now.items
+    (in_its_turn g.S.BlockStore.protected c.admit-in-InTurn.result c.args.self.now n c.args.received.now before c.args.out.now.items
     (moment c.admit-in-InTurn.new.self after c.admit-in-InTurn.new.out.items)
-    (subst (λ (x : Machine). Follows (admitted x n c.args.received.now) c.admit-in-InTurn.result (moment x before c.args.out.now.items)
+    (subst (λ (x : Machine). Follows g.S.BlockStore.protected (admitted x n c.args.received.now) c.admit-in-InTurn.result (moment x before c.args.out.now.items)
     (moment c.admit-in-InTurn.new.self after c.admit-in-InTurn.new.out.items)) c.advance.ensures c.admit-in-InTurn.ensures.follows))
 
 pub returns-in-InTurn-clause-crash : goal.returns-in-InTurn-clause-crash
 returns-in-InTurn-clause-crash g c =
     let n : ℕ = (g.S.BlockStore.disk c.args.store.now).count in
-    subst (λ (x : Next). Crashes (commands_by x) (g.S.BlockStore.disk c.args.store.now) (g.S.BlockStore.disk c.admit-in-InTurn.new.store)
+    subst (λ (x : Next). Crashes g.S.BlockStore.protected (commands_by x) (g.S.BlockStore.disk c.args.store.now) (g.S.BlockStore.disk c.admit-in-InTurn.new.store)
     (g.S.BlockStore.kept c.args.store.now) (g.S.BlockStore.kept c.admit-in-InTurn.new.store))
     (ap (λ (x : Machine). admitted x n c.args.received.now) c.advance.ensures
     ∙ sym (judged c.args.self.now n c.args.received.now _ c.judge.result _ c.judge.ensures c.in-InTurn.is)) c.admit-in-InTurn.ensures.crash

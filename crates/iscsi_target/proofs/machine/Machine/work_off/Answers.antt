@@ -14,9 +14,9 @@ use Rattle.iscsi_target.proofs.machine.Machine.work_off.Goals.{then-is_closed-vi
 
 pub loop-task-init : goal.loop-task-init
 loop-task-init g c = record {
-  works = goes_start (moment c.args.self.now (store_of (g.S.BlockStore.disk c.args.store.now) (g.S.BlockStore.failures c.args.store.now))
+  works = goes_start g.S.BlockStore.protected (moment c.args.self.now (store_of (g.S.BlockStore.disk c.args.store.now) (g.S.BlockStore.failures c.args.store.now))
       c.args.out.now.items);
-  crash = goes_first (commands_of c.args.self.now.tasks) (g.S.BlockStore.disk c.args.store.now) (g.S.BlockStore.kept c.args.store.now);
+  crash = goes_first g.S.BlockStore.protected (commands_of c.args.self.now.tasks) (g.S.BlockStore.disk c.args.store.now) (g.S.BlockStore.kept c.args.store.now);
 }
 
 pub returns-in_err-broken-clause-works : goal.returns-in_err-broken-clause-works
@@ -27,7 +27,7 @@ returns-in_err-broken-clause-works g c =
     c.loop-task.out.items in
     let new : Moment = moment c.begin.new.self (store_of (g.S.BlockStore.disk c.begin.new.store) (g.S.BlockStore.failures c.begin.new.store))
     c.begin.new.out.items in
-    let h = goes_short c.in_err-broken.field-0.0 old now new c.self.inside.session c.in-Some.task c.take_first.new.self c.loop-task.invariant.works
+    let h = goes_short g.S.BlockStore.protected c.in_err-broken.field-0.0 old now new c.self.inside.session c.in-Some.task c.take_first.new.self c.loop-task.invariant.works
     (sym c.self.view_is
     ∙ ap (with_tasks c.self.inside.session) c.in-Some.ensures.some) c.in_err-broken.ensures.handles.err in
     record { ok = search rules; err = on_err c.from_residual.result h.err }
@@ -45,7 +45,7 @@ returns-then-is_closed-clause-works g c =
     c.loop-task.out.items in
     let new : Moment = moment c.begin.new.self (store_of (g.S.BlockStore.disk c.begin.new.store) (g.S.BlockStore.failures c.begin.new.store))
     c.begin.new.out.items in
-    goes_stop AllocError old now new c.self.inside.session c.in-Some.task c.take_first.new.self c.in_ok-broken.broken c.loop-task.invariant.works
+    goes_stop g.S.BlockStore.protected AllocError old now new c.self.inside.session c.in-Some.task c.take_first.new.self c.in_ok-broken.broken c.loop-task.invariant.works
     (sym c.self.view_is
     ∙ ap (with_tasks c.self.inside.session) c.in-Some.ensures.some) c.in_ok-broken.ensures.handles.ok stop
 
@@ -60,14 +60,14 @@ loop-task-preserved g c =
     let new : Moment = moment c.begin.new.self (store_of (g.S.BlockStore.disk c.begin.new.store) (g.S.BlockStore.failures c.begin.new.store))
     c.begin.new.out.items in
     let taken : Moment = at_tasks now c.self.inside.session c.take_first.new.self in
-    let step : Goes taken c.in-Some.task c.in_ok-broken.broken new =
+    let step : Goes g.S.BlockStore.protected taken c.in-Some.task c.in_ok-broken.broken new =
     record { serves = c.in_ok-broken.ensures.handles.ok; live = sym c.is_closed.ensures ∙ c.if-is_closed.false; done = search rules } in
     record {
-      works = goes_then old now new c.self.inside.session c.in-Some.task c.take_first.new.self c.in_ok-broken.broken c.loop-task.invariant.works is step;
-      crash = tasks_left (commands_of c.args.self.now.tasks) c.take_first.new.self c.begin.new.self.tasks (g.S.BlockStore.disk c.args.store.now)
+      works = goes_then g.S.BlockStore.protected old now new c.self.inside.session c.in-Some.task c.take_first.new.self c.in_ok-broken.broken c.loop-task.invariant.works is step;
+      crash = tasks_left g.S.BlockStore.protected (commands_of c.args.self.now.tasks) c.take_first.new.self c.begin.new.self.tasks (g.S.BlockStore.disk c.args.store.now)
           (g.S.BlockStore.disk c.begin.new.store) (g.S.BlockStore.kept c.args.store.now) (g.S.BlockStore.kept c.begin.new.store)
-          (left_behind taken c.in-Some.task c.in_ok-broken.broken new step)
-          (task_done (commands_of c.args.self.now.tasks) c.loop-task.self c.self.inside.session c.in-Some.task c.take_first.new.self
+          (left_behind g.S.BlockStore.protected taken c.in-Some.task c.in_ok-broken.broken new step)
+          (task_done g.S.BlockStore.protected (commands_of c.args.self.now.tasks) c.loop-task.self c.self.inside.session c.in-Some.task c.take_first.new.self
           (g.S.BlockStore.disk c.args.store.now) (g.S.BlockStore.disk c.loop-task.store) (g.S.BlockStore.disk c.begin.new.store)
           (g.S.BlockStore.kept c.args.store.now) (g.S.BlockStore.kept c.loop-task.store) (g.S.BlockStore.kept c.begin.new.store) is
           c.loop-task.invariant.crash (g.met.S.BlockStore.stays c.loop-task.store) c.in_ok-broken.ensures.crash);
@@ -79,14 +79,14 @@ returns-clause-works g c =
     in
     let now : Moment = moment c.loop-task.self (store_of (g.S.BlockStore.disk c.loop-task.store) (g.S.BlockStore.failures c.loop-task.store))
     c.loop-task.out.items in
-    subst (λ (tasks : List Task). Works {E = AllocError} (Ok None) old (at_tasks now c.self.inside.session tasks))
+    subst (λ (tasks : List Task). Works {E = AllocError} g.S.BlockStore.protected (Ok None) old (at_tasks now c.self.inside.session tasks))
     (sym (c.in_default.ensures.kept ∙ c.in_default.ensures.none))
-    (goes_end AllocError old now c.self.inside.session c.loop-task.invariant.works (sym c.self.view_is
+    (goes_end g.S.BlockStore.protected AllocError old now c.self.inside.session c.loop-task.invariant.works (sym c.self.view_is
     ∙ ap (with_tasks c.self.inside.session) c.in_default.ensures.none))
 
 pub returns-in_err-broken-clause-crash : goal.returns-in_err-broken-clause-crash
 returns-in_err-broken-clause-crash g c =
-    (task_done (commands_of c.args.self.now.tasks) c.loop-task.self c.self.inside.session c.in-Some.task c.take_first.new.self
+    (task_done g.S.BlockStore.protected (commands_of c.args.self.now.tasks) c.loop-task.self c.self.inside.session c.in-Some.task c.take_first.new.self
     (g.S.BlockStore.disk c.args.store.now) (g.S.BlockStore.disk c.loop-task.store) (g.S.BlockStore.disk c.begin.new.store)
     (g.S.BlockStore.kept c.args.store.now) (g.S.BlockStore.kept c.loop-task.store) (g.S.BlockStore.kept c.begin.new.store)
     (sym c.self.view_is ∙ ap (with_tasks c.self.inside.session) c.in-Some.ensures.some)
@@ -94,7 +94,7 @@ returns-in_err-broken-clause-crash g c =
 
 pub returns-then-is_closed-clause-crash : goal.returns-then-is_closed-clause-crash
 returns-then-is_closed-clause-crash g c =
-    (task_done (commands_of c.args.self.now.tasks) c.loop-task.self c.self.inside.session c.in-Some.task c.take_first.new.self
+    (task_done g.S.BlockStore.protected (commands_of c.args.self.now.tasks) c.loop-task.self c.self.inside.session c.in-Some.task c.take_first.new.self
     (g.S.BlockStore.disk c.args.store.now) (g.S.BlockStore.disk c.loop-task.store) (g.S.BlockStore.disk c.begin.new.store)
     (g.S.BlockStore.kept c.args.store.now) (g.S.BlockStore.kept c.loop-task.store) (g.S.BlockStore.kept c.begin.new.store)
     (sym c.self.view_is ∙ ap (with_tasks c.self.inside.session) c.in-Some.ensures.some)
