@@ -1,7 +1,7 @@
 #!/usr/bin/env python3
 """Measures how long one honest peer waits for its reads beside 63 peers that send without a pause.
 
-    tools/strangers/floods.py [--seconds S | --hour] [--kind K].. [PROGRAM]
+    tools/strangers/floods.py [--seconds S | --hour] [--together] [--kind K].. [PROGRAM]
 
 PROGRAM is crates/lanthovur/out/lanthovur if none is named; `./lanthovur </dev/null` builds it. All is done on 127.0.0.1. The
 honest peer has one read of a block outstanding, of blocks that it wrote before, each with its number in it, and looks at each
@@ -9,10 +9,13 @@ byte of its answer. For each kind of flood a row tells how many reads it had, it
 that is wanted, memory and descriptors of the service at the start and at the end, and the most memory. A kind fails if its median
 is over the bound, if an answer is not as it should be, if a peer is cut, or if there are other descriptors at the end. A flood
 that has sent all its commands logs in anew. Last come 32 equal peers, each with one read outstanding: the line tells the least and
-the most commands of one, and fails if the most are twice the least. --kind takes the kinds whose name begins so. The last line is
-'N passed, M failed'. It takes S seconds (4) a kind, or an hour, and some seconds more.
+the most commands of one, and fails if the most are twice the least. --kind takes the kinds whose name begins so. With
+--together all kinds go on side by side, each with a service of its own, so that an hour of each takes an hour. The services
+share the machine then, so a median is told and is no condition, and there are no equal peers. The last line is 'N passed, M
+failed'. It takes S seconds (4) a kind, or an hour, and some seconds more.
 """
 import argparse
+import concurrent.futures
 import functools
 import importlib.util
 import itertools
@@ -70,13 +73,25 @@ def text(n):
     return pdu(0x04, keys.encode(), p1=b"\x80", p16=number(n), p20=number(0xFFFFFFFF), p24=number(n))
 
 
+def entered(port, name, stop):
+    """A peer that has logged in, or None at the end. While all seats are taken, one that has not logged in makes room: it tries again."""
+    while not stop.is_set():
+        try:
+            return BASE.login(port, name, KEYS)
+        except OSError:
+            pass
+    return None
+
+
 def flood(make, port, count, stop):
     """Some peers that send one stream of such commands, and throw away what is answered. A peer that is cut ends all."""
     stream = b"".join(make(n) for n in range(1, (COMMANDS if len(make(1)) < 1000 else COMMANDS // 10) + 1))
     watched = selectors.DefaultSelector()
 
     def begin(k):
-        peer = BASE.login(port, f"iqn.2026-01.example:{os.getpid()}-{k}", KEYS)
+        peer = entered(port, f"iqn.2026-01.example:{os.getpid()}-{k}", stop)
+        if peer is None:
+            return
         peer.setblocking(False)
         watched.register(peer, selectors.EVENT_READ | selectors.EVENT_WRITE, [k, 0])
 
@@ -300,8 +315,10 @@ def main():
     lasts.add_argument("--seconds", type=float, default=4, help="how long each flood lasts (4)")
     lasts.add_argument("--hour", dest="seconds", action="store_const", const=3600, help="each flood lasts an hour")
     parser.add_argument("--kind", action="append", help="the kinds whose name begins so; all if left out")
+    parser.add_argument("--together", action="store_true", help="all kinds side by side")
     parser.add_argument("program", nargs="?", default=f"{TOP}/crates/lanthovur/out/lanthovur")
     asked = parser.parse_args()
+
     def is_chosen(name):
         return not asked.kind or any(name.startswith(begin) for begin in asked.kind)
 
@@ -311,22 +328,30 @@ def main():
     program, failed = os.path.abspath(asked.program), 0
     print("| Flood | Reads | Median, ms | Slowest, ms | Bound, ms | KiB at the start, the end, the most | Descriptors at the start, the end |")
     print("|---|---|---|---|---|---|---|", flush=True)
-    for name, *kind in chosen:
-        try:
-            wrong = faults(program, asked.seconds, name, *kind)
-        except OSError as error:
-            wrong = [str(error)]
-        failed += bool(wrong)
-        for fault in wrong:
-            print(f"FAILED {name}: {fault}", flush=True)
+    # A process for each, so that no kind holds the sockets of another.
+    with concurrent.futures.ProcessPoolExecutor(max(1, len(chosen)) if asked.together else 1) as pool:
+        runs = [pool.submit(told, program, asked.seconds, asked.together, KINDS.index(row)) for row in chosen]
+        failed += sum(run.result() for run in runs)
     count = len(chosen)
-    if is_chosen(EQUAL):
+    if is_chosen(EQUAL) and not asked.together:
         failed, count = failed + (not are_fair(program, asked.seconds)), count + 1
     print(f"{count - failed} passed, {failed} failed")
     sys.exit(1 if failed else 0)
 
 
-def faults(program, seconds, name, kind, bound, single, is_file, peers):
+def told(program, seconds, together, number):
+    """Prints the row of a kind and what is wrong with it, and says whether anything is."""
+    name, *kind = KINDS[number]
+    try:
+        wrong = faults(program, seconds, together, name, *kind)
+    except OSError as error:
+        wrong = [str(error)]
+    for fault in wrong:
+        print(f"FAILED {name}: {fault}", flush=True)
+    return bool(wrong)
+
+
+def faults(program, seconds, together, name, kind, bound, single, is_file, peers):
     """Prints the row of a kind, and says what is wrong. A flood that ended early was no flood."""
     with tempfile.TemporaryDirectory() as folder:
         words = ["--file", os.path.join(folder, "disk.img"), "--create"] if is_file else []
@@ -343,7 +368,7 @@ def faults(program, seconds, name, kind, bound, single, is_file, peers):
     median, slowest = statistics.median(found), max(found)
     memory, descriptors = f"{start[0]}, {end[0]}, {end[1]}", f"{start[2]}, {end[2]}"
     print(f"| {name} | {len(found)} | {median:.1f} | {slowest:.0f} | {bound:.0f} | {memory} | {descriptors} |", flush=True)
-    wrong = [f"the median is over {bound:.0f} ms"] if median > bound else []
+    wrong = [f"the median is over {bound:.0f} ms"] if median > bound and not together else []
     wrong += [f"{ended} of {PROCESSES} floods ended early"] if ended else []
     return wrong + (["there are other descriptors at the end"] if start[2] != end[2] else [])
 
