@@ -1,0 +1,11 @@
+use Rattle.std.proofs.Common.{◌==◌, rules}
+use borrow.Author.Tests.{tests}
+use Rattle.std.specs.Str.{bytes_eq}
+use Rattle.std.proofs.lemmas.Iterator.Splits.{YieldsList-from_slice_split}
+use Rattle.std.proofs.lemmas.Iterator.Search.{any_from_yields_List}
+use Rattle.iscsi_access.proofs.reading.has_item.Goals as goal
+
+pub returns : goal.returns
+returns c = any_from_yields_List (λ item. bytes_eq item c.args.item.now) _ _ c.any.result c.any.ensures.ran
+    (YieldsList-from_slice_split _ (λ b. b == 44) c.args.bytes.now c.split.ensures.rest c.split.ensures.done c.split.ensures.closure
+    (λ x b q k. search (rules, tests))) (λ x b q k. search (rules, tests))

@@ -1,0 +1,8 @@
+-- None of the accounts so far has the secret.
+use Rattle.std.proofs.Common.{◌≡◌, false, take}
+use Rattle.std.specs.List.{list_any}
+use Rattle.std.specs.Str.{bytes_eq}
+use Rattle.iscsi_secrets.proofs.secrets.shares_secret.Given as goal
+
+abbrev pub invariant-loop-account : goal.invariant-loop-account
+invariant-loop-account l = list_any (λ a. bytes_eq a.secret l.other.secret) (take l.account-index l.accounts) ≡ false

@@ -1,0 +1,285 @@
+//! Secrets, and the lines of a text that give them.
+
+ghost use Rattle.std.specs.Prelude.{◌≡◌, ◌≢◌, ◌||◌, true, false, IfOk, IfErr, OnOk, Ok, Err, Some, None, map};
+ghost use Rattle.iscsi_access.specs.Chap.{has_secret};
+ghost use Rattle.iscsi_secrets.specs.declared.fault.SecretsFault.TheVariants as faults;
+ghost use Rattle.iscsi_secrets.specs.Secrets.{account_of, demand_of, has_name, is_own_name, is_own_secret, is_secret, secrets_in, with_four, with_three, with_user, with_target, with_words, words_of};
+
+use crate::fault::SecretsFault;
+use crate::line::{lines_of, words_of};
+use iscsi_access::{Account, Chap};
+use std::alloc::{AllocError, Global};
+use std::marker::Model;
+
+/// The most bytes of a text.
+pub(crate) const LONGEST_TEXT: usize = 65_536;
+
+/// The most users.
+const MOST_USERS: usize = 64;
+
+const USER: &[u8] = b"user";
+
+const TARGET: &[u8] = b"target";
+
+/// Who may log in, and as whom the target answers, if it does.
+///
+/// No secret is handed out, and there is no `Debug`.
+#[derive(Drop)]
+pub struct Secrets {
+    accounts: Vec<Account>,
+    own: Option<Account>,
+}
+
+impl Model for Secrets {
+    ghost use Rattle.iscsi_access.specs.Chap.{AreApart};
+    ghost use Rattle.iscsi_secrets.specs.Secrets.{Secrets};
+
+    ghost Value = { Secrets };
+
+    ghost view = { λ s. record { accounts = s.accounts.items; own = s.own } };
+
+    ghost invariant = { λ s. AreApart s.accounts.items s.own };
+}
+
+impl Secrets {
+    /// The secrets that a text gives, or the fault of its first line that is wrong.
+    ///
+    /// A line is `user NAME SECRET`, `user NAME SECRET IQN` or `target NAME SECRET`, or has no word.
+    /// A user may log in; with the last word it may do so only under this InitiatorName. A target
+    /// answers by the name and secret of its line.
+    /// - Words are parted by blanks, tabs or carriage returns. A `#` begins a comment, also inside a
+    ///   word, so that no word has one.
+    /// - A secret has 12 to 255 bytes.
+    /// - No name stands twice, and the target's secret is none of a user's.
+    /// - There is at most one target, and there are at most 64 users and 65,536 bytes.
+    ///
+    /// The first line that is wrong is told by its number, from 1. A text that is too long is
+    /// `TooLong`, whatever is in it. All of it is own rule, but for the least length of a secret (RFC
+    /// 7143, section 9.2.1).
+    pub fn read(alloc: Global, text: &[u8]) -> Result<Secrets, SecretsFault>
+        ensures ok { IfOk result (λ secrets. secrets_in text.now ≡ Ok secrets) }
+        ensures err { IfErr result (λ fault. fault ≢ faults.NoMemory →
+            secrets_in text.now ≡ Err fault) }
+    {
+        if text.len() > LONGEST_TEXT {
+            return Err(SecretsFault::TooLong);
+        }
+        let lines = lines_of(alloc, text)?;
+        let mut secrets = Secrets {
+            accounts: Vec::new(alloc),
+            own: None,
+        };
+        for n in 0..lines.len() {
+            secrets.take(alloc, n as u64 + 1, lines[n])?;
+        }
+        Ok(secrets)
+    }
+
+    /// What a target with these secrets demands in one login, by this identifier and challenge,
+    /// which are to be fresh. The only error is that memory ran out.
+    pub fn demand(
+        &self,
+        alloc: Global,
+        identifier: u8,
+        challenge: [u8; 16],
+    ) -> Result<Chap, AllocError>
+        ensures demand { IfOk result (λ chap. chap ≡ demand_of self.now identifier challenge) }
+    {
+        let accounts = copies_of(alloc, &self.accounts)?;
+        let own = match &self.own {
+            Some(own) => Some(own.copy(alloc)?),
+            None => None,
+        };
+        let Ok(chap) = Chap::new(accounts, own, identifier, challenge) else {
+            // The target's secret is none of a user's.
+            unreachable!()
+        };
+        Ok(chap)
+    }
+
+    // Takes the line of this number.
+    fn take(&mut self, alloc: Global, line: u64, text: &[u8]) -> Result<(), SecretsFault>
+        ensures ok { OnOk result (with_words line self.old (words_of text.now) ≡ Ok self.new) }
+        ensures err { IfErr result (λ fault. fault ≢ faults.NoMemory →
+            with_words line self.old (words_of text.now) ≡ Err fault) }
+    {
+        let words = words_of(alloc, text)?;
+        self.take_words(alloc, line, &words)
+    }
+
+    // Takes the words of the line of this number.
+    fn take_words(&mut self, alloc: Global, line: u64, words: &[&[u8]]) -> Result<(), SecretsFault>
+        ensures ok { OnOk result (with_words line self.old (map (λ word. word.now) words.now)
+            ≡ Ok self.new) }
+        ensures err { IfErr result (λ fault. fault ≢ faults.NoMemory →
+            with_words line self.old (map (λ word. word.now) words.now) ≡ Err fault) }
+    {
+        match words {
+            [] => Ok(()),
+            [kind, name, secret] => self.take_three(alloc, line, kind, name, secret),
+            [kind, name, secret, initiator] => {
+                self.take_four(alloc, line, kind, name, secret, initiator)
+            }
+            _ => Err(SecretsFault::BadLine(line)),
+        }
+    }
+
+    // Takes a line of three words.
+    fn take_three(
+        &mut self,
+        alloc: Global,
+        line: u64,
+        kind: &[u8],
+        name: &[u8],
+        secret: &[u8],
+    ) -> Result<(), SecretsFault>
+        ensures ok { OnOk result (with_three line self.old kind.now
+            (account_of name.now secret.now None) ≡ Ok self.new) }
+        ensures err { IfErr result (λ fault. fault ≢ faults.NoMemory → with_three line self.old
+            kind.now (account_of name.now secret.now None) ≡ Err fault) }
+    {
+        if kind == USER {
+            let account = account_of(alloc, line, name, secret)?;
+            return self.take_user(line, account);
+        }
+        if kind == TARGET {
+            let account = account_of(alloc, line, name, secret)?;
+            return self.take_target(line, account);
+        }
+        Err(SecretsFault::BadLine(line))
+    }
+
+    // Takes a line of four words.
+    fn take_four(
+        &mut self,
+        alloc: Global,
+        line: u64,
+        kind: &[u8],
+        name: &[u8],
+        secret: &[u8],
+        initiator: &[u8],
+    ) -> Result<(), SecretsFault>
+        ensures ok { OnOk result (with_four line self.old kind.now
+            (account_of name.now secret.now (Some initiator.now)) ≡ Ok self.new) }
+        ensures err { IfErr result (λ fault. fault ≢ faults.NoMemory → with_four line self.old
+            kind.now (account_of name.now secret.now (Some initiator.now)) ≡ Err fault) }
+    {
+        if kind != USER {
+            return Err(SecretsFault::BadLine(line));
+        }
+        let account = account_of(alloc, line, name, secret)?;
+        self.take_user(line, account.bound_to(initiator.to_vec(alloc)?))
+    }
+
+    // Takes a user.
+    #[tactic(auto, using(crate::proofs::ApartLemmas::apart_longer))]
+    fn take_user(&mut self, line: u64, account: Account) -> Result<(), SecretsFault>
+        requires { is_secret account.secret ≡ true }
+        ensures ok { OnOk result (with_user line self.old account ≡ Ok self.new) }
+        ensures err { IfErr result (λ fault. fault ≢ faults.NoMemory →
+            with_user line self.old account ≡ Err fault) }
+    {
+        if is_known(&self.accounts, &self.own, &account) {
+            return Err(SecretsFault::SameName(line));
+        }
+        if is_own_secret(&self.own, &account) {
+            return Err(SecretsFault::SameSecret(line));
+        }
+        if self.accounts.len() >= MOST_USERS {
+            return Err(SecretsFault::TooManyUsers(line));
+        }
+        self.accounts.push(account)?;
+        Ok(())
+    }
+
+    // Takes the target.
+    fn take_target(&mut self, line: u64, account: Account) -> Result<(), SecretsFault>
+        requires { is_secret account.secret ≡ true }
+        ensures ok { OnOk result (with_target line self.old account ≡ Ok self.new) }
+        ensures err { IfErr result (λ fault. with_target line self.old account ≡ Err fault) }
+    {
+        if self.own.is_some() {
+            return Err(SecretsFault::SecondTarget(line));
+        }
+        if is_known(&self.accounts, &self.own, &account) {
+            return Err(SecretsFault::SameName(line));
+        }
+        if shares_secret(&self.accounts, &account) {
+            return Err(SecretsFault::SameSecret(line));
+        }
+        self.own = Some(account);
+        Ok(())
+    }
+}
+
+// The account of a name and a secret, which any initiator may use.
+fn account_of(alloc: Global, line: u64, name: &[u8], secret: &[u8]) -> Result<Account, SecretsFault>
+    ensures ok { IfOk result (λ account. (account ≡ account_of name.now secret.now None)
+        × (is_secret secret.now ≡ true)) }
+    ensures err { IfErr result (λ fault. fault ≢ faults.NoMemory →
+        (fault ≡ faults.BadSecret line) × (is_secret secret.now ≡ false)) }
+{
+    let name = name.to_vec(alloc)?;
+    let secret = secret.to_vec(alloc)?;
+    match Account::new(name, secret) {
+        Ok(account) => Ok(account),
+        Err(_) => Err(SecretsFault::BadSecret(line)),
+    }
+}
+
+// Whether an earlier line has the account's name.
+fn is_known(accounts: &[Account], own: &Option<Account>, account: &Account) -> bool
+    ensures { result ≡ (has_name accounts.now account.now.name
+        || is_own_name own.now account.now.name) }
+{
+    shares_name(accounts, account)
+        || match own {
+            Some(own) => own.shares_name(account),
+            None => false,
+        }
+}
+
+// Whether the target has the account's secret.
+fn is_own_secret(own: &Option<Account>, account: &Account) -> bool
+    ensures { result ≡ is_own_secret own.now account.now.secret }
+{
+    match own {
+        Some(own) => account.shares_secret(own),
+        None => false,
+    }
+}
+
+// Whether one of the accounts has the name of another.
+fn shares_name(accounts: &[Account], other: &Account) -> bool
+    ensures { result ≡ has_name accounts.now other.now.name }
+{
+    for account in accounts {
+        if account.shares_name(other) {
+            return true;
+        }
+    }
+    false
+}
+
+// Whether one of the accounts has the secret of another.
+fn shares_secret(accounts: &[Account], other: &Account) -> bool
+    ensures { result ≡ has_secret accounts.now other.now.secret }
+{
+    for account in accounts {
+        if account.shares_secret(other) {
+            return true;
+        }
+    }
+    false
+}
+
+// The same accounts once more.
+fn copies_of(alloc: Global, accounts: &[Account]) -> Result<Vec<Account>, AllocError>
+    ensures { IfOk result (λ copies. copies.items ≡ accounts.now) }
+{
+    let mut copies = Vec::new(alloc);
+    for account in accounts {
+        copies.push(account.copy(alloc)?)?;
+    }
+    Ok(copies)
+}

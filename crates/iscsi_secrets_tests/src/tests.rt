@@ -1,0 +1,5 @@
+//! Texts, files, and refused memory.
+
+mod files;
+mod memory;
+mod texts;
