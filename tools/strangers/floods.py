@@ -394,12 +394,12 @@ def answered(port, share, seconds, counts):
 
 
 def are_fair(program, seconds):
-    """Has 32 equal peers, in four processes, tells the least and the most commands of one, and says whether they are near."""
+    """Has 32 equal peers, in one process, which is as quick for each, tells the least and the most commands, and says whether they are near."""
     with BASE.Service(program, "--blocks", "65536") as service:
         for peer in service.peers:
             peer.close()
         counts = multiprocessing.Queue()
-        shares = [multiprocessing.Process(target=answered, args=(service.port, 8, seconds, counts)) for _ in range(4)]
+        shares = [multiprocessing.Process(target=answered, args=(service.port, 32, seconds, counts))]
         for each in shares:
             each.start()
         for each in shares:
