@@ -10,8 +10,8 @@ longer than its limit fails; it and the processes that it started are ended. So 
 With --unproved the program is the one that `./lanthovur --unproved </dev/null` keeps. The scripts that measure memory or
 speed, and those that prove something, are left out then.
 
-If this machine lacks a program (QEMU, libiscsi, tgt, tshark), most scripts fail with their own words. Five leave out what
-they can't do and go on: door, many_sessions, lasting, nbd and targets. And pages leaves out the blocks that no script can run. Their parts that were left out are counted, and the last line is
+If this machine lacks a program (QEMU, libiscsi, tgt, tshark), most scripts fail with their own words. Seven leave out what
+they can't do and go on: door, access, guest, many_sessions, lasting, nbd and targets. And pages leaves out the blocks that no script can run. Their parts that were left out are counted, and the last line is
 then 'N passed, M failed, S parts skipped': those parts were not seen.
 """
 import argparse
@@ -58,6 +58,8 @@ SCRIPTS = [
     Script("speed, client", "speed/check_client.py", "seconds", 5, unproved=[]),
     Script("strangers", "strangers/run.py", "three minutes", 20, unproved=UNPROVED),
     Script("door", "door/run.py", "a minute", 20, unproved=[]),
+    Script("access", "access/run.py", "a minute", 20),
+    Script("guest", "guest/run.py", "two minutes", 20, unproved=UNPROVED),
     Script("pages", "pages/run.py", "two minutes", 30, unproved=[]),
     Script("captures", "captures/run.py", "a minute", 40, unproved=[]),
     Script("captures, changes", "captures/changes.py", "minutes", 60),

@@ -35,7 +35,8 @@ rightly : (c : Chap) (initiator : List ℕ) (a : Account) → find (λ b. bytes_
 rightly c initiator a known allowed =
     let due : List ℕ = response c.identifier a.secret c.challenge in
     ap (λ (o : Option Account). is_response c initiator o (binary_of (binary_text due))) known
-    ∙ ap (λ (o : Option (List ℕ)). is_response c initiator (Some a) o) (binary_back due (response_bytes c.identifier a.secret c.challenge) (response_some c.identifier a.secret c.challenge))
+    ∙ ap (λ (o : Option (List ℕ)). is_response c initiator (Some a) o)
+    (binary_back due (response_bytes c.identifier a.secret c.challenge) (response_some c.identifier a.secret c.challenge))
     ∙ rw (bytes_eq_same due due refl, allowed) refl
 
 -- the initiator answers the target's challenge

@@ -25,7 +25,8 @@ right_by c initiator pairs (Some name) None given n a g e = absurd cc
 right_by c initiator pairs (Some name) (Some account) None n a g e = absurd cc
 right_by c initiator pairs (Some name) (Some account) (Some given) n a g e =
     let due : List ℕ = response c.identifier account.secret c.challenge in
-    let both : (bytes_eq given due ≡ true) × (allows account.initiator initiator ≡ true) = and_parts (bytes_eq given due) (allows account.initiator initiator) e in
+    let both : (bytes_eq given due ≡ true) × (allows account.initiator initiator ≡ true) = and_parts (bytes_eq given due)
+    (allows account.initiator initiator) e in
     record {
       name = name;
       account = account;
@@ -52,13 +53,17 @@ responded false false v said e = absurd (cc e)
 -- the end of the exchange comes by a right response, or has come
 pub passed_by : (c : Chap) (before : Progress) (initiator : List ℕ) (pairs : Pairs) (said : Said) → judge c before initiator pairs ≡ Goes Passed said
     → (before ≡ Passed) ⊎ Answers c initiator pairs
-passed_by c Unasked initiator pairs said e = absurd (chosen_only (not (has_chap_key pairs) && lists (codes "CHAP") (value_for (codes "AuthMethod") pairs)) (Goes Chosen Method) said (λ f. absurd (cc f)) e)
-passed_by c Chosen initiator pairs said e = absurd (chosen_only (not (has_more_than_algorithms pairs) && lists (codes "5") (value_for (codes "CHAP_A") pairs)) (Goes Challenged Challenge) said (λ f. absurd (cc f)) e)
-passed_by c Challenged initiator pairs said e = inr (right_answers c initiator pairs (responded (stands (codes "AuthMethod") pairs || stands (codes "CHAP_A") pairs) (is_right c initiator pairs)
+passed_by c Unasked initiator pairs said e = absurd (chosen_only (not (has_chap_key pairs) && lists (codes "CHAP") (value_for (codes "AuthMethod") pairs))
+    (Goes Chosen Method) said (λ f. absurd (cc f)) e)
+passed_by c Chosen initiator pairs said e = absurd (chosen_only (not (has_more_than_algorithms pairs) && lists (codes "5") (value_for (codes "CHAP_A") pairs))
+    (Goes Challenged Challenge) said (λ f. absurd (cc f)) e)
+passed_by c Challenged initiator pairs said e = inr (right_answers c initiator pairs
+    (responded (stands (codes "AuthMethod") pairs || stands (codes "CHAP_A") pairs) (is_right c initiator pairs)
     (passing (own_said c (plain_of (codes "CHAP_I") pairs) (plain_of (codes "CHAP_C") pairs))) said e))
 passed_by c Passed initiator pairs said e = inl refl
 
-rests : (b : Bool) (v : Verdict) (p : Progress) (said : Said) → ((s : Said) → (q : Progress) → v ≡ Goes q s → q ≡ Passed) → (if b then Refused else v) ≡ Goes p said → p ≡ Passed
+rests : (b : Bool) (v : Verdict) (p : Progress) (said : Said) → ((s : Said) → (q : Progress) → v ≡ Goes q s → q ≡ Passed)
+    → (if b then Refused else v) ≡ Goes p said → p ≡ Passed
 rests true v p said only e = absurd (cc e)
 rests false v p said only e = only said p e
 
@@ -72,7 +77,9 @@ pub passed_verdict : (c : Chap) (before : Progress) (initiator : List ℕ) (pair
 passed_verdict c before initiator pairs verdict e said f = passed_by c before initiator pairs said (sym e ∙ f)
 
 -- the same of a call that gives this verdict, where the initiator has the challenge
-pub passed_result : {E : Type 0} (c : Chap) (before : Progress) (initiator : List ℕ) (pairs : Pairs) (r : Result Verdict E) → IfOk r (λ v. v ≡ judge c Challenged initiator pairs)
+pub passed_result : {E : Type 0} (c : Chap) (before : Progress) (initiator : List ℕ) (pairs : Pairs) (r : Result Verdict E)
+    → IfOk r (λ v. v ≡ judge c Challenged initiator pairs)
     → before ≡ Challenged → IfOk r (λ v. (said : Said) → v ≡ Goes Passed said → (before ≡ Passed) ⊎ Answers c initiator pairs)
-passed_result c before initiator pairs (Ok v) e is = λ said f. subst (λ (p : Progress). (p ≡ Passed) ⊎ Answers c initiator pairs) (sym is) (passed_verdict c Challenged initiator pairs v e said f)
+passed_result c before initiator pairs (Ok v) e is = λ said f. subst (λ (p : Progress). (p ≡ Passed) ⊎ Answers c initiator pairs) (sym is)
+    (passed_verdict c Challenged initiator pairs v e said f)
 passed_result c before initiator pairs (Err x) e is = tt

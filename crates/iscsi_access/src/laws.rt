@@ -15,7 +15,8 @@ ghost use Rattle.iscsi_access.specs.declared.verdict.Verdict.TheVariants.{Goes};
 /// use, and the response that this account's secret gives to the challenge of this login. Behind that
 /// it stays passed.
 pub fn passed_by_response()
-    ensures passed { (c : Chap) (before : Progress) (initiator : List ℕ) (pairs : Pairs) (said : Said)
+    ensures passed { (c : Chap) (before : Progress) (initiator : List ℕ)
+        (pairs : Pairs) (said : Said)
         → judge c before initiator pairs ≡ Goes progress.Passed said
         → (before ≡ progress.Passed) ⊎ Answers c initiator pairs }
 {}

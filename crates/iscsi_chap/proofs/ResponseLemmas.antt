@@ -30,7 +30,8 @@ digests h (suc n) = joined (digest_bytes h n) (to_le_bytes w32 (slice_index h n)
 
 pub response_bytes : (i : ℕ) (secret challenge : List ℕ) → IsBytes (response i secret challenge)
 unfolding md5
-response_bytes i secret challenge = digests (hash_after (padded_message (hashed i secret challenge)) (length (padded_message (hashed i secret challenge)) / 64)) 4
+response_bytes i secret challenge = digests (hash_after (padded_message (hashed i secret challenge))
+    (length (padded_message (hashed i secret challenge)) / 64)) 4
 
 pub response_some : (i : ℕ) (secret challenge : List ℕ) → response i secret challenge ≢ []
 response_some i secret challenge e = let n : 0 ≡ 16 = sym (ap length e) ∙ length-md5 (hashed i secret challenge) in absurd (omega (arith, n))

@@ -25,7 +25,7 @@ pub fn run_serve_words<S: AsStr, E: Write>(rt: &HostRuntime, words: &[S], errors
         Ok(job) => job,
         Err(fault) => return refused(&fault, errors),
     };
-    match serve_storage(rt, words, job.storage, job.service, job.read_only) {
+    match serve_storage(rt, words, job) {
         Ok(()) => 0,
         Err(fault) => {
             let _ = fault.tell(errors);

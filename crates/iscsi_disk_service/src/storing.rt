@@ -2,17 +2,18 @@
 
 ghost use Rattle.std.specs.Prelude.{◌≡◌, ◌<◌, ◌≤◌};
 ghost use Rattle.scsi_disk.specs.Disk.{most_blocks};
-ghost use Rattle.iscsi_serve_words.specs.Services.{CanServe};
+ghost use Rattle.iscsi_serve_words.specs.Services.{CanServe, IsServeJob};
 ghost use Rattle.iscsi_serve_words.specs.Storage.{IsStorage};
-ghost use Rattle.iscsi_disk_service.specs.Disks.{EndsStorage, disk_status};
+ghost use Rattle.iscsi_disk_service.specs.Disks.{EndsDisk, EndsStorage, disk_status};
 
 use iscsi_options::Options;
+use iscsi_secrets::{Secrets, SecretsFault};
 use iscsi_serve_words::{
-    Image, ImageFault, NbdExport, NbdFault, Service, Storage, read_initiators,
+    Image, ImageFault, NbdExport, NbdFault, ServeJob, Service, Storage, read_initiators,
 };
 use iscsi_server::{serve_at_once, serve_memory_at_once};
 use iscsi_service::serve;
-use iscsi_serving::ServeFault;
+use iscsi_serving::{Access, ServeFault};
 use scsi_disk::{BlockStore, ReadOnly, SparseStore};
 use std::convert::AsStr;
 use std::io::{self, Write};
@@ -26,10 +27,12 @@ pub enum DiskFault<'a> {
     Image(Image<'a>, ImageFault),
     /// The export could not be served.
     Nbd(NbdExport<'a>, NbdFault),
+    /// The file of secrets of this name is not taken.
+    Secrets(&'a str, SecretsFault),
 }
 
 impl DiskFault<'_> {
-    /// The exit status of the fault: that of the service, or 4 for an image and an export.
+    /// The exit status of the fault: that of the service, 3 for memory, or else 4.
     pub fn status(&self) -> u8
         ensures status { result ≡ disk_status self.now }
     {
@@ -37,6 +40,8 @@ impl DiskFault<'_> {
             DiskFault::Session(fault) => fault.status(),
             DiskFault::Image(_, fault) => fault.status(),
             DiskFault::Nbd(_, fault) => fault.status(),
+            DiskFault::Secrets(_, SecretsFault::NoMemory) => 3,
+            DiskFault::Secrets(_, _) => 4,
         }
     }
 
@@ -56,37 +61,44 @@ impl DiskFault<'_> {
                 let word = export.word;
                 writeln!(w, "{word}: {fault}")
             }
+            DiskFault::Secrets(path, fault) => writeln!(w, "{path}: {fault}"),
         }
     }
 }
 
-/// Serves a disk, over what it is kept in, until its service ends; if it is to be read alone, each write
-/// is refused. Disk and service come from these words, the first of which is `serve`. If the words list
-/// initiators, no other one may log in. `Image` and `Nbd` come if the image or the export is not opened,
+/// Does what a job of `serve` asks for: serves its disk, over what it is kept in, until its service ends.
+/// If it is to be read alone, each write is refused. The job comes from these words, the first of which is
+/// `serve`. If the words list initiators, no other one may log in; if there is a file of secrets, a login
+/// has to show one. `Secrets`, `Image` and `Nbd` come if the file, the image or the export is not opened,
 /// `Session` as the service gives it, and if there is no memory for the list.
 pub fn serve_storage<'a, S: AsStr>(
     rt: &HostRuntime,
     words: &[S],
-    storage: Storage<'a>,
-    service: Service<'_>,
-    read_only: bool,
+    job: ServeJob<'a>,
 ) -> Result<(), DiskFault<'a>>
-    requires storage { IsStorage storage }
-    requires service { CanServe service }
-    // An image or an export that is blamed is the one that was asked for.
-    ensures ends { EndsStorage storage.entry result }
+    requires job { IsServeJob job }
+    // What is blamed is what was asked for.
+    ensures ends { EndsDisk job.entry result }
 {
-    match read_initiators(rt.alloc(), words) {
-        Ok(initiators) => {
-            let listed = listed(initiators.as_slice());
-            if read_only {
-                serve_read_only(rt, storage, service, listed)
-            } else {
-                serve_written(rt, storage, service, listed)
-            }
-        }
-        // The words were read before, so that nothing but memory is wanting.
-        Err(_) => Err(DiskFault::Session(ServeFault::NoMemory)),
+    // The words were read before, so that nothing but memory is wanting.
+    let Ok(initiators) = read_initiators(rt.alloc(), words) else {
+        return Err(DiskFault::Session(ServeFault::NoMemory));
+    };
+    let secrets = match job.secrets {
+        Some(path) => match Secrets::open(rt, path) {
+            Ok(secrets) => Some(secrets),
+            Err(fault) => return Err(DiskFault::Secrets(path, fault)),
+        },
+        None => None,
+    };
+    let access = Access {
+        initiators: listed(initiators.as_slice()),
+        secrets: secrets.as_ref(),
+    };
+    if job.read_only {
+        serve_read_only(rt, job.storage, job.service, access)
+    } else {
+        serve_written(rt, job.storage, job.service, access)
     }
 }
 
@@ -105,20 +117,20 @@ fn serve_written<'a>(
     rt: &HostRuntime,
     storage: Storage<'a>,
     service: Service<'_>,
-    initiators: Option<&[&[u8]]>,
+    access: Access<'_>,
 ) -> Result<(), DiskFault<'a>>
     requires storage { IsStorage storage }
     requires service { CanServe service }
     ensures ends { EndsStorage storage.entry result }
 {
     match storage {
-        Storage::Memory { blocks } => ended(storage, serve_memory(rt, service, initiators, blocks)),
+        Storage::Memory { blocks } => ended(storage, serve_memory(rt, service, access, blocks)),
         Storage::Image(image) => match image.open(rt) {
-            Ok(mut store) => ended(storage, serve_store(rt, service, initiators, &mut store)),
+            Ok(mut store) => ended(storage, serve_store(rt, service, access, &mut store)),
             Err(fault) => Err(DiskFault::Image(image, fault)),
         },
         Storage::Nbd(export) => match export.open(rt) {
-            Ok(mut store) => ended(storage, serve_store(rt, service, initiators, &mut store)),
+            Ok(mut store) => ended(storage, serve_store(rt, service, access, &mut store)),
             Err(fault) => Err(DiskFault::Nbd(export, fault)),
         },
     }
@@ -129,7 +141,7 @@ fn serve_read_only<'a>(
     rt: &HostRuntime,
     storage: Storage<'a>,
     service: Service<'_>,
-    initiators: Option<&[&[u8]]>,
+    access: Access<'_>,
 ) -> Result<(), DiskFault<'a>>
     requires storage { IsStorage storage }
     requires service { CanServe service }
@@ -138,16 +150,16 @@ fn serve_read_only<'a>(
     match storage {
         Storage::Memory { blocks } => {
             let mut store = ReadOnly::new(SparseStore::new(rt.alloc(), blocks));
-            ended(storage, serve_store(rt, service, initiators, &mut store))
+            ended(storage, serve_store(rt, service, access, &mut store))
         }
         Storage::Image(image) => match image.open_read_only(rt) {
-            Ok(mut store) => ended(storage, serve_store(rt, service, initiators, &mut store)),
+            Ok(mut store) => ended(storage, serve_store(rt, service, access, &mut store)),
             Err(fault) => Err(DiskFault::Image(image, fault)),
         },
         Storage::Nbd(export) => match export.open(rt) {
             Ok(store) => {
                 let mut store = ReadOnly::new(store);
-                ended(storage, serve_store(rt, service, initiators, &mut store))
+                ended(storage, serve_store(rt, service, access, &mut store))
             }
             Err(fault) => Err(DiskFault::Nbd(export, fault)),
         },
@@ -168,7 +180,7 @@ fn ended<'a>(storage: Storage<'a>, said: Result<(), ServeFault>) -> Result<(), D
 fn serve_memory(
     rt: &HostRuntime,
     service: Service<'_>,
-    initiators: Option<&[&[u8]]>,
+    access: Access<'_>,
     blocks: u64,
 ) -> Result<(), ServeFault>
     requires service { CanServe service }
@@ -178,15 +190,9 @@ fn serve_memory(
     match service {
         Service::InTurn { port, sessions } => {
             let mut store = SparseStore::new(rt.alloc(), blocks);
-            serve(rt, port, &mut store, count_of(sessions), initiators)
+            serve(rt, port, &mut store, count_of(sessions), access)
         }
-        Service::AtOnce(options) => {
-            let options = Options {
-                initiators,
-                ..options
-            };
-            serve_memory_at_once(rt, options, blocks)
-        }
+        Service::AtOnce(options) => serve_memory_at_once(rt, options, access, blocks),
     }
 }
 
@@ -194,22 +200,14 @@ fn serve_memory(
 fn serve_store<S: BlockStore>(
     rt: &HostRuntime,
     service: Service<'_>,
-    initiators: Option<&[&[u8]]>,
+    access: Access<'_>,
     store: &mut S,
 ) -> Result<(), ServeFault>
     requires service { CanServe service }
 {
     match service {
-        Service::InTurn { port, sessions } => {
-            serve(rt, port, store, count_of(sessions), initiators)
-        }
-        Service::AtOnce(options) => {
-            let options = Options {
-                initiators,
-                ..options
-            };
-            serve_at_once(rt, options, store)
-        }
+        Service::InTurn { port, sessions } => serve(rt, port, store, count_of(sessions), access),
+        Service::AtOnce(options) => serve_at_once(rt, options, access, store),
     }
 }
 

@@ -43,15 +43,18 @@ pub follow_count : (protected : Bool) (disk last : Disk) (es : List Execution) �
 unfolding Follows
 follow_count protected disk last [] f = ap (λ (d : Disk). d.count) f
 follow_count protected disk last (e ∷ es) f =
-    follow_count protected (effect protected e.disk e.order (data_of e.pieces)).disk last es f.1 ∙ plan_count (guarded protected (plan_of e.order e.disk.count)) e.disk e.order (data_of e.pieces)
+    follow_count protected (effect protected e.disk e.order (data_of e.pieces)).disk last es f.1
+    ∙ plan_count (guarded protected (plan_of e.order e.disk.count)) e.disk e.order (data_of e.pieces)
     ∙ ap (λ (d : Disk). d.count) f.0
 
-pub follow_block : (protected : Bool) (disk last : Disk) (es : List Execution) → Follows protected disk es last → (n : ℕ) → last.block n ≡ block_left protected disk es n
+pub follow_block : (protected : Bool) (disk last : Disk) (es : List Execution) → Follows protected disk es last → (n : ℕ)
+    → last.block n ≡ block_left protected disk es n
 unfolding Follows last_written
 follow_block protected disk last [] f n = ap (λ (d : Disk). d.block n) f
 follow_block protected disk last (e ∷ es) f n =
     let next : Disk = (effect protected e.disk e.order (data_of e.pieces)).disk in
-    let same : next.count ≡ disk.count = plan_count (guarded protected (plan_of e.order e.disk.count)) e.disk e.order (data_of e.pieces) ∙ ap (λ (d : Disk). d.count) f.0 in
+    let same : next.count ≡ disk.count = plan_count (guarded protected (plan_of e.order e.disk.count)) e.disk e.order (data_of e.pieces)
+    ∙ ap (λ (d : Disk). d.count) f.0 in
     let first : next.block n ≡ unwrap_or (written_by protected disk.count e n) (disk.block n) =
     plan_block (guarded protected (plan_of e.order e.disk.count)) e.disk e.order (data_of e.pieces) n
     ∙ ap (λ (d : Disk). unwrap_or (written_by protected d.count e n) (d.block n)) f.0 in
@@ -60,11 +63,16 @@ follow_block protected disk last (e ∷ es) f n =
     ∙ ap (λ (b : List ℕ). unwrap_or (last_written protected disk.count es n) b) first
     ∙ sym (later_first (last_written protected disk.count es n) (written_by protected disk.count e n) (disk.block n))
 
-follow_front : (protected : Bool) (disk last : Disk) (past : List Execution) (e : Execution) (later : List Execution) → Follows protected disk (past ++ e ∷ later) last →
+follow_front : (protected : Bool) (disk last : Disk) (past : List Execution) (e : Execution) (later : List Execution)
+    → Follows protected disk (past ++ e ∷ later) last →
     Follows protected disk past e.disk
 unfolding Follows
 follow_front protected disk last [] e later f = f.0
-follow_front protected disk last (p ∷ past) e later f = (f.0, follow_front protected (effect protected p.disk p.order (data_of p.pieces)).disk last past e later f.1)
+follow_front protected disk last (p ∷ past) e later f = (
+  f.0,
+  follow_front protected (effect protected p.disk p.order (data_of p.pieces)).disk
+      last past e later f.1,
+)
 
 -- ---- a read
 
@@ -81,7 +89,8 @@ joined_same f g h first zero = refl
 joined_same f g h first (suc count) =
     ap (λ (x : List ℕ). x ++ joined f (first + 1) count) (h first) ∙ ap (λ (x : List ℕ). g first ++ x) (joined_same f g h (first + 1) count)
 
-pub read_bytes : (protected : Bool) (disk last : Disk) (past later : List Execution) (e : Execution) (length : ℕ) → Follows protected disk (past ++ e ∷ later) last →
+pub read_bytes : (protected : Bool) (disk last : Disk) (past later : List Execution) (e : Execution) (length : ℕ)
+    → Follows protected disk (past ++ e ∷ later) last →
     is_read e.order.cdb ≡ true → plan_of e.order disk.count ≡ Give length →
     (effect protected e.disk e.order (data_of e.pieces)).outcome.bytes
     ≡ take length (joined (block_left protected disk past) (transfer e.order.cdb).first (transfer e.order.cdb).count)
@@ -90,4 +99,5 @@ read_bytes protected disk last past later e length f is p =
     given_bytes (guarded protected (plan_of e.order e.disk.count)) length e.disk e.order
     (plan_stays protected (plan_of e.order e.disk.count) length (ap (λ (c : ℕ). plan_of e.order c) (follow_count protected disk e.disk past front) ∙ p))
     ∙ ap (λ (x : List ℕ). take length x) (if_true (is_read e.order.cdb) _ _ is
-    ∙ joined_same e.disk.block (block_left protected disk past) (follow_block protected disk e.disk past front) (transfer e.order.cdb).first (transfer e.order.cdb).count)
+    ∙ joined_same e.disk.block (block_left protected disk past) (follow_block protected disk e.disk past front) (transfer e.order.cdb).first
+    (transfer e.order.cdb).count)

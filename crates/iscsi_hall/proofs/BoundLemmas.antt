@@ -52,7 +52,8 @@ record InSession (es : List Event) (end : Machine) : Type 0 where
   pub keeps : AreFew end.tasks
   pub each : AllByRecursion ExecutesFew es
 
-session_few : (protected : Bool) (s end : Machine) (es : List Event) → Session protected s es end → AllByRecursion IsNumbered es → AreFew s.tasks → InSession es end
+session_few : (protected : Bool) (s end : Machine) (es : List Event) → Session protected s es end → AllByRecursion IsNumbered es → AreFew s.tasks
+    → InSession es end
 unfolding Session
 session_few protected s end [] h all f = record { keeps = subst (λ (x : Machine). AreFew x.tasks) (sym h) f; each = tt }
 session_few protected s end (Comes k settings ∷ es) h all f = absurd h
@@ -75,11 +76,13 @@ session_few protected s end (Takes t ∷ es) h all f =
       each = (subst (λ (ms : List Message). length (t.stepped.executed ++ t.front.executed) ≤ 9 * length ms) (sym (append-nil t.messages)) few, later.each);
     }
 
-pub opening_few : (protected : Bool) (settings : Settings) (n : ℕ) (end : Machine) (es : List Event) → Session protected (opening settings n) es end → AllByRecursion IsNumbered es →
+pub opening_few : (protected : Bool) (settings : Settings) (n : ℕ) (end : Machine) (es : List Event) → Session protected (opening settings n) es end
+    → AllByRecursion IsNumbered es →
     length end.tasks ≤ 9
 opening_few protected settings n end es h all = nine end.tasks (session_few protected (opening settings n) end es h all no_few).keeps
 
-pub opening_executes : (protected : Bool) (settings : Settings) (n : ℕ) (end : Machine) (es : List Event) → Session protected (opening settings n) es end → AllByRecursion IsNumbered es →
+pub opening_executes : (protected : Bool) (settings : Settings) (n : ℕ) (end : Machine) (es : List Event) → Session protected (opening settings n) es end
+    → AllByRecursion IsNumbered es →
     AllByRecursion ExecutesFew es
 opening_executes protected settings n end es h all = (session_few protected (opening settings n) end es h all no_few).each
 
@@ -101,7 +104,8 @@ may_most (Some s) e =
     (and_left (has_room_at s) (not (is_closed s.connection.machine))
     (and_left (has_room_at s && not (is_closed s.connection.machine)) (not (length s.unfed == 0)) e))
 
-pub turn_waits : (protected : Bool) (seat : ℕ) (old new : Hall) (before after : Store) (result : Result ℕ TargetFault) (t : TakesTurn protected seat old before result new after) →
+pub turn_waits : (protected : Bool) (seat : ℕ) (old new : Hall) (before after : Store) (result : Result ℕ TargetFault)
+    (t : TakesTurn protected seat old before result new after) →
     may_take_at (seat_at old seat) ≡ true → length (waiting_at (seat_at new seat)) ≤ 65535 + length (canon (answers_of t.turn))
 turn_waits protected seat old new before after result t may =
     let waits : List ℕ = waiting_at (seat_at old seat) in

@@ -42,7 +42,8 @@ over_stat_sns protected s disk (g ∷ gs) =
 pub over_status : (protected : Bool) (s : Machine) (disk : Disk) (gs : List Group) → s.session.stat_sn < 2 ^ 32
     → CountOn s.session.stat_sn (stat_sns (answers_over protected s disk gs).answers)
 over_status protected s disk gs lt =
-    count_on s.session.stat_sn (stat_sns (answers_over protected s disk gs).answers) (answers_over protected s disk gs).machine.session.stat_sn lt (over_stat_sns protected s disk gs)
+    count_on s.session.stat_sn (stat_sns (answers_over protected s disk gs).answers) (answers_over protected s disk gs).machine.session.stat_sn lt
+    (over_stat_sns protected s disk gs)
 
 pub over_tags : (protected : Bool) (s : Machine) (disk : Disk) (gs : List Group) → response_tags (answers_over protected s disk gs).answers
     ≡ map (λ (e : Execution). e.initiator_task_tag) (answers_over protected s disk gs).executed
@@ -107,7 +108,8 @@ over_queue protected s disk (g ∷ gs) =
     end_queues s.tasks first (answers_over protected first.machine first.disk gs) q e c.0 c.1 c.2)
     (λ e. open_queues s.tasks first (answers_over protected first.machine first.disk gs) q e (over_queue protected first.machine first.disk gs))
 
-pub over_in_order : (protected : Bool) (settings : Settings) (n : ℕ) (disk : Disk) (gs : List Group) → AreInOrder (answers_over protected (opening settings n) disk gs)
+pub over_in_order : (protected : Bool) (settings : Settings) (n : ℕ) (disk : Disk) (gs : List Group)
+    → AreInOrder (answers_over protected (opening settings n) disk gs)
 over_in_order protected settings n disk gs =
     let q : Queues [] (answers_over protected (opening settings n) disk gs) = over_queue protected (opening settings n) disk gs in
     record { more = q.more; order = q.order; open_ = q.open_ }
@@ -117,12 +119,15 @@ over_in_order protected settings n disk gs =
 over_fit : (protected : Bool) (s : Machine) (disk : Disk) (gs : List Group) → IsFit s → IsFit (answers_over protected s disk gs).machine
 unfolding answers_over
 over_fit protected s disk [] f = f
-over_fit protected s disk (g ∷ gs) f = over_fit protected (answers protected s g.0 g.1).machine (answers protected s g.0 g.1).disk gs (answers_fit protected s g.0 g.1 f)
+over_fit protected s disk (g ∷ gs) f = over_fit protected (answers protected s g.0 g.1).machine (answers protected s g.0 g.1).disk gs
+    (answers_fit protected s g.0 g.1 f)
 
-over_settings : (protected : Bool) (s : Machine) (disk : Disk) (gs : List Group) → (answers_over protected s disk gs).machine.session.settings ≡ s.session.settings
+over_settings : (protected : Bool) (s : Machine) (disk : Disk) (gs : List Group)
+    → (answers_over protected s disk gs).machine.session.settings ≡ s.session.settings
 unfolding answers_over
 over_settings protected s disk [] = refl
-over_settings protected s disk (g ∷ gs) = over_settings protected (answers protected s g.0 g.1).machine (answers protected s g.0 g.1).disk gs ∙ answers_settings protected s g.0 g.1
+over_settings protected s disk (g ∷ gs) = over_settings protected (answers protected s g.0 g.1).machine (answers protected s g.0 g.1).disk gs
+    ∙ answers_settings protected s g.0 g.1
 
 opening_fit : (protected : Bool) (settings : Settings) (n : ℕ) (disk : Disk) → IsFit (opening settings n)
 unfolding answers
@@ -154,7 +159,8 @@ over_keeps protected settings n disk now gs m all =
 
 -- ---- a session of a hall
 
-pub over_joined : (protected : Bool) (s : Machine) (disk : Disk) (gs : List Group) → joined_stepped (answers_over protected (joined s) disk gs) ≡ joined_stepped (answers_over protected s disk gs)
+pub over_joined : (protected : Bool) (s : Machine) (disk : Disk) (gs : List Group)
+    → joined_stepped (answers_over protected (joined s) disk gs) ≡ joined_stepped (answers_over protected s disk gs)
 unfolding answers_over answers
 over_joined protected s disk [] = answers_joined protected s disk []
 over_joined protected s disk (g ∷ gs) =
@@ -167,7 +173,8 @@ over_joined protected s disk (g ∷ gs) =
     ∙ ap (λ (r : Stepped). then_stepped (joined_stepped b) r) (over_joined protected b.machine b.disk gs)
     ∙ sym (joined_then b (answers_over protected b.machine b.disk gs))
 
-pub closed_quiet : (protected : Bool) (s end : Machine) (es : List Event) → is_closed s ≡ true → Session protected s es end → (answers_in es ≡ []) × (groups_in es ≡ [])
+pub closed_quiet : (protected : Bool) (s end : Machine) (es : List Event) → is_closed s ≡ true → Session protected s es end → (answers_in es ≡ [])
+    × (groups_in es ≡ [])
     × (executed_in es ≡ [])
 unfolding Session
 closed_quiet protected s end [] e h = (refl, refl, refl)
@@ -190,13 +197,15 @@ quiet_answers protected s m end es e h disk =
     let q = closed_quiet protected m end es e h in
     q.0 ∙ ap (λ (gs : List Group). (answers_over protected s disk gs).answers) (sym q.1)
 
-left_answers : (protected : Bool) (s m end : Machine) (es : List Event) → IsLeft s m → Session protected m es end → Answers protected es m → Answers protected es s
+left_answers : (protected : Bool) (s m end : Machine) (es : List Event) → IsLeft s m → Session protected m es end → Answers protected es m
+    → Answers protected es s
 left_answers protected s m end es (inl same) h go disk =
     go disk ∙ ap (λ (x : Machine). (answers_over protected x disk (groups_in es)).answers) same
     ∙ ap (λ (r : Stepped). r.answers) (over_joined protected s disk (groups_in es))
 left_answers protected s m end es (inr over) h go disk = quiet_answers protected s m end es (ap is_closed over) h disk
 
-ended_answers : (protected : Bool) (s m end : Machine) (es : List Event) → IsEnded s m → Session protected m es end → Answers protected es m → Answers protected es s
+ended_answers : (protected : Bool) (s m end : Machine) (es : List Event) → IsEnded s m → Session protected m es end → Answers protected es m
+    → Answers protected es s
 ended_answers protected s m end es (inl same) h go disk = go disk ∙ ap (λ (x : Machine). (answers_over protected x disk (groups_in es)).answers) same
 ended_answers protected s m end es (inr over) h go disk = quiet_answers protected s m end es (ap is_closed over) h disk
 
@@ -215,4 +224,5 @@ session_answers protected s end (Takes t ∷ es) h calm disk =
     ap (λ (x : Stepped). t.stepped.answers ++ x.answers) calm.0.1 ∙ append-nil t.stepped.answers ∙ ap (λ (x : Stepped). x.answers) is in
     ap (λ (ms : List Message). ms ++ answers_in es) own
     ∙ ap (λ (ms : List Message). r.answers ++ ms)
-    (left_answers protected r.machine h.0 end es (subst (λ (x : Machine). IsLeft x h.0) machine h.2) h.3 (session_answers protected h.0 end es h.3 calm.1) r.disk)
+    (left_answers protected r.machine h.0 end es (subst (λ (x : Machine). IsLeft x h.0) machine h.2) h.3
+    (session_answers protected h.0 end es h.3 calm.1) r.disk)

@@ -25,7 +25,8 @@ all_parts [] b all = (tt, all)
 all_parts (m ∷ a) b all = let rest = all_parts a b all.1 in ((all.0, rest.0), rest.1)
 
 over_cmd_sns : (protected : Bool) (s : Machine) (disk : Disk) (gs : List Group) → s.session.begun ≡ true → s.session.exp_cmd_sn < 2 ^ 32 →
-    AllByRecursion HasCmdSn (messages_in gs) → CountsTo s.session.exp_cmd_sn (cmd_sns (answers_over protected s disk gs).accepted) (answers_over protected s disk gs).machine
+    AllByRecursion HasCmdSn (messages_in gs) → CountsTo s.session.exp_cmd_sn (cmd_sns (answers_over protected s disk gs).accepted)
+    (answers_over protected s disk gs).machine
 unfolding answers_over
 over_cmd_sns protected s disk [] b lt all = record { next = s.session.exp_cmd_sn; count = refl; fits = lt; live = λ e. (b, refl) }
 over_cmd_sns protected s disk (g ∷ gs) b lt all =
@@ -42,9 +43,11 @@ over_cmd_sns protected s disk (g ∷ gs) b lt all =
     (over_cmd_sns protected first.machine first.disk gs (t.live e).0 (subst (λ (k : ℕ). k < 2 ^ 32) (sym (t.live e).1) t.fits) both.1)))
 
 -- messages and then groups, as one
-behind_count : (protected : Bool) (s : Machine) (disk : Disk) (ms : List Message) (gs : List Group) (n : ℕ) → s.session.begun ≡ true → s.session.exp_cmd_sn ≡ n → n < 2 ^ 32 →
+behind_count : (protected : Bool) (s : Machine) (disk : Disk) (ms : List Message) (gs : List Group) (n : ℕ) → s.session.begun ≡ true → s.session.exp_cmd_sn ≡ n
+    → n < 2 ^ 32 →
     AllByRecursion HasCmdSn (ms ++ messages_in gs) →
-    CountOn n (cmd_sns (then_stepped (answers protected s disk ms) (answers_over protected (answers protected s disk ms).machine (answers protected s disk ms).disk gs)).accepted)
+    CountOn n (cmd_sns (then_stepped (answers protected s disk ms) (answers_over protected (answers protected s disk ms).machine
+    (answers protected s disk ms).disk gs)).accepted)
 unfolding answers_over
 behind_count protected s disk ms gs n b same lt all =
     let r : Stepped = answers_over protected s disk ((disk, ms) ∷ gs) in
@@ -57,14 +60,16 @@ nothing_counts : (n : ℕ) (ms : List Message) → ms ≡ [] → CountOn n (cmd_
 nothing_counts n ms e = subst (λ (xs : List Message). CountOn n (cmd_sns xs)) (sym e) (λ k le. absurd (omega (arith, le)))
 
 closed_accepts : (protected : Bool) (s : Machine) (disk : Disk) (ms : List Message) (gs : List Group) → is_closed s ≡ true →
-    (then_stepped (answers protected s disk ms) (answers_over protected (answers protected s disk ms).machine (answers protected s disk ms).disk gs)).accepted ≡ []
+    (then_stepped (answers protected s disk ms) (answers_over protected (answers protected s disk ms).machine
+    (answers protected s disk ms).disk gs)).accepted ≡ []
 unfolding answers_over
 closed_accepts protected s disk ms gs e = (over_closed protected s disk ((disk, ms) ∷ gs) e).0
 
 -- behind the first PDU that came
 abbrev Behind : Bool → Disk → List Message → List Group → ℕ → Stepped → Type 0
 Behind protected disk ms gs first r = CountOn first (cmd_sns (then_stepped r
-    (then_stepped (answers protected r.machine r.disk ms) (answers_over protected (answers protected r.machine r.disk ms).machine (answers protected r.machine r.disk ms).disk gs))).accepted)
+    (then_stepped (answers protected r.machine r.disk ms) (answers_over protected (answers protected r.machine r.disk ms).machine
+    (answers protected r.machine r.disk ms).disk gs))).accepted)
 
 behind_login : (protected : Bool) (settings : Settings) (n : ℕ) (disk : Disk) (m : Message) (ms : List Message) (gs : List Group) (h : LoginPdu) (head : Head) →
     head ≡ LoginRequest h → h.cmd_sn < 2 ^ 32 → AllByRecursion HasCmdSn (ms ++ messages_in gs) →
@@ -84,9 +89,11 @@ behind_first protected settings n disk m ms gs h k lt all =
     by_cases (is_over_limit (opening settings n) m.segment)
     (λ e. subst (Behind protected disk ms gs h.cmd_sn) (sym (opening_over protected settings n disk m e))
     (nothing_counts h.cmd_sn _ (closed_accepts protected (shut_down (opening settings n) disk).machine disk ms gs refl)))
-    (λ e. subst (Behind protected disk ms gs h.cmd_sn) (sym (opening_login protected settings n disk m e)) (behind_login protected settings n disk m ms gs h m.head k lt all))
+    (λ e. subst (Behind protected disk ms gs h.cmd_sn) (sym (opening_login protected settings n disk m e))
+    (behind_login protected settings n disk m ms gs h m.head k lt all))
 
-first_group : (protected : Bool) (settings : Settings) (n : ℕ) (disk : Disk) (ms : List Message) (gs : List Group) (first : Message) (more : List Message) (h : LoginPdu) →
+first_group : (protected : Bool) (settings : Settings) (n : ℕ) (disk : Disk) (ms : List Message) (gs : List Group) (first : Message)
+    (more : List Message) (h : LoginPdu) →
     ms ++ messages_in gs ≡ first ∷ more → first.head ≡ LoginRequest h → h.cmd_sn < 2 ^ 32 → AllByRecursion HasCmdSn more →
     (messages_in gs ≡ first ∷ more → CountOn h.cmd_sn (cmd_sns (answers_over protected (opening settings n) disk gs).accepted)) →
     CountOn h.cmd_sn (cmd_sns (then_stepped (answers protected (opening settings n) disk ms)

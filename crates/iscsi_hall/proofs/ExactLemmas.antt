@@ -14,17 +14,23 @@ use Rattle.iscsi_target.proofs.ServingLemmas.{runs_rise}
 use Rattle.iscsi_hall.specs.Turns.{Seats, Turn, IsFront, IsOwn, Event, Comes, Takes, Syncs, Ends, Goes as Leaves, Happens, Runs, executed_of, executed_by, executed_in}
 use Rattle.iscsi_hall.specs.Blocks.{Follows}
 
-follow_append : (protected : Bool) (disk mid last : Disk) (a b : List Execution) → Follows protected disk a mid → Follows protected mid b last → Follows protected disk (a ++ b) last
+follow_append : (protected : Bool) (disk mid last : Disk) (a b : List Execution) → Follows protected disk a mid → Follows protected mid b last
+    → Follows protected disk (a ++ b) last
 unfolding Follows
 follow_append protected disk mid last [] b p q = subst (λ (d : Disk). Follows protected d b last) p q
-follow_append protected disk mid last (e ∷ a) b p q = (p.0, follow_append protected (effect protected e.disk e.order (data_of e.pieces)).disk mid last a b p.1 q)
+follow_append protected disk mid last (e ∷ a) b p q = (
+  p.0,
+  follow_append protected
+      (effect protected e.disk e.order (data_of e.pieces)).disk mid last a b p.1 q,
+)
 
 does_follow : (protected : Bool) (disk last : Disk) (es : List Execution) → Does (reliable protected) disk es last → Follows protected disk es last
 unfolding Follows
 does_follow protected disk last [] d = d
 does_follow protected disk last (e ∷ es) d = (d.0, does_follow protected (effect protected e.disk e.order (data_of e.pieces)).disk last es d.1)
 
-answers_follow : (protected : Bool) (s : Machine) (disk : Disk) (ms : List Message) → Follows protected disk (answers protected s disk ms).executed (answers protected s disk ms).disk
+answers_follow : (protected : Bool) (s : Machine) (disk : Disk) (ms : List Message)
+    → Follows protected disk (answers protected s disk ms).executed (answers protected s disk ms).disk
 unfolding Follows answers
 answers_follow protected s disk [] = refl
 answers_follow protected s disk (m ∷ ms) =
@@ -33,7 +39,8 @@ answers_follow protected s disk (m ∷ ms) =
     follow_append protected disk first.disk later.disk first.executed later.executed
     (does_follow protected disk first.disk first.executed (step_does (reliable protected) s disk m).is) (answers_follow protected first.machine first.disk ms)
 
-runs_follow : (protected : Bool) (device : Device) (before after : ℕ) (es : List Execution) (disk last : Disk) → after ≡ before → RunsIn protected device before es after →
+runs_follow : (protected : Bool) (device : Device) (before after : ℕ) (es : List Execution) (disk last : Disk) → after ≡ before
+    → RunsIn protected device before es after →
     Does device disk es last → Follows protected disk es last
 unfolding Follows
 runs_follow protected device before after [] disk last same r d = d
@@ -71,7 +78,8 @@ own_rises protected s t o =
     let b = front_rises protected t.stepped o.counted t.front t.after.failures o.front in
     omega (arith, a, b)
 
-own_follows : (protected : Bool) (s : Machine) (t : Turn) → IsOwn protected s t → t.after.failures ≡ t.before.failures → Follows protected t.before.disk (executed_of t) t.after.disk
+own_follows : (protected : Bool) (s : Machine) (t : Turn) → IsOwn protected s t → t.after.failures ≡ t.before.failures
+    → Follows protected t.before.disk (executed_of t) t.after.disk
 own_follows protected s t o same =
     let a = may_rise protected s t.before.disk t.before.failures t.messages t.stepped o.counted o.may in
     let b = front_rises protected t.stepped o.counted t.front t.after.failures o.front in
@@ -97,7 +105,8 @@ happens_rises protected seats store (Syncs k) after last h = h.2
 happens_rises protected seats store (Ends k) after last h = none_rises store last h.1
 happens_rises protected seats store (Leaves k) after last h = none_rises store last h.2
 
-runs_rises : (protected : Bool) (seats after : Seats) (store last : Store) (es : List Event) → Runs protected seats store es after last → store.failures ≤ last.failures
+runs_rises : (protected : Bool) (seats after : Seats) (store last : Store) (es : List Event) → Runs protected seats store es after last
+    → store.failures ≤ last.failures
 unfolding Runs
 runs_rises protected seats after store last [] r = none_rises store last r.1
 runs_rises protected seats after store last (e ∷ es) r =
@@ -118,12 +127,14 @@ happens_follows protected seats store (Takes t) after last h same =
     let b = ap (λ (x : Store). x.failures) h.met in
     let d = ap (λ (x : Store). x.failures) h.last_is in
     subst (λ (x : Store). Follows protected x.disk (executed_of t) last.disk) h.met
-    (subst (λ (x : Store). Follows protected t.before.disk (executed_of t) x.disk) (sym h.last_is) (own_follows protected h.machine t h.own (omega (arith, b, d, same))))
+    (subst (λ (x : Store). Follows protected t.before.disk (executed_of t) x.disk) (sym h.last_is)
+    (own_follows protected h.machine t h.own (omega (arith, b, d, same))))
 happens_follows protected seats store (Syncs k) after last h same = sync_follows protected store last h.1
 happens_follows protected seats store (Ends k) after last h same = none_follows protected store last h.1
 happens_follows protected seats store (Leaves k) after last h same = none_follows protected store last h.2
 
-pub runs_follows : (protected : Bool) (seats after : Seats) (store last : Store) (es : List Event) → Runs protected seats store es after last → last.failures ≡ store.failures →
+pub runs_follows : (protected : Bool) (seats after : Seats) (store last : Store) (es : List Event) → Runs protected seats store es after last
+    → last.failures ≡ store.failures →
     Follows protected store.disk (executed_in es) last.disk
 unfolding Runs
 runs_follows protected seats after store last [] r same = none_follows protected store last r.1

@@ -75,13 +75,15 @@ quiet_executes protected s m end es e h disk =
     let q = closed_quiet protected m end es e h in
     ap whole q.2 ∙ ap (λ (gs : List Group). whole (answers_over protected s disk gs).executed) (sym q.1)
 
-left_executes : (protected : Bool) (s m end : Machine) (es : List Event) → IsLeft s m → Session protected m es end → Executes protected es m → Executes protected es s
+left_executes : (protected : Bool) (s m end : Machine) (es : List Event) → IsLeft s m → Session protected m es end → Executes protected es m
+    → Executes protected es s
 left_executes protected s m end es (inl same) h go disk =
     go disk ∙ ap (λ (x : Machine). whole (answers_over protected x disk (groups_in es)).executed) same
     ∙ ap (λ (r : Stepped). r.executed) (over_joined protected s disk (groups_in es))
 left_executes protected s m end es (inr over) h go disk = quiet_executes protected s m end es (ap is_closed over) h disk
 
-ended_executes : (protected : Bool) (s m end : Machine) (es : List Event) → IsEnded s m → Session protected m es end → Executes protected es m → Executes protected es s
+ended_executes : (protected : Bool) (s m end : Machine) (es : List Event) → IsEnded s m → Session protected m es end → Executes protected es m
+    → Executes protected es s
 ended_executes protected s m end es (inl same) h go disk = go disk ∙ ap (λ (x : Machine). whole (answers_over protected x disk (groups_in es)).executed) same
 ended_executes protected s m end es (inr over) h go disk = quiet_executes protected s m end es (ap is_closed over) h disk
 
@@ -91,7 +93,8 @@ session_executes protected s end [] h calm disk = refl
 session_executes protected s end (Comes k settings ∷ es) h calm disk = absurd h
 session_executes protected s end (Goes k ∷ es) h calm disk = absurd h
 session_executes protected s end (Syncs k ∷ es) h calm disk = session_executes protected s end es h calm.1 disk
-session_executes protected s end (Ends k ∷ es) h calm disk = ended_executes protected s h.0 end es h.1 h.2 (session_executes protected h.0 end es h.2 calm.1) disk
+session_executes protected s end (Ends k ∷ es) h calm disk = ended_executes protected s h.0 end es h.1 h.2
+    (session_executes protected h.0 end es h.2 calm.1) disk
 session_executes protected s end (Takes t ∷ es) h calm disk =
     let r : Stepped = answers protected s t.before.disk t.messages in
     let is : t.stepped ≡ r = h.1.works calm.0.0 in
@@ -102,10 +105,12 @@ session_executes protected s end (Takes t ∷ es) h calm disk =
     ap (λ (xs : List Execution). whole (xs ++ executed_in es)) own
     ∙ map-append joined_execution r.executed (executed_in es)
     ∙ ap (λ (xs : List Execution). whole r.executed ++ xs)
-    (left_executes protected r.machine h.0 end es (subst (λ (x : Machine). IsLeft x h.0) machine h.2) h.3 (session_executes protected h.0 end es h.3 calm.1) r.disk)
+    (left_executes protected r.machine h.0 end es (subst (λ (x : Machine). IsLeft x h.0) machine h.2) h.3
+    (session_executes protected h.0 end es h.3 calm.1) r.disk)
     ∙ sym (map-append joined_execution r.executed later.executed)
 
-pub own_executed : (protected : Bool) (seats after : Seats) (store last : Store) (es : List Event) (seat : ℕ) (s : Machine) → Runs protected seats store es after last →
+pub own_executed : (protected : Bool) (seats after : Seats) (store last : Store) (es : List Event) (seat : ℕ) (s : Machine)
+    → Runs protected seats store es after last →
     seats seat ≡ Some s → Stays seat es → AllByRecursion IsCalm (events_of seat es) → (disk : Disk)
     → map joined_execution (executed_for seat (placed_in es)) ≡ map joined_execution (answers_over protected s disk (groups_in (events_of seat es))).executed
 own_executed protected seats after store last es seat s r has stays calm disk =
@@ -118,10 +123,12 @@ tasks_whole : (es : List Execution) → tasks_done (whole es) ≡ tasks_done es
 tasks_whole [] = refl
 tasks_whole (e ∷ es) = ap (λ (ts : List Command). (e.initiator_task_tag, e.order) ∷ ts) (tasks_whole es)
 
-pub own_accepted : (protected : Bool) (seats after : Seats) (store last : Store) (es : List Event) (seat n : ℕ) (settings : Settings) → Runs protected seats store es after last →
+pub own_accepted : (protected : Bool) (seats after : Seats) (store last : Store) (es : List Event) (seat n : ℕ) (settings : Settings)
+    → Runs protected seats store es after last →
     seats seat ≡ Some (opening settings n) → Stays seat es → AllByRecursion IsCalm (events_of seat es) → (disk : Disk)
     → (more : List Command)
-    × (tasks_in (answers_over protected (opening settings n) disk (groups_in (events_of seat es))).accepted ≡ tasks_done (executed_for seat (placed_in es)) ++ more)
+    × (tasks_in (answers_over protected (opening settings n) disk (groups_in (events_of seat es))).accepted ≡ tasks_done (executed_for seat (placed_in es))
+    ++ more)
 own_accepted protected seats after store last es seat n settings r has stays calm disk =
     let gs : List Group = groups_in (events_of seat es) in
     let run : Stepped = answers_over protected (opening settings n) disk gs in

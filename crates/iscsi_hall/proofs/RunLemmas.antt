@@ -13,7 +13,8 @@ use Rattle.iscsi_hall.specs.Turns.{Stays, executed_of, executed_by, executed_in,
 
 -- ---- the blocks
 
-front_leads : (protected : Bool) (r : Stepped) (counted : ℕ) (front : Stepped) (after : ℕ) → IsFront protected r counted front after → Leads protected r.disk front.executed front.disk
+front_leads : (protected : Bool) (r : Stepped) (counted : ℕ) (front : Stepped) (after : ℕ) → IsFront protected r counted front after
+    → Leads protected r.disk front.executed front.disk
 unfolding Leads
 front_leads protected r counted front after (inl f) = subst (λ (x : Stepped). Leads protected r.disk x.executed x.disk) (sym f.0) refl
 front_leads protected r counted front after (inr f) = stop_leads protected r.machine r.disk counted after f.0 front f.1
@@ -22,7 +23,8 @@ own_leads : (protected : Bool) (s : Machine) (t : Turn) → IsOwn protected s t 
 own_leads protected s t o =
     leads_append protected t.before.disk t.stepped.disk t.after.disk t.stepped.executed t.front.executed
     (may_leads protected s t.before.disk t.before.failures o.counted t.messages t.stepped o.may)
-    (subst (λ (d : Disk). Leads protected t.stepped.disk t.front.executed d) (sym o.disk) (front_leads protected t.stepped o.counted t.front t.after.failures o.front))
+    (subst (λ (d : Disk). Leads protected t.stepped.disk t.front.executed d) (sym o.disk)
+    (front_leads protected t.stepped o.counted t.front t.after.failures o.front))
 
 none_leads : (protected : Bool) (store last : Store) → last ≡ store → Leads protected store.disk [] last.disk
 unfolding Leads
@@ -42,7 +44,8 @@ happens_leads protected seats store (Syncs k) after last h = sync_leads protecte
 happens_leads protected seats store (Ends k) after last h = none_leads protected store last h.1
 happens_leads protected seats store (Goes k) after last h = none_leads protected store last h.2
 
-pub runs_lead : (protected : Bool) (seats after : Seats) (store last : Store) (es : List Event) → Runs protected seats store es after last → Leads protected store.disk (executed_in es) last.disk
+pub runs_lead : (protected : Bool) (seats after : Seats) (store last : Store) (es : List Event) → Runs protected seats store es after last
+    → Leads protected store.disk (executed_in es) last.disk
 unfolding Runs
 runs_lead protected seats after store last [] r = none_leads protected store last r.1
 runs_lead protected seats after store last (e ∷ es) r =
@@ -52,7 +55,8 @@ runs_lead protected seats after store last (e ∷ es) r =
 -- ---- one behind the other
 
 -- two runs are one
-pub runs_append : (protected : Bool) (seats mid after : Seats) (store now last : Store) (es fs : List Event) → Runs protected seats store es mid now → Runs protected mid now fs after last →
+pub runs_append : (protected : Bool) (seats mid after : Seats) (store now last : Store) (es fs : List Event) → Runs protected seats store es mid now
+    → Runs protected mid now fs after last →
     Runs protected seats store (es ++ fs) after last
 unfolding Runs
 runs_append protected seats mid after store now last [] fs r q =
@@ -65,7 +69,8 @@ unfolding Runs
 runs_none protected seats after store same = (same, refl)
 
 -- one event
-pub runs_one : (protected : Bool) (seats after : Seats) (store last : Store) (e : Event) → Happens protected seats store e after last → Runs protected seats store (e ∷ []) after last
+pub runs_one : (protected : Bool) (seats after : Seats) (store last : Store) (e : Event) → Happens protected seats store e after last
+    → Runs protected seats store (e ∷ []) after last
 unfolding Runs
 runs_one protected seats after store last e h = (after, last, h, ((λ k. refl), refl))
 
@@ -99,14 +104,16 @@ own_event protected k seats mid after store now (Ends j) es s same h has keeps g
     let is : h.0.machine ≡ s = same_Some h.0.machine s (sym h.0.had ∙ ap seats same ∙ has) in
     (rest.0, rest.1, (h.0.left, subst (λ (m : Machine). IsEnded m h.0.left) is h.0.does, rest.2))
 
-one_event : (protected : Bool) (b : Bool) (k : ℕ) (seats mid after : Seats) (store now : Store) (e : Event) (es : List Event) (s : Machine) → (seat_of e == k) ≡ b →
+one_event : (protected : Bool) (b : Bool) (k : ℕ) (seats mid after : Seats) (store now : Store) (e : Event) (es : List Event) (s : Machine)
+    → (seat_of e == k) ≡ b →
     Happens protected seats store e mid now → seats k ≡ Some s → KeepsSession b e →
     ((m : Machine) → mid k ≡ Some m → StandsBehind protected k m es after) → StandsBehind protected k s (only_if b e es) after
 one_event protected true k seats mid after store now e es s at h has keeps go =
     own_event protected k seats mid after store now e es s (eqb-true (seat_of e) k at) h has keeps go
 one_event protected false k seats mid after store now e es s at h has keeps go = go s (happens_others protected seats store e mid now h k at ∙ has)
 
-pub own_session : (protected : Bool) (seats after : Seats) (store last : Store) (es : List Event) (k : ℕ) (s : Machine) → Runs protected seats store es after last →
+pub own_session : (protected : Bool) (seats after : Seats) (store last : Store) (es : List Event) (k : ℕ) (s : Machine)
+    → Runs protected seats store es after last →
     seats k ≡ Some s → Stays k es → (end : Machine) × (after k ≡ Some end) × Session protected s (events_of k es) end
 unfolding Runs Session
 own_session protected seats after store last [] k s r has stays = (s, r.0 k ∙ has, refl)

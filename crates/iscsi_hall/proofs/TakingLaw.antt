@@ -26,7 +26,8 @@ record Acts (protected : Bool) (seat : ℕ) (old : Scene) (most : ℕ → Type 0
   pub answers_are : new.output ≡ old.output ++ canon (answers_of turn)
 
 -- no fault of memory
-acts_whole : (protected : Bool) (seat : ℕ) (old new : Scene) (bytes : List ℕ) (most : ℕ → Type 0) (now : Progress) (a : Answers protected old.connection old.store bytes now new.store)
+acts_whole : (protected : Bool) (seat : ℕ) (old new : Scene) (bytes : List ℕ) (most : ℕ → Type 0) (now : Progress)
+    (a : Answers protected old.connection old.store bytes now new.store)
     → is_closed old.connection.machine ≡ false → most (length now.messages) → Stands old.output now.stepped a.failures new.store new.output
     → IsLeft now.stepped.machine new.connection.machine → Acts protected seat old most new
 acts_whole protected seat old new bytes most now a open_ few s l = record {
@@ -55,14 +56,17 @@ acts_whole protected seat old new bytes most now a open_ few s l = record {
 }
 
 front_of : (protected : Bool) (framing : Framing) (rest : List ℕ) (r : Stepped) (counted : ℕ) (front : Stepped) (after : ℕ) →
-    ((front ≡ unchanged r.machine r.disk) × (counted ≤ after) × AsksForMemory framing rest) ⊎ StopsAt protected framing rest r counted front after → IsFront protected r counted front after
+    ((front ≡ unchanged r.machine r.disk) × (counted ≤ after) × AsksForMemory framing rest) ⊎ StopsAt protected framing rest r counted front after
+    → IsFront protected r counted front after
 front_of protected framing rest r counted front after (inl none) = inl (none.0, none.1)
 front_of protected framing rest r counted front after (inr at) = inr (at.message, at.stops)
 
 -- memory ran out
-acts_short : (protected : Bool) (seat : ℕ) (old new : Scene) (bytes rest : List ℕ) (most : ℕ → Type 0) (now : Progress) (a : Answers protected old.connection old.store bytes now new.store)
+acts_short : (protected : Bool) (seat : ℕ) (old new : Scene) (bytes rest : List ℕ) (most : ℕ → Type 0) (now : Progress)
+    (a : Answers protected old.connection old.store bytes now new.store)
     → is_closed old.connection.machine ≡ false → most (length now.messages)
-    → StopsShort protected old.output (remainder now.framing rest now.stepped a.failures) new.connection.machine new.store new.output → Acts protected seat old most new
+    → StopsShort protected old.output (remainder now.framing rest now.stepped a.failures) new.connection.machine new.store new.output
+    → Acts protected seat old most new
 acts_short protected seat old new bytes rest most now a open_ few s = record {
   turn = record {
     seat = seat;
@@ -91,7 +95,8 @@ acts_short protected seat old new bytes rest most now a open_ few s = record {
 abbrev one_if : Result ℕ TargetFault → ℕ → Type 0
 one_if result n = OnOk result (n ≤ 1)
 
-acts : (protected : Bool) (b : Bool) (seat : ℕ) (old new : Scene) (piece : List ℕ) (phase : Phase) (result : Result ℕ TargetFault) → is_closed old.connection.machine ≡ false
+acts : (protected : Bool) (b : Bool) (seat : ℕ) (old new : Scene) (piece : List ℕ) (phase : Phase) (result : Result ℕ TargetFault)
+    → is_closed old.connection.machine ≡ false
     → b ≡ false → FedNextIf protected b old piece (with_phase phase result) new → Acts protected seat old (one_if result) new
 acts protected true seat old new piece phase result open_ live f = absurd cc
 acts protected false seat old new piece phase (Ok n) open_ live f =
@@ -116,7 +121,8 @@ takes_open o s same may =
     open_if (has_room s) (is_closed s.connection.machine) (not (length s.unfed == 0)) e
 
 -- so it is one of a hall
-pub takes_turn : (protected : Bool) (seat : ℕ) (old new : Hall) (before after : Store) (result : Result ℕ TargetFault) (t : Takes protected seat old before result new after)
+pub takes_turn : (protected : Bool) (seat : ℕ) (old new : Hall) (before after : Store) (result : Result ℕ TargetFault)
+    (t : Takes protected seat old before result new after)
     → may_take_at (seat_at old seat) ≡ true → TakesTurn protected seat old before result new after
 takes_turn protected seat old new before after result t may =
     let live : is_closed t.before.connection.machine ≡ false = takes_open (seat_at old seat) t.before t.was may in

@@ -17,7 +17,8 @@ use Rattle.iscsi_target.specs.State.{Execution}
 unfoldable pub Follows : Bool → Disk → List Execution → Disk → Type 0
 Follows protected disk [] last = last ≡ disk
 Follows protected disk (e ∷ es) last =
-    (e.disk ≡ disk) × Follows protected (effect protected e.disk e.order (data_of e.pieces)).disk es last
+    (e.disk ≡ disk) × Follows protected (effect protected e.disk e.order
+    (data_of e.pieces)).disk es last
 
 -- Block n of bytes that are written from a first block on; none where they don't reach it.
 abbrev pub block_in : ℕ → List ℕ → ℕ → Option (List ℕ)
@@ -33,7 +34,8 @@ block_by _ order bytes n = None
 
 -- What a command writes to block n, on a disk that has `count`; none where it doesn't.
 abbrev pub written_by : Bool → ℕ → Execution → ℕ → Option (List ℕ)
-written_by protected count e n = block_by (guarded protected (plan_of e.order count)) e.order (data_of e.pieces) n
+written_by protected count e n = block_by (guarded protected (plan_of e.order count))
+    e.order (data_of e.pieces) n
 
 -- The later one, if there is one.
 abbrev pub later_or : Option (List ℕ) → Option (List ℕ) → Option (List ℕ)
@@ -43,7 +45,8 @@ later_or None earlier = earlier
 -- What the last of these commands that writes to block n wrote there; none where none does.
 unfoldable pub last_written : Bool → ℕ → List Execution → ℕ → Option (List ℕ)
 last_written protected count [] n = None
-last_written protected count (e ∷ es) n = later_or (last_written protected count es n) (written_by protected count e n)
+last_written protected count (e ∷ es) n = later_or (last_written protected count es n)
+    (written_by protected count e n)
 
 -- Block n behind these commands: what the last write to it left, or what it was at first.
 abbrev pub block_left : Bool → Disk → List Execution → ℕ → List ℕ

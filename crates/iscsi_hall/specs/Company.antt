@@ -20,7 +20,8 @@ unfoldable pub answers_over : Bool → Machine → Disk → List Group → Stepp
 answers_over protected s disk [] = unchanged s disk
 answers_over protected s disk (g ∷ gs) =
     then_stepped (answers protected s g.0 g.1)
-    (answers_over protected (answers protected s g.0 g.1).machine (answers protected s g.0 g.1).disk gs)
+    (answers_over protected (answers protected s g.0 g.1).machine
+    (answers protected s g.0 g.1).disk gs)
 
 -- The PDUs of all groups.
 abbrev pub messages_in : List Group → List Message

@@ -79,7 +79,8 @@ with_phase phase (Ok count) = Ok (count, phase)
 with_phase phase (Err fault) = Err fault
 
 -- One call of feed_next with what was not taken; its answers wait behind those that did.
-pub record TakesAt (protected : Bool) (old : Seat) (before : Store) (result : Result ℕ TargetFault) (new : Seat)
+pub record TakesAt (protected : Bool) (old : Seat) (before : Store)
+    (result : Result ℕ TargetFault) (new : Seat)
     (after : Store) : Type 0 where
   pub fed : FedNext protected (scene old.connection before old.waiting) old.unfed
       (with_phase (phase_of new) result) (scene new.connection after new.waiting)

@@ -109,7 +109,8 @@ Happens protected seats store (Comes seat settings) after last =
 Happens protected seats store (Takes t) after last = IsTurn protected seats store t after last
 Happens protected seats store (Syncs seat) after last =
     ((k : ℕ) → after k ≡ seats k) × (last.disk ≡ store.disk) × (store.failures ≤ last.failures)
-Happens protected seats store (Ends seat) after last = Moves seat seats after IsEnded × (last ≡ store)
+Happens protected seats store (Ends seat) after last = Moves seat seats after IsEnded
+    × (last ≡ store)
 Happens protected seats store (Goes seat) after last =
     (after seat ≡ None) × OthersStay seat seats after × (last ≡ store)
 
@@ -117,7 +118,8 @@ Happens protected seats store (Goes seat) after last =
 unfoldable pub Runs : Bool → Seats → Store → List Event → Seats → Store → Type 0
 Runs protected seats store [] after last = ((k : ℕ) → after k ≡ seats k) × (last ≡ store)
 Runs protected seats store (e ∷ es) after last =
-    (mid : Seats) × (now : Store) × Happens protected seats store e mid now × Runs protected mid now es after last
+    (mid : Seats) × (now : Store) × Happens protected seats store e mid now
+    × Runs protected mid now es after last
 
 -- What an event executed.
 abbrev pub executed_by : Event → List Execution
@@ -153,9 +155,11 @@ events_of seat (e ∷ es) = only_if (seat_of e == seat) e (events_of seat es)
 unfoldable pub Session : Bool → Machine → List Event → Machine → Type 0
 Session protected s [] last = last ≡ s
 Session protected s (Takes t ∷ es) last =
-    (mid : Machine) × IsOwn protected s t × IsLeft t.front.machine mid × Session protected mid es last
+    (mid : Machine) × IsOwn protected s t × IsLeft t.front.machine mid
+    × Session protected mid es last
 Session protected s (Syncs seat ∷ es) last = Session protected s es last
-Session protected s (Ends seat ∷ es) last = (mid : Machine) × IsEnded s mid × Session protected mid es last
+Session protected s (Ends seat ∷ es) last = (mid : Machine) × IsEnded s mid
+    × Session protected mid es last
 Session protected s (Comes seat settings ∷ es) last = ⊥
 Session protected s (Goes seat ∷ es) last = ⊥
 
@@ -186,7 +190,8 @@ machines hall place = machine_in (seat_at hall place)
 
 -- One turn was taken at a seat, of at most one PDU where there is no fault, and its answers wait
 -- there, behind those that did.
-pub record TakesTurn (protected : Bool) (seat : ℕ) (old : Hall) (before : Store) (result : Result ℕ TargetFault)
+pub record TakesTurn (protected : Bool) (seat : ℕ) (old : Hall) (before : Store)
+    (result : Result ℕ TargetFault)
     (new : Hall) (after : Store) : Type 0 where
   pub turn : Turn
   pub seat_is : turn.seat ≡ seat
@@ -198,7 +203,8 @@ pub record TakesTurn (protected : Bool) (seat : ℕ) (old : Hall) (before : Stor
 -- This happened in the hall, and no block changed.
 abbrev pub HappensIn : Event → Hall → Hall → Type 0
 HappensIn e old new =
-    (protected : Bool) (store : Store) → Happens protected (machines old) store e (machines new) store
+    (protected : Bool) (store : Store) → Happens protected (machines old) store
+    e (machines new) store
 
 -- No session changed.
 abbrev pub SameMachines : Hall → Hall → Type 0

@@ -204,16 +204,19 @@ impl Hall {
     /// dropped, and what the fault leaves is as `Target::feed_next` says.
     pub fn take<S: BlockStore>(&mut self, seat: usize, store: &mut S) -> Result<usize, TargetFault>
         requires may { may_take_at (seat_at self.old seat) ≡ true }
-        ensures takes { Takes S.protected seat self.old (store_of (S.disk store.old) (S.failures store.old))
+        ensures takes { Takes S.protected seat self.old
+            (store_of (S.disk store.old) (S.failures store.old))
             result self.new (store_of (S.disk store.new) (S.failures store.new)) }
-        ensures turn { TakesTurn S.protected seat self.old (store_of (S.disk store.old) (S.failures store.old))
+        ensures turn { TakesTurn S.protected seat self.old
+            (store_of (S.disk store.old) (S.failures store.old))
             result self.new (store_of (S.disk store.new) (S.failures store.new)) }
         // Once the store is synced, a crash leaves the blocks that the answered commands led to, and no
         // others.
         ensures lasts { S.failures store.new ≡ 0
             → Lasts (S.synced store.new) (S.disk store.new) (S.kept store.new) }
         // Come what may, a crash leaves each block as before, or as a command of the PDU does.
-        ensures crash { IfSome (seat_at self.old seat) (λ taken. CrashesNext S.protected taken.connection
+        ensures crash { IfSome (seat_at self.old seat)
+            (λ taken. CrashesNext S.protected taken.connection
             taken.unfed (S.disk store.old) (S.disk store.new) (S.kept store.old) (S.kept store.new)) }
     {
         let Some(fed) = &mut self.seats[seat] else {

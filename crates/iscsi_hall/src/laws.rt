@@ -33,9 +33,11 @@ ghost use Rattle.iscsi_hall.specs.Company.{Group, HaveCount, IsCalm, answers_in,
 pub fn one_disk_of_all()
     // Over a store that may fail, each does what it does, or what it may do where the device fails.
     ensures may { (protected : Bool) (seats after : Seats) (store last : Store) (es : List Event)
-        → Runs protected seats store es after last → Leads protected store.disk (executed_in es) last.disk }
+        → Runs protected seats store es after last
+        → Leads protected store.disk (executed_in es) last.disk }
     // Where no failure was counted, each does exactly what it does.
-    ensures follows { (protected : Bool) (seats after : Seats) (store last : Store) (es : List Event)
+    ensures follows { (protected : Bool) (seats after : Seats)
+        (store last : Store) (es : List Event)
         → Runs protected seats store es after last → last.failures ≡ store.failures
         → Follows protected store.disk (executed_in es) last.disk }
 {}
@@ -52,7 +54,8 @@ pub fn last_write_is_read()
         → (effect protected e.disk e.order (data_of e.pieces)).outcome.bytes
         ≡ take length (joined (block_left protected store.disk past) (transfer e.order.cdb).first
         (transfer e.order.cdb).count) }
-    ensures blocks { (protected : Bool) (seats after : Seats) (store last : Store) (es : List Event) (n : ℕ)
+    ensures blocks { (protected : Bool) (seats after : Seats) (store last : Store)
+        (es : List Event) (n : ℕ)
         → Runs protected seats store es after last → last.failures ≡ store.failures
         → last.disk.block n ≡ block_left protected store.disk (executed_in es) n }
 {}
@@ -60,8 +63,10 @@ pub fn last_write_is_read()
 /// Each session is its own: while one session has a seat, its turns are its own machine's, each
 /// over the blocks that it met, whatever other sessions do between them.
 pub fn each_its_own()
-    ensures own { (protected : Bool) (seats after : Seats) (store last : Store) (es : List Event) (seat : ℕ)
-        (s : Machine) → Runs protected seats store es after last → seats seat ≡ Some s → Stays seat es
+    ensures own { (protected : Bool) (seats after : Seats) (store last : Store)
+        (es : List Event) (seat : ℕ)
+        (s : Machine) → Runs protected seats store es after last → seats seat ≡ Some s
+        → Stays seat es
         → (end : Machine) × (after seat ≡ Some end) × Session protected s (events_of seat es) end }
 {}
 
@@ -75,17 +80,21 @@ pub fn own_order()
     // Suppose that one session has the seat, no failure was counted and memory was there. Then the
     // commands that the list has of the seat are those of the session's own machine with its own
     // PDUs, pieces of data joined.
-    ensures own { (protected : Bool) (seats after : Seats) (store last : Store) (es : List Event) (seat : ℕ)
-        (s : Machine) → Runs protected seats store es after last → seats seat ≡ Some s → Stays seat es
+    ensures own { (protected : Bool) (seats after : Seats) (store last : Store)
+        (es : List Event) (seat : ℕ)
+        (s : Machine) → Runs protected seats store es after last → seats seat ≡ Some s
+        → Stays seat es
         → AllByRecursion IsCalm (events_of seat es) → (disk : Disk)
         → map joined_execution (executed_for seat (placed_in es)) ≡ map joined_execution
         (answers_over protected s disk (groups_in (events_of seat es))).executed }
     // They are the commands that it accepted, in their order, and then come those that wait.
-    ensures accepted { (protected : Bool) (seats after : Seats) (store last : Store) (es : List Event) (seat n : ℕ)
+    ensures accepted { (protected : Bool) (seats after : Seats) (store last : Store)
+        (es : List Event) (seat n : ℕ)
         (settings : Settings) → Runs protected seats store es after last
         → seats seat ≡ Some (opening settings n) → Stays seat es
         → AllByRecursion IsCalm (events_of seat es) → (disk : Disk) → (more : List Command)
-        × (tasks_in (answers_over protected (opening settings n) disk (groups_in (events_of seat es))).accepted
+        × (tasks_in (answers_over protected (opening settings n) disk
+        (groups_in (events_of seat es))).accepted
         ≡ tasks_done (executed_for seat (placed_in es)) ++ more) }
 {}
 
@@ -96,16 +105,20 @@ pub fn own_order()
 /// So a seat keeps the data of nine writes, and less than 65,536 bytes of answers with the answers
 /// to one PDU. Beside these it keeps what its framer holds of one PDU and one read.
 pub fn few_at_a_time()
-    ensures tasks { (protected : Bool) (settings : Settings) (n : ℕ) (end : Machine) (es : List Event)
+    ensures tasks { (protected : Bool) (settings : Settings) (n : ℕ)
+        (end : Machine) (es : List Event)
         → Session protected (opening settings n) es end → AllByRecursion IsNumbered es
         → length end.tasks ≤ 9 }
-    ensures executed { (protected : Bool) (settings : Settings) (n : ℕ) (end : Machine) (es : List Event)
+    ensures executed { (protected : Bool) (settings : Settings) (n : ℕ)
+        (end : Machine) (es : List Event)
         → Session protected (opening settings n) es end → AllByRecursion IsNumbered es
         → AllByRecursion ExecutesFew es }
     // Where no failure was counted, a write that waits for data has at most 4,194,304 bytes of them.
-    ensures held { (protected : Bool) (settings : Settings) (n count : ℕ) (disk : Disk) (gs : List Group)
+    ensures held { (protected : Bool) (settings : Settings) (n count : ℕ)
+        (disk : Disk) (gs : List Group)
         → HaveCount count gs
-        → AllByRecursion HoldsFew (answers_over protected (opening settings n) disk gs).machine.tasks }
+        → AllByRecursion HoldsFew (answers_over protected (opening settings n)
+        disk gs).machine.tasks }
     // A write takes, and a READ gives, at most 4,194,304 bytes.
     ensures write { (order : Order) (blocks n : ℕ) → plan_of order blocks ≡ Take n
         → n ≤ 4_194_304 }
@@ -124,7 +137,8 @@ pub fn few_at_a_time()
 /// each group of PDUs meets a disk of its own.
 pub fn in_company()
     // This is what a session of a hall answers, where no failure was counted and memory was there.
-    ensures session { (protected : Bool) (s end : Machine) (es : List Event) → Session protected s es end
+    ensures session { (protected : Bool) (s end : Machine) (es : List Event)
+        → Session protected s es end
         → AllByRecursion IsCalm es
         → (disk : Disk) → answers_in es ≡ (answers_over protected s disk (groups_in es)).answers }
     // The commands that were accepted are those that were executed, in their order, and those that
@@ -135,23 +149,32 @@ pub fn in_company()
         → response_tags (answers_over protected s disk gs).answers
         ≡ map (λ e. e.initiator_task_tag) (answers_over protected s disk gs).executed }
     // CmdSN and StatSN count on.
-    ensures commands { (protected : Bool) (settings : Settings) (n : ℕ) (disk : Disk) (gs : List Group)
+    ensures commands { (protected : Bool) (settings : Settings) (n : ℕ)
+        (disk : Disk) (gs : List Group)
         (first : Message) (ms : List Message) (request : LoginRequest)
         → messages_in gs ≡ first ∷ ms → first.head ≡ heads.LoginRequest request
         → AllByRecursion HasCmdSn (first ∷ ms)
-        → CountOn request.cmd_sn (cmd_sns (answers_over protected (opening settings n) disk gs).accepted) }
-    ensures status { (protected : Bool) (s : Machine) (disk : Disk) (gs : List Group) → s.session.stat_sn < 2 ^ 32
+        → CountOn request.cmd_sn (cmd_sns (answers_over protected
+        (opening settings n) disk gs).accepted) }
+    ensures status { (protected : Bool) (s : Machine) (disk : Disk) (gs : List Group)
+        → s.session.stat_sn < 2 ^ 32
         → CountOn s.session.stat_sn (stat_sns (answers_over protected s disk gs).answers) }
     // Data-In tile what commands give, the data of writes tile what they take, and R2Ts ask for at
     // most a burst inside the transfer, whatever disk the next PDU meets.
-    ensures data_in { (protected : Bool) (settings : Settings) (n : ℕ) (disk now : Disk) (gs : List Group)
+    ensures data_in { (protected : Bool) (settings : Settings) (n : ℕ)
+        (disk now : Disk) (gs : List Group)
         (m : Message) → IsInRange settings.preferences
-        → TilesDataIn protected (step protected (answers_over protected (opening settings n) disk gs).machine now m) }
-    ensures writes { (protected : Bool) (settings : Settings) (n : ℕ) (disk now : Disk) (gs : List Group)
+        → TilesDataIn protected (step protected
+        (answers_over protected (opening settings n) disk gs).machine now m) }
+    ensures writes { (protected : Bool) (settings : Settings) (n : ℕ)
+        (disk now : Disk) (gs : List Group)
         (m : Message) → HaveCount now.count gs → AllByRecursion IsTiled
-        (step protected (answers_over protected (opening settings n) disk gs).machine now m).executed }
-    ensures modest { (protected : Bool) (settings : Settings) (n : ℕ) (disk now : Disk) (gs : List Group)
+        (step protected (answers_over protected (opening settings n) disk
+        gs).machine now m).executed }
+    ensures modest { (protected : Bool) (settings : Settings) (n : ℕ)
+        (disk now : Disk) (gs : List Group)
         (m : Message) → HaveCount now.count gs
-        → let t = step protected (answers_over protected (opening settings n) disk gs).machine now m in AllByRecursion
+        → let t = step protected (answers_over protected (opening settings n) disk gs).machine
+        now m in AllByRecursion
         (IsModest t.machine.session.held (total_of t.machine.tasks)) (r2t_ranges t.answers) }
 {}

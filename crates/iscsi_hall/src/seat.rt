@@ -170,9 +170,11 @@ impl Seat {
     /// Takes the next PDU of what was read, and keeps its answers behind those that wait.
     pub fn take<S: BlockStore>(&mut self, store: &mut S) -> Result<usize, TargetFault>
         requires may { may_take self.old ≡ true }
-        ensures takes { TakesAt S.protected self.old (store_of (S.disk store.old) (S.failures store.old))
+        ensures takes { TakesAt S.protected self.old
+            (store_of (S.disk store.old) (S.failures store.old))
             result self.new (store_of (S.disk store.new) (S.failures store.new)) }
-        ensures crash { CrashesNext S.protected self.old.connection self.old.unfed (S.disk store.old)
+        ensures crash { CrashesNext S.protected self.old.connection
+            self.old.unfed (S.disk store.old)
             (S.disk store.new) (S.kept store.old) (S.kept store.new) }
     {
         self.gather();

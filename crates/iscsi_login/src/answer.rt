@@ -15,7 +15,27 @@ use crate::stage::Session;
 use iscsi_text::{Pair, Text, Value, key_kind, write_pairs};
 use std::alloc::{AllocError, Global};
 
-/// The canonical answer to a login text.
+/// The canonical answer to a login text: `answer_pairs`, as bytes.
+///
+/// The only error is that memory ran out; nothing else changes.
+pub fn answer_text(
+    alloc: Global,
+    text: &Text,
+    preferences: &Preferences,
+    session: Session,
+    tag: Option<u16>,
+    max_recv: Option<u32>,
+) -> Result<Vec<u8>, AllocError>
+    ensures answer { IfOk result (λ bytes. bytes.items ≡
+        canonical_text (answer session preferences.now tag max_recv text.now)) }
+{
+    let pairs = answer_pairs(alloc, text, preferences, session, tag, max_recv)?;
+    let mut out = Vec::new(alloc);
+    write_pairs(&pairs, &mut out)?;
+    Ok(out)
+}
+
+/// The pairs of the answer to a login text, in the byte order of their keys.
 ///
 /// Each key of the text is answered by its kind:
 /// - A negotiated key is answered by its result, or in a discovery session by `Irrelevant` if the
@@ -28,16 +48,16 @@ use std::alloc::{AllocError, Global};
 /// The target's portal group tag and the most bytes that it takes in one segment are declared where
 /// they are given. The only error is that memory ran out; nothing else changes (RFC 7143, sections
 /// 6.2, 13.9 and 13.12; which known keys are rejected is own rule).
-pub fn answer_text(
+pub fn answer_pairs<'a>(
     alloc: Global,
-    text: &Text,
+    text: &Text<'a>,
     preferences: &Preferences,
     session: Session,
     tag: Option<u16>,
     max_recv: Option<u32>,
-) -> Result<Vec<u8>, AllocError>
-    ensures answer { IfOk result (λ bytes. bytes.items ≡
-        canonical_text (answer session preferences.now tag max_recv text.now)) }
+) -> Result<Vec<Pair<'a>>, AllocError>
+    ensures answer { IfOk result (λ pairs. all_shown pairs.items ≡
+        answer session preferences.now tag max_recv text.now) }
 {
     let mut pairs = declarations(alloc, tag, max_recv)?;
     for n in 0..text.len() {
@@ -45,9 +65,7 @@ pub fn answer_text(
             add_answer(&mut pairs, key, &offer, preferences, session)?;
         }
     }
-    let mut out = Vec::new(alloc);
-    write_pairs(&pairs, &mut out)?;
-    Ok(out)
+    Ok(pairs)
 }
 
 // What the target declares of itself.

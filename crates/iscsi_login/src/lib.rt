@@ -15,7 +15,7 @@ mod phase;
 mod preferences;
 mod stage;
 
-pub use answer::answer_text;
+pub use answer::{answer_pairs, answer_text};
 pub use config_fault::ConfigFault;
 pub use key::{NegKey, Range, Rule};
 pub use name::is_name;

@@ -104,7 +104,8 @@ more_blocks blocks old before after more l e =
     let d : Disk = disk_of c.blocks in
     let a : target_state.Stepped = answers false first d l.messages in
     let here : (answers false old.machine before more).disk ≡ (answers false (joined a.machine) a.disk more).disk =
-    ap (λ (m : target_state.Machine). (answers false m before more).disk) l.machine ∙ ap (λ (x : Disk). (answers false (joined a.machine) x more).disk) l.disk_is in
+    ap (λ (m : target_state.Machine). (answers false m before more).disk) l.machine
+    ∙ ap (λ (x : Disk). (answers false (joined a.machine) x more).disk) l.disk_is in
     let same : (answers false (joined a.machine) a.disk more).disk ≡ (answers false a.machine a.disk more).disk =
     ap (λ (x : target_state.Stepped). x.disk) (answers_joined false a.machine a.disk more) in
     let whole : (answers false first d (l.messages ++ more)).disk ≡ (answers false a.machine a.disk more).disk =
@@ -146,8 +147,10 @@ target_refuses fault calm never i old new before after rest back written read n 
     } in
     let receives : TargetReceives read (world_of here h.bytes) there = record {
       result = Err fault;
-      fed = subst (λ (d : Disk). target.Fed false (target.scene old (stored d) back) read (Err fault) (target.scene new (store_of b.bytes) written)) (sym h.disk_is)
-          (subst (λ (d : Disk). target.Fed false (target.scene old (stored before) back) read (Err fault) (target.scene new (stored d) written)) (sym b.is) fed);
+      fed = subst (λ (d : Disk). target.Fed false (target.scene old (stored d) back) read (Err fault)
+          (target.scene new (store_of b.bytes) written)) (sym h.disk_is)
+          (subst (λ (d : Disk). target.Fed false (target.scene old (stored before) back) read (Err fault)
+          (target.scene new (stored d) written)) (sym b.is) fed);
       dropped = ap (λ (k : ℕ). drop k rest) (sym size);
       initiator = refl;
       fault = refl;
@@ -491,6 +494,7 @@ script_blameless (serve.Script n) script f = tt
 script_blameless serve.NoMemory script f = tt
 script_blameless serve.Read script f = tt
 script_blameless serve.Sync script f = tt
+script_blameless serve.NoRandom script f = tt
 script_blameless serve.Write script f = tt
 script_blameless serve.Network script f = tt
 script_blameless (serve.Target fault) script f = f

@@ -17,10 +17,11 @@ use Rattle.iscsi_login.specs.Stage.{is_closed_phase}
 use Rattle.iscsi_target_session.specs.Configured.{Settings}
 use Rattle.iscsi_target_session.specs.Session.{Session, Reply}
 use Rattle.iscsi_target_session.specs.declared.status.Status.{Status}
-use Rattle.iscsi_target_session.specs.LoginText.{is_operational, out_of_resources, initiator_error, text_refusals}
+use Rattle.iscsi_target_session.specs.LoginText.{is_operational, out_of_resources}
 use Rattle.iscsi_target_session.specs.Login.{entered, gather, login_in, login_request, numbered, refuse, refuse_or, request_refusals, segment_taken}
-use Rattle.iscsi_target_session.specs.Login.{text_answered, text_ending, whole_text}
+use Rattle.iscsi_target_session.specs.Login.{allowed_move, rest_of, text_answered, text_ending, whole_text}
 use Rattle.iscsi_target_session.proofs.CaseLemmas.{by_cases}
+use Rattle.iscsi_target_session.proofs.ExchangeLemmas.{text_cases}
 use Rattle.iscsi_target.specs.Execution.{reliable}
 use Rattle.iscsi_target.specs.State.{Machine}
 use Rattle.iscsi_target.specs.Machine.{answers, is_closed, is_over_limit, phase_step, step}
@@ -50,8 +51,12 @@ answered_takes : (n : ℕ) (s : Session) (r : Request) (pairs : Pairs) → Takes
 answered_takes n s r pairs t = record { held = declared_takes n s (is_operational s.stage && not s.has_operational_text) t; prefers = t.prefers }
 
 whole_takes : (n : ℕ) (s : Session) (r : Request) (text : Option Pairs) → Takes n s → Takes n (whole_text s r text).session
-whole_takes n s r None t = refuse_takes n s r initiator_error t
-whole_takes n s r (Some pairs) t = refused_takes n s r (first_of (text_refusals s pairs)) (text_answered s r pairs) t (answered_takes n s r pairs t)
+whole_takes n s r text t = text_cases (λ x. Takes n x.session) s r text (record {
+  refused = λ why reason. refuse_takes n s r why t;
+  plain = λ pairs is open_ none. answered_takes n s r pairs t;
+  exchange = λ c p said pairs is demanded none verdict short.
+      answered_takes n (record s { progress = p }) (allowed_move p r) (rest_of pairs) (record { held = t.held; prefers = t.prefers });
+})
 
 gather_takes : (n : ℕ) (s : Session) (r : Request) (segment : Segment) (more : Bool) → Takes n s
     → Takes n (if more then gather s r (segment_bytes segment) else whole_text (record s { gathered = [] }) r (text_ending s.gathered segment)).session

@@ -278,6 +278,7 @@ done_stops serve.Write all rest more command m n contents_old contents_now conte
 done_stops (serve.Script line) all rest more command m n contents_old contents_now contents_new d is w = absurd w.0
 done_stops serve.Read all rest more command m n contents_old contents_now contents_new d is w = absurd w.0
 done_stops serve.Sync all rest more command m n contents_old contents_now contents_new d is w = absurd w.0
+done_stops serve.NoRandom all rest more command m n contents_old contents_now contents_new d is w = absurd w.0
 done_stops serve.NoMemory all rest more command m n contents_old contents_now contents_new d is w =
     stops_at serve.NoMemory tt all rest m contents_old contents_now contents_new d w.1
 done_stops serve.Network all rest more command m n contents_old contents_now contents_new d is w =
@@ -310,6 +311,7 @@ script_stops (serve.Script n) script f = (f, refl)
 script_stops serve.NoMemory script f = inl refl
 script_stops serve.Read script f = refl
 script_stops serve.Sync script f = absurd f
+script_stops serve.NoRandom script f = absurd f
 script_stops serve.Write script f = absurd f
 script_stops serve.Network script f = inl refl
 script_stops (serve.Target fault) script f = absurd f
@@ -320,6 +322,7 @@ session_stops (serve.Script n) script written is s = absurd is
 session_stops serve.NoMemory script written is s = s
 session_stops serve.Read script written is s = absurd is
 session_stops serve.Sync script written is s = absurd is
+session_stops serve.NoRandom script written is s = absurd is
 session_stops serve.Write script written is s = absurd is
 session_stops serve.Network script written is s = s
 session_stops (serve.Target target.NoMemory) script written is s = absurd is
@@ -340,6 +343,7 @@ script_read (serve.Script n) script left f = tt
 script_read serve.Read script left f = tt
 script_read serve.NoMemory script left f = inl refl
 script_read serve.Sync script left f = absurd f
+script_read serve.NoRandom script left f = absurd f
 script_read serve.Write script left f = absurd f
 script_read serve.Network script left f = absurd f
 script_read (serve.Target fault) script left f = absurd f
@@ -349,6 +353,7 @@ session_read : (fault : ServeFault) (written : List â„•) (left : Option (List â„
 session_read (serve.Script n) written left is end = absurd is
 session_read serve.Read written left is end = absurd is
 session_read serve.Sync written left is end = absurd is
+session_read serve.NoRandom written left is end = absurd is
 session_read serve.Write written left is end = absurd is
 session_read serve.NoMemory written left is end = inr end
 session_read serve.Network written left is end = end
@@ -404,6 +409,8 @@ commands_stop serve.Read script commands contents_old contents_now contents_new 
     after_some serve.Read script commands contents_old contents_now contents_new left is end line s
 commands_stop serve.Sync script commands contents_old contents_now contents_new left is end line s =
     after_some serve.Sync script commands contents_old contents_now contents_new left is end line s
+commands_stop serve.NoRandom script commands contents_old contents_now contents_new left is end line s =
+    after_some serve.NoRandom script commands contents_old contents_now contents_new left is end line s
 commands_stop serve.Network script commands contents_old contents_now contents_new left is end line s =
     after_some serve.Network script commands contents_old contents_now contents_new left is end line s
 commands_stop (serve.Target fault) script commands contents_old contents_now contents_new left is end line s =

@@ -106,8 +106,10 @@ asks_on i old new before after out back written piece n phase fed is tells front
     let there : Ends = ends_of i new after (drop n out) written in
     let receives : TargetReceives piece (world_of here h.bytes) (world_of there b.bytes) = record {
       result = Ok phase;
-      fed = subst (λ (d : Disk). target.Fed false (target.scene old (stored d) back) piece (Ok phase) (target.scene new (store_of b.bytes) written)) (sym h.disk_is)
-          (subst (λ (d : Disk). target.Fed false (target.scene old (stored before) back) piece (Ok phase) (target.scene new (stored d) written)) (sym b.is) fed);
+      fed = subst (λ (d : Disk). target.Fed false (target.scene old (stored d) back) piece (Ok phase)
+          (target.scene new (store_of b.bytes) written)) (sym h.disk_is)
+          (subst (λ (d : Disk). target.Fed false (target.scene old (stored before) back) piece (Ok phase)
+          (target.scene new (stored d) written)) (sym b.is) fed);
       dropped = ap (λ (k : ℕ). drop k out) (sym size);
       initiator = refl;
       fault = refl;
@@ -191,7 +193,7 @@ is_normal blocks =
         tsih = n.opening.tsih;
         stat_sn = n.opening.stat_sn;
       };
-      suits = record { name = inr refl; auth = inr (λ e. absurd cc); access = refl };
+      suits = record { name = inr refl; auth = inr (λ e. absurd cc); access = refl; chap = refl };
       session = refl;
     }
 

@@ -28,6 +28,7 @@ IsOfSession (serve.Initiator fault) = Unit {0}
 IsOfSession (serve.Script n) = ⊥
 IsOfSession serve.Read = ⊥
 IsOfSession serve.Sync = ⊥
+IsOfSession serve.NoRandom = ⊥
 IsOfSession serve.Write = ⊥
 
 -- A fault that is neither end's.
@@ -40,6 +41,7 @@ BlamesNoEnd serve.Network = Unit {0}
 BlamesNoEnd serve.Read = Unit {0}
 BlamesNoEnd serve.Write = Unit {0}
 BlamesNoEnd serve.Sync = Unit {0}
+BlamesNoEnd serve.NoRandom = Unit {0}
 
 -- A request that is refused counts as handed to a closed session, but where memory ran out.
 abbrev pub refusal_fault : SubmitFault → ServeFault

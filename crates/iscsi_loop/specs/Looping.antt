@@ -89,6 +89,7 @@ Loops (Ok done) script written = DoesScript script written
 Loops (Err (serve.Script n)) script written =
     ScriptFails (serve.Script n) script × (written ≡ [])
 Loops (Err serve.Sync) script written = ⊥
+Loops (Err serve.NoRandom) script written = ⊥
 Loops (Err serve.Write) script written = WritesFront script written
 Loops (Err serve.Read) script written = written ≡ []
 Loops (Err serve.NoMemory) script written = StopsWithin script written

@@ -202,6 +202,7 @@ LinesFail (serve.Target fault) script = ⊥
 LinesFail (serve.Initiator fault) script = ⊥
 LinesFail serve.Network script = ⊥
 LinesFail serve.Sync script = ⊥
+LinesFail serve.NoRandom script = ⊥
 LinesFail serve.Write script = ⊥
 
 -- What was read is a script of these commands.
@@ -218,4 +219,5 @@ ScriptFails (serve.Target fault) script = ⊥
 ScriptFails (serve.Initiator fault) script = ⊥
 ScriptFails serve.Network script = ⊥
 ScriptFails serve.Sync script = ⊥
+ScriptFails serve.NoRandom script = ⊥
 ScriptFails serve.Write script = ⊥

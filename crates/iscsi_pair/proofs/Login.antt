@@ -1,4 +1,5 @@
 -- The login: both ends hold the same at its end, and two that suit each other come there.
+pub mod HeldBack
 pub mod TargetStep
 pub mod InitiatorStep
 pub mod RoundAgrees

@@ -192,13 +192,14 @@ pub record IsOpening (c : Opening) : Type 0 where
   pub tsih : c.target.tsih < 2 ^ 16
   pub stat_sn : c.first_stat_sn < 2 ^ 32
 
--- The initiator's name for the target is the target's, or it asks for none; it doesn't demand
--- authentication; and it may log in (sections 6.3, 11.13.5, 12.1 and 13.4).
+-- The initiator's name for the target is the target's, or it asks for none; neither end demands
+-- authentication; and the initiator may log in (sections 6.3, 11.13.5, 12.1 and 13.4).
 pub record Suits (c : Opening) : Type 0 where
   pub name : (c.initiator.proposal.session ≡ sessions.Discovery)
       ⊎ (c.initiator.proposal.target ≡ c.target.name)
   pub auth : (c.initiator.start ≡ stages.Operational) ⊎ (c.initiator.proposal.auth ≢ auths.Chap)
   pub access : target_settings.is_allowed c.target.access c.initiator.proposal.initiator ≡ true
+  pub chap : c.target.access.chap ≡ None
 
 -- A request is handed in once the initiator has completed its login.
 abbrev pub IsInTime : Event → World → Type 0

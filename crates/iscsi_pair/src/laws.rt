@@ -89,8 +89,8 @@ pub fn idle_pair()
         → w.target.machine.session.stage ≡ stages.Full }
 {}
 
-/// No failure before login. Premises: the names suit each other, authentication isn't demanded, the
-/// target lets in this initiator, no growth was refused, and no request came too early. Then an end
+/// No failure before login. Premises: the names suit each other, neither end demands authentication,
+/// the target lets in this initiator, no growth was refused, and no request came too early. Then an end
 /// that keeps a fault had completed its login (RFC 7143, sections 6.3, 11.13.5, 12.1 and 13.4).
 pub fn no_early_failure()
     ensures target { (c : Opening) (events : List Event) (w : World) → IsOpening c → Suits c
@@ -125,8 +125,8 @@ pub fn served_runs()
         → (outcomes : List Done) × RunsServed (new_pair c) events w outcomes }
 {}
 
-/// One local disk. Premises: the names suit each other, authentication isn't demanded, the target
-/// lets in this initiator, and the session is a normal one in which no growth is refused. Each
+/// One local disk. Premises: the names suit each other, neither end demands authentication, the
+/// target lets in this initiator, and the session is a normal one in which no growth is refused. Each
 /// request is a command, a ping or a logout, and is accepted (RFC 7143, section 4.2).
 pub fn one_local_disk()
     // No end fails.

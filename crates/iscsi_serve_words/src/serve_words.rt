@@ -48,6 +48,8 @@ pub struct ServeJob<'a> {
     pub service: Service<'a>,
     /// No block changes: each write is refused.
     pub read_only: bool,
+    /// The file of the secrets of which a login has to show one (CHAP), if it has to.
+    pub secrets: Option<&'a str>,
 }
 
 /// The most names of initiators that may be listed (own rule).
@@ -138,6 +140,12 @@ pub fn serve_program<'a>(alloc: Global) -> Result<Command<'a>, AllocError> {
             "initiator",
             "IQN",
             "Let in only the initiator of this name; may be repeated, up to 64 times",
+        ))?
+        .arg(valued(
+            alloc,
+            "chap",
+            "FILE",
+            "Let in only who knows a secret of FILE, which others can't read (CHAP)",
         ))?;
     with_options(alloc, program)
 }
@@ -336,6 +344,7 @@ pub fn service_of<'a>(alloc: Global, asked: &ArgMatches<'a>) -> Result<ServeJob<
             storage,
             service: Service::InTurn { port, sessions },
             read_only,
+            secrets: asked.get_str("chap"),
         });
     };
     let Some(at_once) = at_once_of(digits) else {
@@ -353,7 +362,6 @@ pub fn service_of<'a>(alloc: Global, asked: &ArgMatches<'a>) -> Result<ServeJob<
         sessions,
         at_once,
         name,
-        initiators: None,
         limits,
         preferences,
         memory: memory_of(alloc, asked)?,
@@ -364,6 +372,7 @@ pub fn service_of<'a>(alloc: Global, asked: &ArgMatches<'a>) -> Result<ServeJob<
         storage,
         service: Service::AtOnce(options),
         read_only,
+        secrets: asked.get_str("chap"),
     })
 }
 

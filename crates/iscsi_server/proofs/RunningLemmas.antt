@@ -82,7 +82,8 @@ then_runs protected a b c s t u p q = (
 )
 
 -- few events are events
-pub few_runs : (protected : Bool) (most : ℕ → ℕ) (old new : Hall) (before after : Store) → RunsFew protected most old before new after → RunsWithin protected old before new after
+pub few_runs : (protected : Bool) (most : ℕ → ℕ) (old new : Hall) (before after : Store) → RunsFew protected most old before new after
+    → RunsWithin protected old before new after
 unfolding RunsFew RunsWithin
 few_runs protected most old new before after p = (p.0, p.1, p.2, p.3)
 
@@ -246,7 +247,8 @@ pub none_idle_at : (seat : ℕ) (hall : Hall) → RunsIdleAt seat hall hall
 unfolding RunsIdleAt
 none_idle_at seat hall = λ protected store had. none_at protected seat had hall store
 
-pub idle_at : (protected : Bool) (seat : ℕ) (had : Budget) (old new : Hall) (store : Store) → RunsIdleAt seat old new → RunsAt protected seat had had old store new store
+pub idle_at : (protected : Bool) (seat : ℕ) (had : Budget) (old new : Hall) (store : Store) → RunsIdleAt seat old new
+    → RunsAt protected seat had had old store new store
 unfolding RunsIdleAt
 idle_at protected seat had old new store p = p protected store had
 
@@ -260,7 +262,8 @@ changed_others : (seat : ℕ) (old new : Hall) (P : Seat → Seat → Type 0) �
 changed_others seat old new P c = λ k ne. changed_other seat k old new (Some c.after) ne c.now
 
 -- an event that changes one seat
-changed_at : (protected : Bool) (seat : ℕ) (had left : Budget) (old new : Hall) (before after : Store) (P : Seat → Seat → Type 0) (e : Event) → Changes seat old new P
+changed_at : (protected : Bool) (seat : ℕ) (had left : Budget) (old new : Hall) (before after : Store) (P : Seat → Seat → Type 0) (e : Event)
+    → Changes seat old new P
     → IsOfSession seat (length old.seats) e → Happens protected (machines old) before e (machines new) after
     → ((k : ℕ) → taken_by k e + only seat left.pdus k ≤ only seat had.pdus k) → Gives seat had.given left.given old (e ∷ []) new
     → RunsAt protected seat had left old before new after
@@ -277,7 +280,8 @@ changed_at protected seat had left old new before after P e c is h few gives = (
 -- a PDU
 pub turn_at : (protected : Bool) (seat : ℕ) (had left : Budget) (old new : Hall) (before after : Store) (result : Result ℕ TargetFault) → 0 < had.pdus
     → left.pdus ≡ had.pdus - 1 → left.given ≡ had.given → may_take_at (seat_at old seat) ≡ true
-    → TakesAtSeat protected seat old before result new after → TakesTurn protected seat old before result new after → RunsAt protected seat had left old before new after
+    → TakesAtSeat protected seat old before result new after → TakesTurn protected seat old before result new after
+    → RunsAt protected seat had left old before new after
 turn_at protected seat had left old new before after result some one same may c h =
     let within : seat < length old.seats = some_within old.seats seat c.before c.was in
     changed_at protected seat had left old new before after _ (Takes h.turn) c
@@ -306,7 +310,8 @@ sync_at protected seat had hall before after waits h = (
 )
 
 -- a write behind it
-pub write_at : (protected : Bool) (seat count : ℕ) (had left : Budget) (old new : Hall) (before after : Store) → left.pdus ≡ had.pdus → left.given ≡ had.given - count
+pub write_at : (protected : Bool) (seat count : ℕ) (had left : Budget) (old new : Hall) (before after : Store) → left.pdus ≡ had.pdus
+    → left.given ≡ had.given - count
     → Changes seat old new (λ was now. now ≡ with_sent count was) → SameMachines old new
     → Happens protected (machines old) before (Syncs seat) (machines old) after → RunsAt protected seat had left old before new after
 write_at protected seat count had left old new before after pdus given c same h =
@@ -414,7 +419,8 @@ idle_in_turns protected zero a b c s t p q = (then_idle a b c p q.0, q.1)
 idle_in_turns protected (suc n) a b c s t p q = (q.0, q.1, q.2, q.3, idle_in_turns protected n a b q.0 s q.1 p q.4, q.5)
 
 -- all seats had their turns
-pub all_turns : (protected : Bool) (n : ℕ) (old new : Hall) (before after : Store) → InTurns protected n old before new after → RunsInTurns protected old before new after
+pub all_turns : (protected : Bool) (n : ℕ) (old new : Hall) (before after : Store) → InTurns protected n old before new after
+    → RunsInTurns protected old before new after
 unfolding RunsInTurns
 all_turns protected n old new before after p = (n, p)
 
@@ -444,7 +450,8 @@ pub none_served : (protected : Bool) (count : ℕ) (store : Store) → Served pr
 none_served protected count store =
     record { events = []; few = tt; seats = no_sessions; runs = runs_none protected no_sessions no_sessions store (λ k. refl) }
 
-pub all_served : (protected : Bool) (count : ℕ) (old new : Hall) (before after : Store) → length old.seats ≡ count → old ≡ record { seats = replicate count no_seat }
+pub all_served : (protected : Bool) (count : ℕ) (old new : Hall) (before after : Store) → length old.seats ≡ count
+    → old ≡ record { seats = replicate count no_seat }
     → RunsWithin protected old before new after → Served protected count before after
 unfolding RunsWithin
 all_served protected count old new before after many free r = record {
@@ -465,7 +472,8 @@ runs_split protected seats after store last (e ∷ es) fs r =
     let rest = runs_split protected r.0 after r.1 last es fs r.3 in (rest.0, rest.1, (r.0, r.1, r.2, rest.2), rest.3)
 
 -- a session from the event by which it comes
-pub served_own : (protected : Bool) (count : ℕ) (before after : Store) (s : Served protected count before after) (past es later : List Event) (seat : ℕ) (settings : Settings)
+pub served_own : (protected : Bool) (count : ℕ) (before after : Store) (s : Served protected count before after) (past es later : List Event)
+    (seat : ℕ) (settings : Settings)
     → s.events ≡ past ++ (Comes seat settings ∷ (es ++ later)) → Stays seat es
     → (end : Machine) × Session protected (opening settings 1) (events_of seat es) end
 unfolding Runs

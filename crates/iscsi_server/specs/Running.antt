@@ -58,7 +58,8 @@ RunsFew protected most old before new after = (length new.seats ≡ length old.s
 -- Some events do so whatever the store, leave it as it is, take no PDU, and give no peer anything.
 unfoldable pub RunsIdle : Hall → Hall → Type 0
 RunsIdle old new =
-    GivesNothing old new × ((protected : Bool) (store : Store) → RunsFew protected (λ k. 0) old store new store)
+    GivesNothing old new × ((protected : Bool) (store : Store)
+    → RunsFew protected (λ k. 0) old store new store)
 
 -- ---- at one seat
 
@@ -91,7 +92,8 @@ RunsAt protected seat had left old before new after = HappensAt protected seat o
 -- the peer nothing.
 unfoldable pub RunsIdleAt : ℕ → Hall → Hall → Type 0
 RunsIdleAt seat old new =
-    (protected : Bool) (store : Store) (had : Budget) → RunsAt protected seat had had old store new store
+    (protected : Bool) (store : Store) (had : Budget)
+    → RunsAt protected seat had had old store new store
 
 -- A turn of the session at one seat. It takes as many PDUs at most as its budget says. It gives
 -- the peer as many bytes at most in all writes but the last one, and in that one what waited.
@@ -116,7 +118,8 @@ IsSmall budget = (budget.pdus ≤ most_taken) × (budget.given ≤ most_given)
 unfoldable pub InTurns : Bool → ℕ → Hall → Store → Hall → Store → Type 0
 InTurns protected zero old before new after = RunsIdle old new × (after ≡ before)
 InTurns protected (suc n) old before new after = (met : Hall) × (now : Store) × (budget : Budget)
-    × IsSmall budget × InTurns protected n old before met now × TurnOf protected n budget met now new after
+    × IsSmall budget × InTurns protected n old before met now
+    × TurnOf protected n budget met now new after
 
 -- Seats have such turns, each of them one at most.
 unfoldable pub RunsInTurns : Bool → Hall → Store → Hall → Store → Type 0

@@ -14,14 +14,17 @@ ghost use Rattle.iscsi_server.specs.Running.{Served};
 /// after another.
 pub fn one_disk_of_all()
     // Over a store that may fail, each does what it does, or what it may do where the device fails.
-    ensures may { (protected : Bool) (count : ℕ) (before after : Store) (s : Served protected count before after)
+    ensures may { (protected : Bool) (count : ℕ) (before after : Store)
+        (s : Served protected count before after)
         → Leads protected before.disk (executed_in s.events) after.disk }
     // Where no failure was counted, each does exactly what it does.
-    ensures follows { (protected : Bool) (count : ℕ) (before after : Store) (s : Served protected count before after)
+    ensures follows { (protected : Bool) (count : ℕ) (before after : Store)
+        (s : Served protected count before after)
         → after.failures ≡ before.failures
         → Follows protected before.disk (executed_in s.events) after.disk }
     // Then each block is what the last write to it left, of whichever session, or what it was.
-    ensures blocks { (protected : Bool) (count : ℕ) (before after : Store) (s : Served protected count before after)
+    ensures blocks { (protected : Bool) (count : ℕ) (before after : Store)
+        (s : Served protected count before after)
         (n : ℕ) → after.failures ≡ before.failures
         → after.disk.block n ≡ block_left protected before.disk (executed_in s.events) n }
 {}
@@ -29,7 +32,8 @@ pub fn one_disk_of_all()
 /// Each session of a service is its own. From the event by which it comes, and while it has its seat,
 /// its turns are those of its own machine, over the blocks that each turn met.
 pub fn each_its_own()
-    ensures own { (protected : Bool) (count : ℕ) (before after : Store) (s : Served protected count before after)
+    ensures own { (protected : Bool) (count : ℕ) (before after : Store)
+        (s : Served protected count before after)
         (past es later : List Event) (seat : ℕ) (settings : Settings)
         → s.events ≡ past ++ (Comes seat settings ∷ (es ++ later)) → Stays seat es
         → (end : Machine) × Session protected (opening settings 1) (events_of seat es) end }

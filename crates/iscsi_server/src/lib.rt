@@ -10,6 +10,7 @@ mod limited;
 mod lines;
 mod numbers;
 mod peer;
+mod refusals;
 mod room;
 mod server;
 mod service;

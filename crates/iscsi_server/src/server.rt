@@ -16,10 +16,11 @@ mod waiting;
 use crate::accepting::Accepting;
 use crate::lines::Lines;
 use crate::peer::{Peer, no_peers};
+use crate::refusals::Refusals;
 use crate::system::{listen, now};
 use iscsi_hall::{Hall, MOST_READ};
 use iscsi_options::Options;
-use iscsi_serving::ServeFault;
+use iscsi_serving::{Access, ServeFault};
 use mio::net::TcpListener;
 use mio::{Events, Poll};
 use scsi_disk::BlockStore;
@@ -30,7 +31,9 @@ use std::net::SocketAddr;
 #[derive(Drop)]
 pub struct Server<'a> {
     options: Options<'a>,
+    access: Access<'a>,
     lines: Lines,
+    refusals: Refusals,
     poll: Poll,
     events: Events,
     // none once all logins were completed
@@ -68,9 +71,13 @@ impl<'a> Model for Server<'a> {
 }
 
 impl<'a> Server<'a> {
-    /// Listens, with all seats free. `Network` is returned where that fails, and `NoMemory` where
+    /// Listens, with all seats free, for those who may log in. `Network` is returned where that fails, and `NoMemory` where
     /// memory runs out.
-    pub fn open(rt: &HostRuntime, options: Options<'a>) -> Result<Server<'a>, ServeFault>
+    pub fn open(
+        rt: &HostRuntime,
+        options: Options<'a>,
+        access: Access<'a>,
+    ) -> Result<Server<'a>, ServeFault>
         ensures seats { IfOk result (λ server. length server.hall.seats ≡ options.entry.at_once) }
         ensures free { IfOk result (λ server.
             server.hall ≡ record { seats = replicate options.entry.at_once None }) }
@@ -91,7 +98,9 @@ impl<'a> Server<'a> {
         let (poll, listener) = listen(rt, SocketAddr::new(options.listen, options.port))?;
         Ok(Server {
             options,
+            access,
             lines: Lines::new(),
+            refusals: Refusals::new(),
             poll,
             events,
             listener: Some(listener),

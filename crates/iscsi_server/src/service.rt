@@ -13,11 +13,12 @@ use crate::limited::LimitedStore;
 use crate::server::Server;
 use crate::system::{OTHER_DESCRIPTORS, most_descriptors};
 use iscsi_options::Options;
-use iscsi_serving::ServeFault;
+use iscsi_serving::{Access, ServeFault};
 use scsi_disk::BlockStore;
 
 /// Listens, and prints `listening` and, if asked, the port on a line of its own. Serves connections
-/// over one store, at most `at_once` at a time, until the wanted number of logins is completed.
+/// over one store, at most `at_once` at a time, until the wanted number of logins is completed. The
+/// access says who may log in.
 ///
 /// A session that ends with a fault has the fault's line on standard error, and the others go on.
 /// Only being out of memory outside of sessions and a fault of the network end the service; `Write`
@@ -30,6 +31,7 @@ use scsi_disk::BlockStore;
 pub fn serve_at_once<S: BlockStore>(
     rt: &HostRuntime,
     options: Options<'_>,
+    access: Access<'_>,
     store: &mut S,
 ) -> Result<(), ServeFault>
     requires service { IsService options }
@@ -43,7 +45,7 @@ pub fn serve_at_once<S: BlockStore>(
     ensures ends { IfErr result (λ fault. EndsService fault ⊎ (fault ≡ serve.Write)) }
 {
     allow_seats(rt, options.at_once)?;
-    let mut server = Server::open(rt, options)?;
+    let mut server = Server::open(rt, options, access)?;
     announce(rt, &server, options.print_port)?;
     serve_all(rt, &mut server, store)
 }
@@ -54,6 +56,7 @@ pub fn serve_at_once<S: BlockStore>(
 pub fn serve_memory_at_once(
     rt: &HostRuntime,
     options: Options<'_>,
+    access: Access<'_>,
     blocks: u64,
 ) -> Result<(), ServeFault>
     requires service { IsService options }
@@ -62,7 +65,7 @@ pub fn serve_memory_at_once(
     ensures ends { IfErr result (λ fault. EndsService fault ⊎ (fault ≡ serve.Write)) }
 {
     let mut store = LimitedStore::new(rt.alloc(), blocks, options.memory);
-    serve_at_once(rt, options, &mut store)
+    serve_at_once(rt, options, access, &mut store)
 }
 
 // Refuses, with a line, more seats than the process may have descriptors for.

@@ -53,6 +53,11 @@ impl Tally {
         self.commands
     }
 
+    /// Class and detail of the status with which the login was refused, if it was.
+    pub fn refused(&self) -> Option<(u8, u8)> {
+        self.refused
+    }
+
     /// How a session in this phase ends, by its fault, if there is one.
     pub fn end(&self, phase: Option<Phase>, fault: Option<SessionEnd>) -> LoggedEnd {
         match (fault, self.refused, self.next, phase) {

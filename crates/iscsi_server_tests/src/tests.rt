@@ -6,6 +6,7 @@ use crate::asserts::same;
 use iscsi_examples::{PING, pdus_of};
 use iscsi_login::Preferences;
 use iscsi_server::{LimitedStore, Limits, MEMORY, Options, Server};
+use iscsi_serving::{Access, EVERYBODY};
 use scsi_disk::{BlockStore, SparseStore, StoreFault};
 use std::alloc::Global;
 use std::io::{ErrorKind, Read, Write};
@@ -80,7 +81,6 @@ fn options(sessions: u16, at_once: u16, idle: u16) -> Options<'static> {
         sessions: Some(sessions),
         at_once,
         name: b"iqn.2026-01.example:disk",
-        initiators: None,
         limits: Limits {
             idle: Some(idle),
             login_within: None,
@@ -106,10 +106,15 @@ impl Service<'_> {
     }
 }
 
-// A service; it stands in a box, so that functions which own it are proved sooner.
-fn open<'a>(rt: &HostRuntime, abort: &impl Abort, options: Options<'a>) -> Box<Service<'a>> {
+// A service for those who may log in; it stands in a box, so that functions which own it are proved sooner.
+fn open<'a>(
+    rt: &HostRuntime,
+    abort: &impl Abort,
+    options: Options<'a>,
+    access: Access<'a>,
+) -> Box<Service<'a>> {
     let store = SparseStore::new(rt.alloc(), BLOCKS);
-    let server = Server::open(rt, options).expect(abort, "a server");
+    let server = Server::open(rt, options, access).expect(abort, "a server");
     Box::new(rt.alloc(), Service { server, store }).expect(abort, "a service")
 }
 
@@ -217,7 +222,19 @@ fn check_rows(
 
 // Two clients of a service do what the rows say.
 fn check(rt: &HostRuntime, abort: &impl Abort, options: Options<'_>, rows: Rows<'_>, name: &str) {
-    let mut service = open(rt, abort, options);
+    check_for(rt, abort, options, EVERYBODY, rows, name);
+}
+
+// The same, of a service for those who may log in.
+fn check_for(
+    rt: &HostRuntime,
+    abort: &impl Abort,
+    options: Options<'_>,
+    access: Access<'_>,
+    rows: Rows<'_>,
+    name: &str,
+) {
+    let mut service = open(rt, abort, options, access);
     let clients = clients(rt, abort, &service.server);
     check_rows(rt, abort, &mut service, &clients, rows, name);
 }
@@ -271,11 +288,18 @@ const LISTED: Rows<'static> = &[
 
 #[test]
 fn listed_initiators(rt: HostRuntime) {
-    let asked = Options {
+    let access = Access {
         initiators: Some(&[b"iqn.2026-01.example:host"]),
-        ..options(1, 2, 5)
+        secrets: None,
     };
-    check(&rt, &rt, asked, LISTED, "an initiator that is listed");
+    check_for(
+        &rt,
+        &rt,
+        options(1, 2, 5),
+        access,
+        LISTED,
+        "an initiator that is listed",
+    );
 }
 
 /// One session at a time: the second one has its turns when the first one is over.
@@ -322,7 +346,7 @@ fn is_ended(
 /// With the last login the listener closes, and who has not logged in is ended.
 #[test]
 fn the_last_login_closes(rt: HostRuntime) {
-    let mut service = open(&rt, &rt, options(1, 3, 5));
+    let mut service = open(&rt, &rt, options(1, 3, 5), EVERYBODY);
     let clients = clients(&rt, &rt, &service.server);
     let first = clients.get(0).expect(&rt, "a client");
     let other = clients.get(1).expect(&rt, "a client");
@@ -356,7 +380,7 @@ fn no_login_is_the_last(rt: HostRuntime) {
         sessions: None,
         ..options(0, 2, 5)
     };
-    let mut service = open(&rt, &rt, asked);
+    let mut service = open(&rt, &rt, asked, EVERYBODY);
     let clients = clients(&rt, &rt, &service.server);
     for (at, (place, requests, due)) in ONE.iter().enumerate() {
         let client = clients.get(*place).expect(&rt, "no such client");

@@ -9,6 +9,7 @@ ghost use Rattle.iscsi_options.specs.Options.{IsService};
 
 use iscsi_server::laws::one_disk_of_all;
 use iscsi_server::{Options, serve_at_once};
+use iscsi_serving::EVERYBODY;
 use scsi_disk::BlockStore;
 
 /// Serves some sessions at a time, and says whether that ended well. Where the store counted no
@@ -23,5 +24,5 @@ pub fn serve<S: BlockStore>(rt: &HostRuntime, options: Options<'_>, store: &mut 
         → Follows S.protected (S.disk store.old) (executed_in s.events) (S.disk store.new)) }
 {
     one_disk_of_all();
-    serve_at_once(rt, options, store).is_ok()
+    serve_at_once(rt, options, EVERYBODY, store).is_ok()
 }

@@ -79,13 +79,15 @@ passed_lower protected old before low piece most n bytes few p =
 passed_later : (protected : Bool) (old : Connection) (before : Store) (piece : List ℕ) (most last n : ℕ) (bytes : List ℕ) → most ≤ last →
     IsPassed protected old before piece most n bytes → IsPassed protected old before piece last n bytes
 passed_later protected old before piece most last n bytes rises p =
-    subst (λ (x : List ℕ). IsPassed protected old before x last n bytes) (append-nil piece) (passed_more protected old before piece [] most last n bytes rises p)
+    subst (λ (x : List ℕ). IsPassed protected old before x last n bytes) (append-nil piece)
+    (passed_more protected old before piece [] most last n bytes rises p)
 
 -- nothing came
 no_bytes_come : (protected : Bool) (old : Connection) (before : Store) → Comes protected old before [] old before
 no_bytes_come protected old before = record { failures = before.failures; few = omega arith; advances = no_advance protected old before }
 
-pub comes_synced : (protected : Bool) (old new : Connection) (before store after : Store) (bytes : List ℕ) → Comes protected old before bytes new store → Syncs store after →
+pub comes_synced : (protected : Bool) (old new : Connection) (before store after : Store) (bytes : List ℕ) → Comes protected old before bytes new store
+    → Syncs store after →
     Comes protected old before bytes new after
 comes_synced protected old new before store after bytes c s = record {
   failures = c.failures;
@@ -94,7 +96,8 @@ comes_synced protected old new before store after bytes c s = record {
 }
 
 -- bytes behind others
-comes_then : (protected : Bool) (old mid new : Connection) (before store after : Store) (x y : List ℕ) → Comes protected old before x mid store → Comes protected mid store y new after →
+comes_then : (protected : Bool) (old mid new : Connection) (before store after : Store) (x y : List ℕ) → Comes protected old before x mid store
+    → Comes protected mid store y new after →
     Comes protected old before (x ++ y) new after
 comes_then protected old mid new before store after x y a b =
     let more : ℕ = store.failures - a.failures in
@@ -104,7 +107,8 @@ comes_then protected old mid new before store after x y a b =
       messages = b.advances.messages;
       taken = b.advances.taken;
       led = b.advances.led;
-      may = may_lower protected mid.machine store.disk a.failures store.failures more b.advances.messages b.advances.led b.failures (omega (arith, low)) b.advances.may;
+      may = may_lower protected mid.machine store.disk a.failures store.failures more b.advances.messages b.advances.led b.failures
+          (omega (arith, low)) b.advances.may;
       machine = b.advances.machine;
       disk_is = b.advances.disk_is;
     } in
@@ -166,9 +170,11 @@ crashes_behind protected old mid before store after piece front rest kept was le
 
 pub next_crashes : (protected : Bool) (old new : Connection) (before after : Store) (out piece written : List ℕ) (result : Result (ℕ × Phase) TargetFault)
     (kept left : ℕ → List ℕ → Type 0) → FedNext protected (scene old before out) piece result (scene new after written)
-    → CrashesNext protected old piece before.disk after.disk kept left → (before.failures ≤ after.failures) × CrashesFed protected old before piece after kept left
+    → CrashesNext protected old piece before.disk after.disk kept left → (before.failures ≤ after.failures)
+    × CrashesFed protected old before piece after kept left
 next_crashes protected old new before after out piece written result kept left f crash =
-    let rises = next_rises protected old new before after out piece written result f in (rises, crashes_next protected old before after piece kept left rises crash)
+    let rises = next_rises protected old new before after out piece written result f
+    in (rises, crashes_next protected old before after piece kept left rises crash)
 
 pub next_advances : (protected : Bool) (b : Bool) (old new : Connection) (before after : Store) (out piece written : List ℕ) (done : ℕ × Phase)
     → FedNextIf protected b (scene old before out) piece (Ok done) (scene new after written) → is_closed_phase done.1 ≡ false
@@ -192,7 +198,8 @@ pub record AdvancesUpTo (protected : Bool) (old : Connection) (before : Store) (
 pub piece_begins : (protected : Bool) (old : Connection) (before : Store) (piece : List ℕ) → AdvancesUpTo protected old before piece piece old before
 piece_begins protected old before piece = record { front = []; parts = refl; advances = no_bytes_come protected old before }
 
-pub piece_advances : (protected : Bool) (old now new : Connection) (before store after : Store) (piece rest : List ℕ) (n : ℕ) → AdvancesUpTo protected old before piece rest now store →
+pub piece_advances : (protected : Bool) (old now new : Connection) (before store after : Store) (piece rest : List ℕ) (n : ℕ)
+    → AdvancesUpTo protected old before piece rest now store →
     Comes protected now store (take n rest) new after → AdvancesUpTo protected old before piece (drop n rest) new after
 piece_advances protected old now new before store after piece rest n p q = record {
   front = p.front ++ take n rest;
@@ -200,13 +207,16 @@ piece_advances protected old now new before store after piece rest n p q = recor
   advances = comes_then protected old now new before store after p.front (take n rest) p.advances q;
 }
 
-pub piece_advanced : (protected : Bool) (old now : Connection) (before store : Store) (piece rest : List ℕ) → AdvancesUpTo protected old before piece rest now store → length rest ≡ 0 →
+pub piece_advanced : (protected : Bool) (old now : Connection) (before store : Store) (piece rest : List ℕ)
+    → AdvancesUpTo protected old before piece rest now store → length rest ≡ 0 →
     Comes protected old before piece now store
-piece_advanced protected old now before store piece [] p none = subst (λ (x : List ℕ). Comes protected old before x now store) (sym (p.parts ∙ append-nil p.front)) p.advances
+piece_advanced protected old now before store piece [] p none = subst (λ (x : List ℕ). Comes protected old before x now store)
+    (sym (p.parts ∙ append-nil p.front)) p.advances
 piece_advanced protected old now before store piece (b ∷ rest) p none = absurd (omega (arith, none))
 
 pub piece_crashes : (protected : Bool) (old now : Connection) (before store after : Store) (piece rest : List ℕ) (kept was left : ℕ → List ℕ → Type 0)
-    → AdvancesUpTo protected old before piece rest now store → Crashed protected old before piece store kept was → Crashed protected now store rest after was left
+    → AdvancesUpTo protected old before piece rest now store → Crashed protected old before piece store kept was
+    → Crashed protected now store rest after was left
     → Crashed protected old before piece after kept left
 piece_crashes protected old now before store after piece rest kept was left p q r = (
   omega (arith, q.0, r.0),
@@ -253,8 +263,10 @@ last_begins protected target store contents waiting piece kept = record {
 }
 
 -- a PDU more, whose answers wait
-last_waits : (protected : Bool) (old : Service) (piece rest : List ℕ) (n : ℕ) (target new : Connection) (then store after : Store) (contents now : Option (List ℕ))
-    (waiting written : List ℕ) (kept was left : ℕ → List ℕ → Type 0) → LastUpTo protected old (serving piece rest) then kept (service target store contents waiting) was →
+last_waits : (protected : Bool) (old : Service) (piece rest : List ℕ) (n : ℕ) (target new : Connection) (then store after : Store)
+    (contents now : Option (List ℕ))
+    (waiting written : List ℕ) (kept was left : ℕ → List ℕ → Type 0)
+    → LastUpTo protected old (serving piece rest) then kept (service target store contents waiting) was →
     now ≡ contents → Comes protected target store (take n rest) new after → Crashed protected target store rest after was left →
     LastUpTo protected old (serving piece (drop n rest)) then kept (service new after now written) left
 last_waits protected old piece rest n target new then store after contents now waiting written kept was left l same comes crash = record {
@@ -270,7 +282,8 @@ last_waits protected old piece rest n target new then store after contents now w
 
 -- a PDU more, behind which the answers left
 last_leaves : (protected : Bool) (old : Service) (piece rest : List ℕ) (new : Connection) (after : Store) (now : Option (List ℕ)) (written : List ℕ)
-    (left : ℕ → List ℕ → Type 0) → PieceUpTo protected old piece rest (service new after now written) → AdvancesUpTo protected old.target old.store piece rest new after →
+    (left : ℕ → List ℕ → Type 0) → PieceUpTo protected old piece rest (service new after now written)
+    → AdvancesUpTo protected old.target old.store piece rest new after →
     written ≡ [] → LastUpTo protected old (serving piece rest) after left (service new after now written) left
 last_leaves protected old piece rest new after now written left p a none =
     let same : a.front ≡ p.front = append_cancel_right a.front p.front rest (sym a.parts ∙ p.parts) in
@@ -286,10 +299,12 @@ last_leaves protected old piece rest new after now written left p a none =
     }
 
 -- a PDU more
-pub last_more : {S : Type 0} (protected : Bool) (synced : S → Bool) (state : S → Store) (kept : S → ℕ → List ℕ → Type 0) (here : S) (old : Service) (piece rest : List ℕ) (n : ℕ)
+pub last_more : {S : Type 0} (protected : Bool) (synced : S → Bool) (state : S → Store) (kept : S → ℕ → List ℕ → Type 0) (here : S) (old : Service)
+    (piece rest : List ℕ) (n : ℕ)
     (target new : Connection) (store : Store) (contents now : Option (List ℕ)) (waiting written : List ℕ) (was : ℕ → List ℕ → Type 0)
     → SomeSynced synced state kept (λ then k. LastUpTo protected old (serving piece rest) then k (service target store contents waiting) was)
-    → PieceUpTo protected old piece (drop n rest) (service new (state here) now written) → AdvancesUpTo protected old.target old.store piece (drop n rest) new (state here)
+    → PieceUpTo protected old piece (drop n rest) (service new (state here) now written)
+    → AdvancesUpTo protected old.target old.store piece (drop n rest) new (state here)
     → Comes protected target store (take n rest) new (state here) → Crashed protected target store rest (state here) was (kept here)
     → (now ≡ contents) ⊎ ((written ≡ []) × (synced here ≡ true))
     → SomeSynced synced state kept (λ then k. LastUpTo protected old (serving piece (drop n rest)) then k (service new (state here) now written) (kept here))
@@ -303,7 +318,8 @@ last_more protected synced state kept here old piece rest n target new store con
 
 -- the answers to the next PDU did not leave
 pub last_stops : (protected : Bool) (old : Service) (piece rest : List ℕ) (target new : Connection) (then store after : Store) (contents now : Option (List ℕ))
-    (waiting written : List ℕ) (kept was left : ℕ → List ℕ → Type 0) → LastUpTo protected old (serving piece rest) then kept (service target store contents waiting) was →
+    (waiting written : List ℕ) (kept was left : ℕ → List ℕ → Type 0)
+    → LastUpTo protected old (serving piece rest) then kept (service target store contents waiting) was →
     now ≡ contents → Crashed protected target store rest after was left → LeftLast protected old piece then kept (service new after now written) left
 last_stops protected old piece rest target new then store after contents now waiting written kept was left l same crash = record {
   front = l.front;
@@ -317,7 +333,8 @@ last_stops protected old piece rest target new then store after contents now wai
 }
 
 -- the next PDU closed the session
-pub last_closed : {S : Type 0} (protected : Bool) (synced : S → Bool) (state : S → Store) (kept : S → ℕ → List ℕ → Type 0) (here : S) (old : Service) (piece rest : List ℕ)
+pub last_closed : {S : Type 0} (protected : Bool) (synced : S → Bool) (state : S → Store) (kept : S → ℕ → List ℕ → Type 0) (here : S)
+    (old : Service) (piece rest : List ℕ)
     (n : ℕ) (target new : Connection) (store : Store) (contents now : Option (List ℕ)) (waiting written : List ℕ) (was : ℕ → List ℕ → Type 0)
     → SomeSynced synced state kept (λ then k. LastUpTo protected old (serving piece rest) then k (service target store contents waiting) was)
     → PieceUpTo protected old piece (drop n rest) (service new (state here) now written) → is_closed new.machine ≡ true
@@ -360,7 +377,8 @@ last_synced protected old piece target then store after contents now waiting wri
 
 -- a sync failed behind the whole piece
 pub last_done : (protected : Bool) (old : Service) (piece rest : List ℕ) (target : Connection) (then store after : Store) (contents now : Option (List ℕ))
-    (waiting written : List ℕ) (kept was left : ℕ → List ℕ → Type 0) → LastUpTo protected old (serving piece rest) then kept (service target store contents waiting) was →
+    (waiting written : List ℕ) (kept was left : ℕ → List ℕ → Type 0)
+    → LastUpTo protected old (serving piece rest) then kept (service target store contents waiting) was →
     Syncs store after → Within was left → now ≡ contents → LeftLast protected old piece then kept (service target after now written) left
 last_done protected old piece rest target then store after contents now waiting written kept was left l s within same =
     last_synced protected old piece target then store after contents now waiting written kept was left (record {
@@ -377,7 +395,8 @@ last_done protected old piece rest target then store after contents now waiting 
 -- ---- a session
 
 -- what was read was served, and led here; what a crash leaves behind it
-pub record SessionUpTo (protected : Bool) (settings : Settings) (first : Outside) (target : Connection) (now : Outside) (kept left : ℕ → List ℕ → Type 0) : Type 0 where
+pub record SessionUpTo (protected : Bool) (settings : Settings) (first : Outside) (target : Connection) (now : Outside)
+    (kept left : ℕ → List ℕ → Type 0) : Type 0 where
   pub read : ReadUpTo protected settings first target now
   pub advances : Comes protected (opening_connection settings 1) first.store read.stream target now.store
   pub crash : CrashesFed protected (opening_connection settings 1) first.store read.stream now.store kept left
@@ -396,7 +415,8 @@ pub session_crashes : (protected : Bool) (settings : Settings) (first : Store) (
     → (up : SessionUpTo protected settings (outside first r0 w0) now (outside store r1 w1) kept was) → Crashed protected now store piece after was left
     → CrashesFed protected (opening_connection settings 1) first (up.read.stream ++ piece) after kept left
 session_crashes protected settings first now store after r0 r1 w0 w1 kept was left piece up crash =
-    crashes_behind protected (opening_connection settings 1) now first store after (up.read.stream ++ piece) up.read.stream piece kept was left refl up.advances crash.0
+    crashes_behind protected (opening_connection settings 1) now first store after (up.read.stream ++ piece) up.read.stream piece kept was left
+    refl up.advances crash.0
     (crashes_more protected (opening_connection settings 1) first store up.read.stream piece kept was up.crash) crash.1
 
 pub session_more : (protected : Bool) (settings : Settings) (first : Store) (now new : Connection) (store after : Store) (r0 r1 r2 w0 w1 w2 : Option (List ℕ))
@@ -416,10 +436,12 @@ session_more protected settings first now new store after r0 r1 r2 w0 w1 w2 kept
 }
 
 -- where a sync failed in the next piece, what was written before
-pub session_last : (protected : Bool) (settings : Settings) (range : IsInRange settings.preferences) (first : Store) (now new : Connection) (then store after : Store) (r0 r1 r2 w0 w1 w2 : Option (List ℕ))
+pub session_last : (protected : Bool) (settings : Settings) (range : IsInRange settings.preferences) (first : Store) (now new : Connection)
+    (then store after : Store) (r0 r1 r2 w0 w1 w2 : Option (List ℕ))
     (kept was at left : ℕ → List ℕ → Type 0) (piece : List ℕ) → SessionUpTo protected settings (outside first r0 w0) now (outside store r1 w1) kept was →
     Consumes r1 r2 piece → LeftLast protected (service now store w1 []) piece then at (service new after w2 []) left →
-    (read : List ℕ) × (written : List ℕ) × Consumes r0 r2 read × Appends w0 w2 written × SentBefore protected (exchange settings first read written) then at after left
+    (read : List ℕ) × (written : List ℕ) × Consumes r0 r2 read × Appends w0 w2 written
+    × SentBefore protected (exchange settings first read written) then at after left
 session_last protected settings range first now new then store after r0 r1 r2 w0 w1 w2 kept was at left piece up read l =
     let served = l.goes settings first up.read.stream w0 up.read.served in (
       up.read.stream ++ piece,
@@ -438,6 +460,7 @@ session_last protected settings range first now new then store after r0 r1 r2 w0
       },
     )
   where
-    stands_then : StandsBehind protected now store l.front l.target then → StandsBehind protected (opening_connection settings 1) first (up.read.stream ++ l.front) l.target then
+    stands_then : StandsBehind protected now store l.front l.target then
+        → StandsBehind protected (opening_connection settings 1) first (up.read.stream ++ l.front) l.target then
     stands_then (inl over) = inl over
     stands_then (inr comes) = inr (comes_then protected (opening_connection settings 1) now l.target first store then up.read.stream l.front up.advances comes)

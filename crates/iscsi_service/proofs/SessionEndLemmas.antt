@@ -72,7 +72,8 @@ stands_first protected settings disk = record {
 }
 
 -- a broken rule closes the session
-works_close : (protected : Bool) (old : Connection) (before : Store) (out bytes : List ℕ) (framing : Framing) (more : List Message) (r : Stepped) (after : Store) →
+works_close : (protected : Bool) (old : Connection) (before : Store) (out bytes : List ℕ) (framing : Framing) (more : List Message)
+    (r : Stepped) (after : Store) →
     Answers protected old before bytes (progress framing more r) after
     → after.failures ≡ before.failures → (rule : ℕ) → r.rule ≡ Some rule → is_closed r.machine ≡ true
 works_close protected old before out bytes framing more r after a works rule e =
@@ -80,7 +81,8 @@ works_close protected old before out bytes framing more r after a works rule e =
     ap (λ (x : Stepped). is_closed x.machine) is ∙ answers_close protected old.machine before.disk more rule (ap (λ (x : Stepped). x.rule) (sym is) ∙ e)
 
 -- where memory ran out, the session is closed
-short_closed : (protected : Bool) (result : Result Phase TargetFault) (out : List ℕ) (framing : Framing) (rest : List ℕ) (r : Stepped) (counted : ℕ) (new : Machine)
+short_closed : (protected : Bool) (result : Result Phase TargetFault) (out : List ℕ) (framing : Framing) (rest : List ℕ) (r : Stepped)
+    (counted : ℕ) (new : Machine)
     (after : Store) (written : List ℕ) → feed.LeavesBy protected result out (feed.remainder framing rest r counted) new after written
     → result ≡ Err faults.NoMemory → is_closed new ≡ true
 short_closed protected (Ok phase) out framing rest r counted new after written h e = absurd cc
@@ -103,14 +105,18 @@ framing_kept piece (Err (faults.Stream fault)) framing n r new e short closes li
 framing_kept piece (Err (faults.Protocol rule)) framing n r new e short closes live = absurd (apart (ap is_closed e.1 ∙ closes rule e.0) live)
 framing_kept piece (Err faults.Closed) framing n r new e short closes live = absurd e
 
-stands_more : (protected : Bool) (settings : Settings) (disk : Disk) (bytes : List ℕ) (old : Connection) (before : Store) (out piece : List ℕ) (result : Result Phase TargetFault)
+stands_more : (protected : Bool) (settings : Settings) (disk : Disk) (bytes : List ℕ) (old : Connection) (before : Store) (out piece : List ℕ)
+    (result : Result Phase TargetFault)
     (new : Connection) (after : Store) (written : List ℕ)
-    → Stands protected settings disk bytes old before.disk out → Feeds protected (scene old before out) piece result (scene new after written) → after.failures ≡ before.failures →
+    → Stands protected settings disk bytes old before.disk out → Feeds protected (scene old before out) piece result (scene new after written)
+    → after.failures ≡ before.failures →
     is_closed new.machine ≡ false → Stands protected settings disk (bytes ++ piece) new after.disk written
 stands_more protected settings disk bytes old before out piece result new after written s f works live =
     let kept : new.framing ≡ f.framing =
-    framing_kept piece result f.framing f.count f.stepped new f.ends (short_closed protected result out f.framing (drop f.count piece) f.stepped f.answered.failures
-    new.machine after written f.leaves) (works_close protected old before out (take f.count piece) f.framing f.messages f.stepped after f.answered works) live in
+    framing_kept piece result f.framing f.count f.stepped new f.ends
+    (short_closed protected result out f.framing (drop f.count piece) f.stepped f.answered.failures
+    new.machine after written f.leaves) (works_close protected old before out (take f.count piece) f.framing f.messages f.stepped after
+    f.answered works) live in
     record {
       has = goes_on protected settings 1 disk bytes old before out piece result new after written f works live s.has;
       ready = ap is_ready kept ∙ f.answered.ready;
@@ -137,9 +143,11 @@ all_closed protected (p ∷ pieces) old now before store out written c f = all_c
     (stay_closed protected old f.1 before f.2 out p f.3 f.0 c f.4) f.6
 
 -- in a session that is not closed all PDUs are answered
-pub stands_answered : (protected : Bool) (settings : Settings) (disk : Disk) (bytes : List ℕ) (pieces : List (List ℕ)) (old now : Connection) (before store : Store)
+pub stands_answered : (protected : Bool) (settings : Settings) (disk : Disk) (bytes : List ℕ) (pieces : List (List ℕ)) (old now : Connection)
+    (before store : Store)
     (out written : List ℕ)
-    → Stands protected settings disk bytes old before.disk out → FedAll protected (scene old before out) pieces (scene now store written) → is_closed now.machine ≡ false →
+    → Stands protected settings disk bytes old before.disk out → FedAll protected (scene old before out) pieces (scene now store written)
+    → is_closed now.machine ≡ false →
     Stands protected settings disk (bytes ++ stream_of pieces) now store.disk written
 unfolding FedAll
 stands_answered protected settings disk bytes [] old now before store out written h f live =
@@ -149,7 +157,8 @@ stands_answered protected settings disk bytes [] old now before store out writte
     (subst (λ (x : Connection). Stands protected settings disk bytes x before.disk out) (sym f.0) h)))
 stands_answered protected settings disk bytes (p ∷ pieces) old now before store out written h f live =
     elim (either (is_closed old.machine)) [
-      | inl c ↦ absurd (apart (all_closed protected pieces f.1 now f.2 store f.3 written (stay_closed protected old f.1 before f.2 out p f.3 f.0 c f.4) f.6) live)
+      | inl c ↦ absurd (apart (all_closed protected pieces f.1 now f.2 store f.3 written
+          (stay_closed protected old f.1 before f.2 out p f.3 f.0 c f.4) f.6) live)
       | inr o ↦ elim (either (is_closed f.1.machine)) [
         | inl c ↦ absurd (apart (all_closed protected pieces f.1 now f.2 store f.3 written c f.6) live)
         | inr l ↦
@@ -168,7 +177,8 @@ none_of None f = refl
 none_of (Some k) f = absurd (f k refl)
 
 -- no rule was broken in a session that goes on
-none_broken : (protected : Bool) (settings : Settings) (disk : Disk) (ms : List Message) → is_closed (answers protected (opening settings 1) disk ms).machine ≡ false →
+none_broken : (protected : Bool) (settings : Settings) (disk : Disk) (ms : List Message)
+    → is_closed (answers protected (opening settings 1) disk ms).machine ≡ false →
     (answers protected (opening settings 1) disk ms).rule ≡ None
 none_broken protected settings disk ms live =
     none_of (answers protected (opening settings 1) disk ms).rule (λ k e. apart (answers_close protected (opening settings 1) disk ms k e) live)
@@ -188,7 +198,8 @@ rule_of protected settings disk taken old before out bytes framing more r after 
     ∙ ap (λ (s : Machine). joined_stepped (answers protected s before.disk more)) h.machine
     ∙ ap (λ (d : Disk). joined_stepped (answers protected (joined first.machine) d more)) h.disk_is
     ∙ answers_joined protected first.machine first.disk more in
-    let both : answers protected (opening settings 1) disk (h.messages ++ more) ≡ then_stepped first later = answers_append protected (opening settings 1) disk h.messages more in
+    let both : answers protected (opening settings 1) disk (h.messages ++ more)
+    ≡ then_stepped first later = answers_append protected (opening settings 1) disk h.messages more in
     let none : first.rule ≡ None = none_broken protected settings disk h.messages (sym (ap is_closed h.machine) ∙ live) in
     ap (λ (x : Stepped). x.rule) e ∙ sym (ap (λ (o : Option ℕ). first_rule o later.rule) none) ∙ ap (λ (x : Stepped). x.rule) (sym both)
 
@@ -285,7 +296,8 @@ end_told protected settings disk bytes now new disk_now written s live done =
       nil_from_length t.rest (omega (arith, ap length done.2, ap length t.held, length-settled t.rest)),
     )
 
-pub finish_told : (protected : Bool) (fault : TargetFault) (settings : Settings) (disk : Disk) (bytes : List ℕ) (now new : Connection) (disk_now : Disk) (written : List ℕ) →
+pub finish_told : (protected : Bool) (fault : TargetFault) (settings : Settings) (disk : Disk) (bytes : List ℕ) (now new : Connection)
+    (disk_now : Disk) (written : List ℕ) →
     Stands protected settings disk bytes now disk_now written → is_closed now.machine ≡ false
     → Finishes now (Err fault) new → EndsBy protected settings disk (Err (ended_by fault)) bytes
 finish_told protected (faults.Stream fault) settings disk bytes now new disk_now written s live fails = (
@@ -298,7 +310,8 @@ finish_told protected (faults.Protocol rule) settings disk bytes now new disk_no
 finish_told protected faults.Closed settings disk bytes now new disk_now written s live fails = absurd (apart fails.0 live)
 
 -- what a call fed, behind what was answered
-abbrev fed_receives : (protected : Bool) → (settings : Settings) (disk : Disk) (bytes piece : List ℕ) (old new : Connection) (before after : Store) (out written : List ℕ)
+abbrev fed_receives : (protected : Bool) → (settings : Settings) (disk : Disk) (bytes piece : List ℕ) (old new : Connection) (before after : Store)
+    (out written : List ℕ)
     (result : Result Phase TargetFault) → Stands protected settings disk bytes old before.disk out
     → Feeds protected (scene old before out) piece result (scene new after written) → Receives settings (bytes ++ piece)
 fed_receives protected settings disk bytes piece old new before after out written result s f =
@@ -311,7 +324,8 @@ fed_told : (protected : Bool) (settings : Settings) (disk : Disk) (bytes piece :
     → after.failures ≡ before.failures
     → Told protected (beginning settings 1 disk) (s.has.messages ++ f.messages) f.stepped after.disk written
 fed_told protected settings disk bytes piece old new before after out written result s f left works =
-    told protected settings 1 disk bytes old before out (take f.count piece) f.framing f.messages f.stepped f.answered.failures after written s.has f.answered left works
+    told protected settings 1 disk bytes old before out (take f.count piece) f.framing f.messages f.stepped f.answered.failures after written
+    s.has f.answered left works
 
 fed_rule : (protected : Bool) (settings : Settings) (disk : Disk) (bytes piece : List ℕ) (old new : Connection) (before after : Store) (out written : List ℕ)
     (result : Result Phase TargetFault) → (s : Stands protected settings disk bytes old before.disk out)
@@ -320,7 +334,8 @@ fed_rule : (protected : Bool) (settings : Settings) (disk : Disk) (bytes piece :
 fed_rule protected settings disk bytes piece old new before after out written result s live f works =
     sym (rule_of protected settings disk bytes old before out (take f.count piece) f.framing f.messages f.stepped after s.has live f.answered works)
 
-pub fault_told : (protected : Bool) (fault : TargetFault) (settings : Settings) (disk : Disk) (bytes piece : List ℕ) (old new : Connection) (before after : Store)
+pub fault_told : (protected : Bool) (fault : TargetFault) (settings : Settings) (disk : Disk) (bytes piece : List ℕ) (old new : Connection)
+    (before after : Store)
     (out written : List ℕ) → Stands protected settings disk bytes old before.disk out
     → is_closed old.machine ≡ false → Feeds protected (scene old before out) piece (Err fault) (scene new after written) → after.failures ≡ before.failures →
     EndsBy protected settings disk (Err (ended_by fault)) (bytes ++ piece)
@@ -328,7 +343,11 @@ fault_told protected (faults.Stream fault) settings disk bytes piece old new bef
     let result : Result Phase TargetFault = Err (faults.Stream fault) in
     let t = fed_told protected settings disk bytes piece old new before after out written result s f f.leaves works in (
       fed_receives protected settings disk bytes piece old new before after out written result s f,
-      (fed_rule protected settings disk bytes piece old new before after out written result s live f works ∙ f.ends.0.rule, sym (ap is_closed t.machine) ∙ f.ends.0.live),
+      (
+        fed_rule protected settings disk bytes piece old new before after out written result s live f works ∙ f.ends.0.rule,
+        sym (ap is_closed t.machine)
+            ∙ f.ends.0.live,
+      ),
       rest_refused (limit settings) (bytes ++ take f.count piece) (s.has.messages
           ++ f.messages) f.framing (drop f.count piece) fault (f.answered.taken bytes s.has.messages s.has.taken)
           (f.answered.limit ∙ s.bound) f.ends.1 f.ends.2,
@@ -342,7 +361,8 @@ fault_told protected faults.NoMemory settings disk bytes piece old new before af
 fault_told protected faults.Closed settings disk bytes piece old new before after out written s live f works = absurd f.ends
 
 -- where memory ran out, the PDUs before were answered, and perhaps some tasks of the next one
-first_front : (protected : Bool) (settings : Settings) (disk : Disk) (read out : List ℕ) (framing : Framing) (rest : List ℕ) (r : Stepped) (counted : ℕ) (new : Machine)
+first_front : (protected : Bool) (settings : Settings) (disk : Disk) (read out : List ℕ) (framing : Framing) (rest : List ℕ) (r : Stepped)
+    (counted : ℕ) (new : Machine)
     (after : Store) (written : List ℕ) (receives : Receives settings read)
     → Told protected (beginning settings 1 disk) receives.messages r r.disk (out ++ canon r.answers) → after.failures ≡ counted →
     (l : StopsShort protected out (remainder framing rest r counted) new after written)
@@ -378,12 +398,14 @@ first_front protected settings disk read out framing rest r counted new after wr
           })
     ]
 
-pub first_told : (protected : Bool) (settings : Settings) (disk : Disk) (bytes piece : List ℕ) (old new : Connection) (before after : Store) (out written : List ℕ) →
+pub first_told : (protected : Bool) (settings : Settings) (disk : Disk) (bytes piece : List ℕ) (old new : Connection) (before after : Store)
+    (out written : List ℕ) →
     Stands protected settings disk bytes old before.disk out
     → Feeds protected (scene old before out) piece (Err faults.NoMemory) (scene new after written) → after.failures ≡ before.failures →
     ServesFirst protected settings disk (bytes ++ piece) after.disk written
 first_told protected settings disk bytes piece old new before after out written s f works =
-    let receives : Receives settings (bytes ++ piece) = fed_receives protected settings disk bytes piece old new before after out written (Err faults.NoMemory) s f in
+    let receives : Receives settings (bytes ++ piece) = fed_receives protected settings disk bytes piece old new before after out written
+    (Err faults.NoMemory) s f in
     let mid : Store = record { disk = f.stepped.disk; failures = after.failures } in
     let a : Answers protected old before (take f.count piece) (progress f.framing f.messages f.stepped) mid = record {
       taken = f.answered.taken;
@@ -395,9 +417,11 @@ first_told protected settings disk bytes piece old new before after out written 
     } in
     let t = told protected settings 1 disk bytes old before out (take f.count piece) f.framing f.messages f.stepped after.failures mid (out
     ++ canon f.stepped.answers) s.has a (record { failures = refl; disk = refl; output_is = refl }) works in
-    let low : before.failures ≤ f.answered.failures = may_rise protected old.machine before.disk before.failures f.messages f.stepped f.answered.failures f.answered.may
+    let low : before.failures ≤ f.answered.failures = may_rise protected old.machine before.disk before.failures f.messages f.stepped
+    f.answered.failures f.answered.may
     in
-    let high : f.answered.failures ≤ after.failures = short_rises protected out f.framing (drop f.count piece) f.stepped f.answered.failures new.machine after written
+    let high : f.answered.failures ≤ after.failures = short_rises protected out f.framing (drop f.count piece) f.stepped f.answered.failures
+    new.machine after written
     f.leaves in
     first_front protected settings disk (bytes ++ piece) out f.framing (drop f.count piece) f.stepped f.answered.failures new.machine after written receives t
     (omega (arith, low, high, works)) f.leaves
@@ -411,7 +435,8 @@ first_told protected settings disk bytes piece old new before after out written 
     ))
 
 -- the PDUs of a piece close it
-pub over_told : (protected : Bool) (phase : Phase) (settings : Settings) (disk : Disk) (bytes piece : List ℕ) (old new : Connection) (before after : Store) (out written : List ℕ)
+pub over_told : (protected : Bool) (phase : Phase) (settings : Settings) (disk : Disk) (bytes piece : List ℕ) (old new : Connection) (before after : Store)
+    (out written : List ℕ)
     → Stands protected settings disk bytes old before.disk out → is_closed old.machine ≡ false
     → Feeds protected (scene old before out) piece (Ok phase) (scene new after written) → is_closed_phase phase ≡ true → after.failures ≡ before.failures →
     IsOver protected settings disk (bytes ++ piece)

@@ -73,7 +73,8 @@ stands_behind front out r counted after written h = record {
   output_is = ap (λ (x : List ℕ). front ++ x) h.output_is ∙ sym (append_assoc front out (canon r.answers));
 }
 
-left_behind : (protected : Bool) (result : Result Phase TargetFault) (front out : List ℕ) (framing : Framing) (rest : List ℕ) (r : Stepped) (counted : ℕ) (new : Machine)
+left_behind : (protected : Bool) (result : Result Phase TargetFault) (front out : List ℕ) (framing : Framing) (rest : List ℕ) (r : Stepped)
+    (counted : ℕ) (new : Machine)
     (after : Store) (written : List ℕ) → LeavesBy protected result out (remainder framing rest r counted) new after written
     → LeavesBy protected result (front ++ out) (remainder framing rest r counted) new after (front ++ written)
 left_behind protected (Ok phase) front out framing rest r counted new after written h = stands_behind front out r counted after written h
@@ -110,7 +111,8 @@ fed_behind protected false old new before after front piece out written result f
 }
 
 -- one piece more
-fed_more : (protected : Bool) (pieces : List (List ℕ)) (old now new : Connection) (before store after : Store) (out written piece all : List ℕ) (result : Result Phase TargetFault)
+fed_more : (protected : Bool) (pieces : List (List ℕ)) (old now new : Connection) (before store after : Store) (out written piece all : List ℕ)
+    (result : Result Phase TargetFault)
     → FedAll protected (scene old before out) pieces (scene now store written) → Fed protected (scene now store written) piece result (scene new after all)
     → GoesWell result store after
     → FedAll protected (scene old before out) (pieces ++ piece ∷ []) (scene new after all)
@@ -134,14 +136,17 @@ stream_more [] piece = sym (append-nil piece)
 stream_more (p ∷ pieces) piece = append_assoc p (stream_of pieces) piece ∙ ap (λ (x : List ℕ). p ++ x) (stream_more pieces piece)
 
 -- what was executed, where a call ended so
-stands_executed : (protected : Bool) (first : Disk) (out : List ℕ) (r : Stepped) (counted : ℕ) (after : Store) (written : List ℕ) → Leads protected first r.executed r.disk →
+stands_executed : (protected : Bool) (first : Disk) (out : List ℕ) (r : Stepped) (counted : ℕ) (after : Store) (written : List ℕ)
+    → Leads protected first r.executed r.disk →
     feed.Stands out r counted after written → HasExecuted protected first after.disk
 stands_executed protected first out r counted after written leads h = (r.executed, subst (λ (d : Disk). Leads protected first r.executed d) (sym h.disk) leads)
 
-left_executed : (protected : Bool) (result : Result Phase TargetFault) (first : Disk) (out : List ℕ) (framing : Framing) (rest : List ℕ) (r : Stepped) (counted : ℕ)
+left_executed : (protected : Bool) (result : Result Phase TargetFault) (first : Disk) (out : List ℕ) (framing : Framing) (rest : List ℕ)
+    (r : Stepped) (counted : ℕ)
     (new : Machine) (after : Store) (written : List ℕ) → Leads protected first r.executed r.disk
     → LeavesBy protected result out (remainder framing rest r counted) new after written → HasExecuted protected first after.disk
-left_executed protected (Ok phase) first out framing rest r counted new after written leads h = stands_executed protected first out r counted after written leads h
+left_executed protected (Ok phase) first out framing rest r counted new after written leads h = stands_executed protected first out r
+    counted after written leads h
 left_executed protected (Err faults.NoMemory) first out framing rest r counted new after written leads h = elim h.stops [
   | inl none ↦ (r.executed, subst (λ (d : Disk). Leads protected first r.executed d) (sym (h.disk ∙ ap (λ (x : Stepped). x.disk) none.0)) leads)
   | inr at ↦ (
@@ -151,10 +156,12 @@ left_executed protected (Err faults.NoMemory) first out framing rest r counted n
         (stop_leads protected r.machine r.disk counted after.failures at.message h.front at.stops)),
   )
 ]
-left_executed protected (Err (faults.Stream fault)) first out framing rest r counted new after written leads h = stands_executed protected first out r counted after written leads h
+left_executed protected (Err (faults.Stream fault)) first out framing rest r counted new after written leads h = stands_executed protected first out r
+    counted after written leads h
 left_executed protected (Err (faults.Protocol rule)) first out framing rest r counted new after written leads h =
     stands_executed protected first out r counted after written leads h
-left_executed protected (Err faults.Closed) first out framing rest r counted new after written leads h = stands_executed protected first out r counted after written leads h
+left_executed protected (Err faults.Closed) first out framing rest r counted new after written leads h = stands_executed protected first out r
+    counted after written leads h
 
 -- what a call of feed executed
 fed_executed : (protected : Bool) (b : Bool) (old new : Connection) (before after : Store) (out piece written : List ℕ) (result : Result Phase TargetFault)
@@ -169,8 +176,10 @@ fed_executed protected false old new before after out piece written result f =
     (may_leads protected old.machine before.disk before.failures f.answered.failures f.messages f.stepped f.answered.may) f.leaves
 
 -- so the blocks are those that commands left, one call more
-pub executed_more : (protected : Bool) (first : Disk) (old new : Connection) (before after : Store) (out piece written : List ℕ) (result : Result Phase TargetFault)
-    → HasExecuted protected first before.disk → Fed protected (scene old before out) piece result (scene new after written) → HasExecuted protected first after.disk
+pub executed_more : (protected : Bool) (first : Disk) (old new : Connection) (before after : Store) (out piece written : List ℕ)
+    (result : Result Phase TargetFault)
+    → HasExecuted protected first before.disk → Fed protected (scene old before out) piece result (scene new after written)
+    → HasExecuted protected first after.disk
 executed_more protected first old new before after out piece written result e f =
     let more : HasExecuted protected before.disk after.disk = fed_executed protected (is_closed old.machine) old new before after out piece written result f in
     (e.0 ++ more.0, leads_append protected first before.disk after.disk e.0 more.0 e.1 more.1)
@@ -178,7 +187,8 @@ executed_more protected first old new before after out piece written result e f 
 -- ---- what was counted
 
 -- behind what was answered
-left_rises : (protected : Bool) (result : Result Phase TargetFault) (out : List ℕ) (framing : Framing) (rest : List ℕ) (r : Stepped) (counted : ℕ) (new : Machine) (after : Store)
+left_rises : (protected : Bool) (result : Result Phase TargetFault) (out : List ℕ) (framing : Framing) (rest : List ℕ) (r : Stepped) (counted : ℕ)
+    (new : Machine) (after : Store)
     (written : List ℕ) → LeavesBy protected result out (remainder framing rest r counted) new after written
     → counted ≤ after.failures
 left_rises protected (Ok phase) out framing rest r counted new after written h = omega (arith, h.failures)
@@ -192,7 +202,8 @@ pub fed_rises : (protected : Bool) (b : Bool) (old new : Connection) (before aft
     FedIf protected b (scene old before out) piece result (scene new after written) → before.failures ≤ after.failures
 fed_rises protected true old new before after out piece written result f = omega (arith, ap (λ (x : Store). x.failures) f.store)
 fed_rises protected false old new before after out piece written result f =
-    let low : before.failures ≤ f.answered.failures = may_rise protected old.machine before.disk before.failures f.messages f.stepped f.answered.failures f.answered.may
+    let low : before.failures ≤ f.answered.failures = may_rise protected old.machine before.disk before.failures f.messages f.stepped
+    f.answered.failures f.answered.may
     in
     omega (arith, low, left_rises protected result out f.framing (drop f.count piece) f.stepped f.answered.failures new.machine after written f.leaves)
 
@@ -202,9 +213,11 @@ none_counted first before after low high none = (omega arith, omega arith)
 
 -- ---- one call more
 
-served_more : (protected : Bool) (settings : Settings) (first : Store) (stream : List ℕ) (old new : Connection) (before after : Store) (start contents : Option (List ℕ))
+served_more : (protected : Bool) (settings : Settings) (first : Store) (stream : List ℕ) (old new : Connection) (before after : Store)
+    (start contents : Option (List ℕ))
     (waiting piece written : List ℕ) (result : Result Phase TargetFault)
-    → ServedUpTo protected settings first stream start (service old before contents waiting) → Fed protected (scene old before waiting) piece result (scene new after written) →
+    → ServedUpTo protected settings first stream start (service old before contents waiting)
+    → Fed protected (scene old before waiting) piece result (scene new after written) →
     (result ≡ Err faults.NoMemory → ⊥)
     → ServedUpTo protected settings first (stream ++ piece) start (service new after contents written)
 served_more protected settings first stream old new before after start contents waiting piece written result up one memory = record {
@@ -217,7 +230,8 @@ served_more protected settings first stream old new before after start contents 
   fed = λ none.
       let h = none_counted first.failures before.failures after.failures up.rises
       (fed_rises protected (is_closed old.machine) old new before after waiting piece written result one) none in
-      fed_more protected up.pieces (opening_connection settings 1) old new first before after [] (up.sent ++ waiting) piece (up.sent ++ written) result (up.fed h.0)
+      fed_more protected up.pieces (opening_connection settings 1) old new first before after [] (up.sent ++ waiting) piece
+      (up.sent ++ written) result (up.fed h.0)
       (fed_behind protected (is_closed old.machine) old new before after up.sent piece waiting written result one) (record { memory = memory; device = h.1 });
   executed = executed_more protected first.disk old new before after waiting piece written result up.executed one;
 }
@@ -228,10 +242,12 @@ served_more protected settings first stream old new before after start contents 
 same_store : (store after : Store) → Syncs store after → after.failures ≡ store.failures → store ≡ after
 same_store store after s e = λ i. record { disk = sym s.disk i; failures = sym e i }
 
-synced_executed : (protected : Bool) (first : Disk) (store after : Store) → Syncs store after → HasExecuted protected first store.disk → HasExecuted protected first after.disk
+synced_executed : (protected : Bool) (first : Disk) (store after : Store) → Syncs store after → HasExecuted protected first store.disk
+    → HasExecuted protected first after.disk
 synced_executed protected first store after s e = subst (λ (d : Disk). HasExecuted protected first d) (sym s.disk) e
 
-synced_up : (protected : Bool) (settings : Settings) (first : Store) (stream : List ℕ) (target : Connection) (store after : Store) (start contents : Option (List ℕ))
+synced_up : (protected : Bool) (settings : Settings) (first : Store) (stream : List ℕ) (target : Connection) (store after : Store)
+    (start contents : Option (List ℕ))
     (waiting : List ℕ)
     → ServedUpTo protected settings first stream start (service target store contents waiting) → Syncs store after →
     ServedUpTo protected settings first stream start (service target after contents waiting)
@@ -256,7 +272,8 @@ closes_synced protected old bytes store after rises s closes = λ settings first
     let high = s.rises in
     closes settings first stream start up (omega (arith, low, rises, high, none))
 
-tells_synced : (protected : Bool) (old : Service) (bytes : List ℕ) (fault : SessionFault) (store after : Store) → old.store.failures ≤ store.failures → Syncs store after →
+tells_synced : (protected : Bool) (old : Service) (bytes : List ℕ) (fault : SessionFault) (store after : Store) → old.store.failures ≤ store.failures
+    → Syncs store after →
     Tells protected old bytes fault store → Tells protected old bytes fault after
 tells_synced protected old bytes fault store after rises s tells = λ settings first stream start up none.
     let low = up.rises in
@@ -264,7 +281,8 @@ tells_synced protected old bytes fault store after rises s tells = λ settings f
     tells settings first stream start up (omega (arith, low, rises, high, none))
 
 -- the store was synced, and the answers that waited were written
-pub written_out : (protected : Bool) (settings : Settings) (first : Store) (stream : List ℕ) (target : Connection) (store after : Store) (start contents now : Option (List ℕ))
+pub written_out : (protected : Bool) (settings : Settings) (first : Store) (stream : List ℕ) (target : Connection) (store after : Store)
+    (start contents now : Option (List ℕ))
     (waiting : List ℕ)
     → ServedUpTo protected settings first stream start (service target store contents waiting) → Syncs store after → AreBytes waiting →
     Appends contents now waiting → ServedUpTo protected settings first stream start (service target after now [])
@@ -299,7 +317,8 @@ pub held_all : (fault : SessionFault) (contents now : Option (List ℕ)) (waitin
 held_all fault contents now waiting is held = subst (λ (f : SessionFault). HoldsBack f contents now waiting) is held
 
 -- all PDUs of what was read are answered, and some answers wait
-all_due : (protected : Bool) (settings : Settings) (first : Store) (stream : List ℕ) (now : Connection) (store : Store) (w0 w1 : Option (List ℕ)) (waiting : List ℕ)
+all_due : (protected : Bool) (settings : Settings) (first : Store) (stream : List ℕ) (now : Connection) (store : Store)
+    (w0 w1 : Option (List ℕ)) (waiting : List ℕ)
     → (up : ServedUpTo protected settings first stream w0 (service now store w1 waiting))
     → IsInRange settings.preferences → store.failures ≡ first.failures → ServesAll protected settings first.disk stream store.disk (up.sent ++ waiting)
 all_due protected settings first stream now store w0 w1 waiting up range h ms given rest s =
@@ -307,7 +326,8 @@ all_due protected settings first stream now store w0 w1 waiting up range h ms gi
     (subst (λ (x : List ℕ). Splits longest_segment x ms given rest) up.whole s)
 
 -- a front of what was due, behind these bytes
-front_due : (protected : Bool) (settings : Settings) (first : Store) (stream behind : List ℕ) (target : Connection) (store after : Store) (start contents : Option (List ℕ))
+front_due : (protected : Bool) (settings : Settings) (first : Store) (stream behind : List ℕ) (target : Connection) (store after : Store)
+    (start contents : Option (List ℕ))
     (waiting : List ℕ) (n : ℕ)
     → (up : ServedUpTo protected settings first stream start (service target store contents waiting)) → Syncs store after → IsInRange settings.preferences
     → after.failures ≡ first.failures → ServesFront protected settings first.disk (stream ++ behind) after.disk (up.sent ++ take n waiting)
@@ -325,7 +345,8 @@ front_due protected settings first stream behind target store after start conten
     }
 
 -- a part of them was, or none
-front_out : (protected : Bool) (settings : Settings) (first : Store) (stream behind : List ℕ) (target : Connection) (store after : Store) (start contents now : Option (List ℕ))
+front_out : (protected : Bool) (settings : Settings) (first : Store) (stream behind : List ℕ) (target : Connection) (store after : Store)
+    (start contents now : Option (List ℕ))
     (waiting : List ℕ)
     → ServedUpTo protected settings first stream start (service target store contents waiting) → Syncs store after → AreBytes waiting →
     WroteFront contents now waiting → (sent : List ℕ) × Appends start now sent × AreBytes sent × HasExecuted protected first.disk after.disk
@@ -339,7 +360,8 @@ front_out protected settings first stream behind target store after start conten
 )
 
 -- bytes behind the end of a session are dropped
-rest_dropped : (protected : Bool) (settings : Settings) (first : Store) (stream : List ℕ) (target : Connection) (store : Store) (start contents : Option (List ℕ))
+rest_dropped : (protected : Bool) (settings : Settings) (first : Store) (stream : List ℕ) (target : Connection) (store : Store)
+    (start contents : Option (List ℕ))
     (waiting rest : List ℕ)
     → is_closed target.machine ≡ true → ServedUpTo protected settings first stream start (service target store contents waiting) →
     ServedUpTo protected settings first (stream ++ rest) start (service target store contents waiting)
@@ -351,7 +373,8 @@ rest_dropped protected settings first stream target store start contents waiting
     (λ e. cc)
 
 -- the target stands behind what was served
-stands_up : (protected : Bool) (settings : Settings) (first : Store) (stream : List ℕ) (target : Connection) (store : Store) (start contents : Option (List ℕ)) (waiting : List ℕ)
+stands_up : (protected : Bool) (settings : Settings) (first : Store) (stream : List ℕ) (target : Connection) (store : Store)
+    (start contents : Option (List ℕ)) (waiting : List ℕ)
     → (up : ServedUpTo protected settings first stream start (service target store contents waiting)) → store.failures ≡ first.failures →
     is_closed target.machine ≡ false →
     Stands protected settings first.disk stream target store.disk (up.sent ++ waiting)
@@ -361,7 +384,8 @@ stands_up protected settings first stream target store start contents waiting up
     (stands_first protected settings first.disk) (up.fed h) live)
 
 -- a call in a session that is not closed, behind what was written
-feeds_live : (protected : Bool) (old new : Connection) (before after : Store) (front piece out written : List ℕ) (result : Result Phase TargetFault) → is_closed old.machine
+feeds_live : (protected : Bool) (old new : Connection) (before after : Store) (front piece out written : List ℕ) (result : Result Phase TargetFault)
+    → is_closed old.machine
     ≡ false → Fed protected (scene old before out) piece result (scene new after written)
     → Feeds protected (scene old before (front ++ out)) piece result (scene new after (front ++ written))
 feeds_live protected old new before after front piece out written result live f =
@@ -388,7 +412,8 @@ as_phase (Err fault) = Err fault
 pub next_fails : (protected : Bool) (b : Bool) (old new : Connection) (before after : Store) (out piece written : List ℕ) (fault : TargetFault)
     → FedNextIf protected b (scene old before out) piece (Err fault) (scene new after written)
     → FedIf protected b (scene old before out) piece (Err fault) (scene new after written)
-next_fails protected true old new before after out piece written fault f = record { result_is = ap as_phase f.0; connection = f.1; store = f.2; output_is = f.3 }
+next_fails protected true old new before after out piece written fault f = record
+    { result_is = ap as_phase f.0; connection = f.1; store = f.2; output_is = f.3 }
 next_fails protected false old new before after out piece written fault f = f
 
 pub next_goes : (protected : Bool) (old new : Connection) (before after : Store) (contents : Option (List ℕ)) (out piece written : List ℕ) (done : ℕ × Phase)
@@ -398,13 +423,16 @@ next_goes protected old new before after contents out piece written done f = λ 
     served_more protected settings first stream old new before after start contents out (take done.0 piece) written (Ok done.1) up
     (next_is protected (is_closed old.machine) old new before after out piece written done f) (λ e. cc)
 
-executed_next : (protected : Bool) (first : Disk) (old new : Connection) (before after : Store) (out piece written : List ℕ) (result : Result (ℕ × Phase) TargetFault)
-    → HasExecuted protected first before.disk → FedNext protected (scene old before out) piece result (scene new after written) → HasExecuted protected first after.disk
+executed_next : (protected : Bool) (first : Disk) (old new : Connection) (before after : Store) (out piece written : List ℕ)
+    (result : Result (ℕ × Phase) TargetFault)
+    → HasExecuted protected first before.disk → FedNext protected (scene old before out) piece result (scene new after written)
+    → HasExecuted protected first after.disk
 executed_next protected first old new before after out piece written (Ok done) e f =
     executed_more protected first old new before after out (take done.0 piece) written (Ok done.1) e
     (next_is protected (is_closed old.machine) old new before after out piece written done f)
 executed_next protected first old new before after out piece written (Err fault) e f =
-    executed_more protected first old new before after out piece written (Err fault) e (next_fails protected (is_closed old.machine) old new before after out piece written fault f)
+    executed_more protected first old new before after out piece written (Err fault) e
+    (next_fails protected (is_closed old.machine) old new before after out piece written fault f)
 
 -- a call of feed_next counts failures, and never fewer
 pub next_rises : (protected : Bool) (old new : Connection) (before after : Store) (out piece written : List ℕ) (result : Result (ℕ × Phase) TargetFault)
@@ -417,7 +445,8 @@ next_rises protected old new before after out piece written (Err fault) f =
     (next_fails protected (is_closed old.machine) old new before after out piece written fault f)
 
 -- where memory ran out, some first PDUs were answered
-first_due : (protected : Bool) (settings : Settings) (first : Store) (stream : List ℕ) (old new : Connection) (before store after : Store) (start contents : Option (List ℕ))
+first_due : (protected : Bool) (settings : Settings) (first : Store) (stream : List ℕ) (old new : Connection) (before store after : Store)
+    (start contents : Option (List ℕ))
     (out piece written : List ℕ) → (up : ServedUpTo protected settings first stream start (service old before contents out)) → is_closed old.machine ≡ false
     → FedNext protected (scene old before out) piece (Err faults.NoMemory) (scene new store written) → Syncs store after → after.failures ≡ first.failures
     → ServesFirst protected settings first.disk (stream ++ piece) after.disk (up.sent ++ written)
@@ -433,7 +462,8 @@ first_due protected settings first stream old new before store after start conte
     (feeds_live protected old new before store up.sent piece out written (Err faults.NoMemory) live g) h.1)
 
 -- all PDUs were answered before another fault
-other_front : (protected : Bool) (settings : Settings) (first : Store) (stream : List ℕ) (old new : Connection) (before store after : Store) (start contents : Option (List ℕ))
+other_front : (protected : Bool) (settings : Settings) (first : Store) (stream : List ℕ) (old new : Connection) (before store after : Store)
+    (start contents : Option (List ℕ))
     (out piece written : List ℕ) (n : ℕ) (fault : TargetFault) → ((let r : Result Phase TargetFault = Err fault in r ≡ Err faults.NoMemory) → ⊥)
     → (up : ServedUpTo protected settings first stream start (service old before contents out))
     → FedNext protected (scene old before out) piece (Err fault) (scene new store written) → Syncs store after → IsInRange settings.preferences
@@ -447,7 +477,8 @@ other_front protected settings first stream old new before store after start con
     (front_due protected settings first (stream ++ piece) [] new store after start contents written n more s range none)
 
 -- a front of what was due behind a call of feed_next
-next_front : (protected : Bool) (settings : Settings) (first : Store) (stream : List ℕ) (old new : Connection) (before store after : Store) (start contents : Option (List ℕ))
+next_front : (protected : Bool) (settings : Settings) (first : Store) (stream : List ℕ) (old new : Connection) (before store after : Store)
+    (start contents : Option (List ℕ))
     (out piece written : List ℕ) (n : ℕ) (result : Result (ℕ × Phase) TargetFault)
     → (up : ServedUpTo protected settings first stream start (service old before contents out)) → is_closed old.machine ≡ false
     → FedNext protected (scene old before out) piece result (scene new store written) → Syncs store after → IsInRange settings.preferences
@@ -479,7 +510,8 @@ next_front protected settings first stream old new before store after start cont
 -- the answers could not be written, or a part of them alone
 pub write_loses : (protected : Bool) (old new : Connection) (before store after : Store) (contents now : Option (List ℕ)) (out piece written waiting : List ℕ)
     (fault : SessionFault) (result : Result (ℕ × Phase) TargetFault) → is_closed old.machine ≡ false
-    → FedNext protected (scene old before out) piece result (scene new store written) → Syncs store after → AreBytes written → HoldsBack fault contents now written →
+    → FedNext protected (scene old before out) piece result (scene new store written) → Syncs store after → AreBytes written
+    → HoldsBack fault contents now written →
     Loses protected (service old before contents out) piece (service new after now waiting)
 write_loses protected old new before store after contents now out piece written waiting fault result live f s are held = λ settings first stream start up.
     let front : WroteFront contents now written = held_front fault contents now written held in (
@@ -487,10 +519,12 @@ write_loses protected old new before store after contents now out piece written 
       Appends-trans start contents now up.sent (take front.0 written) up.appended front.1,
       AreBytes-append up.sent (take front.0 written) up.bytes (AreBytes-take front.0 written are),
       synced_executed protected first.disk store after s (executed_next protected first.disk old new before store out piece written result up.executed f),
-      λ range none. next_front protected settings first stream old new before store after start contents out piece written front.0 result up live f s range none,
+      λ range none. next_front protected settings first stream old new before store after start contents out piece written front.0 result
+          up live f s range none,
     )
 
-fault_served_to : (protected : Bool) (old new : Connection) (before store after : Store) (contents now : Option (List ℕ)) (out piece written : List ℕ) (fault : TargetFault)
+fault_served_to : (protected : Bool) (old new : Connection) (before store after : Store) (contents now : Option (List ℕ))
+    (out piece written : List ℕ) (fault : TargetFault)
     → FedNext protected (scene old before out) piece (Err fault) (scene new store written)
     → ((let r : Result Phase TargetFault = Err fault in r ≡ Err faults.NoMemory) → ⊥) →
     Syncs store after → AreBytes written → Appends contents now written
@@ -503,19 +537,23 @@ fault_served_to protected old new before store after contents now out piece writ
 -- why a session ends by a fault that a call of feed_next answers
 fault_tells : (protected : Bool) (old new : Connection) (before after : Store) (contents : Option (List ℕ)) (out piece written : List ℕ) (fault : TargetFault) →
     is_closed old.machine ≡ false
-    → FedNext protected (scene old before out) piece (Err fault) (scene new after written) → Tells protected (service old before contents out) piece (ended_by fault) after
+    → FedNext protected (scene old before out) piece (Err fault) (scene new after written)
+    → Tells protected (service old before contents out) piece (ended_by fault) after
 fault_tells protected old new before after contents out piece written fault live f = λ settings first stream start up none.
     let g = next_fails protected (is_closed old.machine) old new before after out piece written fault f in
-    let h = none_counted first.failures before.failures after.failures up.rises (fed_rises protected (is_closed old.machine) old new before after out piece written
+    let h = none_counted first.failures before.failures after.failures up.rises
+    (fed_rises protected (is_closed old.machine) old new before after out piece written
     (Err fault) g) none in
     fault_told protected fault settings first.disk stream piece old new before after (up.sent ++ out) (up.sent ++ written)
     (stands_up protected settings first stream old before start contents out up h.0 live) live
     (feeds_live protected old new before after up.sent piece out written (Err fault) live g) h.1
 
-fault_goes : (protected : Bool) (old new : Connection) (before store after : Store) (contents now : Option (List ℕ)) (out piece written : List ℕ) (fault : TargetFault) →
+fault_goes : (protected : Bool) (old new : Connection) (before store after : Store) (contents now : Option (List ℕ)) (out piece written : List ℕ)
+    (fault : TargetFault) →
     (fault ≡ faults.NoMemory → ⊥) → is_closed old.machine ≡ false
     → FedNext protected (scene old before out) piece (Err fault) (scene new store written) → Syncs store after → AreBytes written → Appends contents now written
-    → Goes protected (service old before contents out) piece (service new after now []) × Tells protected (service old before contents out) piece (ended_by fault) after
+    → Goes protected (service old before contents out) piece (service new after now [])
+    × Tells protected (service old before contents out) piece (ended_by fault) after
 fault_goes protected old new before store after contents now out piece written fault some live f s are wrote = (
   fault_served_to protected old new before store after contents now out piece written fault f (λ e. some (err_is e)) s are wrote,
   tells_synced protected (service old before contents out) piece (ended_by fault) store after
@@ -534,7 +572,8 @@ uncut framing piece (stream.Truncated place) f = f
 uncut framing piece stream.NoMemory f = tt
 uncut framing piece stream.Failed f = tt
 
-fault_uncut : (protected : Bool) (old new : Connection) (before store : Store) (out piece written : List ℕ) (fault : StreamFault) → is_closed old.machine ≡ false
+fault_uncut : (protected : Bool) (old new : Connection) (before store : Store) (out piece written : List ℕ) (fault : StreamFault)
+    → is_closed old.machine ≡ false
     → FedNext protected (scene old before out) piece (Err (faults.Stream fault)) (scene new store written) → IsUncut fault
 fault_uncut protected old new before store out piece written fault live f =
     let g : Feeds protected (scene old before out) piece (Err (faults.Stream fault)) (scene new store written) =
@@ -543,7 +582,8 @@ fault_uncut protected old new before store out piece written fault live f =
     uncut g.framing (drop g.count piece) fault g.ends.2
 
 -- a fault that a call of feed_next answers, and then the answers were written
-pub fault_breaks : (protected : Bool) (old new : Connection) (before store after : Store) (contents now : Option (List ℕ)) (out piece written : List ℕ) (fault : TargetFault) →
+pub fault_breaks : (protected : Bool) (old new : Connection) (before store after : Store) (contents now : Option (List ℕ)) (out piece written : List ℕ)
+    (fault : TargetFault) →
     is_closed old.machine ≡ false
     → FedNext protected (scene old before out) piece (Err fault) (scene new store written) → Syncs store after → AreBytes written → Appends contents now written
     → Breaks protected (service old before contents out) piece (ended_by fault) (service new after now [])
@@ -551,7 +591,8 @@ fault_breaks protected old new before store after contents now out piece written
   up.sent ++ written,
   Appends-trans start contents now up.sent written up.appended wrote,
   AreBytes-append up.sent written up.bytes are,
-  synced_executed protected first.disk store after s (executed_next protected first.disk old new before store out piece written (Err faults.NoMemory) up.executed f),
+  synced_executed protected first.disk store after s (executed_next protected first.disk old new before store out piece written
+      (Err faults.NoMemory) up.executed f),
   λ none. first_due protected settings first stream old new before store after start contents out piece written up live f s none,
 )
 fault_breaks protected old new before store after contents now out piece written (faults.Stream fault) live f s are wrote =
@@ -565,7 +606,8 @@ fault_breaks protected old new before store after contents now out piece written
 
 -- ---- bytes after bytes
 
-pub goes_then : (protected : Bool) (old mid new : Service) (a b : List ℕ) → Goes protected old a mid → Goes protected mid b new → Goes protected old (a ++ b) new
+pub goes_then : (protected : Bool) (old mid new : Service) (a b : List ℕ) → Goes protected old a mid → Goes protected mid b new
+    → Goes protected old (a ++ b) new
 goes_then protected old mid new a b p q = λ settings first stream start up.
     subst (λ (x : List ℕ). ServedUpTo protected settings first x start new) (append_assoc stream a b)
     (q settings first (stream ++ a) start (p settings first stream start up))
@@ -580,18 +622,21 @@ loses_then protected old mid new a b p q = λ settings first stream start up.
       λ range h. subst (λ (x : List ℕ). ServesFront protected settings first.disk x new.store.disk l.0) (append_assoc stream a b) (l.4 range h),
     )
 
-tells_then : (protected : Bool) (old mid : Service) (a b : List ℕ) (fault : SessionFault) (after : Store) → Goes protected old a mid → Tells protected mid b fault after →
+tells_then : (protected : Bool) (old mid : Service) (a b : List ℕ) (fault : SessionFault) (after : Store) → Goes protected old a mid
+    → Tells protected mid b fault after →
     Tells protected old (a ++ b) fault after
 tells_then protected old mid a b fault after p q = λ settings first stream start up h.
     subst (λ (x : List ℕ). EndsBy protected settings first.disk (Err fault) x) (append_assoc stream a b)
     (q settings first (stream ++ a) start (p settings first stream start up) h)
 
-runs_out_then : (protected : Bool) (old mid new : Service) (a b : List ℕ) → Goes protected old a mid → RunsOut protected mid b new → RunsOut protected old (a ++ b) new
+runs_out_then : (protected : Bool) (old mid new : Service) (a b : List ℕ) → Goes protected old a mid → RunsOut protected mid b new
+    → RunsOut protected old (a ++ b) new
 runs_out_then protected old mid new a b p q = λ settings first stream start up.
     let l = q settings first (stream ++ a) start (p settings first stream start up) in
     (l.0, l.1, l.2, l.3, λ h. subst (λ (x : List ℕ). ServesFirst protected settings first.disk x new.store.disk l.0) (append_assoc stream a b) (l.4 h))
 
-pub breaks_then : (protected : Bool) (old mid new : Service) (a b : List ℕ) (fault : SessionFault) → Goes protected old a mid → Breaks protected mid b fault new → Breaks protected old (a ++ b) fault new
+pub breaks_then : (protected : Bool) (old mid new : Service) (a b : List ℕ) (fault : SessionFault) → Goes protected old a mid → Breaks protected mid b fault new
+    → Breaks protected old (a ++ b) fault new
 breaks_then protected old mid new a b session.NoMemory p q = runs_out_then protected old mid new a b p q
 breaks_then protected old mid new a b (session.Target faults.NoMemory) p q = q
 breaks_then protected old mid new a b (session.Target (faults.Stream fault)) p q =
@@ -603,7 +648,8 @@ breaks_then protected old mid new a b session.Read p q = q
 breaks_then protected old mid new a b session.Sync p q = loses_then protected old mid new a b p q
 breaks_then protected old mid new a b session.Write p q = loses_then protected old mid new a b p q
 
-is_over_more : (protected : Bool) (settings : Settings) (disk : Disk) (read more : List ℕ) → IsOver protected settings disk read → IsOver protected settings disk (read ++ more)
+is_over_more : (protected : Bool) (settings : Settings) (disk : Disk) (read more : List ℕ) → IsOver protected settings disk read
+    → IsOver protected settings disk (read ++ more)
 is_over_more protected settings disk read more o = (
   record {
     messages = o.0.messages;
@@ -622,7 +668,8 @@ goes_none protected s = λ settings first stream start up. subst (λ (x : List �
     (sym (append-nil stream)) up
 
 -- the store is synced, and the answers that wait are written
-pub goes_written : (protected : Bool) (old : Service) (bytes : List ℕ) (target : Connection) (store after : Store) (contents now : Option (List ℕ)) (waiting : List ℕ)
+pub goes_written : (protected : Bool) (old : Service) (bytes : List ℕ) (target : Connection) (store after : Store)
+    (contents now : Option (List ℕ)) (waiting : List ℕ)
     → Goes protected old bytes (service target store contents waiting) → Syncs store after → AreBytes waiting → Appends contents now waiting
     → Goes protected old bytes (service target after now [])
 goes_written protected old bytes target store after contents now waiting p s are wrote = λ settings first stream start up.
@@ -648,7 +695,8 @@ pub record PieceUpTo (protected : Bool) (old : Service) (piece rest : List ℕ) 
 pub piece_start : (protected : Bool) (s : Service) (piece : List ℕ) → PieceUpTo protected s piece piece s
 piece_start protected s piece = record { front = []; parts = refl; goes = goes_none protected s }
 
-pub piece_next : (protected : Bool) (old mid new : Service) (piece rest : List ℕ) (n : ℕ) → PieceUpTo protected old piece rest mid → Goes protected mid (take n rest) new →
+pub piece_next : (protected : Bool) (old mid new : Service) (piece rest : List ℕ) (n : ℕ) → PieceUpTo protected old piece rest mid
+    → Goes protected mid (take n rest) new →
     PieceUpTo protected old piece (drop n rest) new
 piece_next protected old mid new piece rest n p q = record {
   front = p.front ++ take n rest;
@@ -656,18 +704,21 @@ piece_next protected old mid new piece rest n p q = record {
   goes = goes_then protected old mid new p.front (take n rest) p.goes q;
 }
 
-pub piece_breaks : (protected : Bool) (old mid new : Service) (piece rest : List ℕ) (fault : SessionFault) → PieceUpTo protected old piece rest mid → Breaks protected mid rest fault new →
+pub piece_breaks : (protected : Bool) (old mid new : Service) (piece rest : List ℕ) (fault : SessionFault) → PieceUpTo protected old piece rest mid
+    → Breaks protected mid rest fault new →
     Breaks protected old piece fault new
 piece_breaks protected old mid new piece rest fault p q = subst (λ (x : List ℕ). Breaks protected old x fault new) (sym p.parts)
     (breaks_then protected old mid new p.front rest fault p.goes q)
 
-pub piece_lost : (protected : Bool) (old : Service) (piece rest : List ℕ) (target : Connection) (store after : Store) (contents now : Option (List ℕ)) (waiting : List ℕ)
+pub piece_lost : (protected : Bool) (old : Service) (piece rest : List ℕ) (target : Connection) (store after : Store)
+    (contents now : Option (List ℕ)) (waiting : List ℕ)
     (fault : SessionFault)
     → PieceUpTo protected old piece rest (service target store contents waiting) → Syncs store after → AreBytes waiting → HoldsBack fault contents now waiting →
     Breaks protected old piece fault (service target after now [])
 piece_lost protected old piece rest target store after contents now waiting fault p s are held =
     breaks_held protected old (service target after now []) piece fault contents now waiting held (λ settings first stream start up.
-    let o = front_out protected settings first (stream ++ p.front) rest target store after start contents now waiting (p.goes settings first stream start up) s are
+    let o = front_out protected settings first (stream ++ p.front) rest target store after start contents now waiting
+    (p.goes settings first stream start up) s are
     (held_front fault contents now waiting held) in (
       o.0,
       o.1,
@@ -678,7 +729,8 @@ piece_lost protected old piece rest target store after contents now waiting faul
     ))
 
 -- the whole piece was served, and the answers that waited were written
-pub piece_done : (protected : Bool) (old : Service) (piece rest : List ℕ) (target : Connection) (store after : Store) (contents now : Option (List ℕ)) (waiting : List ℕ)
+pub piece_done : (protected : Bool) (old : Service) (piece rest : List ℕ) (target : Connection) (store after : Store)
+    (contents now : Option (List ℕ)) (waiting : List ℕ)
     → PieceUpTo protected old piece rest (service target store contents waiting) → length rest ≡ 0 → Syncs store after → AreBytes waiting →
     Appends contents now waiting → Goes protected old piece (service target after now [])
 piece_done protected old piece [] target store after contents now waiting p none s are wrote =
@@ -687,7 +739,8 @@ piece_done protected old piece [] target store after contents now waiting p none
 piece_done protected old piece (b ∷ rest) target store after contents now waiting p none s are wrote = absurd (omega (arith, none))
 
 -- the session is over, and the rest of the piece is dropped
-pub piece_over : (protected : Bool) (old : Service) (piece rest : List ℕ) (target : Connection) (store after : Store) (contents now : Option (List ℕ)) (waiting : List ℕ)
+pub piece_over : (protected : Bool) (old : Service) (piece rest : List ℕ) (target : Connection) (store after : Store)
+    (contents now : Option (List ℕ)) (waiting : List ℕ)
     → PieceUpTo protected old piece rest (service target store contents waiting) → is_closed target.machine ≡ true → Syncs store after → AreBytes waiting →
     Appends contents now waiting → Goes protected old piece (service target after now [])
 piece_over protected old piece rest target store after contents now waiting p over s are wrote =
@@ -696,7 +749,8 @@ piece_over protected old piece rest target store after contents now waiting p ov
     (goes_then protected old (service target store contents waiting) (service target store contents waiting) p.front rest p.goes
     (λ settings first stream start up. rest_dropped protected settings first stream target store start contents waiting rest over up))) s are wrote
 
-pub piece_closes : (protected : Bool) (old mid : Service) (piece rest : List ℕ) (n : ℕ) (after : Store) → PieceUpTo protected old piece rest mid → ClosesBy protected mid (take n rest) after →
+pub piece_closes : (protected : Bool) (old mid : Service) (piece rest : List ℕ) (n : ℕ) (after : Store) → PieceUpTo protected old piece rest mid
+    → ClosesBy protected mid (take n rest) after →
     ClosesBy protected old piece after
 piece_closes protected old mid piece rest n after p q = λ settings first stream start up h.
     let ended : IsOver protected settings first.disk (((stream ++ p.front) ++ take n rest) ++ drop n rest) =
@@ -725,7 +779,8 @@ pub record ReadUpTo (protected : Bool) (settings : Settings) (first : Outside) (
   pub consumed : Consumes first.remaining now.remaining stream
   pub served : ServedUpTo protected settings first.store stream first.contents (service target now.store now.contents [])
 
-pub read_more : (protected : Bool) (settings : Settings) (first : Store) (now new : Connection) (store after : Store) (r0 r1 r2 w0 w1 w2 : Option (List ℕ)) (piece : List ℕ)
+pub read_more : (protected : Bool) (settings : Settings) (first : Store) (now new : Connection) (store after : Store)
+    (r0 r1 r2 w0 w1 w2 : Option (List ℕ)) (piece : List ℕ)
     → ReadUpTo protected settings (outside first r0 w0) now (outside store r1 w1) → Consumes r1 r2 piece →
     Goes protected (service now store w1 []) piece (service new after w2 []) →
     ReadUpTo protected settings (outside first r0 w0) new (outside after r2 w2)
@@ -750,9 +805,11 @@ abbrev pub Ended : Bool → Settings → Store → Store → Result (Unit {0}) S
 Ended protected settings first store result = Given first store (λ read written. Serves protected settings first.disk result read store.disk written
     × EndsBy protected settings first.disk result read)
 
-stops : (protected : Bool) (settings : Settings) (range : IsInRange settings.preferences) (result : Result (Unit {0}) SessionFault) (first : Store) (now : Connection) (store : Store) (r0 r1 w0 w1 : Option (List ℕ))
+stops : (protected : Bool) (settings : Settings) (range : IsInRange settings.preferences) (result : Result (Unit {0}) SessionFault) (first : Store)
+    (now : Connection) (store : Store) (r0 r1 w0 w1 : Option (List ℕ))
     (C : List ℕ → Type 0) → (up : ReadUpTo protected settings (outside first r0 w0) now (outside store r1 w1)) → C up.stream
-    → ((read written : List ℕ) → ServesAll protected settings first.disk read store.disk written → Serves protected settings first.disk result read store.disk written) →
+    → ((read written : List ℕ) → ServesAll protected settings first.disk read store.disk written
+    → Serves protected settings first.disk result read store.disk written) →
     (store.failures ≡ first.failures → EndsBy protected settings first.disk result up.stream)
     → Leaves r0 r1 w0 w1 (Ended protected settings first store result) C
 stops protected settings range result first now store r0 r1 w0 w1 C up left due why = (
@@ -772,7 +829,8 @@ read_stands : (protected : Bool) (settings : Settings) (first : Store) (now : Co
 read_stands protected settings first now store r0 r1 w0 w1 up h live = stands_up protected settings first up.stream now store w0 w1 [] up.served h live
 
 -- a read failed
-pub read_stops : (protected : Bool) (settings : Settings) (range : IsInRange settings.preferences) (first : Store) (now : Connection) (store : Store) (r0 r1 r2 w0 w1 : Option (List ℕ)) (C : List ℕ → Type 0) →
+pub read_stops : (protected : Bool) (settings : Settings) (range : IsInRange settings.preferences) (first : Store) (now : Connection) (store : Store)
+    (r0 r1 r2 w0 w1 : Option (List ℕ)) (C : List ℕ → Type 0) →
     (up : ReadUpTo protected settings (outside first r0 w0) now (outside store r1 w1)) → C up.stream → is_closed now.machine ≡ false → Keeps r1 r2
     → Leaves r0 r2 w0 w1 (Ended protected settings first store (Err session.Read)) C
 read_stops protected settings range first now store r0 r1 r2 w0 w1 C up left live kept =
@@ -781,10 +839,12 @@ read_stops protected settings range first now store r0 r1 r2 w0 w1 C up left liv
       consumed = Consumes-kept r0 r1 r2 up.stream up.consumed kept;
       served = up.served;
     }) left (λ read written a. a)
-    (λ h. read_told protected settings first.disk up.stream now store.disk (up.served.sent ++ []) (read_stands protected settings first now store r0 r1 w0 w1 up h live) live)
+    (λ h. read_told protected settings first.disk up.stream now store.disk (up.served.sent ++ [])
+    (read_stands protected settings first now store r0 r1 w0 w1 up h live) live)
 
 -- a session that was closed
-pub over_stops : (protected : Bool) (settings : Settings) (range : IsInRange settings.preferences) (first : Store) (now new : Connection) (store after : Store) (r0 r1 r2 w0 w1 w2 : Option (List ℕ)) (piece : List ℕ)
+pub over_stops : (protected : Bool) (settings : Settings) (range : IsInRange settings.preferences) (first : Store) (now new : Connection) (store after : Store)
+    (r0 r1 r2 w0 w1 w2 : Option (List ℕ)) (piece : List ℕ)
     (C : List ℕ → Type 0) → (up : ReadUpTo protected settings (outside first r0 w0) now (outside store r1 w1)) → C (up.stream ++ piece) → Consumes r1 r2 piece
     → Goes protected (service now store w1 []) piece (service new after w2 []) → ClosesBy protected (service now store w1 []) piece after
     → Leaves r0 r2 w0 w2 (Ended protected settings first after (Ok tt)) C
@@ -804,7 +864,8 @@ ended_up protected settings first now store r0 r1 r2 w0 w1 up read = subst (λ (
     (Consumes-trans r0 r1 r2 up.stream [] up.consumed read)
 
 -- the stream ended behind a PDU
-pub end_stops : (protected : Bool) (settings : Settings) (range : IsInRange settings.preferences) (first : Store) (now new : Connection) (store : Store) (r0 r1 r2 w0 w1 : Option (List ℕ)) (C : List ℕ → Type 0) →
+pub end_stops : (protected : Bool) (settings : Settings) (range : IsInRange settings.preferences) (first : Store) (now new : Connection) (store : Store)
+    (r0 r1 r2 w0 w1 : Option (List ℕ)) (C : List ℕ → Type 0) →
     (up : ReadUpTo protected settings (outside first r0 w0) now (outside store r1 w1)) → C up.stream → is_closed now.machine ≡ false
     → Finishes now (Ok tt) new → Consumes r1 r2 [] → Leaves r0 r2 w0 w1 (Ended protected settings first store (Ok tt)) C
 end_stops protected settings range first now new store r0 r1 r2 w0 w1 C up left live done read =
@@ -816,7 +877,8 @@ end_stops protected settings range first now new store r0 r1 r2 w0 w1 C up left 
     (λ h. inr (end_told protected settings first.disk up.stream now new store.disk (up.served.sent ++ [])
     (read_stands protected settings first now store r0 r1 w0 w1 up h live) live done))
 
-any_fault : (protected : Bool) (settings : Settings) (disk : Disk) (fault : TargetFault) (new now : Connection) (read : List ℕ) (disk_now : Disk) (written : List ℕ) →
+any_fault : (protected : Bool) (settings : Settings) (disk : Disk) (fault : TargetFault) (new now : Connection) (read : List ℕ)
+    (disk_now : Disk) (written : List ℕ) →
     is_closed now.machine ≡ false → Finishes now (Err fault) new → ServesAll protected settings disk read disk_now written
     → Serves protected settings disk (Err (ended_by fault)) read disk_now written
 any_fault protected settings disk faults.NoMemory new now read disk_now written live f a = absurd f
@@ -825,7 +887,8 @@ any_fault protected settings disk (faults.Protocol rule) new now read disk_now w
 any_fault protected settings disk faults.Closed new now read disk_now written live f a = absurd (apart f.0 live)
 
 -- the stream ended within a PDU
-pub finish_stops : (protected : Bool) (settings : Settings) (range : IsInRange settings.preferences) (fault : TargetFault) (first : Store) (now new : Connection) (store : Store) (r0 r1 r2 w0 w1 : Option (List ℕ))
+pub finish_stops : (protected : Bool) (settings : Settings) (range : IsInRange settings.preferences) (fault : TargetFault) (first : Store)
+    (now new : Connection) (store : Store) (r0 r1 r2 w0 w1 : Option (List ℕ))
     (C : List ℕ → Type 0) → (up : ReadUpTo protected settings (outside first r0 w0) now (outside store r1 w1)) → C up.stream
     → is_closed now.machine ≡ false → Finishes now (Err fault) new → Consumes r1 r2 [] →
     Leaves r0 r2 w0 w1 (Ended protected settings first store (Err (ended_by fault))) C
@@ -840,7 +903,8 @@ finish_stops protected settings range fault first now new store r0 r1 r2 w0 w1 C
     (read_stands protected settings first now store r0 r1 w0 w1 up h live) live fails)
 
 -- a session that ends by a fault of the target
-fault_ends : (protected : Bool) (settings : Settings) (range : IsInRange settings.preferences) (fault : SessionFault) (first : Store) (now new : Connection) (store after : Store) (r0 r1 r2 w0 w1 w2 : Option (List ℕ))
+fault_ends : (protected : Bool) (settings : Settings) (range : IsInRange settings.preferences) (fault : SessionFault) (first : Store) (now new : Connection)
+    (store after : Store) (r0 r1 r2 w0 w1 w2 : Option (List ℕ))
     (piece : List ℕ) (C : List ℕ → Type 0) → (up : ReadUpTo protected settings (outside first r0 w0) now (outside store r1 w1)) → C (up.stream ++ piece)
     → Consumes r1 r2 piece → ((read written : List ℕ) → ServesAll protected settings first.disk read after.disk written →
     Serves protected settings first.disk (Err fault) read after.disk written)
@@ -854,7 +918,8 @@ fault_ends protected settings range fault first now new store after r0 r1 r2 w0 
       served = goes settings first up.stream w0 up.served;
     }) left due (λ h. tells settings first up.stream w0 up.served h)
 
-pub fault_stops : (protected : Bool) (settings : Settings) (range : IsInRange settings.preferences) (fault : SessionFault) (first : Store) (now new : Connection) (store after : Store)
+pub fault_stops : (protected : Bool) (settings : Settings) (range : IsInRange settings.preferences) (fault : SessionFault) (first : Store)
+    (now new : Connection) (store after : Store)
     (r0 r1 r2 w0 w1 w2 : Option (List ℕ)) (piece : List ℕ) (C : List ℕ → Type 0)
     → (up : ReadUpTo protected settings (outside first r0 w0) now (outside store r1 w1)) → C (up.stream ++ piece) → Consumes r1 r2 piece
     → Breaks protected (service now store w1 []) piece fault (service new after w2 []) → Leaves r0 r2 w0 w2 (Ended protected settings first after (Err fault)) C
@@ -869,10 +934,12 @@ fault_stops protected settings range session.NoMemory first now new store after 
       left,
     )
 fault_stops protected settings range (session.Target (faults.Stream fault)) first now new store after r0 r1 r2 w0 w1 w2 piece C up left read broken =
-    fault_ends protected settings range (session.Target (faults.Stream fault)) first now new store after r0 r1 r2 w0 w1 w2 piece C up left read (λ read written a. a)
+    fault_ends protected settings range (session.Target (faults.Stream fault)) first now new store after r0 r1 r2 w0 w1 w2 piece C up left
+    read (λ read written a. a)
     broken.0 broken.1
 fault_stops protected settings range (session.Target (faults.Protocol rule)) first now new store after r0 r1 r2 w0 w1 w2 piece C up left read broken =
-    fault_ends protected settings range (session.Target (faults.Protocol rule)) first now new store after r0 r1 r2 w0 w1 w2 piece C up left read (λ read written a. a)
+    fault_ends protected settings range (session.Target (faults.Protocol rule)) first now new store after r0 r1 r2 w0 w1 w2 piece C up left
+    read (λ read written a. a)
     broken.0 broken.1
 fault_stops protected settings range (session.Target faults.NoMemory) first now new store after r0 r1 r2 w0 w1 w2 piece C up left read broken = absurd broken
 fault_stops protected settings range (session.Target faults.Closed) first now new store after r0 r1 r2 w0 w1 w2 piece C up left read broken = absurd broken
@@ -899,7 +966,8 @@ fault_stops protected settings range session.Write first now new store after r0 
     )
 
 -- a PDU is called cut at the end of the stream alone
-pub fault_cut : (protected : Bool) (old new : Service) (bytes : List ℕ) (fault : SessionFault) (left : Option (List ℕ)) → Breaks protected old bytes fault new → EndsCut (Err fault) left
+pub fault_cut : (protected : Bool) (old new : Service) (bytes : List ℕ) (fault : SessionFault) (left : Option (List ℕ)) → Breaks protected old bytes fault new
+    → EndsCut (Err fault) left
 fault_cut protected old new bytes session.NoMemory left b = tt
 fault_cut protected old new bytes (session.Target faults.NoMemory) left b = tt
 fault_cut protected old new bytes (session.Target (faults.Stream (stream.Head fault place))) left b = tt
@@ -926,7 +994,8 @@ end_cut faults.Closed left end = tt
 -- the blocks are those that commands left
 pub fault_executed : (protected : Bool) (settings : Settings) (fault : SessionFault) (first : Store) (now new : Connection) (store after : Store)
     (r0 r1 w0 w1 w2 : Option (List ℕ)) (piece : List ℕ)
-    → ReadUpTo protected settings (outside first r0 w0) now (outside store r1 w1) → Breaks protected (service now store w1 []) piece fault (service new after w2 []) →
+    → ReadUpTo protected settings (outside first r0 w0) now (outside store r1 w1)
+    → Breaks protected (service now store w1 []) piece fault (service new after w2 []) →
     HasExecuted protected first.disk after.disk
 fault_executed protected settings session.NoMemory first now new store after r0 r1 w0 w1 w2 piece up lost = (lost settings first up.stream w0 up.served).3
 fault_executed protected settings (session.Target (faults.Stream fault)) first now new store after r0 r1 w0 w1 w2 piece up broken =
@@ -951,7 +1020,8 @@ pub next_closes : (protected : Bool) (old new : Connection) (before after : Stor
 next_closes protected old new before after contents out piece written done f over = λ settings first stream start up none.
     let fed : Fed protected (scene old before out) (take done.0 piece) (Ok done.1) (scene new after written) =
     next_is protected (is_closed old.machine) old new before after out piece written done f in
-    let h = none_counted first.failures before.failures after.failures up.rises (fed_rises protected (is_closed old.machine) old new before after out (take done.0 piece)
+    let h = none_counted first.failures before.failures after.failures up.rises
+    (fed_rises protected (is_closed old.machine) old new before after out (take done.0 piece)
     written (Ok done.1) fed) none in
     elim (either (is_closed old.machine)) [
       | inl c ↦ absurd (ended_twice c f)
@@ -974,8 +1044,10 @@ pub next_is_open : (protected : Bool) (b : Bool) (old new : Connection) (before 
 next_is_open protected true old new before after out piece written done f open_ = absurd cc
 next_is_open protected false old new before after out piece written done f open_ = ap is_closed f.fed.ends.1 ∙ sym (ap is_closed_phase f.fed.ends.2) ∙ open_
 
-pub over_ends : (protected : Bool) (settings : Settings) (first : Store) (now : Connection) (store after : Store) (r0 r1 r2 w0 w1 : Option (List ℕ)) (piece : List ℕ)
-    → ReadUpTo protected settings (outside first r0 w0) now (outside store r1 w1) → Consumes r1 r2 piece → ClosesBy protected (service now store w1 []) piece after →
+pub over_ends : (protected : Bool) (settings : Settings) (first : Store) (now : Connection) (store after : Store)
+    (r0 r1 r2 w0 w1 : Option (List ℕ)) (piece : List ℕ)
+    → ReadUpTo protected settings (outside first r0 w0) now (outside store r1 w1) → Consumes r1 r2 piece
+    → ClosesBy protected (service now store w1 []) piece after →
     after.failures ≡ first.failures →
     EndsWell protected settings first.disk r0 r2
 over_ends protected settings first now store after r0 r1 r2 w0 w1 piece up read closes h =
@@ -1004,10 +1076,12 @@ fault_served protected settings disk session.Write read disk_now written a = a.0
 -- ---- the target of the programs
 
 abbrev pub Told : Bool → Settings → Disk → Result (Unit {0}) SessionFault → List ℕ → Disk → List ℕ → Type 0
-Told protected settings disk result read disk_now written = Serves protected settings disk result read disk_now written × EndsBy protected settings disk result read
+Told protected settings disk result read disk_now written = Serves protected settings disk result read disk_now written
+    × EndsBy protected settings disk result read
 
 -- what a session leaves, at the target of the programs
-pub told_here : {Steady : Type 0} (protected : Bool) (settings : Settings) (disk here : Disk) (result : Result (Unit {0}) SessionFault) (read : List ℕ) (disk_now : Disk)
+pub told_here : {Steady : Type 0} (protected : Bool) (settings : Settings) (disk here : Disk) (result : Result (Unit {0}) SessionFault)
+    (read : List ℕ) (disk_now : Disk)
     (written : List ℕ) → settings ≡ target_settings → disk ≡ here
     → (Steady → Told protected settings disk result read disk_now written) → Steady →
     Told protected target_settings here result read disk_now written

@@ -23,16 +23,19 @@ session_fault session.Write = serve.Write
 
 -- What a session over a socket leaves where it ends, and why it ends so: nothing is done where no
 -- connection was accepted. No fault wraps the want of memory.
-abbrev pub ServesOne : Bool → Settings → Disk → Result (Unit {0}) ServeFault → List ℕ → Disk → List ℕ
+abbrev pub ServesOne : Bool → Settings → Disk → Result (Unit {0}) ServeFault → List ℕ → Disk
+    → List ℕ
     → Type 0
 ServesOne protected settings disk (Ok done) read disk_now written =
-    ServesAll protected settings disk read disk_now written × EndsBy protected settings disk (Ok done) read
+    ServesAll protected settings disk read disk_now written
+    × EndsBy protected settings disk (Ok done) read
 ServesOne protected settings disk (Err (serve.Target target.NoMemory)) read disk_now written = ⊥
 ServesOne protected settings disk (Err (serve.Target fault)) read disk_now written =
     ServesAll protected settings disk read disk_now written
     × EndsBy protected settings disk (Err (session.Target fault)) read
 ServesOne protected settings disk (Err serve.Read) read disk_now written =
-    ServesAll protected settings disk read disk_now written × EndsBy protected settings disk (Err session.Read) read
+    ServesAll protected settings disk read disk_now written
+    × EndsBy protected settings disk (Err session.Read) read
 ServesOne protected settings disk (Err serve.Network) read disk_now written = disk_now ≡ disk
 ServesOne protected settings disk (Err serve.NoMemory) read disk_now written =
     ServesFirst protected settings disk read disk_now written
@@ -40,5 +43,6 @@ ServesOne protected settings disk (Err serve.Sync) read disk_now written =
     ServesFront protected settings disk read disk_now written
 ServesOne protected settings disk (Err serve.Write) read disk_now written =
     ServesFront protected settings disk read disk_now written
+ServesOne protected settings disk (Err serve.NoRandom) read disk_now written = ⊥
 ServesOne protected settings disk (Err (serve.Initiator fault)) read disk_now written = ⊥
 ServesOne protected settings disk (Err (serve.Script line)) read disk_now written = ⊥

@@ -60,35 +60,43 @@ pub record Receives (settings : Settings) (read : List ℕ) : Type 0 where
   pub reads : ReadsAs (limit settings) no_login given messages
 
 -- What these PDUs lead to.
-abbrev pub led : Bool → (settings : Settings) → Disk → (read : List ℕ) → Receives settings read → Stepped
-led protected settings disk read receives = answers protected (opening settings 1) disk receives.messages
+abbrev pub led : Bool → (settings : Settings) → Disk → (read : List ℕ) → Receives settings read
+    → Stepped
+led protected settings disk read receives = answers protected (opening settings 1)
+    disk receives.messages
 
 -- Some tasks of the PDU behind those that were answered were done, in their order, over a device
 -- that did not fail.
-pub record DoesSome (protected : Bool) (settings : Settings) (disk : Disk) (read : List ℕ) (receives : Receives settings read)
+pub record DoesSome (protected : Bool) (settings : Settings) (disk : Disk) (read : List ℕ)
+    (receives : Receives settings read)
     (front : Stepped) : Type 0 where
   pub message : Message
   -- what was read begins with these PDUs and that one
   pub more : Receives settings read
   pub behind : more.messages ≡ receives.messages ++ message ∷ []
   pub failures : ℕ
-  pub stops : MayStop protected (led protected settings disk read receives).machine (led protected settings disk read receives).disk
+  pub stops : MayStop protected (led protected settings disk read receives).machine
+      (led protected settings disk read receives).disk
       failures message front failures
 
 -- The answers to some first PDUs of what was read are written, whole, and the blocks are those that
 -- these PDUs lead to. Of the PDU behind them some tasks may have been done, whole.
-pub record ServesFirst (protected : Bool) (settings : Settings) (disk : Disk) (read : List ℕ) (disk_now : Disk)
+pub record ServesFirst (protected : Bool) (settings : Settings) (disk : Disk)
+    (read : List ℕ) (disk_now : Disk)
     (written : List ℕ) : Type 0 where
   pub receives : Receives settings read
   pub front : Stepped
   pub stops : (front ≡ unchanged (led protected settings disk read receives).machine
-      (led protected settings disk read receives).disk) ⊎ DoesSome protected settings disk read receives front
+      (led protected settings disk read receives).disk)
+      ⊎ DoesSome protected settings disk read receives front
   pub disk_is : disk_now ≡ front.disk
-  pub output_is : written ≡ canon ((led protected settings disk read receives).answers ++ front.answers)
+  pub output_is : written ≡ canon ((led protected settings disk read receives).answers
+      ++ front.answers)
 
 -- A front of what was due is written: of the answers to all PDUs of a front of what was read, or to
 -- some first ones of them. The blocks are those that these lead to.
-pub record ServesFront (protected : Bool) (settings : Settings) (disk : Disk) (read : List ℕ) (disk_now : Disk)
+pub record ServesFront (protected : Bool) (settings : Settings) (disk : Disk)
+    (read : List ℕ) (disk_now : Disk)
     (written : List ℕ) : Type 0 where
   pub front : List ℕ
   pub behind : List ℕ
@@ -102,7 +110,8 @@ pub record ServesFront (protected : Bool) (settings : Settings) (disk : Disk) (r
 -- What a session leaves where it ends; no fault wraps the want of memory.
 abbrev pub Serves : Bool → Settings → Disk → Result (Unit {0}) SessionFault → List ℕ → Disk → List ℕ
     → Type 0
-Serves protected settings disk (Ok done) read disk_now written = ServesAll protected settings disk read disk_now written
+Serves protected settings disk (Ok done) read disk_now written = ServesAll protected settings
+    disk read disk_now written
 Serves protected settings disk (Err (session.Target (faults.Stream fault))) read disk_now written =
     ServesAll protected settings disk read disk_now written
 Serves protected settings disk (Err (session.Target (faults.Protocol rule))) read disk_now written =
@@ -126,9 +135,11 @@ IsOver protected settings disk read = (receives : Receives settings read)
     × (is_closed (led protected settings disk read receives).machine ≡ true)
 
 -- The session goes on, and no rule was broken, behind the PDUs that what was read has.
-abbrev pub GoesOnBehind : Bool → (settings : Settings) → Disk → (read : List ℕ) → Receives settings read
+abbrev pub GoesOnBehind : Bool → (settings : Settings) → Disk → (read : List ℕ)
+    → Receives settings read
     → Type 0
-GoesOnBehind protected settings disk read receives = ((led protected settings disk read receives).rule ≡ None)
+GoesOnBehind protected settings disk read receives
+    = ((led protected settings disk read receives).rule ≡ None)
     × (is_closed (led protected settings disk read receives).machine ≡ false)
 
 -- The bytes behind PDUs are what the framer refuses, or a PDU that is begun and not whole; the
@@ -153,7 +164,8 @@ EndsBy protected settings disk (Ok done) read = IsOver protected settings disk r
     × (receives.rest ≡ []))
 -- the last PDU broke this rule
 EndsBy protected settings disk (Err (session.Target (faults.Protocol rule))) read =
-    (receives : Receives settings read) × ((led protected settings disk read receives).rule ≡ Some rule)
+    (receives : Receives settings read) × ((led protected settings disk read receives).rule
+    ≡ Some rule)
 -- the bytes behind the PDUs are refused
 EndsBy protected settings disk (Err (session.Target (faults.Stream fault))) read =
     (receives : Receives settings read) × GoesOnBehind protected settings disk read receives
@@ -177,7 +189,8 @@ EndsCut _ left = Unit {0}
 
 -- These bytes led a target and its store from here to there; of the failures that were counted some
 -- may be those of syncs.
-pub record Comes (protected : Bool) (old : Connection) (before : Store) (bytes : List ℕ) (new : Connection)
+pub record Comes (protected : Bool) (old : Connection) (before : Store)
+    (bytes : List ℕ) (new : Connection)
     (after : Store) : Type 0 where
   pub failures : ℕ
   pub few : failures ≤ after.failures
@@ -203,14 +216,16 @@ exchange settings store read written =
 -- What was written are the answers to all PDUs of a front of what was read, where the store was
 -- this one and a crash left this. A crash at last leaves of each block what it would have left then,
 -- or what a command of a PDU behind that front leaves of it.
-pub record SentBefore (protected : Bool) (all : Exchange) (store : Store) (kept : ℕ → List ℕ → Type 0) (last : Store)
+pub record SentBefore (protected : Bool) (all : Exchange) (store : Store)
+    (kept : ℕ → List ℕ → Type 0) (last : Store)
     (left : ℕ → List ℕ → Type 0) : Type 0 where
   pub front : List ℕ
   pub behind : List ℕ
   pub whole : all.read ≡ front ++ behind
   -- where the session stood then
   pub target : Connection
-  pub stands : StandsBehind protected (opening_connection all.settings 1) all.store front target store
+  pub stands : StandsBehind protected (opening_connection all.settings 1)
+      all.store front target store
   pub answered : store.failures ≡ all.store.failures
       → ServesAll protected all.settings all.store.disk front store.disk all.written
   pub few : store.failures ≤ last.failures
@@ -221,7 +236,8 @@ pub record SentBefore (protected : Bool) (all : Exchange) (store : Store) (kept 
 -- A session that ended well has read its reader to the end, or was closed.
 abbrev pub EndsWell : Bool → Settings → Disk → Option (List ℕ) → Option (List ℕ) → Type 0
 EndsWell protected settings disk before after =
-    IsAtEnd after ⊎ ((read : List ℕ) × Consumes before after read × IsOver protected settings disk read)
+    IsAtEnd after ⊎ ((read : List ℕ) × Consumes before after read
+    × IsOver protected settings disk read)
 
 -- ---- a session over a stream
 
@@ -240,14 +256,16 @@ around remaining contents store kept =
 
 -- A session has read this and written that, and ended so. A crash leaves each block as before, or as
 -- a command of a PDU of what was read leaves it.
-abbrev pub ServesStream : Bool → Settings → Result (Unit {0}) SessionFault → Around → Around → Type 0
+abbrev pub ServesStream : Bool → Settings → Result (Unit {0}) SessionFault → Around → Around
+    → Type 0
 ServesStream protected settings result old new = (read : List ℕ) × (written : List ℕ)
     × Consumes old.remaining new.remaining read
     × Appends old.contents new.contents written × AreBytes written
     × (new.store.failures ≡ old.store.failures
     → Serves protected settings old.store.disk result read new.store.disk written
     × EndsBy protected settings old.store.disk result read)
-    × CrashesFed protected (opening_connection settings 1) old.store read new.store old.kept new.kept
+    × CrashesFed protected (opening_connection settings 1) old.store read
+    new.store old.kept new.kept
 
 -- The last answers that a session has written left this store, of which a crash leaves that.
 abbrev pub WroteBefore : Bool → Settings → Around → Store → (ℕ → List ℕ → Type 0) → Around → Type 0

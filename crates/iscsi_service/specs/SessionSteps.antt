@@ -94,7 +94,8 @@ abbrev pub Tells : Bool → Service → List ℕ → SessionFault → Store → 
 Tells protected old bytes fault after =
     (settings : Settings) (first : Store) (stream : List ℕ) (start : Option (List ℕ))
     → ServedUpTo protected settings first stream start old
-    → after.failures ≡ first.failures → EndsBy protected settings first.disk (Err fault) (stream ++ bytes)
+    → after.failures ≡ first.failures → EndsBy protected settings first.disk
+    (Err fault) (stream ++ bytes)
 
 -- The answers to some first PDUs were sent, and the blocks are those that commands left.
 abbrev pub RunsOut : Bool → Service → List ℕ → Service → Type 0
@@ -109,7 +110,8 @@ RunsOut protected old bytes new =
 -- When the last answers left, some first bytes were served, the store was this one, and a crash
 -- left this. A crash at last leaves of each block what it would have left then, or what a command
 -- of a PDU behind them leaves of it.
-pub record LeftLast (protected : Bool) (old : Service) (bytes : List ℕ) (store : Store) (kept : ℕ → List ℕ → Type 0)
+pub record LeftLast (protected : Bool) (old : Service) (bytes : List ℕ) (store : Store)
+    (kept : ℕ → List ℕ → Type 0)
     (new : Service) (left : ℕ → List ℕ → Type 0) : Type 0 where
   pub front : List ℕ
   pub behind : List ℕ
@@ -130,10 +132,12 @@ abbrev pub Breaks : Bool → Service → List ℕ → SessionFault → Service �
 Breaks protected old bytes session.NoMemory new = RunsOut protected old bytes new
 Breaks protected old bytes (session.Target faults.NoMemory) new = ⊥
 Breaks protected old bytes (session.Target (faults.Stream fault)) new =
-    Goes protected old bytes new × Tells protected old bytes (session.Target (faults.Stream fault)) new.store
+    Goes protected old bytes new × Tells protected old bytes
+    (session.Target (faults.Stream fault)) new.store
     × IsUncut fault
 Breaks protected old bytes (session.Target (faults.Protocol rule)) new =
-    Goes protected old bytes new × Tells protected old bytes (session.Target (faults.Protocol rule)) new.store
+    Goes protected old bytes new × Tells protected old bytes
+    (session.Target (faults.Protocol rule)) new.store
 Breaks protected old bytes (session.Target faults.Closed) new = ⊥
 Breaks protected old bytes session.Read new = ⊥
 Breaks protected old bytes session.Sync new = Loses protected old bytes new

@@ -1,14 +1,12 @@
 //! A target's service on a socket: one connection after another, over one store.
 
-ghost use Rattle.std.specs.Prelude.{◌≡◌, ◌≢◌, ◌⊎◌, ◌<◌, ℕ, List, true, length, map, Err, IfOk, IfErr};
-ghost use Rattle.std.specs.Option.{option_map};
+ghost use Rattle.std.specs.Prelude.{◌≡◌, ◌≢◌, ◌⊎◌, ◌<◌, ℕ, List, true, length, Err, IfOk, IfErr};
 ghost use Rattle.iscsi_serving.specs.Executed.{HasExecuted};
 ghost use Rattle.iscsi_serving.specs.Faults.{EndsService};
-ghost use Rattle.iscsi_service.specs.Session.{target_settings};
 ghost use Rattle.iscsi_service.specs.Serving.{ServesOne};
 
 use crate::session::{configuration, serve_reads};
-use iscsi_serving::ServeFault;
+use iscsi_serving::{Access, AccessFault, ServeFault};
 use iscsi_target::Config;
 use scsi_disk::BlockStore;
 use std::alloc::{AllocError, Global};
@@ -118,8 +116,7 @@ impl Write for Answers<'_> {
 }
 
 /// Listens on 127.0.0.1, prints `listening`, and serves `n` connections, one after another,
-/// over one store. Port 0 is one that the system picks. Where names are given, no initiator but
-/// those of these names may log in.
+/// over one store. Port 0 is one that the system picks.
 ///
 /// A session that ends with a fault has the fault's line on standard error, and the next one is
 /// served. Only being out of memory and a fault of the network end the service; `Write` is returned
@@ -130,14 +127,14 @@ pub fn serve<S: BlockStore>(
     port: u16,
     store: &mut S,
     sessions: u64,
-    initiators: Option<&[&[u8]]>,
+    access: Access<'_>,
 ) -> Result<(), ServeFault>
     // Whatever comes of it, the blocks are those that commands left.
     ensures blocks { HasExecuted S.protected (S.disk store.old) (S.disk store.new) }
     ensures ends { IfErr result (λ fault. EndsService fault ⊎ (fault ≡ ServeFault.Write)) }
 {
     let listener = listen(rt, port)?;
-    serve_connections(rt, &listener, store, sessions, initiators)
+    serve_connections(rt, &listener, store, sessions, access)
 }
 
 // A listener, which is announced. It alone returns Write.
@@ -159,27 +156,21 @@ fn listen(rt: &HostRuntime, port: u16) -> Result<TcpListener, ServeFault>
 /// A session that ends with a fault has the fault's line on standard error, and the next one is
 /// served. Only being out of memory and a fault of the network end the service.
 ///
-/// Each session is that of `serve_one`, with the target of the programs (`configuration`). Where names
-/// are given, no initiator but those of these names may log in.
+/// Each session is that of `serve_one`, with the target of the programs (`configuration`). A connection
+/// for which the system gives no random bytes ends with that.
 #[tactic(auto, using(crate::proofs::SessionReadInvariant::none_executed))]
 pub fn serve_connections<S: BlockStore>(
     rt: &HostRuntime,
     listener: &TcpListener,
     store: &mut S,
     sessions: u64,
-    initiators: Option<&[&[u8]]>,
+    access: Access<'_>,
 ) -> Result<(), ServeFault>
     ensures blocks { HasExecuted S.protected (S.disk store.old) (S.disk store.new) }
     ensures ends { IfErr result EndsService }
 {
-    let alloc = rt.alloc();
     for _ in 0..sessions {
-        match serve_one(
-            alloc,
-            listener,
-            store,
-            configuration_for(alloc, initiators)?,
-        ) {
+        match serve_next(rt, listener, store, access) {
             Ok(()) => {}
             Err(fault @ (ServeFault::NoMemory | ServeFault::Network)) => return Err(fault),
             Err(fault) => {
@@ -190,15 +181,30 @@ pub fn serve_connections<S: BlockStore>(
     Ok(())
 }
 
-// The target of the programs, which lets in initiators of these names, or everybody.
-fn configuration_for(alloc: Global, initiators: Option<&[&[u8]]>) -> Result<Config, AllocError>
-    ensures settings { IfOk result (λ config. config ≡ record target_settings {
-      access = record { names = option_map (λ names. map (λ name. name.now) names.now) initiators.entry };
-    }) }
+// Serves the next connection of a listener. It is closed if the system gives no random bytes for it.
+#[tactic(auto, using(crate::proofs::SessionReadInvariant::none_executed))]
+fn serve_next<S: BlockStore>(
+    rt: &HostRuntime,
+    listener: &TcpListener,
+    store: &mut S,
+    access: Access<'_>,
+) -> Result<(), ServeFault>
+    ensures blocks { HasExecuted S.protected (S.disk store.old) (S.disk store.new) }
 {
-    let config = configuration(alloc)?;
-    match initiators {
-        Some(names) => config.with_names(alloc, names),
-        None => Ok(config),
+    let alloc = rt.alloc();
+    match access.demand(alloc, rt, configuration(alloc)?) {
+        Ok(config) => serve_one(alloc, listener, store, config),
+        Err(AccessFault::NoMemory) => Err(ServeFault::NoMemory),
+        Err(AccessFault::NoRandom) => turned_away(listener),
+    }
+}
+
+// Accepts a connection, and closes it.
+fn turned_away(listener: &TcpListener) -> Result<(), ServeFault>
+    ensures ends { IfErr result (λ fault. (fault ≡ ServeFault.NoRandom) ⊎ EndsService fault) }
+{
+    match accepted(listener) {
+        Some(_) => Err(ServeFault::NoRandom),
+        None => Err(ServeFault::Network),
     }
 }

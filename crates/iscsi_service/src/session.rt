@@ -179,7 +179,8 @@ fn serve_piece<S: BlockStore, W: Write>(
     ensures advances { result ≡ Ok false → Comes S.protected target.old
         (store_of (S.disk store.old) (S.failures store.old)) piece.now target.new
         (store_of (S.disk store.new) (S.failures store.new)) }
-    ensures crash { (S.failures store.old ≤ S.failures store.new) × CrashesFed S.protected target.old
+    ensures crash { (S.failures store.old ≤ S.failures store.new)
+        × CrashesFed S.protected target.old
         (store_of (S.disk store.old) (S.failures store.old)) piece.now
         (store_of (S.disk store.new) (S.failures store.new)) (S.kept store.old) (S.kept store.new) }
     ensures synced { result ≢ Err SessionFault.Sync → S.synced store.new ≡ true }
@@ -230,10 +231,12 @@ fn serve_next<S: BlockStore, W: Write>(
         (service target.old (store_of (S.disk store.old) (S.failures store.old)) (W.contents w.old) out.old.items)
         piece.now fault
         (service target.new (store_of (S.disk store.new) (S.failures store.new)) (W.contents w.new) [])) }
-    ensures advances { IfOk result (λ done. is_closed_phase done.1 ≡ false → Comes S.protected target.old
+    ensures advances { IfOk result (λ done. is_closed_phase done.1 ≡ false
+        → Comes S.protected target.old
         (store_of (S.disk store.old) (S.failures store.old)) (take done.0 piece.now) target.new
         (store_of (S.disk store.new) (S.failures store.new))) }
-    ensures crash { (S.failures store.old ≤ S.failures store.new) × CrashesFed S.protected target.old
+    ensures crash { (S.failures store.old ≤ S.failures store.new)
+        × CrashesFed S.protected target.old
         (store_of (S.disk store.old) (S.failures store.old)) piece.now
         (store_of (S.disk store.new) (S.failures store.new)) (S.kept store.old) (S.kept store.new) }
     ensures synced { IfErr result (λ fault. fault ≢ SessionFault.Sync

@@ -2,6 +2,7 @@
 //! They have a line for each PDU, with its header in hex and, behind an apostrophe, the text of its
 //! segment. In the text `|` stands for a byte 00. The padding is left out.
 
+mod access;
 mod serving;
 mod streams;
 mod syncs;

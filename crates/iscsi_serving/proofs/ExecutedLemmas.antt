@@ -15,5 +15,6 @@ pub none_executed : (protected : Bool) (disk : Disk) → HasExecuted protected d
 none_executed protected disk = ([], nothing_executed protected disk)
 
 -- commands behind commands
-pub executed_then : (protected : Bool) (first now last : Disk) → HasExecuted protected first now → HasExecuted protected now last → HasExecuted protected first last
+pub executed_then : (protected : Bool) (first now last : Disk) → HasExecuted protected first now → HasExecuted protected now last
+    → HasExecuted protected first last
 executed_then protected first now last a b = (a.0 ++ b.0, leads_append protected first now last a.0 b.0 a.1 b.1)

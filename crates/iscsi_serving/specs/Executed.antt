@@ -8,4 +8,5 @@ use Rattle.iscsi_target.specs.Laws.{Leads}
 
 -- Commands that were executed, one after another, lead from one disk to another.
 abbrev pub HasExecuted : Bool → Disk → Disk → Type 0
-HasExecuted protected before after = (executed : List Execution) × Leads protected before executed after
+HasExecuted protected before after = (executed : List Execution)
+    × Leads protected before executed after

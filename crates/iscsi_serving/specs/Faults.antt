@@ -8,7 +8,7 @@ use Rattle.iscsi_serving.specs.declared.fault.ServeFault.{ServeFault}
 use Rattle.iscsi_serving.specs.declared.fault.ServeFault.TheVariants as serve
 
 -- The exit status of a fault: 1 where what came is refused, 3 for memory, 4 for reading, writing,
--- a sync and the network.
+-- a sync, random bytes and the network.
 abbrev pub exit_status : ServeFault → ℕ
 exit_status serve.NoMemory = 3
 exit_status (serve.Target fault) = 1
@@ -17,6 +17,7 @@ exit_status (serve.Script line) = 1
 exit_status serve.Network = 4
 exit_status serve.Read = 4
 exit_status serve.Sync = 4
+exit_status serve.NoRandom = 4
 exit_status serve.Write = 4
 
 -- A target's fault; its `NoMemory` is the session's own.

@@ -1,3 +1,4 @@
+pub mod Access
 pub mod Ending
 pub mod Executed
 pub mod Faults

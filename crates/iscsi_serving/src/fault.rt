@@ -36,18 +36,25 @@ pub enum ServeFault {
     /// What was written to the store could not be made to last.
     #[error("sync failed")]
     Sync,
+    /// The system gives no random bytes, which a challenge is made of.
+    #[error("no random bytes")]
+    NoRandom,
 }
 
 impl ServeFault {
     /// The exit status of the fault: 1 where what came is refused, 3 for memory, 4 for reading,
-    /// writing, a sync and the network.
+    /// writing, a sync, random bytes and the network.
     pub fn status(&self) -> u8
         ensures status { result ≡ exit_status self.now }
     {
         match self {
             ServeFault::Target(_) | ServeFault::Initiator(_) | ServeFault::Script(_) => 1,
             ServeFault::NoMemory => 3,
-            ServeFault::Network | ServeFault::Read | ServeFault::Sync | ServeFault::Write => 4,
+            ServeFault::Network
+            | ServeFault::Read
+            | ServeFault::Sync
+            | ServeFault::NoRandom
+            | ServeFault::Write => 4,
         }
     }
 }

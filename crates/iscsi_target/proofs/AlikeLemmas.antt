@@ -21,7 +21,8 @@ pub mapped_more : {X Y : Type 0} (f : X → Y) (xs : List X) (i : ℕ) (x : X) �
     → map f (take (i + 1) xs) ≡ map f (take i xs) ++ f x ∷ []
 mapped_more f xs i x lt is = ap (map f) (take_more xs i x lt ∙ ap (λ y. take i xs ++ y ∷ []) is) ∙ map-append f (take i xs) (x ∷ [])
 
-fed_if_rises : (protected : Bool) (is_over : Bool) (old : Scene) (piece : List ℕ) (result : Result Phase TargetFault) (new : Scene) → (result ≡ Err faults.NoMemory → ⊥)
+fed_if_rises : (protected : Bool) (is_over : Bool) (old : Scene) (piece : List ℕ) (result : Result Phase TargetFault) (new : Scene)
+    → (result ≡ Err faults.NoMemory → ⊥)
     → FedIf protected is_over old piece result new → old.store.failures ≤ new.store.failures
 fed_if_rises protected true old piece result new memory h = omega (arith, ap (λ (s : Store). s.failures) h.store)
 fed_if_rises protected false old piece result new memory h =
@@ -76,7 +77,8 @@ pub done_alike : (protected : Bool) (settings : Settings) (n : ℕ) (store other
 done_alike protected settings n store other first second pieces others a b written rewritten ms same f g p q =
     let x : Meets protected (beginning settings n store.disk) ms a first.disk written = fed_stream protected settings n store pieces a first written ms f p in
     let y : Meets protected (beginning settings n store.disk) ms b second.disk rewritten =
-    subst (λ (d : Disk). Meets protected (beginning settings n d) ms b second.disk rewritten) same (fed_stream protected settings n other others b second rewritten ms g q) in
+    subst (λ (d : Disk). Meets protected (beginning settings n d) ms b second.disk rewritten) same
+    (fed_stream protected settings n other others b second rewritten ms g q) in
     record { output = y.output_is ∙ sym x.output_is; disk = y.disk_is ∙ sym x.disk_is; machine = y.machine ∙ sym x.machine }
 
 -- what they have written of streams that begin with the same PDUs, and where they stand
@@ -97,12 +99,14 @@ wrote_alike protected settings n store other first second pieces others a b writ
     let x : Writes protected (beginning settings n store.disk) ms first.disk written = fed_any protected settings n store pieces a first written ms given rest
     (omega (arith, range.max_recv.1)) f p in
     let y : Writes protected (beginning settings n store.disk) ms second.disk rewritten =
-    subst (λ (d : Disk). Writes protected (beginning settings n d) ms second.disk rewritten) same (fed_any protected settings n other others b second rewritten ms same_given
+    subst (λ (d : Disk). Writes protected (beginning settings n d) ms second.disk rewritten) same
+    (fed_any protected settings n other others b second rewritten ms same_given
     second_rest (omega (arith, range.max_recv.1)) g q) in
     let h : Holds protected (beginning settings n store.disk) ms rest a.machine = fed_holds protected settings n store pieces a first written ms given rest
     (omega (arith, range.max_recv.1)) f p in
     let k : Holds protected (beginning settings n store.disk) ms second_rest b.machine =
-    subst (λ (d : Disk). Holds protected (beginning settings n d) ms second_rest b.machine) same (fed_holds protected settings n other others b second rewritten ms same_given
+    subst (λ (d : Disk). Holds protected (beginning settings n d) ms second_rest b.machine) same
+    (fed_holds protected settings n other others b second rewritten ms same_given
     second_rest (omega (arith, range.max_recv.1)) g q) in
     let values = same_values protected settings n store.disk ms rest second_rest a.machine b.machine h k in
     record {

@@ -19,8 +19,9 @@ use Rattle.iscsi_target_session.specs.Configured.{Access, Settings, is_allowed, 
 use Rattle.iscsi_target_session.specs.Session.{Session, Reply}
 use Rattle.iscsi_target_session.specs.declared.status.Status.{Status}
 use Rattle.iscsi_target_session.specs.LoginText.{text_refusals, name_in, value_for}
-use Rattle.iscsi_target_session.specs.Login.{entered, numbered, request_refusals, refuse_or, gather, whole_text, text_answered, text_ending, segment_taken, login_request, login_in}
+use Rattle.iscsi_target_session.specs.Login.{entered, numbered, request_refusals, refuse_or, allowed_move, rest_of, gather, whole_text, text_answered, text_ending, segment_taken, login_request, login_in}
 use Rattle.iscsi_target_session.proofs.CaseLemmas.{by_cases}
+use Rattle.iscsi_target_session.proofs.ExchangeLemmas.{text_cases}
 use Rattle.iscsi_target.specs.State.{Machine, Execution, Stepped, opening, unchanged}
 use Rattle.iscsi_target.specs.Execution.{reliable}
 use Rattle.iscsi_target.specs.Laws.{supplied}
@@ -89,8 +90,13 @@ refused_admits s r None reply g = g refl
 refused_admits s r (Some why) reply g = unmoved s _ refl refl refl (λ e. absurd (cc e))
 
 whole_admits : (s : Session) (r : Request) (text : Option Pairs) → Admits s (whole_text s r text).session
-whole_admits s r None = unmoved s _ refl refl refl (λ e. absurd (cc e))
-whole_admits s r (Some pairs) = refused_admits s r (first_of (text_refusals s pairs)) (text_answered s r pairs) (answered_admits s r pairs)
+whole_admits s r text = text_cases (λ x. Admits s x.session) s r text (record {
+  refused = λ why reason. unmoved s _ refl refl refl (λ e. absurd (cc e));
+  plain = λ pairs is open_ none. answered_admits s r pairs none;
+  exchange = λ c p said pairs is demanded none verdict short.
+      then_admits s (record s { progress = p }) _ (unmoved s (record s { progress = p }) refl refl refl (λ e. e))
+      (answered_admits (record s { progress = p }) (allowed_move p r) (rest_of pairs) none);
+})
 
 gather_admits : (s : Session) (r : Request) (segment : Segment) (more : Bool)
     → Admits s (if more then gather s r (segment_bytes segment) else whole_text (record s { gathered = [] }) r (text_ending s.gathered segment)).session
@@ -128,11 +134,12 @@ login_admits s _ segment = unmoved s _ refl refl refl (λ e. absurd (cc e))
 -- ---- a message
 
 -- a closed session stays as it is
-closed_stays : (protected : Bool) (s : Machine) (disk : Disk) (m : Message) → s.session.phase ≡ phases.Closed → step protected s disk m ≡ unchanged s disk
+pub closed_stays : (protected : Bool) (s : Machine) (disk : Disk) (m : Message) → s.session.phase ≡ phases.Closed → step protected s disk m ≡ unchanged s disk
 closed_stays protected s disk m e = let shut : is_closed s ≡ true = ap is_closed_phase e in rw shut refl
 
 later_admits : (protected : Bool) (s : Machine) (disk : Disk) (m : Message) → IsLater s.session.phase
-    → ((step protected s disk m).machine.session.phase ≡ phases.Full → s.session.phase ≡ phases.Full) → Admits s.session (step protected s disk m).machine.session
+    → ((step protected s disk m).machine.session.phase ≡ phases.Full → s.session.phase ≡ phases.Full)
+    → Admits s.session (step protected s disk m).machine.session
 later_admits protected s disk m later was =
     let x = step_stays (reliable protected) s disk m later in
     unmoved s.session (step protected s disk m).machine.session (step_settings (reliable protected) s disk m) x.has_text x.name was
@@ -152,7 +159,8 @@ step_admits protected s disk m = by_phase s.session.phase refl
         (λ f. sym (ap (λ (r : Stepped). r.machine.session.phase) (closed_stays protected s disk m e)) ∙ f)
 
 -- nothing is executed before full feature phase, nor in a closed session
-executes_none : (protected : Bool) (s : Machine) (disk : Disk) (m : Message) (p : Phase) → s.session.phase ≡ p → (p ≡ phases.Full → ⊥) → (step protected s disk m).executed ≡ []
+pub executes_none : (protected : Bool) (s : Machine) (disk : Disk) (m : Message) (p : Phase) → s.session.phase ≡ p → (p ≡ phases.Full → ⊥)
+    → (step protected s disk m).executed ≡ []
 executes_none protected s disk m phases.Full e never = absurd (never refl)
 executes_none protected s disk m phases.Closed e never = ap (λ (r : Stepped). r.executed) (closed_stays protected s disk m e)
 executes_none protected s disk m phases.Login e never =
@@ -170,8 +178,9 @@ all_admit protected s disk (m ∷ ms) =
     then_admits s.session first.machine.session _ (step_admits protected s disk m) (all_admit protected first.machine first.disk ms)
 
 -- nothing was executed at this message, so something was behind it
-behind_none : (protected : Bool) (s : Machine) (disk : Disk) (m : Message) (ms : List Message) → (step protected s disk m).executed ≡ []
-    → ((answers protected s disk (m ∷ ms)).executed ≡ [] → ⊥) → (answers protected (step protected s disk m).machine (step protected s disk m).disk ms).executed ≡ [] → ⊥
+pub behind_none : (protected : Bool) (s : Machine) (disk : Disk) (m : Message) (ms : List Message) → (step protected s disk m).executed ≡ []
+    → ((answers protected s disk (m ∷ ms)).executed ≡ [] → ⊥) → (answers protected (step protected s disk m).machine (step protected s disk m).disk ms).executed
+    ≡ [] → ⊥
 unfolding answers
 behind_none protected s disk m ms first some none =
     some (ap (λ (l : List Execution). l ++ (answers protected (step protected s disk m).machine (step protected s disk m).disk ms).executed) first ∙ none)
@@ -212,14 +221,16 @@ named protected settings names n disk ms listed text =
     (subst (λ (p : Settings). is_allowed p.access r.machine.session.initiator_name ≡ true) x.settings
     ((x.admitted (opening_admitted settings n)).listed text))
 
-pub full_allowed : (protected : Bool) (settings : Settings) (names : List (List ℕ)) (n : ℕ) (disk : Disk) (ms : List Message) → settings.access.names ≡ Some names
+pub full_allowed : (protected : Bool) (settings : Settings) (names : List (List ℕ)) (n : ℕ) (disk : Disk) (ms : List Message)
+    → settings.access.names ≡ Some names
     → (answers protected (opening settings n) disk ms).machine.session.phase ≡ phases.Full
     → is_among names (answers protected (opening settings n) disk ms).machine.session.initiator_name ≡ true
 full_allowed protected settings names n disk ms listed full =
     named protected settings names n disk ms listed
     (((all_admit protected (opening settings n) disk ms).admitted (opening_admitted settings n)).full full)
 
-pub executed_allowed : (protected : Bool) (settings : Settings) (names : List (List ℕ)) (n : ℕ) (disk : Disk) (ms : List Message) → settings.access.names ≡ Some names
+pub executed_allowed : (protected : Bool) (settings : Settings) (names : List (List ℕ)) (n : ℕ) (disk : Disk) (ms : List Message)
+    → settings.access.names ≡ Some names
     → ((answers protected (opening settings n) disk ms).executed ≡ [] → ⊥)
     → is_among names (answers protected (opening settings n) disk ms).machine.session.initiator_name ≡ true
 executed_allowed protected settings names n disk ms listed some =
@@ -229,11 +240,13 @@ none_if : (l : List Execution) → ((l ≡ [] → ⊥) → ⊥) → l ≡ []
 none_if [] f = refl
 none_if (x ∷ xs) f = absurd (f (λ e. absurd (cc e)))
 
-untouched_by : (protected : Bool) (executed : List Execution) (disk now : Disk) → executed ≡ [] → now ≡ disk_after protected (map supplied executed) disk → now ≡ disk
+untouched_by : (protected : Bool) (executed : List Execution) (disk now : Disk) → executed ≡ [] → now ≡ disk_after protected (map supplied executed) disk
+    → now ≡ disk
 unfolding disk_after
 untouched_by protected executed disk now none e = e ∙ ap (λ (l : List Execution). disk_after protected (map supplied l) disk) none
 
-pub others_touch_nothing : (protected : Bool) (settings : Settings) (names : List (List ℕ)) (n : ℕ) (disk : Disk) (ms : List Message) → settings.access.names ≡ Some names
+pub others_touch_nothing : (protected : Bool) (settings : Settings) (names : List (List ℕ)) (n : ℕ) (disk : Disk) (ms : List Message)
+    → settings.access.names ≡ Some names
     → is_among names (answers protected (opening settings n) disk ms).machine.session.initiator_name ≡ false
     → ((answers protected (opening settings n) disk ms).executed ≡ []) × ((answers protected (opening settings n) disk ms).disk ≡ disk)
 others_touch_nothing protected settings names n disk ms listed other =

@@ -20,7 +20,8 @@ then_assoc a b c = λ i. record {
 }
 
 pub answers_append : (protected : Bool) (s : Machine) (disk : Disk) (ms more : List Message)
-    → answers protected s disk (ms ++ more) ≡ then_stepped (answers protected s disk ms) (answers protected (answers protected s disk ms).machine (answers protected s disk ms).disk more)
+    → answers protected s disk (ms ++ more) ≡ then_stepped (answers protected s disk ms)
+    (answers protected (answers protected s disk ms).machine (answers protected s disk ms).disk more)
 unfolding answers
 answers_append protected s disk [] more = refl
 answers_append protected s disk (m ∷ ms) more =
@@ -30,7 +31,8 @@ answers_append protected s disk (m ∷ ms) more =
     ∙ sym (then_assoc first later (answers protected later.machine later.disk more))
 
 pub may_append : (protected : Bool) (s : Machine) (disk : Disk) (before now after : ℕ) (ms more : List Message) (a b : Stepped)
-    → MayAnswer protected s disk before ms a now → MayAnswer protected a.machine a.disk now more b after → MayAnswer protected s disk before (ms ++ more) (then_stepped a b) after
+    → MayAnswer protected s disk before ms a now → MayAnswer protected a.machine a.disk now more b after
+    → MayAnswer protected s disk before (ms ++ more) (then_stepped a b) after
 unfolding MayAnswer
 may_append protected s disk before now after [] more a b e f =
     subst (λ (n : ℕ). MayAnswer protected s disk n more (then_stepped a b) after) e.1
@@ -41,6 +43,7 @@ may_append protected s disk before now after (m ∷ ms) more a b e f = (
   then_stepped e.1 b,
   e.2,
   e.3,
-  may_append protected e.0.machine e.0.disk e.2 now after ms more e.1 b e.4 (subst (λ (x : Stepped). MayAnswer protected x.machine x.disk now more b after) e.5 f),
+  may_append protected e.0.machine e.0.disk e.2 now after ms more e.1 b e.4
+      (subst (λ (x : Stepped). MayAnswer protected x.machine x.disk now more b after) e.5 f),
   ap (λ (x : Stepped). then_stepped x b) e.5 ∙ then_assoc e.0 e.1 b,
 )

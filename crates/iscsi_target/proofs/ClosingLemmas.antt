@@ -75,14 +75,16 @@ parts_close device disk = record {
 step_closes : (device : Device) (s : Machine) (disk : Disk) (m : Message) → Closes (step_on device s disk m)
 step_closes device s disk m = step_parts device disk (λ s m r. Closes r) (parts_close device disk) s m
 
-pub answers_close : (protected : Bool) (s : Machine) (disk : Disk) (ms : List Message) (k : ℕ) → (answers protected s disk ms).rule ≡ Some k → is_closed (answers protected s disk ms).machine ≡ true
+pub answers_close : (protected : Bool) (s : Machine) (disk : Disk) (ms : List Message) (k : ℕ) → (answers protected s disk ms).rule ≡ Some k
+    → is_closed (answers protected s disk ms).machine ≡ true
 unfolding answers
 answers_close protected s disk [] k e = absurd cc
 answers_close protected s disk (m ∷ ms) k e =
     let first : Stepped = step protected s disk m in
     let later : Stepped = answers protected first.machine first.disk ms in
     elim (rule_case first.rule later.rule k e) [
-      | inl a ↦ let c = (step_closes (reliable protected) s disk m).is k a in ap (λ (r : Stepped). is_closed r.machine) (closed_answers protected first.machine first.disk ms c) ∙ c
+      | inl a ↦ let c = (step_closes (reliable protected) s disk m).is k a in ap (λ (r : Stepped). is_closed r.machine)
+          (closed_answers protected first.machine first.disk ms c) ∙ c
       | inr b ↦ answers_close protected first.machine first.disk ms k b
     ]
 
@@ -91,7 +93,8 @@ answers_close protected s disk (m ∷ ms) k e =
 closed_on : (device : Device) (s : Machine) (disk : Disk) (m : Message) → is_closed s ≡ true → (step_on device s disk m).machine ≡ s
 closed_on device s disk m e = rw e refl
 
-closed_may : (protected : Bool) (s : Machine) (disk : Disk) (before : ℕ) (ms : List Message) (r : Stepped) (after : ℕ) → MayAnswer protected s disk before ms r after →
+closed_may : (protected : Bool) (s : Machine) (disk : Disk) (before : ℕ) (ms : List Message) (r : Stepped) (after : ℕ)
+    → MayAnswer protected s disk before ms r after →
     is_closed s ≡ true → r.machine ≡ s
 unfolding MayAnswer
 closed_may protected s disk before [] r after h e = ap (λ (x : Stepped). x.machine) h.0
@@ -99,7 +102,8 @@ closed_may protected s disk before (m ∷ ms) r after h e =
     let first : h.0.machine ≡ s = ap (λ (x : Stepped). x.machine) h.3.is ∙ closed_on h.3.device s disk m e in
     ap (λ (x : Stepped). x.machine) h.5 ∙ closed_may protected h.0.machine h.0.disk h.2 ms h.1 after h.4 (ap is_closed first ∙ e) ∙ first
 
-pub may_close : (protected : Bool) (s : Machine) (disk : Disk) (before : ℕ) (ms : List Message) (r : Stepped) (after k : ℕ) → MayAnswer protected s disk before ms r after →
+pub may_close : (protected : Bool) (s : Machine) (disk : Disk) (before : ℕ) (ms : List Message) (r : Stepped) (after k : ℕ)
+    → MayAnswer protected s disk before ms r after →
     r.rule ≡ Some k → is_closed r.machine ≡ true
 unfolding MayAnswer
 may_close protected s disk before [] r after k h e = (let none : None ≡ Some k = sym (ap (λ (x : Stepped). x.rule) h.0) ∙ e in absurd cc)

@@ -27,11 +27,13 @@ then_nothing r = λ i. record {
 
 -- one message more
 pub answers_more : (protected : Bool) (s : Machine) (disk : Disk) (ms : List Message) (m : Message)
-    → answers protected s disk (ms ++ m ∷ []) ≡ then_stepped (answers protected s disk ms) (step protected (answers protected s disk ms).machine (answers protected s disk ms).disk m)
+    → answers protected s disk (ms ++ m ∷ []) ≡ then_stepped (answers protected s disk ms)
+    (step protected (answers protected s disk ms).machine (answers protected s disk ms).disk m)
 unfolding answers
 answers_more protected s disk ms m =
     answers_append protected s disk ms (m ∷ [])
-    ∙ ap (λ (r : Stepped). then_stepped (answers protected s disk ms) r) (then_nothing (step protected (answers protected s disk ms).machine (answers protected s disk ms).disk m))
+    ∙ ap (λ (r : Stepped). then_stepped (answers protected s disk ms) r)
+    (then_nothing (step protected (answers protected s disk ms).machine (answers protected s disk ms).disk m))
 
 -- one message more, over a store that may fail
 pub may_more : (protected : Bool) (s : Machine) (disk : Disk) (before now after : ℕ) (ms : List Message) (r : Stepped) (m : Message) (b : Stepped) →
@@ -42,12 +44,14 @@ may_more protected s disk before now after ms r m b e f =
     may_append protected s disk before now after ms (m ∷ []) r b e (b, unchanged b.machine b.disk, after, f, (refl, refl), sym (then_nothing b))
 
 -- a step from a session whose pieces are joined is one from the session itself
-pub may_apart : (protected : Bool) (s : Machine) (disk : Disk) (before after : ℕ) (m : Message) (a : Stepped) → (p : MayStep protected (joined s) disk before m a after) →
+pub may_apart : (protected : Bool) (s : Machine) (disk : Disk) (before after : ℕ) (m : Message) (a : Stepped)
+    → (p : MayStep protected (joined s) disk before m a after) →
     MayStep protected s disk before m (step_on p.device s disk m) after
 may_apart protected s disk before after m a p =
     let b : Stepped = step_on p.device s disk m in
     record { device = p.device; is = refl; runs = runs_as protected p.device before after a b (ap joined_stepped p.is ∙ step_joined p.device s disk m) p.runs }
 
-pub may_same : (protected : Bool) (s : Machine) (disk : Disk) (before after : ℕ) (m : Message) (a : Stepped) → (p : MayStep protected (joined s) disk before m a after) → joined_stepped a
+pub may_same : (protected : Bool) (s : Machine) (disk : Disk) (before after : ℕ) (m : Message) (a : Stepped)
+    → (p : MayStep protected (joined s) disk before m a after) → joined_stepped a
     ≡ joined_stepped (step_on p.device s disk m)
 may_same protected s disk before after m a p = ap joined_stepped p.is ∙ step_joined p.device s disk m

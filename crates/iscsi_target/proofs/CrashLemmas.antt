@@ -52,7 +52,8 @@ none_written protected order bytes before after old new count gives stays adds =
   adds = λ n c h. elim (adds n c h) [
     | inl was ↦ inl was
     | inr is ↦ inl (subst (λ (x : List ℕ). old n x)
-        (sym (is ∙ ap (λ (d : Disk). d.block n) (same_disk (guarded protected (plan_of order before.count)) before order bytes (takes_none protected (plan_of order before.count) gives)))) (stays n))
+        (sym (is ∙ ap (λ (d : Disk). d.block n) (same_disk (guarded protected (plan_of order before.count)) before order bytes
+        (takes_none protected (plan_of order before.count) gives)))) (stays n))
   ];
 }
 
@@ -80,7 +81,8 @@ moved_by (Refuse sense) before now order bytes n c e = inl e
 moved_by (Give k) before now order bytes n c e = inl e
 moved_by (Take k) before now order bytes n c e = over 512 (transfer order.cdb).first n bytes now.block before.block c e
 
-pub moved : (protected : Bool) (orders : List Supplied) (before now : Disk) (n : ℕ) (c : List ℕ) → now.count ≡ before.count → IsBehind protected now orders n c →
+pub moved : (protected : Bool) (orders : List Supplied) (before now : Disk) (n : ℕ) (c : List ℕ) → now.count ≡ before.count
+    → IsBehind protected now orders n c →
     (c ≡ now.block n) ⊎ IsBehind protected before orders n c
 moved protected [] before now n c same h = absurd h
 moved protected (o ∷ orders) before now n c same (inr h) = elim (moved protected orders before now n c same h) [ inl is ↦ inl is | inr more ↦ inr (inr more) ]
@@ -92,12 +94,14 @@ moved protected (o ∷ orders) before now n c same (inl h) =
       | inr new ↦ inr (inl (subst (λ (k : ℕ). IsSupplied k o.0 o.1) same h.0, new))
     ]
 
-pub at_left : (protected : Bool) (xs ys : List Supplied) (disk : Disk) (n : ℕ) (c : List ℕ) → IsBehind protected disk xs n c → IsBehind protected disk (xs ++ ys) n c
+pub at_left : (protected : Bool) (xs ys : List Supplied) (disk : Disk) (n : ℕ) (c : List ℕ) → IsBehind protected disk xs n c
+    → IsBehind protected disk (xs ++ ys) n c
 at_left protected [] ys disk n c h = absurd h
 at_left protected (x ∷ xs) ys disk n c (inl h) = inl h
 at_left protected (x ∷ xs) ys disk n c (inr h) = inr (at_left protected xs ys disk n c h)
 
-pub at_right : (protected : Bool) (xs ys : List Supplied) (disk : Disk) (n : ℕ) (c : List ℕ) → IsBehind protected disk ys n c → IsBehind protected disk (xs ++ ys) n c
+pub at_right : (protected : Bool) (xs ys : List Supplied) (disk : Disk) (n : ℕ) (c : List ℕ) → IsBehind protected disk ys n c
+    → IsBehind protected disk (xs ++ ys) n c
 at_right protected [] ys disk n c h = h
 at_right protected (x ∷ xs) ys disk n c h = inr (at_right protected xs ys disk n c h)
 
@@ -112,7 +116,8 @@ pub goes_first : (protected : Bool) (all : List Supplied) (disk : Disk) (kept : 
 goes_first protected all disk kept = record { done = none_done protected all disk kept; rest = λ n c h. h }
 
 -- the first of them was done
-pub goes_on : (protected : Bool) (all first left : List Supplied) (before now after : Disk) (old kept new : ℕ → List ℕ → Type 0) → Pends protected all (first ++ left) before now old kept →
+pub goes_on : (protected : Bool) (all first left : List Supplied) (before now after : Disk) (old kept new : ℕ → List ℕ → Type 0)
+    → Pends protected all (first ++ left) before now old kept →
     ((n : ℕ) → kept n (now.block n)) → Crashes protected first now after kept new → Pends protected all left before after old new
 goes_on protected all first left before now after old kept new g stays h = record {
   done = record {
@@ -150,7 +155,8 @@ task_done protected all now session task rest before mid after old kept new is g
     (subst (λ (m : Machine). Pends protected all (commands_of m.tasks) before mid old kept) is g) stays h
 
 -- and these are left
-pub tasks_left : (protected : Bool) (all : List Supplied) (rest left : List Task) (before after : Disk) (old new : ℕ → List ℕ → Type 0) → ones left ≡ ones rest →
+pub tasks_left : (protected : Bool) (all : List Supplied) (rest left : List Task) (before after : Disk) (old new : ℕ → List ℕ → Type 0)
+    → ones left ≡ ones rest →
     Pends protected all (commands_of rest) before after old new → Pends protected all (commands_of left) before after old new
 tasks_left protected all rest left before after old new e g =
     subst (λ (orders : List Supplied). Pends protected all orders before after old new) (sym (commands_same left rest e)) g
@@ -158,7 +164,8 @@ tasks_left protected all rest left before after old new e g =
 -- ---- the next PDU
 
 pub next_by : (protected : Bool) (old : Connection) (piece : List ℕ) (n : ℕ) (framing : Framing) (before after : Disk) (kept new : ℕ → List ℕ → Type 0)
-    → Takes old.framing piece n framing → CrashesReady protected (connection old.machine framing) before after kept new → CrashesNext protected old piece before after kept new
+    → Takes old.framing piece n framing → CrashesReady protected (connection old.machine framing) before after kept new
+    → CrashesNext protected old piece before after kept new
 next_by protected old piece n framing before after kept new t (inl h) = inl h
 next_by protected old piece n framing before after kept new t (inr h) =
     let m : Message = message_of framing h.0 h.1 in

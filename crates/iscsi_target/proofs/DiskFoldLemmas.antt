@@ -86,15 +86,18 @@ step_does device s disk m = step_parts device disk (λ s m r. Goes device disk r
 
 -- ---- a store that doesn't fail
 
-by_reliable : (protected : Bool) (disk last : Disk) (es : List Execution) → Does (reliable protected) disk es last → last ≡ disk_after protected (map supplied es) disk
+by_reliable : (protected : Bool) (disk last : Disk) (es : List Execution) → Does (reliable protected) disk es last
+    → last ≡ disk_after protected (map supplied es) disk
 unfolding disk_after
 by_reliable protected disk last [] d = d
 by_reliable protected disk last (e ∷ es) d =
     by_reliable protected (effect protected e.disk e.order (data_of e.pieces)).disk last es d.1
     ∙ ap (λ (x : Disk). disk_after protected (map supplied es) (effect protected x e.order (data_of e.pieces)).disk) d.0
 
-pub step_folds : (protected : Bool) (s : Machine) (disk : Disk) (m : Message) → (step protected s disk m).disk ≡ disk_after protected (map supplied (step protected s disk m).executed) disk
-step_folds protected s disk m = by_reliable protected disk (step protected s disk m).disk (step protected s disk m).executed (step_does (reliable protected) s disk m).is
+pub step_folds : (protected : Bool) (s : Machine) (disk : Disk) (m : Message)
+    → (step protected s disk m).disk ≡ disk_after protected (map supplied (step protected s disk m).executed) disk
+step_folds protected s disk m = by_reliable protected disk (step protected s disk m).disk (step protected s disk m).executed
+    (step_does (reliable protected) s disk m).is
 
 disk_after_append : (protected : Bool) (disk : Disk) (a b : List Execution) → disk_after protected (map supplied (a ++ b)) disk
     ≡ disk_after protected (map supplied b) (disk_after protected (map supplied a) disk)
@@ -102,7 +105,8 @@ unfolding disk_after
 disk_after_append protected disk [] b = refl
 disk_after_append protected disk (e ∷ es) b = disk_after_append protected (effect protected disk (supplied e).0 (supplied e).1).disk es b
 
-pub answers_fold : (protected : Bool) (s : Machine) (disk : Disk) (ms : List Message) → (answers protected s disk ms).disk ≡ disk_after protected (map supplied (answers protected s disk ms).executed) disk
+pub answers_fold : (protected : Bool) (s : Machine) (disk : Disk) (ms : List Message)
+    → (answers protected s disk ms).disk ≡ disk_after protected (map supplied (answers protected s disk ms).executed) disk
 unfolding answers disk_after
 answers_fold protected s disk [] = refl
 answers_fold protected s disk (m ∷ ms) =

@@ -336,19 +336,22 @@ turn_follows protected (Err e) (Answered r) s before output new never h = record
 turn_follows protected result (Queued session tasks) s before output new never h = record { ok = h.ok; err = h.err }
 
 -- a request that took its CmdSN: where memory runs out, the session is closed, which forgets that it was taken
-pub in_its_turn : {E : Type 0} (protected : Bool) (result : Result (Option ℕ) E) (s : Machine) (count : ℕ) (m : Message) (before : Store) (output : List ℕ) (new : Moment) →
+pub in_its_turn : {E : Type 0} (protected : Bool) (result : Result (Option ℕ) E) (s : Machine) (count : ℕ) (m : Message) (before : Store)
+    (output : List ℕ) (new : Moment) →
     Follows protected (admitted (advanced s) count m) result (moment (advanced s) before output) new →
     Follows protected (admitted (advanced s) count m) result (moment s before output) new
 in_its_turn protected result s count m before output new h =
     turn_follows protected result (admitted (advanced s) count m) s before output new (not_dropped (advanced s) count m (refusal (advanced s) m) refl) h
 
 -- a request that breaks no rule, and becomes the last task
-pub admitted_follows : {E : Type 0} (protected : Bool) (result : Result (Option ℕ) E) (s : Machine) (count : ℕ) (m : Message) (before : Store) (output : List ℕ) (new : Machine)
+pub admitted_follows : {E : Type 0} (protected : Bool) (result : Result (Option ℕ) E) (s : Machine) (count : ℕ) (m : Message) (before : Store)
+    (output : List ℕ) (new : Machine)
     (after : Store) (written : List ℕ) → refusal s m ≡ None
     → Works protected result (moment (with_tasks s.session (s.tasks ++ task_of count m ∷ [])) before output) (moment new after written)
     → Follows protected (admitted s count m) result (moment s before output) (moment new after written)
 admitted_follows protected result s count m before output new after written kept h =
-    works_follow protected result (admitted s count m) s.session (s.tasks ++ task_of count m ∷ []) s before output new after written (admitted_none s count m kept) h
+    works_follow protected result (admitted s count m) s.session (s.tasks ++ task_of count m ∷ []) s before output new after written
+    (admitted_none s count m kept) h
 
 -- ---- a Data-Out
 
@@ -382,7 +385,8 @@ data_session s m h bytes = for_session s m h bytes (write_of s.tasks h.initiator
 
 -- ---- any message
 
-pub login_answers : {E : Type 0} (protected : Bool) (result : Result (Option ℕ) E) (n : ℕ) (s : Machine) (disk : Disk) (m : Message) (new : Machine) (before after : List ℕ) →
+pub login_answers : {E : Type 0} (protected : Bool) (result : Result (Option ℕ) E) (n : ℕ) (s : Machine) (disk : Disk) (m : Message) (new : Machine)
+    (before after : List ℕ) →
     is_closed s ≡ false → is_over_limit s m.segment ≡ false → s.session.phase ≡ Login
     → Leaves (on disk s.tasks (login_step s.session m)) result s new before after
     → Answers protected m result (moment s (store_of disk n) before) (moment new (store_of disk n) after)
@@ -396,14 +400,16 @@ login_answers protected (Err e) n s disk m new before after live within is h = r
   err = inl (record { machine = h.err; rises = omega arith; disk_is = refl; unwritten = h.unwritten });
 }
 
-pub full_answers : {E : Type 0} (protected : Bool) (result : Result (Option ℕ) E) (s : Machine) (m : Message) (before : Store) (output : List ℕ) (new : Machine) (after : Store)
+pub full_answers : {E : Type 0} (protected : Bool) (result : Result (Option ℕ) E) (s : Machine) (m : Message) (before : Store) (output : List ℕ)
+    (new : Machine) (after : Store)
     (written : List ℕ) → is_closed s ≡ false → is_over_limit s m.segment ≡ false → s.session.phase ≡ Full
     → Follows protected (full_met s before.disk.count m).next result (moment s before output) (moment new after written)
     → Answers protected m result (moment s before output) (moment new after written)
 full_answers protected (Ok rule) s m before output new after written live within is h = record {
   ok = serves_same protected before.failures after.failures (λ d. step_on d s before.disk m)
       (λ d. full_step d s before.disk m) rule new after.disk output written (λ d. ap joined_stepped (sym (live_step d s before.disk m Full live within is)))
-      (accepts_by protected before.failures after.failures (full_met s before.disk.count m).accepted (λ d. followed d s before.disk (full_met s before.disk.count m).next)
+      (accepts_by protected before.failures after.failures (full_met s before.disk.count m).accepted
+      (λ d. followed d s before.disk (full_met s before.disk.count m).next)
       rule new after.disk output written h.ok);
   err = tt;
 }

@@ -11,13 +11,15 @@ use Rattle.iscsi_target.specs.Machine.{RunsIn, MayStep, MayStop, MayAnswer}
 use Rattle.iscsi_target.specs.Laws.{Leads, MayLeave}
 use Rattle.iscsi_target.proofs.DiskFoldLemmas.{Does, Goes, step_does, first_does}
 
-leaves : (protected : Bool) (e : Execution) (before after : ℕ) (left : Effect) → Executes protected before after e.disk e.order (data_of e.pieces) left → MayLeave protected e left
+leaves : (protected : Bool) (e : Execution) (before after : ℕ) (left : Effect) → Executes protected before after e.disk e.order (data_of e.pieces) left
+    → MayLeave protected e left
 leaves protected e before after left x = elim (cases_lt before after) [
   | inl lt ↦ inr (x.fails lt)
   | inr ge ↦ inl (x.works (omega (arith, ge, x.rises)))
 ]
 
-leads_of : (protected : Bool) (device : Device) (disk : Disk) (before after : ℕ) (es : List Execution) (last : Disk) → Does device disk es last → RunsIn protected device before es after →
+leads_of : (protected : Bool) (device : Device) (disk : Disk) (before after : ℕ) (es : List Execution) (last : Disk) → Does device disk es last
+    → RunsIn protected device before es after →
     Leads protected disk es last
 unfolding Leads
 leads_of protected device disk before after [] last d r = d
@@ -28,22 +30,26 @@ leads_of protected device disk before after (e ∷ es) last d r = (
   leads_of protected (device_next device) (device 0 e.disk e.order (data_of e.pieces)).disk r.0 after es last d.1 r.2,
 )
 
-pub leads_append : (protected : Bool) (disk mid last : Disk) (a b : List Execution) → Leads protected disk a mid → Leads protected mid b last → Leads protected disk (a ++ b) last
+pub leads_append : (protected : Bool) (disk mid last : Disk) (a b : List Execution) → Leads protected disk a mid → Leads protected mid b last
+    → Leads protected disk (a ++ b) last
 unfolding Leads
 leads_append protected disk mid last [] b p q = subst (λ (d : Disk). Leads protected d b last) p q
 leads_append protected disk mid last (e ∷ a) b p q = (p.0, p.1, p.2, leads_append protected p.0.disk mid last a b p.3 q)
 
-step_leads : (protected : Bool) (s : Machine) (disk : Disk) (before after : ℕ) (m : Message) (r : Stepped) → MayStep protected s disk before m r after → Leads protected disk r.executed r.disk
+step_leads : (protected : Bool) (s : Machine) (disk : Disk) (before after : ℕ) (m : Message) (r : Stepped) → MayStep protected s disk before m r after
+    → Leads protected disk r.executed r.disk
 step_leads protected s disk before after m r p =
     let d : Goes p.device disk r = subst (λ (x : Stepped). Goes p.device disk x) (sym p.is) (step_does p.device s disk m) in
     leads_of protected p.device disk before after r.executed r.disk d.is p.runs
 
-pub stop_leads : (protected : Bool) (s : Machine) (disk : Disk) (before after : ℕ) (m : Message) (r : Stepped) → MayStop protected s disk before m r after → Leads protected disk r.executed r.disk
+pub stop_leads : (protected : Bool) (s : Machine) (disk : Disk) (before after : ℕ) (m : Message) (r : Stepped) → MayStop protected s disk before m r after
+    → Leads protected disk r.executed r.disk
 stop_leads protected s disk before after m r p =
     let d : Goes p.device disk r = subst (λ (x : Stepped). Goes p.device disk x) (sym p.is) (first_does p.done p.device p.session disk p.tasks) in
     leads_of protected p.device disk before p.failures r.executed r.disk d.is p.runs
 
-pub may_leads : (protected : Bool) (s : Machine) (disk : Disk) (before after : ℕ) (ms : List Message) (r : Stepped) → MayAnswer protected s disk before ms r after →
+pub may_leads : (protected : Bool) (s : Machine) (disk : Disk) (before after : ℕ) (ms : List Message) (r : Stepped)
+    → MayAnswer protected s disk before ms r after →
     Leads protected disk r.executed r.disk
 unfolding MayAnswer Leads
 may_leads protected s disk before after [] r e = subst (λ (x : Stepped). Leads protected disk x.executed x.disk) (sym e.0) refl

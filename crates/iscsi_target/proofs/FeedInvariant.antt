@@ -85,11 +85,13 @@ fed_none protected old before output piece unready live = record {
 
 -- ---- bytes that complete no PDU
 
-pub fed_bytes : (protected : Bool) (old : Connection) (before : Store) (output piece rest after_rest : List ℕ) (now : Connection) (after : Store) (written : List ℕ) (n : ℕ)
+pub fed_bytes : (protected : Bool) (old : Connection) (before : Store) (output piece rest after_rest : List ℕ) (now : Connection) (after : Store)
+    (written : List ℕ) (n : ℕ)
     (framing : Framing)
     → (g : GoesUpTo protected (scene old before output) piece rest (scene now after written)) → Takes now.framing rest n framing → is_ready framing ≡ false
     → after_rest ≡ drop n rest
-    → FedAs protected (scene old before output) piece after_rest (scene (connection now.machine framing) after written) None (length g.fed.messages + 1) (is_ready framing)
+    → FedAs protected (scene old before output) piece after_rest (scene (connection now.machine framing) after written) None
+    (length g.fed.messages + 1) (is_ready framing)
 fed_bytes protected old before output piece rest after_rest now after written n framing g t unready is = let f = g.fed in record {
   rule = g.rule;
   few = omega arith;
@@ -125,7 +127,8 @@ same_step d a b disk m e = sym (step_joined d a disk m) ∙ ap (λ (s : Machine)
 abbrev last_of : Device → Machine → Disk → Message → Stepped
 last_of d s disk m = then_stepped (step_on d s disk m) (unchanged (step_on d s disk m).machine (step_on d s disk m).disk)
 
-may_last : (protected : Bool) (d : Device) (s : Machine) (disk : Disk) (m : Message) (before after : ℕ) → RunsIn protected d before (step_on d s disk m).executed after
+may_last : (protected : Bool) (d : Device) (s : Machine) (disk : Disk) (m : Message) (before after : ℕ)
+    → RunsIn protected d before (step_on d s disk m).executed after
     → MayAnswer protected s disk before (m ∷ []) (last_of d s disk m) after
 unfolding MayAnswer
 may_last protected d s disk m before after runs = (
@@ -148,7 +151,8 @@ rule_last a (Some rule) e = rw e refl
 settings_as : (a b : Machine) → joined a ≡ joined b → a.session.settings ≡ b.session.settings
 settings_as a b e = ap (λ (s : Machine). s.session.settings) e
 
-pub fed_pdu : (protected : Bool) (old : Connection) (before : Store) (output piece rest after_rest : List ℕ) (now : Connection) (mid : Store) (written : List ℕ) (n : ℕ)
+pub fed_pdu : (protected : Bool) (old : Connection) (before : Store) (output piece rest after_rest : List ℕ) (now : Connection) (mid : Store)
+    (written : List ℕ) (n : ℕ)
     (framing : Framing) (broken : Option ℕ) (new : Connection) (after : Store) (more : List ℕ)
     → (g : GoesUpTo protected (scene old before output) piece rest (scene now mid written)) → Takes now.framing rest n framing →
     IsAnswered protected (scene (connection now.machine framing) mid written) broken (scene new after more) → after_rest ≡ drop n rest
@@ -184,7 +188,8 @@ fed_pdu protected old before output piece rest after_rest now mid written n fram
           failures = after.failures;
           may = may_append protected old.machine before.disk before.failures mid.failures after.failures f.messages (m ∷ []) f.stepped last
               (subst (λ (n : ℕ). MayAnswer protected old.machine before.disk before.failures f.messages f.stepped n) (sym f.counted) f.answered.may)
-              (may_last protected d s f.stepped.disk m mid.failures after.failures (runs_as protected d mid.failures after.failures (step_on d now.machine mid.disk m) one same
+              (may_last protected d s f.stepped.disk m mid.failures after.failures
+              (runs_as protected d mid.failures after.failures (step_on d now.machine mid.disk m) one same
               a.serves.runs));
           works = λ e. (
               let low = a.serves.rises in
@@ -212,7 +217,8 @@ fed_pdu protected old before output piece rest after_rest now mid written n fram
       rule = rule_last f.stepped.rule one.rule g.rule ∙ sym (a.serves.rule_is ∙ ap (λ (x : Stepped). x.rule) same);
     }
 
-fed_ready : (protected : Bool) (old : Connection) (before : Store) (output piece rest after_rest : List ℕ) (now : Connection) (mid : Store) (written : List ℕ) (n : ℕ)
+fed_ready : (protected : Bool) (old : Connection) (before : Store) (output piece rest after_rest : List ℕ) (now : Connection) (mid : Store)
+    (written : List ℕ) (n : ℕ)
     (framing : Framing) (broken : Option ℕ) (new : Connection) (after : Store) (more : List ℕ)
     → (g : GoesUpTo protected (scene old before output) piece rest (scene now mid written)) → Takes now.framing rest n framing →
     AnswersReady protected (scene (connection now.machine framing) mid written) broken (scene new after more) → after_rest ≡ drop n rest
@@ -222,13 +228,16 @@ fed_ready protected old before output piece rest after_rest now mid written n fr
     let ready : Bool = is_ready framing in
     subst (λ (b : Option ℕ). FedAs protected (scene old before output) piece after_rest (scene new after more) b most ready) (sym u.rule_is)
     (subst (λ (c : Connection). FedAs protected (scene old before output) piece after_rest (scene c after more) None most ready) (sym u.connection_is)
-    (subst (λ (s : Store). FedAs protected (scene old before output) piece after_rest (scene (connection now.machine framing) s more) None most ready) (sym u.store_is)
-    (subst (λ (x : List ℕ). FedAs protected (scene old before output) piece after_rest (scene (connection now.machine framing) mid x) None most ready) (sym u.output_is)
+    (subst (λ (s : Store). FedAs protected (scene old before output) piece after_rest (scene (connection now.machine framing) s more) None most
+    ready) (sym u.store_is)
+    (subst (λ (x : List ℕ). FedAs protected (scene old before output) piece after_rest (scene (connection now.machine framing) mid x) None most
+    ready) (sym u.output_is)
     (fed_bytes protected old before output piece rest after_rest now mid written n framing g t u.unready is))))
 fed_ready protected old before output piece rest after_rest now mid written n framing broken new after more g t (inr a) is =
     fed_pdu protected old before output piece rest after_rest now mid written n framing broken new after more g t a is
 
-pub fed_one : (protected : Bool) (old : Connection) (before : Store) (output piece rest after_rest : List ℕ) (now : Connection) (mid : Store) (written : List ℕ) (n : ℕ)
+pub fed_one : (protected : Bool) (old : Connection) (before : Store) (output piece rest after_rest : List ℕ) (now : Connection) (mid : Store)
+    (written : List ℕ) (n : ℕ)
     (broken : Option ℕ) (new : Connection) (after : Store) (more : List ℕ)
     → (g : GoesUpTo protected (scene old before output) piece rest (scene now mid written))
     → (t : TakesOne protected (scene now mid written) rest n broken (scene new after more)) → after_rest ≡ drop n rest
@@ -266,9 +275,11 @@ rest_is piece front rest e =
 -- what stands of the PDUs that were answered
 leaves_to : (protected : Bool) (old : Connection) (before : Store) (output piece rest : List ℕ) (now : Connection) (after : Store) (written : List ℕ)
     (result : Result Phase TargetFault) (new : Machine)
-    → (f : FedUpTo protected (scene old before output) piece rest (scene now after written)) → (result ≡ Err faults.NoMemory → IsShut f.stepped.machine new × AsksForMemory now.framing (drop (count_of piece rest) piece))
+    → (f : FedUpTo protected (scene old before output) piece rest (scene now after written))
+    → (result ≡ Err faults.NoMemory → IsShut f.stepped.machine new × AsksForMemory now.framing (drop (count_of piece rest) piece))
     → LeavesBy protected result output (remainder now.framing (drop (count_of piece rest) piece) f.stepped f.answered.failures) new after written
-leaves_to protected old before output piece rest now after written (Ok phase) new f shut = record { failures = f.counted; disk = f.disk; output_is = f.output_is }
+leaves_to protected old before output piece rest now after written (Ok phase) new f shut = record
+    { failures = f.counted; disk = f.disk; output_is = f.output_is }
 leaves_to protected old before output piece rest now after written (Err faults.NoMemory) new f shut = record {
   front = unchanged f.stepped.machine f.stepped.disk;
   stops = inl (refl, (let e = f.counted in omega (arith, e)), (shut refl).1);
@@ -285,7 +296,8 @@ leaves_to protected old before output piece rest now after written (Err faults.C
 
 abbrev feeds_to : (protected : Bool) → (old : Connection) (before : Store) (output piece rest : List ℕ) (now : Connection) (after : Store) (written : List ℕ)
     (result : Result Phase TargetFault) (new : Connection)
-    → (f : FedUpTo protected (scene old before output) piece rest (scene now after written)) → (result ≡ Err faults.NoMemory → IsShut f.stepped.machine new.machine × AsksForMemory now.framing (drop (count_of piece rest) piece))
+    → (f : FedUpTo protected (scene old before output) piece rest (scene now after written))
+    → (result ≡ Err faults.NoMemory → IsShut f.stepped.machine new.machine × AsksForMemory now.framing (drop (count_of piece rest) piece))
     → Ends piece result now.framing (count_of piece rest) f.stepped new → Feeds protected (scene old before output) piece result (scene new after written)
 feeds_to protected old before output piece rest now after written result new f shut ends = record {
   framing = now.framing;
@@ -312,7 +324,8 @@ live_stepped protected old before output piece rest now after written g = record
   live = sym (closed_as now.machine g.fed.stepped.machine g.fed.machine_is) ∙ g.live;
 }
 
-ends_refused : (protected : Bool) (old : Connection) (before : Store) (output piece rest : List ℕ) (now : Connection) (after : Store) (written : List ℕ) (fault : TargetFault)
+ends_refused : (protected : Bool) (old : Connection) (before : Store) (output piece rest : List ℕ) (now : Connection) (after : Store)
+    (written : List ℕ) (fault : TargetFault)
     (new : Connection)
     → GoesUpTo protected (scene old before output) piece rest (scene now after written) → RestFails now.framing rest fault → new.machine ≡ closed now.machine →
     Feeds protected (scene old before output) piece (Err fault) (scene new after written)
@@ -360,7 +373,8 @@ record Front (protected : Bool) (r : Stepped) (m : Message) (before : ℕ) (outp
   disk : new.store.disk ≡ front.disk
   output_is : new.output ≡ output ++ canon front.answers
 
-gives_front : (protected : Bool) (r : Stepped) (m : Message) (old new : Machine) (disk now : Disk) (fb fa : ℕ) (before after : List ℕ) → joined old ≡ joined r.machine → disk
+gives_front : (protected : Bool) (r : Stepped) (m : Message) (old new : Machine) (disk now : Disk) (fb fa : ℕ) (before after : List ℕ)
+    → joined old ≡ joined r.machine → disk
     ≡ r.disk → GivesUp (moment old (store_of disk fb) before) (moment new (store_of now fa) after)
     → Front protected r m fb before (moment new (store_of now fa) after)
 gives_front protected r m old new disk now fb fa before after e d g = record {
@@ -371,7 +385,8 @@ gives_front protected r m old new disk now fb fa before after e d g = record {
   output_is = g.unwritten ∙ sym (append-nil before);
 }
 
-stops_front : (protected : Bool) (r : Stepped) (m : Message) (old new : Machine) (disk now : Disk) (fb fa : ℕ) (before after : List ℕ) (session : Session) (tasks : List Task) →
+stops_front : (protected : Bool) (r : Stepped) (m : Message) (old new : Machine) (disk now : Disk) (fb fa : ℕ) (before after : List ℕ)
+    (session : Session) (tasks : List Task) →
     joined old ≡ joined r.machine → disk ≡ r.disk
     → old.session.phase ≡ phases.Full → (full_met old disk.count m).next ≡ Queued session tasks
     → Stops protected (moment (with_tasks session tasks) (store_of disk fb) before) (moment new (store_of now fa) after) →
@@ -430,13 +445,15 @@ stop_as protected s t disk now before m r after e d h =
         is = refl;
         live = ap (λ (x : Stepped). is_closed x.machine) (sym (ap joined_stepped h.is ∙ same)) ∙ h.live;
         failures = h.failures;
-        runs = runs_as protected h.device before h.failures a b same (subst (λ (x : Stepped). RunsIn protected h.device before x.executed h.failures) h.is h.runs);
+        runs = runs_as protected h.device before h.failures a b same (subst
+            (λ (x : Stepped). RunsIn protected h.device before x.executed h.failures) h.is h.runs);
         rises = h.rises;
       },
       ap joined_stepped h.is ∙ same,
     )
 
-halts_by : (protected : Bool) (r : Stepped) (m : Message) (old new : Machine) (disk now : Disk) (fb fa : ℕ) (before after : List ℕ) (x : Next) → joined old ≡ joined r.machine →
+halts_by : (protected : Bool) (r : Stepped) (m : Message) (old new : Machine) (disk now : Disk) (fb fa : ℕ) (before after : List ℕ) (x : Next)
+    → joined old ≡ joined r.machine →
     disk ≡ r.disk
     → old.session.phase ≡ phases.Full → (full_met old disk.count m).next ≡ x
     → Halts protected x (moment old (store_of disk fb) before) (moment new (store_of now fa) after) →
@@ -446,7 +463,8 @@ halts_by protected r m old new disk now fb fa before after (Queued session tasks
 halts_by protected r m old new disk now fb fa before after Dropped e d full is h = gives_front protected r m old new disk now fb fa before after e d h
 halts_by protected r m old new disk now fb fa before after (Answered q) e d full is h = gives_front protected r m old new disk now fb fa before after e d h
 
-halts_front : (protected : Bool) (r : Stepped) (m : Message) (old new : Machine) (disk now : Disk) (fb fa : ℕ) (before after : List ℕ) → joined old ≡ joined r.machine → disk
+halts_front : (protected : Bool) (r : Stepped) (m : Message) (old new : Machine) (disk now : Disk) (fb fa : ℕ) (before after : List ℕ)
+    → joined old ≡ joined r.machine → disk
     ≡ r.disk → HaltsAt protected m (moment old (store_of disk fb) before) (moment new (store_of now fa) after)
     → Front protected r m fb before (moment new (store_of now fa) after)
 halts_front protected r m old new disk now fb fa before after e d (inl g) = gives_front protected r m old new disk now fb fa before after e d g
@@ -464,9 +482,11 @@ rest_moves old now framing rest n m next t g =
 rises_after : (protected : Bool) (front : Stepped) (r : Stepped) (m : Message) (before after : ℕ) → ((front ≡ unchanged r.machine r.disk) × (before ≤ after))
     ⊎ MayStop protected r.machine r.disk before m front after → before ≤ after
 rises_after protected front r m before after (inl h) = h.1
-rises_after protected front r m before after (inr h) = let a = h.rises in let b = runs_rise protected h.device before front.executed h.failures h.runs in omega (arith, a, b)
+rises_after protected front r m before after (inr h) = let a = h.rises in let b = runs_rise protected h.device before front.executed h.failures h.runs
+    in omega (arith, a, b)
 
-ends_shut : (protected : Bool) (old : Connection) (before : Store) (output piece rest : List ℕ) (now : Connection) (mid : Store) (written : List ℕ) (n : ℕ) (framing : Framing)
+ends_shut : (protected : Bool) (old : Connection) (before : Store) (output piece rest : List ℕ) (now : Connection) (mid : Store) (written : List ℕ)
+    (n : ℕ) (framing : Framing)
     (new : Connection) (after : Store) (more : List ℕ)
     → GoesUpTo protected (scene old before output) piece rest (scene now mid written) → Takes now.framing rest n framing →
     ShutsReady protected (scene (connection now.machine framing) mid written) (scene new after more)
@@ -497,7 +517,8 @@ ends_shut protected old before output piece rest now mid written n framing new a
       messages = f.messages;
       stepped = f.stepped;
       answered =
-          subst (λ (y : List ℕ). Answers protected old before y (progress now.framing f.messages f.stepped) after) (sym (front_is piece f.front rest f.parts)) last;
+          subst (λ (y : List ℕ). Answers protected old before y (progress now.framing f.messages f.stepped) after)
+          (sym (front_is piece f.front rest f.parts)) last;
       leaves = record {
         front = x.front;
         stops = elim x.stops [
@@ -520,7 +541,8 @@ ends_shut protected old before output piece rest now mid written n framing new a
       ends = live_stepped protected old before output piece rest now mid written g;
     }
 
-pub ends_broken : (protected : Bool) (old : Connection) (before : Store) (output piece rest : List ℕ) (now : Connection) (after : Store) (written : List ℕ) (rule : ℕ)
+pub ends_broken : (protected : Bool) (old : Connection) (before : Store) (output piece rest : List ℕ) (now : Connection) (after : Store)
+    (written : List ℕ) (rule : ℕ)
     → (f : FedUpTo protected (scene old before output) piece rest (scene now after written)) → f.stepped.rule ≡ Some rule → joined now.machine ≡ now.machine →
     Feeds protected (scene old before output) piece (Err (faults.Protocol rule)) (scene now after written)
 ends_broken protected old before output piece rest now after written rule f broken whole =
@@ -530,7 +552,8 @@ ends_broken protected old before output piece rest now after written rule f brok
       may_close protected old.machine before.disk before.failures f.messages f.stepped f.answered.failures rule f.answered.may broken,
     )
 
-pub ends_closed : (protected : Bool) (old : Connection) (before : Store) (output piece rest : List ℕ) (now : Connection) (after : Store) (written : List ℕ) (phase : Phase)
+pub ends_closed : (protected : Bool) (old : Connection) (before : Store) (output piece rest : List ℕ) (now : Connection) (after : Store)
+    (written : List ℕ) (phase : Phase)
     → (f : FedUpTo protected (scene old before output) piece rest (scene now after written)) → f.stepped.rule ≡ None → joined now.machine ≡ now.machine → phase
     ≡ now.machine.session.phase → is_closed now.machine ≡ true
     → Feeds protected (scene old before output) piece (Ok phase) (scene now after written)
@@ -542,7 +565,8 @@ ends_closed protected old before output piece rest now after written phase f rul
       inl (sym (closed_as now.machine f.stepped.machine f.machine_is) ∙ over),
     )
 
-pub ends_live : (protected : Bool) (old : Connection) (before : Store) (output piece rest : List ℕ) (now : Connection) (after : Store) (written : List ℕ) (phase : Phase)
+pub ends_live : (protected : Bool) (old : Connection) (before : Store) (output piece rest : List ℕ) (now : Connection) (after : Store)
+    (written : List ℕ) (phase : Phase)
     → GoesUpTo protected (scene old before output) piece rest (scene now after written) → joined now.machine ≡ now.machine → phase ≡ now.machine.session.phase
     → length rest ≡ 0 →
     Feeds protected (scene old before output) piece (Ok phase) (scene now after written)
@@ -556,7 +580,8 @@ ends_live protected old before output piece rest now after written phase g whole
     )
 
 -- the failures that were counted don't fall
-pub may_rise : (protected : Bool) (s : Machine) (disk : Disk) (before : ℕ) (ms : List Message) (r : Stepped) (after : ℕ) → MayAnswer protected s disk before ms r after → before ≤ after
+pub may_rise : (protected : Bool) (s : Machine) (disk : Disk) (before : ℕ) (ms : List Message) (r : Stepped) (after : ℕ)
+    → MayAnswer protected s disk before ms r after → before ≤ after
 unfolding MayAnswer
 may_rise protected s disk before [] r after e = omega (arith, e.1)
 may_rise protected s disk before (m ∷ ms) r after e =
@@ -564,7 +589,8 @@ may_rise protected s disk before (m ∷ ms) r after e =
     let b = may_rise protected e.0.machine e.0.disk e.2 ms e.1 after e.4 in
     omega (arith, a, b)
 
-pub short_rises : (protected : Bool) (output : List ℕ) (framing : Framing) (rest : List ℕ) (r : Stepped) (counted : ℕ) (new : Machine) (after : Store) (written : List ℕ) →
+pub short_rises : (protected : Bool) (output : List ℕ) (framing : Framing) (rest : List ℕ) (r : Stepped) (counted : ℕ) (new : Machine)
+    (after : Store) (written : List ℕ) →
     StopsShort protected output (remainder framing rest r counted) new after written → counted ≤ after.failures
 short_rises protected output framing rest r counted new after written h = elim h.stops [
   | inl none ↦ none.1
@@ -572,9 +598,11 @@ short_rises protected output framing rest r counted new after written h = elim h
 ]
 
 -- no bytes could be taken, or no PDU answered
-pub ends_failed : (protected : Bool) (old : Connection) (before : Store) (output piece rest : List ℕ) (now : Connection) (mid : Store) (written : List ℕ) (fault : TargetFault)
+pub ends_failed : (protected : Bool) (old : Connection) (before : Store) (output piece rest : List ℕ) (now : Connection) (mid : Store)
+    (written : List ℕ) (fault : TargetFault)
     (new : Connection) (after : Store) (more : List ℕ)
-    → GoesUpTo protected (scene old before output) piece rest (scene now mid written) → FailsOne protected (scene now mid written) rest fault (scene new after more) →
+    → GoesUpTo protected (scene old before output) piece rest (scene now mid written)
+    → FailsOne protected (scene now mid written) rest fault (scene new after more) →
     Feeds protected (scene old before output) piece (Err fault) (scene new after more)
 ends_failed protected old before output piece rest now mid written fault new after more g (inl r) =
     subst (λ (s : Store). Feeds protected (scene old before output) piece (Err fault) (scene new s more)) (sym r.store_is)
@@ -597,7 +625,8 @@ front_taken v w piece n t =
       stops = λ lt. absurd (omega (arith, size, lt));
     }
 
-feeds_one : (protected : Bool) (old : Connection) (before : Store) (output piece : List ℕ) (n : ℕ) (phase : Phase) (new : Connection) (after : Store) (written : List ℕ)
+feeds_one : (protected : Bool) (old : Connection) (before : Store) (output piece : List ℕ) (n : ℕ) (phase : Phase) (new : Connection)
+    (after : Store) (written : List ℕ)
     → n ≤ length piece → (0 < length piece → 0 < n)
     → (f : FedUpTo protected (scene old before output) (take n piece) [] (scene new after written))
     → f.stepped.rule ≡ None →
@@ -629,9 +658,11 @@ feeds_one protected old before output piece n phase new after written bound some
   stops = stops;
 }
 
-pub next_fed : (protected : Bool) (old : Connection) (before : Store) (output piece : List ℕ) (n : ℕ) (phase : Phase) (new : Connection) (after : Store) (written : List ℕ)
+pub next_fed : (protected : Bool) (old : Connection) (before : Store) (output piece : List ℕ) (n : ℕ) (phase : Phase) (new : Connection)
+    (after : Store) (written : List ℕ)
     → is_ready old.framing ≡ false → is_closed old.machine ≡ false → TakesOne protected (scene old before output) piece n None (scene new after written)
-    → joined new.machine ≡ new.machine → phase ≡ new.machine.session.phase → FeedsOne protected (scene old before output) piece n phase (scene new after written)
+    → joined new.machine ≡ new.machine → phase ≡ new.machine.session.phase
+    → FeedsOne protected (scene old before output) piece n phase (scene new after written)
 unfolding fed_none
 next_fed protected old before output piece n phase new after written unready live t whole is =
     let front : TakesOne protected (scene old before output) (take n piece) n None (scene new after written) =
@@ -639,5 +670,6 @@ next_fed protected old before output piece n phase new after written unready liv
     let none : [] ≡ drop n (take n piece) = sym (drop_all n (take n piece) (omega (arith, length-take n piece))) in
     let f = fed_one protected old before output (take n piece) (take n piece) [] old before output n None new after written
     (fed_none protected old before output (take n piece) unready live) front none in
-    feeds_one protected old before output piece n phase new after written t.takes.bound (takes_some old.framing piece n t.framing unready t.takes) f.fed f.rule f.few
+    feeds_one protected old before output piece n phase new after written t.takes.bound
+    (takes_some old.framing piece n t.framing unready t.takes) f.fed f.rule f.few
     (λ lt. f.full (ready_of t.framing.failed t.framing.held (ap (λ (v : Framing). v.failed) t.takes.gathered ∙ t.takes.live) (t.takes.stops lt))) whole is (is_closed new.machine) refl

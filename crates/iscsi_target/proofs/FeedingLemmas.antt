@@ -56,7 +56,8 @@ record Over (protected : Bool) (start : Beginning) (taken : List ℕ) (now : Con
   over : (more : List ℕ) (ms : List Message) → StreamMeans (taken ++ more) ms → Meets protected start ms now disk_now written
 
 -- what stands where memory was there
-pub stands : (protected : Bool) (output : List ℕ) (framing : Framing) (rest : List ℕ) (r : Stepped) (counted : ℕ) (result : Result Phase TargetFault) (new : Machine)
+pub stands : (protected : Bool) (output : List ℕ) (framing : Framing) (rest : List ℕ) (r : Stepped) (counted : ℕ)
+    (result : Result Phase TargetFault) (new : Machine)
     (after : Store) (written : List ℕ) → (result ≡ Err faults.NoMemory → ⊥)
     → LeavesBy protected result output (remainder framing rest r counted) new after written → Stands output r counted after written
 stands protected output framing rest r counted (Ok phase) new after written memory h = h
@@ -71,7 +72,8 @@ pub record Told (protected : Bool) (start : Beginning) (ms : List Message) (r : 
   pub disk_is : disk_now ≡ (answers_from protected start ms).disk
   pub output_is : written ≡ canon (answers_from protected start ms).answers
 
-pub told : (protected : Bool) (settings : Settings) (n : ℕ) (disk : Disk) (taken : List ℕ) (old : Connection) (before : Store) (out : List ℕ) (bytes : List ℕ) (framing : Framing)
+pub told : (protected : Bool) (settings : Settings) (n : ℕ) (disk : Disk) (taken : List ℕ) (old : Connection) (before : Store) (out : List ℕ)
+    (bytes : List ℕ) (framing : Framing)
     (more : List Message) (r : Stepped) (counted : ℕ) (after : Store) (written : List ℕ)
     → (h : HasAnswered protected (beginning settings n disk) taken old before.disk out) → Answers protected old before bytes (progress framing more r) after
     → Stands out r counted after written →
@@ -85,7 +87,8 @@ told protected settings n disk taken old before out bytes framing more r counted
     ∙ ap (λ (s : Machine). joined_stepped (answers protected s before.disk more)) h.machine
     ∙ ap (λ (d : Disk). joined_stepped (answers protected (joined first.machine) d more)) h.disk_is
     ∙ answers_joined protected first.machine first.disk more in
-    let both : answers protected (opening settings n) disk (h.messages ++ more) ≡ then_stepped first later = answers_append protected (opening settings n) disk h.messages more in
+    let both : answers protected (opening settings n) disk (h.messages ++ more)
+    ≡ then_stepped first later = answers_append protected (opening settings n) disk h.messages more in
     record {
       machine = ap (λ (x : Stepped). x.machine) e ∙ ap (λ (x : Stepped). joined x.machine) (sym both);
       disk_is = b.disk ∙ ap (λ (x : Stepped). x.disk) e ∙ ap (λ (x : Stepped). x.disk) (sym both);
@@ -95,7 +98,8 @@ told protected settings n disk taken old before out bytes framing more r counted
     }
 
 -- a closed session, whatever comes behind these messages
-pub closed_meets : (protected : Bool) (settings : Settings) (n : ℕ) (disk : Disk) (first more : List Message) (now : Connection) (disk_now : Disk) (written : List ℕ)
+pub closed_meets : (protected : Bool) (settings : Settings) (n : ℕ) (disk : Disk) (first more : List Message) (now : Connection)
+    (disk_now : Disk) (written : List ℕ)
     → is_closed (answers protected (opening settings n) disk first).machine ≡ true → Meets protected (beginning settings n disk) first now disk_now written →
     Meets protected (beginning settings n disk) (first ++ more) now disk_now written
 closed_meets protected settings n disk first more now disk_now written c m =
@@ -109,11 +113,14 @@ closed_meets protected settings n disk first more now disk_now written c m =
     }
 
 -- a session in which a segment longer than the limit comes
-over_meets : (protected : Bool) (settings : Settings) (n : ℕ) (disk : Disk) (first : List Message) (m : Message) (more : List Message) (now : Connection) (disk_now : Disk)
+over_meets : (protected : Bool) (settings : Settings) (n : ℕ) (disk : Disk) (first : List Message) (m : Message) (more : List Message)
+    (now : Connection) (disk_now : Disk)
     (written : List ℕ)
-    → is_closed (answers protected (opening settings n) disk first).machine ≡ false → is_over_limit (answers protected (opening settings n) disk first).machine m.segment ≡ true
+    → is_closed (answers protected (opening settings n) disk first).machine ≡ false
+    → is_over_limit (answers protected (opening settings n) disk first).machine m.segment ≡ true
     → now.machine ≡ closed (answers protected (opening settings n) disk first).machine → disk_now ≡ (answers protected (opening settings n) disk first).disk
-    → written ≡ canon (answers protected (opening settings n) disk first).answers → Meets protected (beginning settings n disk) (first ++ m ∷ more) now disk_now written
+    → written ≡ canon (answers protected (opening settings n) disk first).answers
+    → Meets protected (beginning settings n disk) (first ++ m ∷ more) now disk_now written
 unfolding answers
 over_meets protected settings n disk first m more now disk_now written live long is_now is_disk is_written =
     let a : Stepped = answers protected (opening settings n) disk first in
@@ -148,23 +155,27 @@ rests taken piece more count first ms v t p =
     (subst (λ (x : List ℕ). ReadsAs longest_segment no_login x ms) (whole_stream taken piece more t.given t.rest count t.whole) p)
 
 -- what is said where the framer refuses what follows
-fault_meets : (protected : Bool) (settings : Settings) (n : ℕ) (disk : Disk) (taken piece : List ℕ) (count : ℕ) (first : List Message) (v : Framing) (now : Connection)
+fault_meets : (protected : Bool) (settings : Settings) (n : ℕ) (disk : Disk) (taken piece : List ℕ) (count : ℕ) (first : List Message)
+    (v : Framing) (now : Connection)
     (disk_now : Disk) (written : List ℕ) (fault : StreamFault)
     → (t : HasTaken (taken ++ take count piece) first v) → v.limit ≡ limit settings → (fault ≡ stream.NoMemory → ⊥) → FeedFails v (drop count piece) fault
     → is_closed (answers protected (opening settings n) disk first).machine ≡ false
     → now.machine ≡ closed (answers protected (opening settings n) disk first).machine → disk_now ≡ (answers protected (opening settings n) disk first).disk
-    → written ≡ canon (answers protected (opening settings n) disk first).answers → (more : List ℕ) (ms : List Message) → StreamMeans ((taken ++ piece) ++ more) ms →
+    → written ≡ canon (answers protected (opening settings n) disk first).answers → (more : List ℕ) (ms : List Message)
+    → StreamMeans ((taken ++ piece) ++ more) ms →
     Meets protected (beginning settings n disk) ms now disk_now written
 fault_meets protected settings n disk taken piece count first v now disk_now written stream.NoMemory t bound none f live is_now is_disk is_written more ms p =
     absurd (none refl)
-fault_meets protected settings n disk taken piece count first v now disk_now written (stream.Head fault place) t bound none f live is_now is_disk is_written more ms p =
+fault_meets protected settings n disk taken piece count first v now disk_now written (stream.Head fault place) t bound none f live is_now is_disk
+    is_written more ms p =
     let r = rests taken piece more count first ms v t p in
     let held : v.held ≡ t.rest = held_is (taken ++ take count piece) first v t f.1.before in
     let long : 48 ≤ length (t.rest ++ drop count piece) = subst (λ (x : List ℕ). 48 ≤ length (x ++ drop count piece)) held f.1.reached in
     let bad : fault_of (take 48 (t.rest ++ drop count piece)) ≡ Some fault = subst (λ (x : List ℕ). fault_of (take 48 (x ++ drop count piece))
     ≡ Some fault) held f.2 in
     absurd (no_bad_header (after_all no_login first) (t.rest ++ drop count piece) more r.more fault long bad r.reads)
-fault_meets protected settings n disk taken piece count first v now disk_now written (stream.OverLimit place) t bound none f live is_now is_disk is_written more ms p =
+fault_meets protected settings n disk taken piece count first v now disk_now written (stream.OverLimit place) t bound none f live is_now is_disk
+    is_written more ms p =
     let r = rests taken piece more count first ms v t p in
     let a : Stepped = answers protected (opening settings n) disk first in
     let held : v.held ≡ t.rest = held_is (taken ++ take count piece) first v t f.1.2.reaches.before in
@@ -181,9 +192,11 @@ fault_meets protected settings n disk taken piece count first v now disk_now wri
     let over : is_over_limit a.machine h.m.segment ≡ true =
     ap (λ (x : Segment). is_over_limit a.machine x) bytes ∙ ap (λ (x : Settings). nat_lt (limit x) (length h.segment)) same
     ∙ lt-ltb (limit settings) (length h.segment) past in
-    subst (λ (x : List Message). Meets protected (beginning settings n disk) x now disk_now written) (sym (r.whole ∙ ap (λ (x : List Message). first ++ x) h.is))
+    subst (λ (x : List Message). Meets protected (beginning settings n disk) x now disk_now written)
+    (sym (r.whole ∙ ap (λ (x : List Message). first ++ x) h.is))
     (over_meets protected settings n disk first h.m h.more now disk_now written live over is_now is_disk is_written)
-fault_meets protected settings n disk taken piece count first v now disk_now written (stream.Truncated place) t bound none f live is_now is_disk is_written more ms p =
+fault_meets protected settings n disk taken piece count first v now disk_now written (stream.Truncated place) t bound none f live is_now is_disk
+    is_written more ms p =
     absurd f
 fault_meets protected settings n disk taken piece count first v now disk_now written stream.Failed t bound none f live is_now is_disk is_written more ms p =
     absurd (apart f t.live)
@@ -197,7 +210,8 @@ Either protected start taken now disk_now written =
     ⊎ ((is_closed now.machine ≡ true) × Over protected start taken now disk_now written)
 
 -- a call that closed the session after these messages
-closing : (protected : Bool) (settings : Settings) (n : ℕ) (disk : Disk) (taken piece : List ℕ) (count : ℕ) (first : List Message) (v : Framing) (r : Stepped) (new : Connection)
+closing : (protected : Bool) (settings : Settings) (n : ℕ) (disk : Disk) (taken piece : List ℕ) (count : ℕ) (first : List Message) (v : Framing)
+    (r : Stepped) (new : Connection)
     (disk_now : Disk) (written : List ℕ)
     → HasTaken (taken ++ take count piece) first v → Told protected (beginning settings n disk) first r disk_now written → new.machine ≡ joined r.machine
     → is_closed r.machine ≡ true
@@ -219,9 +233,11 @@ closing protected settings n disk taken piece count first v r new disk_now writt
       },
     )
 
-ends_go : (protected : Bool) (settings : Settings) (n : ℕ) (disk : Disk) (taken piece : List ℕ) (count : ℕ) (first : List Message) (v : Framing) (r : Stepped) (new : Connection)
+ends_go : (protected : Bool) (settings : Settings) (n : ℕ) (disk : Disk) (taken piece : List ℕ) (count : ℕ) (first : List Message) (v : Framing)
+    (r : Stepped) (new : Connection)
     (disk_now : Disk) (written : List ℕ) (result : Result Phase TargetFault)
-    → HasTaken (taken ++ take count piece) first v → Told protected (beginning settings n disk) first r disk_now written → v.limit ≡ limit settings → is_ready v ≡ false
+    → HasTaken (taken ++ take count piece) first v → Told protected (beginning settings n disk) first r disk_now written → v.limit ≡ limit settings
+    → is_ready v ≡ false
     → ((k : ℕ) → r.rule ≡ Some k → is_closed r.machine ≡ true) → (result ≡ Err faults.NoMemory → ⊥) → Ends piece result v count r new
     → Either protected (beginning settings n disk) (taken ++ piece) new disk_now written
 ends_go protected settings n disk taken piece count first v r new disk_now written (Ok phase) t told_ bound ready closes memory e =
@@ -244,7 +260,8 @@ ends_go protected settings n disk taken piece count first v r new disk_now writt
         },
       )
     ]
-ends_go protected settings n disk taken piece count first v r new disk_now written (Err faults.NoMemory) t told_ bound ready closes memory e = absurd (memory refl)
+ends_go protected settings n disk taken piece count first v r new disk_now written (Err faults.NoMemory) t told_ bound ready closes memory e
+    = absurd (memory refl)
 ends_go protected settings n disk taken piece count first v r new disk_now written (Err (faults.Stream fault)) t told_ bound ready closes memory e =
     let live : is_closed (answers protected (opening settings n) disk first).machine ≡ false = sym (ap is_closed told_.machine) ∙ e.0.live in
     let now_is : new.machine ≡ closed (answers protected (opening settings n) disk first).machine = e.3 ∙ ap closed told_.machine in
@@ -252,7 +269,8 @@ ends_go protected settings n disk taken piece count first v r new disk_now writt
       ap is_closed e.3,
       record {
         over = λ more ms p.
-            fault_meets protected settings n disk taken piece count first v new disk_now written fault t bound e.1 e.2 live now_is told_.disk_is told_.output_is more ms
+            fault_meets protected settings n disk taken piece count first v new disk_now written fault t bound e.1 e.2 live now_is told_.disk_is
+            told_.output_is more ms
             p;
       },
     )
@@ -278,8 +296,10 @@ feed_goes protected settings n disk taken old before out piece result new after 
 
 -- ---- all calls
 
-live_meets : (protected : Bool) (settings : Settings) (n : ℕ) (disk : Disk) (taken : List ℕ) (now : Connection) (disk_now : Disk) (written : List ℕ) (ms : List Message)
-    → Live protected (beginning settings n disk) taken now disk_now written → StreamMeans taken ms → Meets protected (beginning settings n disk) ms now disk_now written
+live_meets : (protected : Bool) (settings : Settings) (n : ℕ) (disk : Disk) (taken : List ℕ) (now : Connection) (disk_now : Disk)
+    (written : List ℕ) (ms : List Message)
+    → Live protected (beginning settings n disk) taken now disk_now written → StreamMeans taken ms
+    → Meets protected (beginning settings n disk) ms now disk_now written
 live_meets protected settings n disk taken now disk_now written ms live p =
     let h : HasAnswered protected (beginning settings n disk) taken now disk_now written = live.has in
     let t : HasTaken taken h.messages now.framing = h.taken in
@@ -292,8 +312,10 @@ live_meets protected settings n disk taken now disk_now written ms live p =
     subst (λ (x : List Message). Meets protected (beginning settings n disk) x now disk_now written) same
     (record { machine = h.machine; disk_is = h.disk_is; output_is = h.output_is })
 
-either_meets : (protected : Bool) (settings : Settings) (n : ℕ) (disk : Disk) (taken : List ℕ) (now : Connection) (disk_now : Disk) (written : List ℕ) (ms : List Message)
-    → Either protected (beginning settings n disk) taken now disk_now written → StreamMeans taken ms → Meets protected (beginning settings n disk) ms now disk_now written
+either_meets : (protected : Bool) (settings : Settings) (n : ℕ) (disk : Disk) (taken : List ℕ) (now : Connection) (disk_now : Disk)
+    (written : List ℕ) (ms : List Message)
+    → Either protected (beginning settings n disk) taken now disk_now written → StreamMeans taken ms
+    → Meets protected (beginning settings n disk) ms now disk_now written
 either_meets protected settings n disk taken now disk_now written ms (inl l) p = live_meets protected settings n disk taken now disk_now written ms l.1 p
 either_meets protected settings n disk taken now disk_now written ms (inr o) p =
     o.1.over [] ms (subst (λ (x : List ℕ). StreamMeans x ms) (sym (append-nil taken)) p)
@@ -314,7 +336,8 @@ next_either protected settings n disk taken old before out piece result new afte
 next_either protected settings n disk taken old before out piece result new after written (inr o) f well =
     let s : Stays (scene old before out) result (scene new after written) =
     subst (λ (b : Bool). FedIf protected b (scene old before out) piece result (scene new after written)) o.0 f in
-    let over : Over protected (beginning settings n disk) (taken ++ piece) old before.disk out = stays_over protected settings n disk taken piece old before.disk out o.1 in
+    let over : Over protected (beginning settings n disk) (taken ++ piece) old before.disk out = stays_over protected settings n disk taken piece old
+    before.disk out o.1 in
     inr (
       ap (λ (x : Connection). is_closed x.machine) s.connection ∙ o.0,
       subst (λ (x : Connection). Over protected (beginning settings n disk) (taken ++ piece) x after.disk written) (sym s.connection)
@@ -322,7 +345,8 @@ next_either protected settings n disk taken old before out piece result new afte
           (subst (λ (x : List ℕ). Over protected (beginning settings n disk) (taken ++ piece) old before.disk x) (sym s.output_is) over)),
     )
 
-fed_from : (protected : Bool) (settings : Settings) (n : ℕ) (disk : Disk) (taken : List ℕ) (pieces : List (List ℕ)) (old : Connection) (before : Store) (out : List ℕ)
+fed_from : (protected : Bool) (settings : Settings) (n : ℕ) (disk : Disk) (taken : List ℕ) (pieces : List (List ℕ)) (old : Connection)
+    (before : Store) (out : List ℕ)
     (new : Connection) (after : Store) (written : List ℕ) (ms : List Message)
     → Either protected (beginning settings n disk) taken old before.disk out → FedAll protected (scene old before out) pieces (scene new after written)
     → StreamMeans (taken ++ flat_map (λ x. x) pieces) ms
@@ -338,7 +362,8 @@ fed_from protected settings n disk taken (piece ∷ pieces) old before out new a
     (next_either protected settings n disk taken old before out piece f.0 f.1 f.2 f.3 e f.4 f.5) f.6
     (subst (λ (x : List ℕ). StreamMeans x ms) (sym (append_assoc taken piece (flat_map (λ x. x) pieces))) p)
 
-opening_live : (protected : Bool) (settings : Settings) (n : ℕ) (disk : Disk) → Live protected (beginning settings n disk) [] (opening_connection settings n) disk []
+opening_live : (protected : Bool) (settings : Settings) (n : ℕ) (disk : Disk)
+    → Live protected (beginning settings n disk) [] (opening_connection settings n) disk []
 unfolding answers
 opening_live protected settings n disk = record {
   has = record { messages = []; taken = at_opening (limit settings); machine = refl; disk_is = refl; output_is = refl };
@@ -352,7 +377,8 @@ pub fed_stream : (protected : Bool) (settings : Settings) (n : ℕ) (store : Sto
     → FedAll protected (scene (opening_connection settings n) store []) pieces (scene new after written) → StreamMeans (flat_map (λ x. x) pieces) ms →
     Meets protected (beginning settings n store.disk) ms new after.disk written
 fed_stream protected settings n store pieces new after written ms f p =
-    fed_from protected settings n store.disk [] pieces (opening_connection settings n) store [] new after written ms (inl (refl, opening_live protected settings n store.disk)) f p
+    fed_from protected settings n store.disk [] pieces (opening_connection settings n) store [] new after written ms
+    (inl (refl, opening_live protected settings n store.disk)) f p
 
 -- ---- a stream that isn't all PDUs
 
@@ -382,7 +408,8 @@ left taken piece more count first ms given rest v le t s =
     prefix_split v.limit no_login t.given first ((t.rest ++ drop count piece) ++ more) given ms rest le t.reads s.reaches.reads s.no_more
     (sym (whole_stream taken piece more t.given t.rest count t.whole) ∙ s.reaches.whole)
 
-writes_of : (protected : Bool) (settings : Settings) (n : ℕ) (disk : Disk) (ms : List Message) (rest : List ℕ) (now : Connection) (disk_now : Disk) (written : List ℕ) →
+writes_of : (protected : Bool) (settings : Settings) (n : ℕ) (disk : Disk) (ms : List Message) (rest : List ℕ) (now : Connection)
+    (disk_now : Disk) (written : List ℕ) →
     Meets protected (beginning settings n disk) ms now disk_now written
     → is_closed now.machine ≡ true → Leads protected (beginning settings n disk) ms rest now disk_now written
 writes_of protected settings n disk ms rest now disk_now written m over = record {
@@ -396,7 +423,8 @@ writes_of protected settings n disk ms rest now disk_now written m over = record
 }
 
 -- no PDU is left
-leads_all : (protected : Bool) (settings : Settings) (n : ℕ) (disk : Disk) (first ms more : List Message) (rest : List ℕ) (now : Connection) (disk_now : Disk) (written : List ℕ) →
+leads_all : (protected : Bool) (settings : Settings) (n : ℕ) (disk : Disk) (first ms more : List Message) (rest : List ℕ) (now : Connection)
+    (disk_now : Disk) (written : List ℕ) →
     ms ≡ first ++ more → more ≡ []
     → Leads protected (beginning settings n disk) first rest now disk_now written → Leads protected (beginning settings n disk) ms rest now disk_now written
 leads_all protected settings n disk first ms more rest now disk_now written e none w =
@@ -418,7 +446,8 @@ front_left front more rest long e = (
 )
 
 -- closed at a header that is refused
-shut_leads : (protected : Bool) (settings : Settings) (n : ℕ) (disk : Disk) (first : List Message) (rest : List ℕ) (now : Connection) (disk_now : Disk) (written : List ℕ)
+shut_leads : (protected : Bool) (settings : Settings) (n : ℕ) (disk : Disk) (first : List Message) (rest : List ℕ) (now : Connection)
+    (disk_now : Disk) (written : List ℕ)
     → now.machine ≡ closed (answers protected (opening settings n) disk first).machine → disk_now ≡ (answers protected (opening settings n) disk first).disk
     → written ≡ canon (answers protected (opening settings n) disk first).answers → Refuses (limit settings) rest
     → Leads protected (beginning settings n disk) first rest now disk_now written
@@ -434,7 +463,8 @@ shut_leads protected settings n disk first rest now disk_now written is_now is_d
       };
     }
 
-stopping : (protected : Bool) (settings : Settings) (n : ℕ) (disk : Disk) (taken piece : List ℕ) (count : ℕ) (first : List Message) (v : Framing) (r : Stepped) (new : Connection)
+stopping : (protected : Bool) (settings : Settings) (n : ℕ) (disk : Disk) (taken piece : List ℕ) (count : ℕ) (first : List Message) (v : Framing)
+    (r : Stepped) (new : Connection)
     (disk_now : Disk) (written : List ℕ)
     → v.limit ≤ longest_segment → HasTaken (taken ++ take count piece) first v → Told protected (beginning settings n disk) first r disk_now written
     → new.machine ≡ joined r.machine
@@ -453,12 +483,14 @@ stopping protected settings n disk taken piece count first v r new disk_now writ
         over = λ more ms given rest s.
             let x = left taken piece more count first ms given rest v le t s in
             subst (λ (xs : List Message). Leads protected (beginning settings n disk) xs rest new disk_now written) (sym x.whole)
-            (writes_of protected settings n disk (first ++ x.more) rest new disk_now written (closed_meets protected settings n disk first x.more new disk_now written there meets)
+            (writes_of protected settings n disk (first ++ x.more) rest new disk_now written
+            (closed_meets protected settings n disk first x.more new disk_now written there meets)
             (ap is_closed e ∙ c));
       },
     )
 
-fault_writes : (protected : Bool) (settings : Settings) (n : ℕ) (disk : Disk) (taken piece : List ℕ) (count : ℕ) (first : List Message) (v : Framing) (now : Connection)
+fault_writes : (protected : Bool) (settings : Settings) (n : ℕ) (disk : Disk) (taken piece : List ℕ) (count : ℕ) (first : List Message)
+    (v : Framing) (now : Connection)
     (disk_now : Disk) (written : List ℕ) (fault : StreamFault)
     → (t : HasTaken (taken ++ take count piece) first v) → v.limit ≡ limit settings → v.limit ≤ longest_segment → (fault ≡ stream.NoMemory → ⊥) →
     FeedFails v (drop count piece) fault
@@ -467,9 +499,11 @@ fault_writes : (protected : Bool) (settings : Settings) (n : ℕ) (disk : Disk) 
     → written ≡ canon (answers protected (opening settings n) disk first).answers → (more : List ℕ) (ms : List Message) (given rest : List ℕ) →
     Splits longest_segment ((taken ++ piece) ++ more) ms given rest
     → Leads protected (beginning settings n disk) ms rest now disk_now written
-fault_writes protected settings n disk taken piece count first v now disk_now written stream.NoMemory t bound le none f live is_now is_disk is_written more ms given rest
+fault_writes protected settings n disk taken piece count first v now disk_now written stream.NoMemory t bound le none f live is_now is_disk
+    is_written more ms given rest
     s = absurd (none refl)
-fault_writes protected settings n disk taken piece count first v now disk_now written (stream.Head fault place) t bound le none f live is_now is_disk is_written more ms
+fault_writes protected settings n disk taken piece count first v now disk_now written (stream.Head fault place) t bound le none f live is_now
+    is_disk is_written more ms
     given rest s =
     let x = left taken piece more count first ms given rest v le t s in
     let held : v.held ≡ t.rest = held_is (taken ++ take count piece) first v t f.1.before in
@@ -487,7 +521,8 @@ fault_writes protected settings n disk taken piece count first v now disk_now wr
           ))
       | inr h ↦ absurd (bad_header (take 48 (t.rest ++ drop count piece)) h.m.head (length h.segment) fault h.says bad)
     ]
-fault_writes protected settings n disk taken piece count first v now disk_now written (stream.OverLimit place) t bound le none f live is_now is_disk is_written more ms
+fault_writes protected settings n disk taken piece count first v now disk_now written (stream.OverLimit place) t bound le none f live is_now
+    is_disk is_written more ms
     given rest s =
     let x = left taken piece more count first ms given rest v le t s in
     let a : Stepped = answers protected (opening settings n) disk first in
@@ -520,15 +555,19 @@ fault_writes protected settings n disk taken piece count first v now disk_now wr
           (writes_of protected settings n disk (first ++ h.m ∷ h.more) rest now disk_now written
           (over_meets protected settings n disk first h.m h.more now disk_now written live over is_now is_disk is_written) (ap is_closed is_now))
     ]
-fault_writes protected settings n disk taken piece count first v now disk_now written (stream.Truncated place) t bound le none f live is_now is_disk is_written more ms
+fault_writes protected settings n disk taken piece count first v now disk_now written (stream.Truncated place) t bound le none f live is_now
+    is_disk is_written more ms
     given rest s = absurd f
-fault_writes protected settings n disk taken piece count first v now disk_now written stream.Failed t bound le none f live is_now is_disk is_written more ms given rest s
+fault_writes protected settings n disk taken piece count first v now disk_now written stream.Failed t bound le none f live is_now is_disk
+    is_written more ms given rest s
     = absurd (apart f t.live)
 
 -- what a call ends in, for such a stream
-ends_fate : (protected : Bool) (settings : Settings) (n : ℕ) (disk : Disk) (taken piece : List ℕ) (count : ℕ) (first : List Message) (v : Framing) (r : Stepped) (new : Connection)
+ends_fate : (protected : Bool) (settings : Settings) (n : ℕ) (disk : Disk) (taken piece : List ℕ) (count : ℕ) (first : List Message) (v : Framing)
+    (r : Stepped) (new : Connection)
     (disk_now : Disk) (written : List ℕ) (result : Result Phase TargetFault)
-    → Fits settings → HasTaken (taken ++ take count piece) first v → Told protected (beginning settings n disk) first r disk_now written → v.limit ≡ limit settings
+    → Fits settings → HasTaken (taken ++ take count piece) first v → Told protected (beginning settings n disk) first r disk_now written
+    → v.limit ≡ limit settings
     → is_ready v
     ≡ false
     → ((k : ℕ) → r.rule ≡ Some k → is_closed r.machine ≡ true) → (result ≡ Err faults.NoMemory → ⊥) → Ends piece result v count r new
@@ -536,9 +575,11 @@ ends_fate : (protected : Bool) (settings : Settings) (n : ℕ) (disk : Disk) (ta
 ends_fate protected settings n disk taken piece count first v r new disk_now written (Ok phase) le t told_ bound ready closes memory e =
     elim (ends_go protected settings n disk taken piece count first v r new disk_now written (Ok phase) t told_ bound ready closes memory e) [
       | inl l ↦ inl l
-      | inr o ↦ stopping protected settings n disk taken piece count first v r new disk_now written (omega (arith, le, bound)) t told_ e.1 (sym (ap is_closed e.1) ∙ o.0)
+      | inr o ↦ stopping protected settings n disk taken piece count first v r new disk_now written (omega (arith, le, bound)) t told_ e.1
+          (sym (ap is_closed e.1) ∙ o.0)
     ]
-ends_fate protected settings n disk taken piece count first v r new disk_now written (Err faults.NoMemory) le t told_ bound ready closes memory e = absurd (memory refl)
+ends_fate protected settings n disk taken piece count first v r new disk_now written (Err faults.NoMemory) le t told_ bound ready closes memory e
+    = absurd (memory refl)
 ends_fate protected settings n disk taken piece count first v r new disk_now written (Err (faults.Stream fault)) le t told_ bound ready closes memory e =
     let live : is_closed (answers protected (opening settings n) disk first).machine ≡ false = sym (ap is_closed told_.machine) ∙ e.0.live in
     let now_is : new.machine ≡ closed (answers protected (opening settings n) disk first).machine = e.3 ∙ ap closed told_.machine in
@@ -556,7 +597,8 @@ ends_fate protected settings n disk taken piece count first v r new disk_now wri
 
 next_fate : (protected : Bool) (settings : Settings) (n : ℕ) (disk : Disk) (taken : List ℕ) (old : Connection) (before : Store) (out piece : List ℕ)
     (result : Result Phase TargetFault) (new : Connection) (after : Store) (written : List ℕ)
-    → Fits settings → Fate protected (beginning settings n disk) taken old before.disk out → Fed protected (scene old before out) piece result (scene new after written)
+    → Fits settings → Fate protected (beginning settings n disk) taken old before.disk out
+    → Fed protected (scene old before out) piece result (scene new after written)
     → GoesWell result before after
     → Fate protected (beginning settings n disk) (taken ++ piece) new after.disk written
 next_fate protected settings n disk taken old before out piece result new after written le (inl l) fed well =
@@ -592,9 +634,11 @@ not_refused limit rest begun r = let good = begun r.0 in elim r.1 [
       omega (arith, same, good.1.within, long.3))
 ]
 
-live_leads : (protected : Bool) (settings : Settings) (n : ℕ) (disk : Disk) (taken : List ℕ) (now : Connection) (disk_now : Disk) (written : List ℕ) (ms : List Message)
+live_leads : (protected : Bool) (settings : Settings) (n : ℕ) (disk : Disk) (taken : List ℕ) (now : Connection) (disk_now : Disk)
+    (written : List ℕ) (ms : List Message)
     (given rest : List ℕ)
-    → Fits settings → is_closed now.machine ≡ false → Live protected (beginning settings n disk) taken now disk_now written → Splits longest_segment taken ms given rest →
+    → Fits settings → is_closed now.machine ≡ false → Live protected (beginning settings n disk) taken now disk_now written
+    → Splits longest_segment taken ms given rest →
     Leads protected (beginning settings n disk) ms rest now disk_now written
 live_leads protected settings n disk taken now disk_now written ms given rest le open_ live s =
     let h : HasAnswered protected (beginning settings n disk) taken now disk_now written = live.has in
@@ -619,7 +663,8 @@ live_leads protected settings n disk taken now disk_now written ms given rest le
       };
     })
 
-fate_leads : (protected : Bool) (settings : Settings) (n : ℕ) (disk : Disk) (taken : List ℕ) (now : Connection) (disk_now : Disk) (written : List ℕ) (ms : List Message)
+fate_leads : (protected : Bool) (settings : Settings) (n : ℕ) (disk : Disk) (taken : List ℕ) (now : Connection) (disk_now : Disk)
+    (written : List ℕ) (ms : List Message)
     (given rest : List ℕ)
     → Fits settings → Fate protected (beginning settings n disk) taken now disk_now written → Splits longest_segment taken ms given rest →
     Leads protected (beginning settings n disk) ms rest now disk_now written
@@ -628,7 +673,8 @@ fate_leads protected settings n disk taken now disk_now written ms given rest le
 fate_leads protected settings n disk taken now disk_now written ms given rest le (inr o) s =
     o.1.over [] ms given rest (subst (λ (x : List ℕ). Splits longest_segment x ms given rest) (sym (append-nil taken)) s)
 
-fed_fate : (protected : Bool) (settings : Settings) (n : ℕ) (disk : Disk) (taken : List ℕ) (pieces : List (List ℕ)) (old : Connection) (before : Store) (out : List ℕ)
+fed_fate : (protected : Bool) (settings : Settings) (n : ℕ) (disk : Disk) (taken : List ℕ) (pieces : List (List ℕ)) (old : Connection)
+    (before : Store) (out : List ℕ)
     (new : Connection) (after : Store) (written : List ℕ)
     (ms : List Message) (given rest : List ℕ) → Fits settings
     → Fate protected (beginning settings n disk) taken old before.disk out → FedAll protected (scene old before out) pieces (scene new after written) →
@@ -646,7 +692,8 @@ fed_fate protected settings n disk taken (piece ∷ pieces) old before out new a
     (next_fate protected settings n disk taken old before out piece f.0 f.1 f.2 f.3 le e f.4 f.5) f.6
     (subst (λ (x : List ℕ). Splits longest_segment x ms given rest) (sym (append_assoc taken piece (flat_map (λ x. x) pieces))) p)
 
-fed_leads : (protected : Bool) (settings : Settings) (n : ℕ) (store : Store) (pieces : List (List ℕ)) (new : Connection) (after : Store) (written : List ℕ) (ms : List Message)
+fed_leads : (protected : Bool) (settings : Settings) (n : ℕ) (store : Store) (pieces : List (List ℕ)) (new : Connection) (after : Store)
+    (written : List ℕ) (ms : List Message)
     (given rest : List ℕ)
     → Fits settings → FedAll protected (scene (opening_connection settings n) store []) pieces (scene new after written)
     → Splits longest_segment (flat_map (λ x. x) pieces) ms given rest
@@ -656,19 +703,23 @@ fed_leads protected settings n store pieces new after written ms given rest le f
     (inl (refl, opening_live protected settings n store.disk)) f s
 
 -- any stream that was fed in pieces
-pub fed_any : (protected : Bool) (settings : Settings) (n : ℕ) (store : Store) (pieces : List (List ℕ)) (new : Connection) (after : Store) (written : List ℕ) (ms : List Message)
+pub fed_any : (protected : Bool) (settings : Settings) (n : ℕ) (store : Store) (pieces : List (List ℕ)) (new : Connection) (after : Store)
+    (written : List ℕ) (ms : List Message)
     (given rest : List ℕ)
     → Fits settings → FedAll protected (scene (opening_connection settings n) store []) pieces (scene new after written)
     → Splits longest_segment (flat_map (λ x. x) pieces) ms given rest
     → Writes protected (beginning settings n store.disk) ms after.disk written
-fed_any protected settings n store pieces new after written ms given rest le f s = (fed_leads protected settings n store pieces new after written ms given rest le f s).writes
+fed_any protected settings n store pieces new after written ms given rest le f s
+    = (fed_leads protected settings n store pieces new after written ms given rest le f s).writes
 
-pub fed_holds : (protected : Bool) (settings : Settings) (n : ℕ) (store : Store) (pieces : List (List ℕ)) (new : Connection) (after : Store) (written : List ℕ) (ms : List Message)
+pub fed_holds : (protected : Bool) (settings : Settings) (n : ℕ) (store : Store) (pieces : List (List ℕ)) (new : Connection) (after : Store)
+    (written : List ℕ) (ms : List Message)
     (given rest : List ℕ)
     → Fits settings → FedAll protected (scene (opening_connection settings n) store []) pieces (scene new after written)
     → Splits longest_segment (flat_map (λ x. x) pieces) ms given rest
     → Holds protected (beginning settings n store.disk) ms rest new.machine
-fed_holds protected settings n store pieces new after written ms given rest le f s = (fed_leads protected settings n store pieces new after written ms given rest le f s).holds
+fed_holds protected settings n store pieces new after written ms given rest le f s
+    = (fed_leads protected settings n store pieces new after written ms given rest le f s).holds
 
 -- ---- in any two cuts
 
@@ -700,7 +751,8 @@ pub same_session : (protected : Bool) (settings : Settings) (n : ℕ) (disk : Di
     → Holds protected (beginning settings n disk) ms rest a → Holds protected (beginning settings n disk) ms other b → SameSession a b
 same_session protected settings n disk ms rest other a b refused x y =
     let same = same_values protected settings n disk ms rest other a b x y in
-    let goes_on : is_closed a ≡ false → b ≡ a = λ live. y.goes_on (both_live protected settings n disk ms rest other a b refused.1 x y live) ∙ sym (x.goes_on live) in
+    let goes_on : is_closed a ≡ false → b ≡ a = λ live. y.goes_on (both_live protected settings n disk ms rest other a b refused.1 x y live)
+    ∙ sym (x.goes_on live) in
     record {
       held = same.0;
       stage = same.1;

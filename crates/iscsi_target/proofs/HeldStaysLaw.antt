@@ -19,14 +19,14 @@ use Rattle.iscsi_login.specs.declared.stage.Stage.TheVariants as stages
 use Rattle.iscsi_target_session.specs.Configured.{Settings}
 use Rattle.iscsi_target_session.specs.Session.{Session, Reply}
 use Rattle.iscsi_target_session.specs.declared.status.Status.{Status}
-use Rattle.iscsi_target_session.specs.LoginText.{text_refusals}
 use Rattle.iscsi_target_session.specs.Login.{stage_named, is_same_stage, is_due_stage, stage_after, phase_at, entered, numbered, request_refusals}
-use Rattle.iscsi_target_session.specs.Login.{refuse_or, gather, whole_text, text_answered, text_ending, segment_taken, login_request, login_in}
+use Rattle.iscsi_target_session.specs.Login.{refuse_or, allowed_move, gather, whole_text, text_ending, segment_taken, login_request, login_in}
 use Rattle.iscsi_target.specs.State.{Machine, Stepped, opening}
 use Rattle.iscsi_target.specs.Execution.{reliable}
 use Rattle.iscsi_login.specs.Stage.{is_closed_phase}
 use Rattle.iscsi_target.specs.Machine.{step, answers, is_closed, is_over_limit, phase_step}
 use Rattle.iscsi_target_session.proofs.CaseLemmas.{by_cases}
+use Rattle.iscsi_target_session.proofs.ExchangeLemmas.{text_cases}
 use Rattle.iscsi_target.proofs.AppendLemmas.{answers_append}
 use Rattle.iscsi_target.proofs.KeepingLemmas.{IsLater, Stays, step_stays}
 
@@ -50,8 +50,11 @@ refused_goes s r None reply g = g refl
 refused_goes s r (Some why) reply g = λ e. absurd cc
 
 whole_goes : (s : Session) (r : Request) (text : Option Pairs) → Goes (whole_text s r text).session
-whole_goes s r None = λ e. absurd cc
-whole_goes s r (Some pairs) = refused_goes s r (first_of (text_refusals s pairs)) (text_answered s r pairs) (λ _. at_phase (stage_after s r))
+whole_goes s r text = text_cases (λ x. Goes x.session) s r text (record {
+  refused = λ why reason e. absurd cc;
+  plain = λ pairs is open_ none. at_phase (stage_after s r);
+  exchange = λ c p said pairs is demanded none verdict short. at_phase (stage_after s (allowed_move p r));
+})
 
 gather_goes : (s : Session) (r : Request) (segment : Segment) (more : Bool) → (IsLast s.stage → ⊥)
     → Goes (if more then gather s r (segment_bytes segment) else whole_text (record s { gathered = [] }) r (text_ending s.gathered segment)).session
@@ -122,16 +125,25 @@ step_goes protected s disk m g = by_phase s.session.phase refl
 answers_go : (protected : Bool) (s : Machine) (disk : Disk) (ms : List Message) → Goes s.session → Goes (answers protected s disk ms).machine.session
 unfolding answers
 answers_go protected s disk [] g = g
-answers_go protected s disk (m ∷ ms) g = answers_go protected (step protected s disk m).machine (step protected s disk m).disk ms (step_goes protected s disk m g)
+answers_go protected s disk (m ∷ ms) g = answers_go protected (step protected s disk m).machine (step protected s disk m).disk ms
+    (step_goes protected s disk m g)
 
 answers_stay : (protected : Bool) (s : Machine) (disk : Disk) (ms : List Message) → IsLater s.session.phase → Stays s (answers protected s disk ms).machine
 unfolding answers
-answers_stay protected s disk [] later = record { stage = refl; held = refl; has_text = refl; name = refl; later = λ l. l }
+answers_stay protected s disk [] later = record { stage = refl; held = refl; has_text = refl; name = refl; progress = refl; later = λ l. l }
 answers_stay protected s disk (m ∷ ms) later =
     let x : Stays s (step protected s disk m).machine = step_stays (reliable protected) s disk m later in
     let y : Stays (step protected s disk m).machine (answers protected (step protected s disk m).machine (step protected s disk m).disk ms).machine =
     answers_stay protected (step protected s disk m).machine (step protected s disk m).disk ms (x.later later) in
-    record { stage = y.stage ∙ x.stage; held = y.held ∙ x.held; has_text = y.has_text ∙ x.has_text; name = y.name ∙ x.name; later = λ l. y.later (x.later l) }
+    record {
+      stage = y.stage ∙ x.stage;
+      held = y.held ∙ x.held;
+      has_text = y.has_text ∙ x.has_text;
+      name = y.name ∙ x.name;
+      progress = y.progress
+          ∙ x.progress;
+      later = λ l. y.later (x.later l);
+    }
 
 later_of : (s : Session) (p : Phase) → s.phase ≡ p → Goes s → s.stage ≡ stages.Full → IsLater s.phase
 later_of s phases.Login e g f = absurd (g e (subst IsLast (sym f) tt))

@@ -531,7 +531,8 @@ step_joined device s disk m = (step_same device s disk m).is
 -- ---- messages one after another
 
 -- any messages to a session whose pieces are joined
-pub answers_joined : (protected : Bool) (s : Machine) (disk : Disk) (ms : List Message) → joined_stepped (answers protected (joined s) disk ms) ≡ joined_stepped (answers protected s disk ms)
+pub answers_joined : (protected : Bool) (s : Machine) (disk : Disk) (ms : List Message)
+    → joined_stepped (answers protected (joined s) disk ms) ≡ joined_stepped (answers protected s disk ms)
 unfolding answers
 answers_joined protected s disk [] = ap (λ (ts : List Task). unchanged (record s { tasks = ts }) disk) (joined_twice s.tasks)
 answers_joined protected s disk (m ∷ ms) =

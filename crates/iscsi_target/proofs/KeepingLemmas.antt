@@ -24,8 +24,7 @@ use Rattle.iscsi_target.specs.State.{breaks}
 use Rattle.scsi_disk.specs.Plan.{first_of}
 use Rattle.iscsi_pdu.specs.Fields.{reserved_tag}
 use Rattle.iscsi_target_session.specs.declared.status.Status.{Status}
-use Rattle.iscsi_target_session.specs.LoginText.{text_refusals}
-use Rattle.iscsi_target_session.specs.Login.{login_in, login_request, refuse_or, segment_taken, whole_text, text_answered, text_ending, gather, numbered}
+use Rattle.iscsi_target_session.specs.Login.{login_in, login_request, refuse_or, segment_taken, whole_text, text_ending, gather, numbered}
 use Rattle.iscsi_target_session.specs.Login.{entered, request_refusals}
 use Rattle.iscsi_target.specs.Execution.{Device, device_after}
 use Rattle.iscsi_target.specs.Command.{breaks_rules}
@@ -39,6 +38,7 @@ use Rattle.iscsi_target.specs.Machine.{having_accepted, data_taken, data_for, wr
 use Rattle.iscsi_target.specs.Machine.{is_too_long, full_met}
 use Rattle.iscsi_target_session.specs.Requests.{request_answered}
 use Rattle.iscsi_target_session.proofs.CaseLemmas.{by_cases}
+use Rattle.iscsi_target_session.proofs.ExchangeLemmas.{text_cases}
 use Rattle.iscsi_target.proofs.TurnLemmas.{Begins, begins, Turns, turns, with_tasks}
 use Rattle.iscsi_target.proofs.StepPartLemmas.{Accepts, Immediately, InTurn, Parts, step_parts}
 
@@ -48,8 +48,8 @@ refused_keeps s r None reply e = e
 refused_keeps s r (Some why) reply e = refl
 
 whole_keeps : (s : Session) (r : Request) (text : Option Pairs) → (whole_text s r text).session.settings ≡ s.settings
-whole_keeps s r None = refl
-whole_keeps s r (Some pairs) = refused_keeps s r (first_of (text_refusals s pairs)) (text_answered s r pairs) refl
+whole_keeps s r text = text_cases (λ x. x.session.settings ≡ s.settings) s r text
+    (record { refused = λ why reason. refl; plain = λ pairs is open_ none. refl; exchange = λ c p said pairs is demanded none verdict short. refl })
 
 gather_keeps : (s : Session) (r : Request) (segment : Segment) (more : Bool)
     → (if more then gather s r (segment_bytes segment) else whole_text (record s { gathered = [] }) r (text_ending s.gathered segment)).session.settings
@@ -78,12 +78,13 @@ abbrev pub IsLater : Phase → Type 0
 IsLater phases.Login = ⊥
 IsLater _ = Unit {0}
 
--- what is held stays, and so do the stage and who logged in
+-- what is held stays, and so do the stage, who logged in and how far CHAP has come
 pub record Stays (s n : Machine) : Type 0 where
   pub stage : n.session.stage ≡ s.session.stage
   pub held : n.session.held ≡ s.session.held
   pub has_text : n.session.has_text ≡ s.session.has_text
   pub name : n.session.initiator_name ≡ s.session.initiator_name
+  pub progress : n.session.progress ≡ s.session.progress
   pub later : IsLater s.session.phase → IsLater n.session.phase
 
 -- the settings stay, and behind the login what is held
@@ -95,7 +96,7 @@ record Keeps (s : Machine) (r : Stepped) : Type 0 where
   is : Kept s r.machine
 
 same : (s : Machine) → Kept s s
-same s = record { settings = refl; stays = λ l. record { stage = refl; held = refl; has_text = refl; name = refl; later = λ l. l } }
+same s = record { settings = refl; stays = λ l. record { stage = refl; held = refl; has_text = refl; name = refl; progress = refl; later = λ l. l } }
 
 -- the same of a session
 record StaysSession (s n : Session) : Type 0 where
@@ -103,6 +104,7 @@ record StaysSession (s n : Session) : Type 0 where
   held : n.held ≡ s.held
   has_text : n.has_text ≡ s.has_text
   name : n.initiator_name ≡ s.initiator_name
+  progress : n.progress ≡ s.progress
   later : IsLater s.phase → IsLater n.phase
 
 record KeptSession (s n : Session) : Type 0 where
@@ -110,13 +112,13 @@ record KeptSession (s n : Session) : Type 0 where
   stays : IsLater s.phase → StaysSession s n
 
 same_session : (s : Session) → KeptSession s s
-same_session s = record { settings = refl; stays = λ l. record { stage = refl; held = refl; has_text = refl; name = refl; later = λ l. l } }
+same_session s = record { settings = refl; stays = λ l. record { stage = refl; held = refl; has_text = refl; name = refl; progress = refl; later = λ l. l } }
 
 counts : (s : Session) → KeptSession s (counted s)
-counts s = record { settings = refl; stays = λ l. record { stage = refl; held = refl; has_text = refl; name = refl; later = λ l. l } }
+counts s = record { settings = refl; stays = λ l. record { stage = refl; held = refl; has_text = refl; name = refl; progress = refl; later = λ l. l } }
 
 ends : (s : Session) → KeptSession s (ended (counted s))
-ends s = record { settings = refl; stays = λ l. record { stage = refl; held = refl; has_text = refl; name = refl; later = λ l. tt } }
+ends s = record { settings = refl; stays = λ l. record { stage = refl; held = refl; has_text = refl; name = refl; progress = refl; later = λ l. tt } }
 
 -- what a session keeps, the target keeps
 reply_keeps : (s : Machine) (disk : Disk) (r : Reply) → KeptSession s.session r.session → Keeps s (on disk s.tasks r)
@@ -124,7 +126,7 @@ reply_keeps s disk r k = record {
   is = record {
     settings = k.settings;
     stays = λ l. (let x = k.stays l in
-        record { stage = x.stage; held = x.held; has_text = x.has_text; name = x.name; later = x.later });
+        record { stage = x.stage; held = x.held; has_text = x.has_text; name = x.name; progress = x.progress; later = x.later });
   };
 }
 
@@ -160,10 +162,34 @@ begins_keep : Begins (λ device s disk task r. Keeps s r)
 begins_keep = record {
   request_ = λ device s disk m none. reply_keeps s disk _ (request_keeps_all s.session (waiting s.tasks) m m.head);
   refused_ = λ device s disk m h k broke. reply_keeps s disk _ (ends s.session);
-  command_ = λ device s disk m h k none. record { is = record { settings = refl; stays = λ l. record { stage = refl; held = refl; has_text = refl; name = refl; later = λ l. l } } };
-  write_ = λ device s disk task w is h. record { is = record { settings = refl; stays = λ l. record { stage = refl; held = refl; has_text = refl; name = refl; later = λ l. l } } };
-  send_r2t_ = λ device s disk task w is h g. record { is = record { settings = refl; stays = λ l. record { stage = refl; held = refl; has_text = refl; name = refl; later = λ l. l } } };
-  wait_ = λ device s disk task w is h g. record { is = record { settings = refl; stays = λ l. record { stage = refl; held = refl; has_text = refl; name = refl; later = λ l. l } } };
+  command_ = λ device s disk m h k none. record {
+    is = record {
+      settings = refl;
+      stays = λ l. record
+          { stage = refl; held = refl; has_text = refl; name = refl; progress = refl; later = λ l. l };
+    };
+  };
+  write_ = λ device s disk task w is h. record {
+    is = record {
+      settings = refl;
+      stays = λ l. record
+          { stage = refl; held = refl; has_text = refl; name = refl; progress = refl; later = λ l. l };
+    };
+  };
+  send_r2t_ = λ device s disk task w is h g. record {
+    is = record {
+      settings = refl;
+      stays = λ l. record
+          { stage = refl; held = refl; has_text = refl; name = refl; progress = refl; later = λ l. l };
+    };
+  };
+  wait_ = λ device s disk task w is h g. record {
+    is = record {
+      settings = refl;
+      stays = λ l. record
+          { stage = refl; held = refl; has_text = refl; name = refl; progress = refl; later = λ l. l };
+    };
+  };
 }
 
 begun_keeps : (device : Device) (s : Session) (disk : Disk) (task : Task) (more : List Task) →
@@ -178,7 +204,15 @@ then_keeps s tasks more a b k l = record {
     stays = λ later.
         let x = k.is.stays later in
         let y = l.is.stays (x.later later) in
-        record { stage = y.stage ∙ x.stage; held = y.held ∙ x.held; has_text = y.has_text ∙ x.has_text; name = y.name ∙ x.name; later = λ _. y.later (x.later later) };
+        record {
+          stage = y.stage ∙ x.stage;
+          held = y.held ∙ x.held;
+          has_text = y.has_text ∙ x.has_text;
+          name = y.name ∙ x.name;
+          progress = y.progress
+              ∙ x.progress;
+          later = λ _. y.later (x.later later);
+        };
   };
 }
 
@@ -187,7 +221,7 @@ of_session s a b r k = record {
   is = record {
     settings = k.is.settings;
     stays = λ l. (let x = k.is.stays l in
-        record { stage = x.stage; held = x.held; has_text = x.has_text; name = x.name; later = x.later });
+        record { stage = x.stage; held = x.held; has_text = x.has_text; name = x.name; progress = x.progress; later = x.later });
   };
 }
 
@@ -227,7 +261,15 @@ accepted_keeps s _ m r (Immediately c none) k = record { is = k.is }
 accepted_keeps s _ m r (InTurn n c w is) k = record {
   is = record {
     settings = k.is.settings;
-    stays = λ l. (let x = k.is.stays l in record { stage = x.stage; held = x.held; has_text = x.has_text; name = x.name; later = x.later });
+    stays = λ l. (let x = k.is.stays l in record {
+      stage = x.stage;
+      held = x.held;
+      has_text = x.has_text;
+      name = x.name;
+      progress
+          = x.progress;
+      later = x.later;
+    });
   };
 }
 
@@ -236,7 +278,13 @@ accepted_keeps s _ m r (InTurn n c w is) k = record {
 parts_keep : (device : Device) (disk : Disk) → Parts device disk (λ s m r. Keeps s r)
 parts_keep device disk = record {
   nothing_ = λ s m c. record { is = same s };
-  shut_ = λ s m. record { is = record { settings = refl; stays = λ l. record { stage = refl; held = refl; has_text = refl; name = refl; later = λ l. tt } } };
+  shut_ = λ s m. record {
+    is = record {
+      settings = refl;
+      stays = λ l. record
+          { stage = refl; held = refl; has_text = refl; name = refl; progress = refl; later = λ l. tt };
+    };
+  };
   reject_ = λ s reason m a. reply_keeps s disk _ (counts s.session);
   reject_and_close_ = λ s rule m. reply_keeps s disk _ (ends s.session);
   login_ = λ s m k. record { is = record { settings = login_keeps s.session m.head m.segment; stays = λ l. absurd (never s k l) } };
@@ -258,7 +306,7 @@ admitted_next s t count m k same =
     (λ e. by_cases (breaks_rules t.session.held (length (segment_bytes m.segment)) m.head) (λ f. rw (e, f) tt) (λ f. rw (e, f) (k, same)))
 
 advances : (s : Machine) → KeptSession s.session (advanced s).session
-advances s = record { settings = refl; stays = λ l. record { stage = refl; held = refl; has_text = refl; name = refl; later = λ l. l } }
+advances s = record { settings = refl; stays = λ l. record { stage = refl; held = refl; has_text = refl; name = refl; progress = refl; later = λ l. l } }
 
 request_next : (s : Machine) (count : ℕ) (m : Message) (i : Bool) (cmd_sn : ℕ) → NextKeeps s.session (request s count m i cmd_sn).next
 request_next s count m true cmd_sn = by_cases (is_busy s.tasks) (λ e. rw e tt) (λ e. rw e (admitted_next s.session s count m (same_session s.session) refl))
@@ -314,11 +362,20 @@ pub step_stays : (device : Device) (s : Machine) (disk : Disk) (m : Message) →
 step_stays device s disk m = (step_keeps device s disk m).stays
 
 -- also where memory ran out at one of its tasks
-pub stop_stays : (protected : Bool) (s : Machine) (disk : Disk) (before : ℕ) (m : Message) (r : Stepped) (after : ℕ) → MayStop protected s disk before m r after → Stays s r.machine
+pub stop_stays : (protected : Bool) (s : Machine) (disk : Disk) (before : ℕ) (m : Message) (r : Stepped) (after : ℕ) → MayStop protected s disk before m r after
+    → Stays s r.machine
 stop_stays protected s disk before m r after h =
     let x : KeptSession s.session h.session = (subst (NextKeeps s.session) h.queued (full_next s disk.count m)).0 in
     let y : Keeps (with_tasks h.session []) r = subst (Keeps (with_tasks h.session [])) (sym h.is) (first_keeps h.done h.device h.session disk h.tasks) in
     let l : IsLater s.session.phase = subst IsLater (sym h.full) tt in
     let a = x.stays l in
     let b = y.is.stays (a.later l) in
-    record { stage = b.stage ∙ a.stage; held = b.held ∙ a.held; has_text = b.has_text ∙ a.has_text; name = b.name ∙ a.name; later = λ _. b.later (a.later l) }
+    record {
+      stage = b.stage ∙ a.stage;
+      held = b.held ∙ a.held;
+      has_text = b.has_text ∙ a.has_text;
+      name = b.name ∙ a.name;
+      progress = b.progress
+          ∙ a.progress;
+      later = λ _. b.later (a.later l);
+    }

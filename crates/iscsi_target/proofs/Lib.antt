@@ -46,3 +46,5 @@ pub mod PassedLemmas
 pub mod ReadPartLemmas
 pub mod AlikeLemmas
 pub mod AllowedLaw
+pub mod AccessLaws
+pub mod RefusedLaw

@@ -34,7 +34,8 @@ count_after n (x ∷ numbers) after lt c = count_after (next_sn n) numbers after
 
 -- ---- StatSN and tags
 
-pub answers_stat_sns : (protected : Bool) (s : Machine) (disk : Disk) (ms : List Message) → Count s.session.stat_sn (stat_sns (answers protected s disk ms).answers)
+pub answers_stat_sns : (protected : Bool) (s : Machine) (disk : Disk) (ms : List Message)
+    → Count s.session.stat_sn (stat_sns (answers protected s disk ms).answers)
     (answers protected s disk ms).machine.session.stat_sn
 unfolding answers
 answers_stat_sns protected s disk [] = refl
@@ -46,7 +47,8 @@ answers_stat_sns protected s disk (m ∷ ms) =
     (count_append s.session.stat_sn (stat_sns first.answers) (stat_sns later.answers) first.machine.session.stat_sn later.machine.session.stat_sn
     (step_tells (reliable protected) disk s m).stat_sn (answers_stat_sns protected first.machine first.disk ms))
 
-pub answers_tags : (protected : Bool) (s : Machine) (disk : Disk) (ms : List Message) → response_tags (answers protected s disk ms).answers ≡ tags_done (answers protected s disk ms).executed
+pub answers_tags : (protected : Bool) (s : Machine) (disk : Disk) (ms : List Message)
+    → response_tags (answers protected s disk ms).answers ≡ tags_done (answers protected s disk ms).executed
 unfolding answers
 answers_tags protected s disk [] = refl
 answers_tags protected s disk (m ∷ ms) =
@@ -71,7 +73,8 @@ closed_answers protected s disk (m ∷ ms) e =
 
 -- ---- CmdSN
 
-pub answers_cmd_sns : (protected : Bool) (s : Machine) (disk : Disk) (ms : List Message) → s.session.begun ≡ true → s.session.exp_cmd_sn < 2 ^ 32 → AllByRecursion HasCmdSn ms
+pub answers_cmd_sns : (protected : Bool) (s : Machine) (disk : Disk) (ms : List Message) → s.session.begun ≡ true → s.session.exp_cmd_sn < 2 ^ 32
+    → AllByRecursion HasCmdSn ms
     → CountsTo s.session.exp_cmd_sn (cmd_sns (answers protected s disk ms).accepted) (answers protected s disk ms).machine
 unfolding answers
 answers_cmd_sns protected s disk [] b f all = record { next = s.session.exp_cmd_sn; count = refl; fits = f; live = λ e. (b, refl) }
@@ -105,12 +108,15 @@ step_fit protected s disk m f =
 pub answers_fit : (protected : Bool) (s : Machine) (disk : Disk) (ms : List Message) → IsFit s → IsFit (answers protected s disk ms).machine
 unfolding answers
 answers_fit protected s disk [] f = f
-answers_fit protected s disk (m ∷ ms) f = answers_fit protected (step protected s disk m).machine (step protected s disk m).disk ms (step_fit protected s disk m f)
+answers_fit protected s disk (m ∷ ms) f = answers_fit protected (step protected s disk m).machine (step protected s disk m).disk ms
+    (step_fit protected s disk m f)
 
-pub answers_settings : (protected : Bool) (s : Machine) (disk : Disk) (ms : List Message) → (answers protected s disk ms).machine.session.settings ≡ s.session.settings
+pub answers_settings : (protected : Bool) (s : Machine) (disk : Disk) (ms : List Message)
+    → (answers protected s disk ms).machine.session.settings ≡ s.session.settings
 unfolding answers
 answers_settings protected s disk [] = refl
-answers_settings protected s disk (m ∷ ms) = answers_settings protected (step protected s disk m).machine (step protected s disk m).disk ms ∙ (step_tells (reliable protected) disk s m).settings
+answers_settings protected s disk (m ∷ ms) = answers_settings protected (step protected s disk m).machine (step protected s disk m).disk ms
+    ∙ (step_tells (reliable protected) disk s m).settings
 
 -- ---- from the first login request
 
@@ -126,11 +132,13 @@ opening_login protected settings n disk m e = rw e refl
 abbrev From : Bool → Disk → List Message → ℕ → Stepped → Type 0
 From protected disk ms first r = CountOn first (cmd_sns (then_stepped r (answers protected r.machine r.disk ms)).accepted)
 
-from_closed : (protected : Bool) (disk : Disk) (ms : List Message) (first : ℕ) (s : Machine) → is_closed s ≡ true → CountOn first (cmd_sns (answers protected s disk ms).accepted)
+from_closed : (protected : Bool) (disk : Disk) (ms : List Message) (first : ℕ) (s : Machine) → is_closed s ≡ true
+    → CountOn first (cmd_sns (answers protected s disk ms).accepted)
 from_closed protected disk ms first s e = subst (λ (r : Stepped). CountOn first (cmd_sns r.accepted)) (sym (closed_answers protected s disk ms e))
     (λ k le. absurd (omega (arith, le)))
 
-from_login : (protected : Bool) (s : Machine) (disk : Disk) (ms : List Message) (first : ℕ) → s.session.begun ≡ true → s.session.exp_cmd_sn ≡ first → first < 2 ^ 32 →
+from_login : (protected : Bool) (s : Machine) (disk : Disk) (ms : List Message) (first : ℕ) → s.session.begun ≡ true → s.session.exp_cmd_sn ≡ first
+    → first < 2 ^ 32 →
     AllByRecursion HasCmdSn ms
     → CountOn first (cmd_sns (answers protected s disk ms).accepted)
 from_login protected s disk ms first b e lt all =
@@ -139,7 +147,8 @@ from_login protected s disk ms first b e lt all =
     (answers_cmd_sns protected s disk ms b (subst (λ (n : ℕ). n < 2 ^ 32) (sym e) lt) all) in
     count_on first (cmd_sns (answers protected s disk ms).accepted) c.next lt c.count
 
-from_request : (protected : Bool) (settings : Settings) (n : ℕ) (disk : Disk) (m : Message) (ms : List Message) (h : LoginPdu) (head : Head) → head ≡ LoginRequest h → h.cmd_sn
+from_request : (protected : Bool) (settings : Settings) (n : ℕ) (disk : Disk) (m : Message) (ms : List Message) (h : LoginPdu) (head : Head)
+    → head ≡ LoginRequest h → h.cmd_sn
     < 2 ^ 32
     → AllByRecursion HasCmdSn ms → From protected disk ms h.cmd_sn (on disk [] (login_in (opening_session settings n) head m.segment))
 from_request protected settings n disk m ms h head k lt all =
@@ -147,13 +156,16 @@ from_request protected settings n disk m ms h head k lt all =
     request_reply (opening_session settings n) h m.segment in
     subst (λ (x : Head). From protected disk ms h.cmd_sn (on disk [] (login_in (opening_session settings n) x m.segment))) (sym k)
     (let after : Machine = (on disk [] (login_request (opening_session settings n) h m.segment)).machine in
-    by_cases (is_closed after) (from_closed protected disk ms h.cmd_sn after) (λ e. from_login protected after disk ms h.cmd_sn (c.live e).0 (c.live e).1 lt all))
+    by_cases (is_closed after) (from_closed protected disk ms h.cmd_sn after)
+    (λ e. from_login protected after disk ms h.cmd_sn (c.live e).0 (c.live e).1 lt all))
 
-pub first_numbers : (protected : Bool) (settings : Settings) (n : ℕ) (disk : Disk) (m : Message) (ms : List Message) (h : LoginPdu) → m.head ≡ LoginRequest h → h.cmd_sn < 2 ^ 32
+pub first_numbers : (protected : Bool) (settings : Settings) (n : ℕ) (disk : Disk) (m : Message) (ms : List Message) (h : LoginPdu) → m.head ≡ LoginRequest h
+    → h.cmd_sn < 2 ^ 32
     → AllByRecursion HasCmdSn ms → CountOn h.cmd_sn (cmd_sns (answers protected (opening settings n) disk (m ∷ ms)).accepted)
 unfolding answers
 first_numbers protected settings n disk m ms h k lt all =
     by_cases (is_over_limit (opening settings n) m.segment)
     (λ e. subst (From protected disk ms h.cmd_sn) (sym (opening_over protected settings n disk m e))
     (from_closed protected disk ms h.cmd_sn (shut_down (opening settings n) disk).machine refl))
-    (λ e. subst (From protected disk ms h.cmd_sn) (sym (opening_login protected settings n disk m e)) (from_request protected settings n disk m ms h m.head k lt all))
+    (λ e. subst (From protected disk ms h.cmd_sn) (sym (opening_login protected settings n disk m e))
+    (from_request protected settings n disk m ms h m.head k lt all))

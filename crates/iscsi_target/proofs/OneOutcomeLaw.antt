@@ -63,7 +63,8 @@ leaves r = record {
 }
 
 -- the end of a call, by what it answers
-ended : (protected : Bool) (s : List ℕ) (ms : List Message) (old : Connection) (before : Store) (output piece : List ℕ) (result : Result Phase TargetFault) (new : Connection)
+ended : (protected : Bool) (s : List ℕ) (ms : List Message) (old : Connection) (before : Store) (output piece : List ℕ)
+    (result : Result Phase TargetFault) (new : Connection)
     (after : Store) (written : List ℕ)
     (f : Feeds protected (scene old before output) piece result (scene new after written)) (h : HasTaken s ms f.framing)
     → GoesWell result before after → Ends piece result f.framing f.count f.stepped new
@@ -81,7 +82,8 @@ ended protected s ms old before output piece (Err (faults.Stream fault)) new aft
     Breaks fault e.0.live refl e.3 (framer_refuses s ms f.framing (drop f.count piece) fault h e.1 e.2)
 ended protected s ms old before output piece (Err (faults.Protocol rule)) new after written f h well e =
     let is : f.stepped ≡ answers protected old.machine before.disk f.messages = f.answered.works well.device in
-    Over (ap (λ (r : Stepped). is_closed r.machine) is ∙ answers_close protected old.machine before.disk f.messages rule (ap (λ (r : Stepped). r.rule) (sym is) ∙ e.0))
+    Over (ap (λ (r : Stepped). is_closed r.machine) is ∙ answers_close protected old.machine before.disk f.messages rule
+    (ap (λ (r : Stepped). r.rule) (sym is) ∙ e.0))
     (answered_rule f.stepped rule e.0) e.1
 ended protected s ms old before output piece (Err faults.Closed) new after written f h well e = absurd e
 
@@ -107,7 +109,8 @@ record Run (protected : Bool) (stream : List ℕ) (ms : List Message) (old : Con
   output_is : end_.written ≡ output ++ canon (answers protected old.machine disk messages).answers
   ended : Ended (leaves (answers protected old.machine disk messages)) sight end_.result end_.connection.machine end_.connection.framing
 
-run_of : (protected : Bool) (stream : List ℕ) (ms : List Message) (old : Connection) (before : Store) (output piece : List ℕ) (result : Result Phase TargetFault)
+run_of : (protected : Bool) (stream : List ℕ) (ms : List Message) (old : Connection) (before : Store) (output piece : List ℕ)
+    (result : Result Phase TargetFault)
     (new : Connection) (after : Store) (written : List ℕ)
     → HasTaken stream ms old.framing → Feeds protected (scene old before output) piece result (scene new after written) → GoesWell result before after
     → Run protected (stream ++ piece) ms old before.disk output (call_end result new after.disk written)
@@ -134,16 +137,19 @@ run_of protected stream ms old before output piece result new after written t f 
       ended = e;
     }
 
-run_alike : (protected : Bool) (stream : List ℕ) (ms : List Message) (old : Connection) (disk : Disk) (output : List ℕ) (result other : Result Phase TargetFault)
+run_alike : (protected : Bool) (stream : List ℕ) (ms : List Message) (old : Connection) (disk : Disk) (output : List ℕ)
+    (result other : Result Phase TargetFault)
     (new now : Connection) (first second : Store) (written rewritten : List ℕ)
-    → Run protected stream ms old disk output (call_end result new first.disk written) → Run protected stream ms old disk output (call_end other now second.disk rewritten) →
+    → Run protected stream ms old disk output (call_end result new first.disk written)
+    → Run protected stream ms old disk output (call_end other now second.disk rewritten) →
     FedAlike result other (scene new first written) (scene now second rewritten)
 unfolding receiver
 run_alike protected stream ms old disk output result other new now first second written rewritten a b =
     let h : ReceiveAlike (receiver protected old.machine disk) a.messages b.messages a.sight b.sight =
     receive_alike (receiver protected old.machine disk) old.framing.limit stream ms a.messages b.messages a.sight b.sight a.receives b.receives in
     let e : EndAlike is_closed (call result new.machine new.framing) (call other now.machine now.framing) =
-    end_alike (leaves (answers protected old.machine disk a.messages)) a.sight b.sight result other new.machine now.machine new.framing now.framing h.sight a.ended
+    end_alike (leaves (answers protected old.machine disk a.messages)) a.sight b.sight result other new.machine now.machine new.framing
+    now.framing h.sight a.ended
     (subst (λ (r : Stepped). Ended (leaves r) b.sight other now.machine now.framing) h.same b.ended) in
     record {
       answered = e.answered;
@@ -179,7 +185,8 @@ by_state protected false stream ms old same before store output piece result oth
     (subst (λ (d : Disk). Run protected (stream ++ piece) ms old d output (call_end other b second.disk rewritten)) disk
     (subst (λ (x : Connection). Run protected (stream ++ piece) ms x store.disk output (call_end other b second.disk rewritten)) is r))
 
-pub one_outcome : (protected : Bool) (stream piece output written rewritten : List ℕ) (ms : List Message) (old same a b : Connection) (before store first second : Store)
+pub one_outcome : (protected : Bool) (stream piece output written rewritten : List ℕ) (ms : List Message) (old same a b : Connection)
+    (before store first second : Store)
     (result other : Result Phase TargetFault)
     → (is_closed old.machine ≡ false → HasTaken stream ms old.framing) → Alike old same → store.disk ≡ before.disk
     → Fed protected (scene old before output) piece result (scene a first written) → GoesWell result before first
@@ -187,5 +194,6 @@ pub one_outcome : (protected : Bool) (stream piece output written rewritten : Li
     GoesWell other store second
     → FedAlike result other (scene a first written) (scene b second rewritten)
 one_outcome protected stream piece output written rewritten ms old same a b before store first second result other t like disk f well g well' =
-    by_state protected (is_closed old.machine) stream ms old same before store output piece result other a b first second written rewritten refl t like disk f well
+    by_state protected (is_closed old.machine) stream ms old same before store output piece result other a b first second written rewritten
+    refl t like disk f well
     (subst (λ (x : Bool). FedIf protected x (scene same store output) piece other (scene b second rewritten)) (ap is_closed like.machine) g) well'

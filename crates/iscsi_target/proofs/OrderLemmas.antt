@@ -53,7 +53,8 @@ guarded_none true (Give n) disk order e = e
 guarded_none true (Take n) disk order e = refl
 guarded_none false plan disk order e = e
 
-pub write_gives_none : (protected : Bool) (fb fa : ℕ) (disk : Disk) (order : Order) (bytes : List ℕ) (after : Effect) → Executes protected fb fa disk order bytes after → is_write order.cdb
+pub write_gives_none : (protected : Bool) (fb fa : ℕ) (disk : Disk) (order : Order) (bytes : List ℕ) (after : Effect)
+    → Executes protected fb fa disk order bytes after → is_write order.cdb
     ≡ true → after.outcome.bytes ≡ []
 write_gives_none protected fb fa disk order bytes after x e =
     elim (cases_lt fb fa) [
@@ -75,13 +76,15 @@ fails_keeps (Refuse sense) disk order bytes after no_take f = absurd f
 fails_keeps (Take n) disk order bytes after no_take f = absurd (no_take n refl)
 fails_keeps (Give n) disk order bytes after no_take f = f.2
 
-pub order_keeps : (protected : Bool) (fb fa : ℕ) (disk : Disk) (order : Order) (bytes : List ℕ) (after : Effect) → Executes protected fb fa disk order bytes after
+pub order_keeps : (protected : Bool) (fb fa : ℕ) (disk : Disk) (order : Order) (bytes : List ℕ) (after : Effect)
+    → Executes protected fb fa disk order bytes after
     → ((n : ℕ) → plan_of order disk.count ≡ Take n → ⊥) → after.disk ≡ disk
 order_keeps protected fb fa disk order bytes after x no_take =
     let none = takes_none protected (plan_of order disk.count) no_take in
     elim (cases_lt fb fa) [
       | inl lt ↦ fails_keeps (guarded protected (plan_of order disk.count)) disk order bytes after none (x.fails lt)
-      | inr ge ↦ ap (λ (a : Effect). a.disk) (x.works (omega (arith, ge, x.rises))) ∙ disk_kept (guarded protected (plan_of order disk.count)) disk order bytes none
+      | inr ge ↦ ap (λ (a : Effect). a.disk) (x.works (omega (arith, ge, x.rises)))
+          ∙ disk_kept (guarded protected (plan_of order disk.count)) disk order bytes none
     ]
 
 -- ---- no more bytes than are expected
@@ -142,7 +145,8 @@ guarded_most true (Give k) disk order n e = e
 guarded_most true (Take k) disk order n e = e
 guarded_most false plan disk order n e = e
 
-pub given_most : (protected : Bool) (fb fa : ℕ) (disk : Disk) (order : Order) (bytes : List ℕ) (after : Effect) → Executes protected fb fa disk order bytes after →
+pub given_most : (protected : Bool) (fb fa : ℕ) (disk : Disk) (order : Order) (bytes : List ℕ) (after : Effect)
+    → Executes protected fb fa disk order bytes after →
     length after.outcome.bytes ≤ order.expected
 given_most protected fb fa disk order bytes after x =
     elim (cases_lt fb fa) [

@@ -60,9 +60,11 @@ queued_settings : (s : Machine) (disk : Disk) (m : Message) (session : Session) 
     → session.settings ≡ s.session.settings
 queued_settings s disk m session tasks live within full is =
     sym (done_settings (reliable false) session disk tasks) ∙ ap (λ (x : Next). (followed (reliable false) s disk x).machine.session.settings) is
-    ∙ ap (λ (x : Stepped). x.machine.session.settings) (sym (live_step (reliable false) s disk m Full live within full)) ∙ step_settings (reliable false) s disk m
+    ∙ ap (λ (x : Stepped). x.machine.session.settings) (sym (live_step (reliable false) s disk m Full live within full))
+    ∙ step_settings (reliable false) s disk m
 
-next_settings : (protected : Bool) (m : Message) (next : Next) (old new : Moment) → is_closed old.machine ≡ false → is_over_limit old.machine m.segment ≡ false →
+next_settings : (protected : Bool) (m : Message) (next : Next) (old new : Moment) → is_closed old.machine ≡ false
+    → is_over_limit old.machine m.segment ≡ false →
     old.machine.session.phase ≡ Full
     → next ≡ (full_met old.machine old.store.disk.count m).next → Halts protected next old new → new.machine.session.settings ≡ old.machine.session.settings
 next_settings protected m Dropped old new live within full is h = ap (λ (x : Machine). x.session.settings) h.machine
@@ -71,7 +73,9 @@ next_settings protected m (Queued session tasks) old new live within full is h =
     ap (λ (x : Machine). x.session.settings) h.machine ∙ first_settings h.done h.device session old.store.disk tasks
     ∙ queued_settings old.machine old.store.disk m session tasks live within full is
 
-pub halts_settings : (protected : Bool) (m : Message) (old new : Moment) → is_closed old.machine ≡ false → is_over_limit old.machine m.segment ≡ false → HaltsAt protected m old new →
+pub halts_settings : (protected : Bool) (m : Message) (old new : Moment) → is_closed old.machine ≡ false → is_over_limit old.machine m.segment ≡ false
+    → HaltsAt protected m old new →
     new.machine.session.settings ≡ old.machine.session.settings
 halts_settings protected m old new live within (inl h) = ap (λ (x : Machine). x.session.settings) h.machine
-halts_settings protected m old new live within (inr h) = next_settings protected m (full_met old.machine old.store.disk.count m).next old new live within h.0 refl h.1
+halts_settings protected m old new live within (inr h) = next_settings protected m (full_met old.machine old.store.disk.count m).next old new
+    live within h.0 refl h.1

@@ -64,7 +64,8 @@ record LedAlike (protected : Bool) (t : Machine) (disk : Disk) (before : ℕ) (m
   may : MayAnswer protected t disk before ms led after
   same : joined_stepped r ≡ joined_stepped led
 
-led_alike : (protected : Bool) (s t : Machine) (disk : Disk) (before after : ℕ) (ms : List Message) (r : Stepped) → joined s ≡ joined t → MayAnswer protected s disk before ms r after →
+led_alike : (protected : Bool) (s t : Machine) (disk : Disk) (before after : ℕ) (ms : List Message) (r : Stepped) → joined s ≡ joined t
+    → MayAnswer protected s disk before ms r after →
     LedAlike protected t disk before ms r after
 unfolding MayAnswer
 led_alike protected s t disk before after [] r e h = record {
@@ -105,7 +106,8 @@ later_led protected old mid before store front ms r after a may =
     led_alike protected mid.machine a.led.machine a.led.disk store.failures after ms r a.machine
     (subst (λ (d : Disk). MayAnswer protected mid.machine d store.failures ms r after) a.disk_is may)
 
-pub advances_then : (protected : Bool) (old mid new : Connection) (before store after : Store) (x y : List ℕ) → Advances protected old before x mid store → Advances protected mid store y new after →
+pub advances_then : (protected : Bool) (old mid new : Connection) (before store after : Store) (x y : List ℕ) → Advances protected old before x mid store
+    → Advances protected mid store y new after →
     Advances protected old before (x ++ y) new after
 advances_then protected old mid new before store after x y a b =
     let later : LedAlike protected a.led.machine a.led.disk store.failures b.messages b.led after.failures =
@@ -162,7 +164,8 @@ passed_later protected old before piece most last n c rises p = record {
 }
 
 -- of bytes behind others
-passed_behind : (protected : Bool) (old mid : Connection) (before store : Store) (front rest : List ℕ) (most n : ℕ) (c : List ℕ) → Advances protected old before front mid store →
+passed_behind : (protected : Bool) (old mid : Connection) (before store : Store) (front rest : List ℕ) (most n : ℕ) (c : List ℕ)
+    → Advances protected old before front mid store →
     IsPassed protected mid store rest most n c → IsPassed protected old before (front ++ rest) most n c
 passed_behind protected old mid before store front rest most n c a p =
     let later : LedAlike protected a.led.machine a.led.disk store.failures p.messages p.led p.failures =
@@ -187,11 +190,13 @@ passed_behind protected old mid before store front rest most n c a p =
 
 -- ---- what a crash leaves
 
-pub crashes_none : (protected : Bool) (old : Connection) (before : Store) (piece : List ℕ) (kept : ℕ → List ℕ → Type 0) → CrashesFed protected old before piece before kept kept
+pub crashes_none : (protected : Bool) (old : Connection) (before : Store) (piece : List ℕ) (kept : ℕ → List ℕ → Type 0)
+    → CrashesFed protected old before piece before kept kept
 crashes_none protected old before piece kept = record { count = refl; adds = λ n c h. inl h }
 
 -- behind one PDU at most
-pub crashes_next : (protected : Bool) (old : Connection) (before after : Store) (piece : List ℕ) (kept new : ℕ → List ℕ → Type 0) → before.failures ≤ after.failures →
+pub crashes_next : (protected : Bool) (old : Connection) (before after : Store) (piece : List ℕ) (kept new : ℕ → List ℕ → Type 0)
+    → before.failures ≤ after.failures →
     CrashesNext protected old piece before.disk after.disk kept new → CrashesFed protected old before piece after kept new
 unfolding MayAnswer
 crashes_next protected old before after piece kept new rises (inl h) = record {
@@ -258,7 +263,8 @@ fed_advances protected old before output piece rest now after written f = record
   disk_is = f.disk;
 }
 
-ready_rises : (protected : Bool) (old : Connection) (before : Store) (output : List ℕ) (broken : Option ℕ) (new : Connection) (after : Store) (written : List ℕ) →
+ready_rises : (protected : Bool) (old : Connection) (before : Store) (output : List ℕ) (broken : Option ℕ) (new : Connection)
+    (after : Store) (written : List ℕ) →
     AnswersReady protected (scene old before output) broken (scene new after written) → before.failures ≤ after.failures
 ready_rises protected old before output broken new after written (inl u) = omega (arith, ap (λ (s : Store). s.failures) u.store_is)
 ready_rises protected old before output broken new after written (inr a) = a.serves.rises
@@ -278,27 +284,32 @@ halts_rise protected m old new (inr h) = halt_rises protected (full_met old.mach
 -- the PDU that the next bytes complete was answered
 pub crashes_on : (protected : Bool) (old : Connection) (before : Store) (output piece rest : List ℕ) (now : Connection) (mid : Store) (written : List ℕ) (n : ℕ)
     (broken : Option ℕ) (new : Connection) (after : Store) (more : List ℕ) (kept was left : ℕ → List ℕ → Type 0)
-    → GoesUpTo protected (scene old before output) piece rest (scene now mid written) → TakesOne protected (scene now mid written) rest n broken (scene new after more) →
+    → GoesUpTo protected (scene old before output) piece rest (scene now mid written)
+    → TakesOne protected (scene now mid written) rest n broken (scene new after more) →
     CrashesFed protected old before piece mid kept was → CrashesNext protected now rest mid.disk after.disk was left
     → CrashesFed protected old before piece after kept left
 crashes_on protected old before output piece rest now mid written n broken new after more kept was left g t up one =
     let rises : mid.failures ≤ after.failures =
     ready_rises protected (connection now.machine t.framing) mid written broken new after more t.answers in
-    crashes_then protected old now before mid after piece g.fed.front rest kept was left g.fed.parts (fed_advances protected old before output piece rest now mid written g.fed)
+    crashes_then protected old now before mid after piece g.fed.front rest kept was left g.fed.parts
+    (fed_advances protected old before output piece rest now mid written g.fed)
     rises up (crashes_next protected now mid after rest was left rises one)
 
 -- it could not be taken, or not be answered
 pub crashes_failed : (protected : Bool) (old : Connection) (before : Store) (output piece rest : List ℕ) (now : Connection) (mid : Store) (written : List ℕ)
     (fault : TargetFault) (new : Connection) (after : Store) (more : List ℕ) (kept was left : ℕ → List ℕ → Type 0)
-    → GoesUpTo protected (scene old before output) piece rest (scene now mid written) → FailsOne protected (scene now mid written) rest fault (scene new after more) →
+    → GoesUpTo protected (scene old before output) piece rest (scene now mid written)
+    → FailsOne protected (scene now mid written) rest fault (scene new after more) →
     CrashesFed protected old before piece mid kept was → CrashesNext protected now rest mid.disk after.disk was left
     → CrashesFed protected old before piece after kept left
 crashes_failed protected old before output piece rest now mid written fault new after more kept was left g fails up one =
     let rises : mid.failures ≤ after.failures = elim fails [
       | inl r ↦ omega (arith, ap (λ (s : Store). s.failures) r.store_is)
-      | inr r ↦ halts_rise protected (message_of r.framing r.shuts.head r.shuts.segment) (moment now.machine mid written) (moment new.machine after more) r.shuts.halts
+      | inr r ↦ halts_rise protected (message_of r.framing r.shuts.head r.shuts.segment) (moment now.machine mid written)
+          (moment new.machine after more) r.shuts.halts
     ] in
-    crashes_then protected old now before mid after piece g.fed.front rest kept was left g.fed.parts (fed_advances protected old before output piece rest now mid written g.fed)
+    crashes_then protected old now before mid after piece g.fed.front rest kept was left g.fed.parts
+    (fed_advances protected old before output piece rest now mid written g.fed)
     rises up (crashes_next protected now mid after rest was left rises one)
 
 -- ---- a call that goes on
@@ -307,7 +318,8 @@ joined_once : (s : Machine) → joined (joined s) ≡ joined s
 joined_once s = ap (λ (ts : List Task). (let m : Machine = record { session = s.session; tasks = ts } in m)) (joined_twice s.tasks)
 
 -- the session goes on behind a call of feed, which took the whole piece
-pub feeds_advance : (protected : Bool) (old : Connection) (before : Store) (output piece : List ℕ) (phase : Phase) (new : Connection) (after : Store) (written : List ℕ) →
+pub feeds_advance : (protected : Bool) (old : Connection) (before : Store) (output piece : List ℕ) (phase : Phase) (new : Connection)
+    (after : Store) (written : List ℕ) →
     Feeds protected (scene old before output) piece (Ok phase) (scene new after written)
     → is_closed new.machine ≡ false → Advances protected old before piece new after
 feeds_advance protected old before output piece phase new after written f live = elim f.ends.3 [

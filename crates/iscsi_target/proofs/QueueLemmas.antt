@@ -344,7 +344,8 @@ pub record AtPdus (ms : List Message) (r : Stepped) : Type 0 where
   pub keeps : AreFew r.machine.tasks
   pub each : length r.executed ≤ 9 * length ms
 
-pub may_few : (protected : Bool) (s : Machine) (disk : Disk) (before after : ℕ) (ms : List Message) (r : Stepped) → MayAnswer protected s disk before ms r after →
+pub may_few : (protected : Bool) (s : Machine) (disk : Disk) (before after : ℕ) (ms : List Message) (r : Stepped)
+    → MayAnswer protected s disk before ms r after →
     AllByRecursion HasCmdSn ms → AreFew s.tasks → AtPdus ms r
 unfolding MayAnswer
 may_few protected s disk before after [] r e all f =
@@ -364,7 +365,8 @@ pub queue_of : (protected : Bool) (s : Machine) (disk : Disk) (ms : List Message
 unfolding answers
 queue_of protected s disk [] all f k = record { few = f.few; places = f.places; pending = k.pending; unasked = k.unasked }
 queue_of protected s disk (m ∷ ms) all f k =
-    queue_of protected (step protected s disk m).machine (step protected s disk m).disk ms all.1 ((step_few (reliable protected) disk s m).keeps all.0 f) (step_kept (reliable protected) s disk m k)
+    queue_of protected (step protected s disk m).machine (step protected s disk m).disk ms all.1 ((step_few (reliable protected) disk s m).keeps all.0 f)
+    (step_kept (reliable protected) s disk m k)
 
 pub opening_queue : (protected : Bool) (settings : Settings) (n : ℕ) (disk : Disk) (ms : List Message) → AllByRecursion HasCmdSn ms →
     IsQueue (answers protected (opening settings n) disk ms).machine.tasks
@@ -481,9 +483,11 @@ window_rises : (exp now waits after : ℕ) → exp < 2 ^ 32 → waits ≤ 8 → 
 window_rises exp now waits after lt few (inl h) = let e = h.0 in let le = h.1 in omega (arith, lt, few, e, le)
 window_rises exp now waits after lt few (inr h) = let e = h.0 in let le = h.1 in omega (arith, lt, few, e, le)
 
-pub step_rises : (protected : Bool) (s : Machine) (disk : Disk) (m : Message) → s.session.exp_cmd_sn < 2 ^ 32 → waiting s.tasks ≤ 8 → s.session.phase ≡ phases.Full →
+pub step_rises : (protected : Bool) (s : Machine) (disk : Disk) (m : Message) → s.session.exp_cmd_sn < 2 ^ 32 → waiting s.tasks ≤ 8
+    → s.session.phase ≡ phases.Full →
     is_closed (step protected s disk m).machine ≡ false → IsNotBefore (max_cmd_sn s) (max_cmd_sn (step protected s disk m).machine)
 step_rises protected s disk m lt f full open_ =
     let r : Rises s (step protected s disk m) = step_parts (reliable protected) disk (λ s m r. Rises s r) (parts_rise (reliable protected) disk) s m in
-    window_rises s.session.exp_cmd_sn (step protected s disk m).machine.session.exp_cmd_sn (waiting s.tasks) (waiting (step protected s disk m).machine.tasks) lt f
+    window_rises s.session.exp_cmd_sn (step protected s disk m).machine.session.exp_cmd_sn (waiting s.tasks)
+    (waiting (step protected s disk m).machine.tasks) lt f
     (r.live open_ full)

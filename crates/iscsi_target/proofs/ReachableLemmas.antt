@@ -52,18 +52,21 @@ opening_fit settings n = record {
   limit = omega arith;
 }
 
-pub reached_fit : (protected : Bool) (settings : Settings) (n : ℕ) (disk : Disk) (ms : List Message) → IsFit (answers protected (opening settings n) disk ms).machine
+pub reached_fit : (protected : Bool) (settings : Settings) (n : ℕ) (disk : Disk) (ms : List Message)
+    → IsFit (answers protected (opening settings n) disk ms).machine
 reached_fit protected settings n disk ms = answers_fit protected (opening settings n) disk ms (opening_fit settings n)
 
 pub reached_held : (protected : Bool) (settings : Settings) (n : ℕ) (disk : Disk) (ms : List Message) → IsInRange settings.preferences →
     IsHeld (answers protected (opening settings n) disk ms).machine.session.held
 reached_held protected settings n disk ms p =
-    (reached_fit protected settings n disk ms).held (subst (λ (x : Settings). IsInRange x.preferences) (sym (answers_settings protected (opening settings n) disk ms)) p)
+    (reached_fit protected settings n disk ms).held (subst (λ (x : Settings). IsInRange x.preferences)
+    (sym (answers_settings protected (opening settings n) disk ms)) p)
 
 -- ---- Data-In
 
 -- what a store that doesn't fail gives
-pub gives_tiles : (protected : Bool) (answers : List Message) (es : List Execution) → Gives (reliable protected) answers es → GiveTiles (bytes_given protected) answers es
+pub gives_tiles : (protected : Bool) (answers : List Message) (es : List Execution) → Gives (reliable protected) answers es
+    → GiveTiles (bytes_given protected) answers es
 gives_tiles protected answers [] g = g
 gives_tiles protected answers (e ∷ es) g = (g.0, g.1, g.2, g.3, gives_tiles protected g.1 es g.4)
 
@@ -73,7 +76,8 @@ reached_data_in protected settings n disk ms m p =
     let r : Stepped = answers protected (opening settings n) disk ms in
     let t : StepTells (reliable protected) r.machine m (step protected r.machine r.disk m) = step_tells (reliable protected) r.disk r.machine m in
     gives_tiles protected (step protected r.machine r.disk m).answers (step protected r.machine r.disk m).executed
-    (t.gives (subst (λ (x : Settings). IsInRange x.preferences) (sym (answers_settings protected (opening settings n) disk ms)) p) (reached_held protected settings n disk ms p))
+    (t.gives (subst (λ (x : Settings). IsInRange x.preferences) (sym (answers_settings protected (opening settings n) disk ms)) p)
+    (reached_held protected settings n disk ms p))
 
 -- ---- outside the window
 
@@ -107,14 +111,16 @@ within_limit s (Bytes bytes) e le =
     (λ f. absurd (omega (arith, le, ltb-false s.session.held.target_max_recv (length bytes) e, ltb-true (limit s.session.settings) (length bytes) f))) (λ f. f)
 within_limit s (Text pairs) e le = refl
 
-pub outside_step : (protected : Bool) (s : Machine) (disk : Disk) (m : Message) → s.session.held.target_max_recv ≤ limit s.session.settings → IsOutside s m → step protected s disk m
+pub outside_step : (protected : Bool) (s : Machine) (disk : Disk) (m : Message) → s.session.held.target_max_recv ≤ limit s.session.settings → IsOutside s m
+    → step protected s disk m
     ≡ unchanged s disk
 outside_step protected s disk m le o =
     let open_ : is_closed s ≡ false = ap is_closed_phase o.phase in
     let short : is_over_limit s m.segment ≡ false = within_limit s m.segment o.size le in
     rw (open_, short) (ap (λ (p : Phase). phase_step (reliable protected) p s disk m) o.phase ∙ outside_full protected s disk m o)
 
-pub reached_outside : (protected : Bool) (settings : Settings) (n : ℕ) (disk : Disk) (ms : List Message) (m : Message) → IsOutside (answers protected (opening settings n) disk ms).machine m
+pub reached_outside : (protected : Bool) (settings : Settings) (n : ℕ) (disk : Disk) (ms : List Message) (m : Message)
+    → IsOutside (answers protected (opening settings n) disk ms).machine m
     → step protected (answers protected (opening settings n) disk ms).machine (answers protected (opening settings n) disk ms).disk m
     ≡ unchanged (answers protected (opening settings n) disk ms).machine (answers protected (opening settings n) disk ms).disk
 reached_outside protected settings n disk ms m o =

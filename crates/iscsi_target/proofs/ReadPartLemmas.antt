@@ -242,7 +242,8 @@ answers_read protected s tag order disk now_disk range fb fa count head old new 
     }
 
 -- a READ that failed
-pub answers_failed : (protected : Bool) (s : Machine) (tag : ℕ) (order : Order) (disk now_disk : Disk) (range : BlockRange) (fb fa : ℕ) (outcome : Outcome) (head : Head)
+pub answers_failed : (protected : Bool) (s : Machine) (tag : ℕ) (order : Order) (disk now_disk : Disk) (range : BlockRange) (fb fa : ℕ)
+    (outcome : Outcome) (head : Head)
     (old mid now : List ℕ) → IsWhole disk order range → now_disk ≡ disk → fb < fa → outcome ≡ check order ReadError → mid ≡ old
     → head ≡ response_head s.session (waiting s.tasks) tag outcome 0 → now ≡ mid ++ whole head (sense_segment outcome.sense)
     → AnswersRead protected (reply s tag old now) order (store_of disk fb) (store_of now_disk fa)

@@ -27,9 +27,10 @@ use Rattle.iscsi_pdu.specs.Fields.{reserved_tag}
 use Rattle.iscsi_target_session.specs.Rejecting.{reject, reject_and_close}
 use Rattle.iscsi_pdu.specs.Rules.{kind_not_due}
 use Rattle.iscsi_target_session.specs.declared.status.Status.{Status}
-use Rattle.iscsi_target_session.specs.LoginText.{text_refusals, declared_length, is_operational, is_bad_length, value_for, session_for}
+use Rattle.iscsi_target_session.specs.LoginText.{text_refusals, answer_pairs, declared_length, is_operational, is_bad_length, value_for, session_for}
 use Rattle.iscsi_target_session.specs.Login.{login_step, login_in, login_request, refuse_or, refuse, numbered, entered, segment_taken, whole_text}
-use Rattle.iscsi_target_session.specs.Login.{text_answered, text_ending, request_refusals, gather}
+use Rattle.iscsi_target_session.specs.Login.{answered_by, allowed_move, rest_of, exchange_pairs, text_ending, request_refusals, gather}
+use Rattle.iscsi_access.specs.declared.verdict.Progress.{Progress}
 use Rattle.iscsi_target_session.specs.TextRequests.{text_request, text_reply_to, reply_pairs}
 use Rattle.iscsi_target_session.specs.Requests.{nop_out, task_request, logout_request}
 use Rattle.iscsi_login.specs.Stage.{is_closed_phase}
@@ -42,6 +43,7 @@ use Rattle.iscsi_target.specs.Tiles.{r2t_ranges}
 use Rattle.iscsi_stream.specs.Pieces.{data_pieces}
 use Rattle.iscsi_target.specs.Laws.{stat_sns, response_tags}
 use Rattle.iscsi_target_session.proofs.CaseLemmas.{by_cases}
+use Rattle.iscsi_target_session.proofs.ExchangeLemmas.{text_cases}
 use Rattle.iscsi_target_session.proofs.DeclaredLengthLemmas.{declares_well, holds}
 use Rattle.scsi_disk.proofs.PlanLemmas.{all_false}
 
@@ -220,8 +222,10 @@ declared_in s p = by_cases (is_operational s.stage && not s.has_operational_text
 limit_after : (s : Session) → s.held.target_max_recv ≤ limit s.settings → unwrap_or (declared_length s) s.held.target_max_recv ≤ limit s.settings
 limit_after s l = by_cases (is_operational s.stage && not s.has_operational_text) (λ e. rw e (omega arith)) (λ e. rw e l)
 
-answered_reply : (s : Session) (r : LoginPdu) (pairs : Pairs) → is_bad_length (value_for max_recv_key pairs) ≡ false → IsReply s (text_answered s r pairs)
-answered_reply s r pairs e = record {
+-- whatever pairs answer it, and however far CHAP has come by it
+answered_reply : (s : Session) (p : Progress) (r : LoginPdu) (pairs answer : Pairs) → is_bad_length (value_for max_recv_key pairs) ≡ false
+    → IsReply s (answered_by (record s { progress = p }) r pairs answer)
+answered_reply s p r pairs answer e = record {
   stat_sn = (refl, refl);
   ranges = refl;
   rule = λ k e. absurd cc;
@@ -229,14 +233,17 @@ answered_reply s r pairs e = record {
   data_ins = refl;
   settings = refl;
   live = λ e. (refl, refl);
-  held = λ p h. holds (session_for s pairs) s.settings.preferences (declared_length s) pairs s.held p (declares_well pairs e) (declared_in s p) h;
+  held = λ q h. holds (session_for s pairs) s.settings.preferences (declared_length s) pairs s.held q (declares_well pairs e) (declared_in s q) h;
   limit = limit_after s;
 }
 
 whole_reply : (s : Session) (r : LoginPdu) (pairs : Option Pairs) → IsReply s (whole_text s r pairs)
-whole_reply s r None = refuse_reply s r _
-whole_reply s r (Some pairs) = refused_reply (Option Pairs) s r (first_of (text_refusals s pairs)) (text_answered s r pairs)
-    (λ e. answered_reply s r pairs (no_bad_length s pairs e))
+whole_reply s r text = text_cases (IsReply s) s r text (record {
+  refused = λ why reason. refuse_reply s r why;
+  plain = λ pairs is open_ none. answered_reply s s.progress r pairs (answer_pairs s pairs) (no_bad_length s pairs none);
+  exchange = λ c p said pairs is demanded none verdict short.
+      answered_reply s p (allowed_move p r) (rest_of pairs) (exchange_pairs c said s (rest_of pairs)) (no_bad_length s (rest_of pairs) none);
+})
 
 -- gathered bytes are none of what is kept
 ungathered : (s : Session) (r : Reply) → IsReply (record s { gathered = [] }) r → IsReply s r

@@ -90,7 +90,8 @@ begun_tells : (protected : Bool) (device : Device) (s : Session) (disk : Disk) (
 begun_tells protected device s disk task more e =
     begins (λ device s disk task r. device ≡ reliable protected → Tells protected r) (begins_tell protected) device (with_tasks s more) disk task e
 
-both_tell : (protected : Bool) (answers : List Message) (executed : List Execution) (more : List Message) (later : List Execution) → told_in answers ≡ map (due_for protected) executed →
+both_tell : (protected : Bool) (answers : List Message) (executed : List Execution) (more : List Message) (later : List Execution)
+    → told_in answers ≡ map (due_for protected) executed →
     told_in more ≡ map (due_for protected) later → told_in (answers ++ more) ≡ map (due_for protected) (executed ++ later)
 both_tell protected answers executed more later e f =
     told_append answers more ∙ ap (λ (ts : List Told). ts ++ told_in more) e ∙ ap (λ (ts : List Told). map (due_for protected) executed ++ ts) f
@@ -107,7 +108,8 @@ turns_tell protected = record {
 }
 
 done_tells : (protected : Bool) (s : Session) (disk : Disk) (tasks : List Task) → Tells protected (done_in_turn (reliable protected) s disk tasks)
-done_tells protected s disk tasks = turns (λ device s disk tasks r. device ≡ reliable protected → Tells protected r) (turns_tell protected) (reliable protected) s disk tasks refl
+done_tells protected s disk tasks = turns (λ device s disk tasks r. device ≡ reliable protected → Tells protected r) (turns_tell protected)
+    (reliable protected) s disk tasks refl
 
 -- ---- all parts
 
@@ -119,17 +121,22 @@ parts_tell protected disk = record {
   reject_and_close_ = λ s rule m. reply_tells protected s.tasks disk _ (reject_and_close_reply s.session (waiting s.tasks) rule m).tags;
   login_ = λ s m k. reply_tells protected s.tasks disk (login_step s.session m) (login_logs s.session m).is.tags;
   taken_ = λ s m h w v k e f. record { is = (done_tells protected s.session disk _).is };
-  refused_ = λ s t m rule a x. record { is = (reply_tells protected t.tasks disk (reject_and_close t.session (waiting t.tasks) rule m) (reject_and_close_reply t.session (waiting t.tasks) rule m).tags).is };
+  refused_ = λ s t m rule a x. record {
+    is = (reply_tells protected t.tasks disk (reject_and_close t.session (waiting t.tasks) rule m)
+        (reject_and_close_reply t.session (waiting t.tasks) rule m).tags).is;
+  };
   admitted_ = λ s t m a x f. record { is = (done_tells protected t.session disk _).is };
 }
 
 step_tells : (protected : Bool) (disk : Disk) (s : Machine) (m : Message) → Tells protected (step protected s disk m)
 step_tells protected disk s m = step_parts (reliable protected) disk (λ s m r. Tells protected r) (parts_tell protected disk) s m
 
-pub answers_tell : (protected : Bool) (s : Machine) (disk : Disk) (ms : List Message) → told_in (answers protected s disk ms).answers ≡ map (due_for protected) (answers protected s disk ms).executed
+pub answers_tell : (protected : Bool) (s : Machine) (disk : Disk) (ms : List Message)
+    → told_in (answers protected s disk ms).answers ≡ map (due_for protected) (answers protected s disk ms).executed
 unfolding answers
 answers_tell protected s disk [] = refl
 answers_tell protected s disk (m ∷ ms) =
     let first : Stepped = step protected s disk m in
     let later : Stepped = answers protected first.machine first.disk ms in
-    both_tell protected first.answers first.executed later.answers later.executed (step_tells protected disk s m).is (answers_tell protected first.machine first.disk ms)
+    both_tell protected first.answers first.executed later.answers later.executed (step_tells protected disk s m).is
+    (answers_tell protected first.machine first.disk ms)

@@ -32,7 +32,8 @@ leaves_serves protected n r f disk broken new before after is none same is_new i
   device = reliable protected;
   rises = omega arith;
   works = λ _. refl;
-  runs = subst (λ (xs : List Execution). RunsIn protected (reliable protected) n xs n) (sym (ap (λ (x : Stepped). x.executed) (is (reliable protected)) ∙ none)) refl;
+  runs = subst (λ (xs : List Execution). RunsIn protected (reliable protected) n xs n)
+      (sym (ap (λ (x : Stepped). x.executed) (is (reliable protected)) ∙ none)) refl;
   machine = ap joined is_new ∙ ap (λ (x : Stepped). joined x.machine) (sym (is (reliable protected)));
   disk_is = sym same ∙ ap (λ (x : Stepped). x.disk) (sym (is (reliable protected)));
   output = is_after ∙ ap (λ (x : Stepped). before ++ canon x.answers) (sym (is (reliable protected)));
@@ -40,7 +41,8 @@ leaves_serves protected n r f disk broken new before after is none same is_new i
 }
 
 -- what was done with a message that leaves the disk, over any store
-pub leaves_handles : {E : Type 0} (protected : Bool) (result : Result (Option ℕ) E) (n : ℕ) (r : Stepped) (f : Device → Stepped) (disk : Disk) (old new : Machine)
+pub leaves_handles : {E : Type 0} (protected : Bool) (result : Result (Option ℕ) E) (n : ℕ) (r : Stepped) (f : Device → Stepped)
+    (disk : Disk) (old new : Machine)
     (before after : List ℕ)
     → ((d : Device) → f d ≡ r) → r.executed ≡ [] → r.disk ≡ disk → Leaves r result old new before after →
     Handles protected f result (moment old (store_of disk n) before) (moment new (store_of disk n) after)
@@ -55,9 +57,11 @@ leaves_handles protected (Err e) n r f disk old new before after is none same h 
 }
 
 -- a message that changes nothing, over any store
-pub unchanged_serves : (protected : Bool) (n : ℕ) (s : Machine) (f : Device → Stepped) (disk : Disk) (new : Machine) (out : List ℕ) → ((d : Device) → f d ≡ unchanged s disk) → new
+pub unchanged_serves : (protected : Bool) (n : ℕ) (s : Machine) (f : Device → Stepped) (disk : Disk) (new : Machine) (out : List ℕ)
+    → ((d : Device) → f d ≡ unchanged s disk) → new
     ≡ s → Serves protected n out f None (moment new (store_of disk n) out)
-unchanged_serves protected n s f disk new out is e = leaves_serves protected n (unchanged s disk) f disk None new out out is refl refl e (sym (append-nil out)) refl
+unchanged_serves protected n s f disk new out is e = leaves_serves protected n (unchanged s disk) f disk None new out out is refl refl e
+    (sym (append-nil out)) refl
 
 pub attempts : {E : Type 0} (r : Reply) (result : Result (Option ℕ) E) (old new : Session) (before after : List ℕ) → Does r result old new before after →
     Attempts r result old new before after
@@ -85,7 +89,8 @@ relays r (Err x) old new session disk before after h e = record {
 
 -- ---- the same step
 
-runs_joined : (protected : Bool) (d : Device) (before : ℕ) (xs : List Execution) (after : ℕ) → RunsIn protected d before xs after → RunsIn protected d before (map joined_execution xs) after
+runs_joined : (protected : Bool) (d : Device) (before : ℕ) (xs : List Execution) (after : ℕ) → RunsIn protected d before xs after
+    → RunsIn protected d before (map joined_execution xs) after
 runs_joined protected d before [] after h = h
 runs_joined protected d before (x ∷ xs) after h = (
   h.0,
@@ -93,7 +98,8 @@ runs_joined protected d before (x ∷ xs) after h = (
   runs_joined protected (device_next d) h.0 xs after h.2,
 )
 
-runs_apart : (protected : Bool) (d : Device) (before : ℕ) (xs : List Execution) (after : ℕ) → RunsIn protected d before (map joined_execution xs) after → RunsIn protected d before xs after
+runs_apart : (protected : Bool) (d : Device) (before : ℕ) (xs : List Execution) (after : ℕ) → RunsIn protected d before (map joined_execution xs) after
+    → RunsIn protected d before xs after
 runs_apart protected d before [] after h = h
 runs_apart protected d before (x ∷ xs) after h = (
   h.0,
@@ -102,7 +108,8 @@ runs_apart protected d before (x ∷ xs) after h = (
 )
 
 -- where a piece ended makes no difference to what a store did
-pub runs_as : (protected : Bool) (d : Device) (before after : ℕ) (a b : Stepped) → joined_stepped a ≡ joined_stepped b → RunsIn protected d before a.executed after →
+pub runs_as : (protected : Bool) (d : Device) (before after : ℕ) (a b : Stepped) → joined_stepped a ≡ joined_stepped b
+    → RunsIn protected d before a.executed after →
     RunsIn protected d before b.executed after
 runs_as protected d before after a b e h = runs_apart protected d before b.executed after (subst (λ (x : Stepped). RunsIn protected d before x.executed after) e
     (runs_joined protected d before a.executed after h))
@@ -128,21 +135,26 @@ serves_same protected fb fa f g broken new now before after is h =
       rule_is = h.rule_is ∙ ap (λ (x : Stepped). x.rule) q;
     }
 
-pub serves_if : {E : Type 0} (protected : Bool) (result : Result (Option ℕ) E) (fb fa : ℕ) (f g : Device → Stepped) (new : Machine) (now : Disk) (before after : List ℕ)
+pub serves_if : {E : Type 0} (protected : Bool) (result : Result (Option ℕ) E) (fb fa : ℕ) (f g : Device → Stepped) (new : Machine) (now : Disk)
+    (before after : List ℕ)
     → ((d : Device) → g d ≡ f d) → IfOk result (λ b. Serves protected fb before g b (moment new (store_of now fa) after))
     → IfOk result (λ b. Serves protected fb before f b (moment new (store_of now fa) after))
 serves_if protected result fb fa f g new now before after is h =
-    by_ok (λ b. Serves protected fb before g b (moment new (store_of now fa) after)) (λ b. Serves protected fb before f b (moment new (store_of now fa) after)) result
+    by_ok (λ b. Serves protected fb before g b (moment new (store_of now fa) after))
+    (λ b. Serves protected fb before f b (moment new (store_of now fa) after)) result
     (λ b. serves_same protected fb fa f g b new now before after (λ d. ap joined_stepped (is d))) h
 
-pub same_if : {E : Type 0} (protected : Bool) (result : Result (Option ℕ) E) (fb fa : ℕ) (f g : Device → Stepped) (new : Machine) (now : Disk) (before after : List ℕ)
+pub same_if : {E : Type 0} (protected : Bool) (result : Result (Option ℕ) E) (fb fa : ℕ) (f g : Device → Stepped) (new : Machine) (now : Disk)
+    (before after : List ℕ)
     → ((d : Device) → joined_stepped (g d) ≡ joined_stepped (f d)) → IfOk result (λ b. Serves protected fb before g b (moment new (store_of now fa) after)) →
     IfOk result (λ b. Serves protected fb before f b (moment new (store_of now fa) after))
 same_if protected result fb fa f g new now before after is h =
-    by_ok (λ b. Serves protected fb before g b (moment new (store_of now fa) after)) (λ b. Serves protected fb before f b (moment new (store_of now fa) after)) result
+    by_ok (λ b. Serves protected fb before g b (moment new (store_of now fa) after))
+    (λ b. Serves protected fb before f b (moment new (store_of now fa) after)) result
     (λ b. serves_same protected fb fa f g b new now before after is) h
 
-pub accepts_by : (protected : Bool) (fb fa : ℕ) (ms : List Message) (g : Device → Stepped) (broken : Option ℕ) (new : Machine) (now : Disk) (before after : List ℕ)
+pub accepts_by : (protected : Bool) (fb fa : ℕ) (ms : List Message) (g : Device → Stepped) (broken : Option ℕ) (new : Machine) (now : Disk)
+    (before after : List ℕ)
     → Serves protected fb before g broken (moment new (store_of now fa) after)
     → Serves protected fb before (λ d. having_accepted ms (g d)) broken (moment new (store_of now fa) after)
 accepts_by protected fb fa ms g broken new now before after h = record {
@@ -196,11 +208,13 @@ on_err (Err e) h = h
 
 -- ---- what comes of a PDU
 
-pub answered_follows : {E : Type 0} (protected : Bool) (result : Result (Option ℕ) E) (n : ℕ) (s : Machine) (r : Reply) (next : Next) (disk : Disk) (new : Machine)
+pub answered_follows : {E : Type 0} (protected : Bool) (result : Result (Option ℕ) E) (n : ℕ) (s : Machine) (r : Reply) (next : Next)
+    (disk : Disk) (new : Machine)
     (before after : List ℕ) → next ≡ Answered r → Leaves (on disk s.tasks r) result s new before after
     → Follows protected next result (moment s (store_of disk n) before) (moment new (store_of disk n) after)
 answered_follows protected (Ok rule) n s r next disk new before after is h = record {
-  ok = leaves_serves protected n (on disk s.tasks r) (λ d. followed d s disk next) disk rule new before after (λ d. ap (followed d s disk) is) refl refl h.machine
+  ok = leaves_serves protected n (on disk s.tasks r) (λ d. followed d s disk next) disk rule new before after
+      (λ d. ap (followed d s disk) is) refl refl h.machine
       h.output h.rule_is;
   err = tt;
 }
@@ -214,19 +228,23 @@ answered_follows protected (Err e) n s r next disk new before after is h = recor
   });
 }
 
-pub dropped_follows : {E : Type 0} (protected : Bool) (n : ℕ) (s : Machine) (next : Next) (disk : Disk) (new : Machine) (out : List ℕ) → next ≡ Dropped → new ≡ s →
+pub dropped_follows : {E : Type 0} (protected : Bool) (n : ℕ) (s : Machine) (next : Next) (disk : Disk) (new : Machine) (out : List ℕ) → next ≡ Dropped
+    → new ≡ s →
     Follows {E = E} protected next (Ok None) (moment s (store_of disk n) out) (moment new (store_of disk n) out)
 dropped_follows protected n s next disk new out is e = record {
   ok = unchanged_serves protected n s (λ d. followed d s disk next) disk new out (λ d. ap (followed d s disk) is) e;
   err = tt;
 }
 
-pub follows_as : {E : Type 0} (protected : Bool) (result : Result (Option ℕ) E) (a b : Next) (old : Machine) (before : Store) (output : List ℕ) (new : Machine) (after : Store)
+pub follows_as : {E : Type 0} (protected : Bool) (result : Result (Option ℕ) E) (a b : Next) (old : Machine) (before : Store) (output : List ℕ)
+    (new : Machine) (after : Store)
     (written : List ℕ) → a ≡ b → Follows protected a result (moment old before output) (moment new after written)
     → Follows protected b result (moment old before output) (moment new after written)
-follows_as protected result a b old before output new after written e h = subst (λ (x : Next). Follows protected x result (moment old before output) (moment new after written)) e h
+follows_as protected result a b old before output new after written e h = subst
+    (λ (x : Next). Follows protected x result (moment old before output) (moment new after written)) e h
 
-pub works_follow : {E : Type 0} (protected : Bool) (result : Result (Option ℕ) E) (next : Next) (session : Session) (tasks : List Task) (old : Machine) (before : Store)
+pub works_follow : {E : Type 0} (protected : Bool) (result : Result (Option ℕ) E) (next : Next) (session : Session) (tasks : List Task)
+    (old : Machine) (before : Store)
     (output : List ℕ) (new : Machine) (after : Store) (written : List ℕ) → next ≡ Queued session tasks
     → Works protected result (moment (with_tasks session tasks) before output) (moment new after written)
     → Follows protected next result (moment old before output) (moment new after written)

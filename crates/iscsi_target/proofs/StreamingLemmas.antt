@@ -25,7 +25,8 @@ went_on : (protected : Bool) (settings : Settings) (n : ℕ) (disk : Disk) (stre
     → f.count ≡ length piece → new.framing ≡ f.framing → new.machine ≡ joined f.stepped.machine →
     HasAnswered protected (beginning settings n disk) (stream ++ piece) new after.disk written
 went_on protected settings n disk stream old before out piece result new after written f stood works h all framing machine =
-    let t = told protected settings n disk stream old before out (take f.count piece) f.framing f.messages f.stepped f.answered.failures after written h f.answered stood
+    let t = told protected settings n disk stream old before out (take f.count piece) f.framing f.messages f.stepped f.answered.failures after
+    written h f.answered stood
     works in
     let whole : take f.count piece ≡ piece = take_all f.count piece (omega (arith, all)) in
     record {
@@ -47,12 +48,15 @@ by_end protected settings n disk stream old before out piece (Ok phase) new afte
       | inl over ↦ absurd (apart (ap is_closed e.1 ∙ over) live)
       | inr on ↦ went_on protected settings n disk stream old before out piece (Ok phase) new after written f f.leaves works h on.all on.framing_is e.1
     ]
-by_end protected settings n disk stream old before out piece (Err faults.NoMemory) new after written f works live h e = absurd (apart (ap is_closed f.leaves.shut) live)
-by_end protected settings n disk stream old before out piece (Err (faults.Stream fault)) new after written f works live h e = absurd (apart (ap is_closed e.3) live)
+by_end protected settings n disk stream old before out piece (Err faults.NoMemory) new after written f works live h e = absurd
+    (apart (ap is_closed f.leaves.shut) live)
+by_end protected settings n disk stream old before out piece (Err (faults.Stream fault)) new after written f works live h e = absurd
+    (apart (ap is_closed e.3) live)
 by_end protected settings n disk stream old before out piece (Err (faults.Protocol rule)) new after written f works live h e =
     let is : f.stepped ≡ answers protected old.machine before.disk f.messages = f.answered.works works in
     let over : is_closed f.stepped.machine ≡ true =
-    ap (λ (r : Stepped). is_closed r.machine) is ∙ answers_close protected old.machine before.disk f.messages rule (ap (λ (r : Stepped). r.rule) (sym is) ∙ e.0) in
+    ap (λ (r : Stepped). is_closed r.machine) is ∙ answers_close protected old.machine before.disk f.messages rule
+    (ap (λ (r : Stepped). r.rule) (sym is) ∙ e.0) in
     absurd (apart (ap is_closed e.1 ∙ over) live)
 by_end protected settings n disk stream old before out piece (Err faults.Closed) new after written f works live h e = absurd e
 

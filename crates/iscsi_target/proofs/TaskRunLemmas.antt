@@ -150,10 +150,12 @@ next_is d e = λ i n. then_device d e (one_more n i)
 pub record Joins (protected : Bool) (d e both : Device) (s : Machine) (disk : Disk) (task : Task) : Type 0 where
   pub first : begun both s disk task ≡ begun d s disk task
   pub later : device_after (begun d s disk task).executed both ≡ e
-  pub runs : (before after : ℕ) → RunsIn protected d before (begun d s disk task).executed after → RunsIn protected both before (begun d s disk task).executed after
+  pub runs : (before after : ℕ) → RunsIn protected d before (begun d s disk task).executed after
+      → RunsIn protected both before (begun d s disk task).executed after
   pub works : d ≡ reliable protected → e ≡ reliable protected → both ≡ reliable protected
 
-runs_none : (protected : Bool) (d e : Device) (before after : ℕ) (es : List Execution) → es ≡ [] → RunsIn protected d before es after → RunsIn protected e before es after
+runs_none : (protected : Bool) (d e : Device) (before after : ℕ) (es : List Execution) → es ≡ [] → RunsIn protected d before es after
+    → RunsIn protected e before es after
 runs_none protected d e before after [] none h = h
 runs_none protected d e before after (x ∷ es) none h = absurd cc
 
@@ -196,7 +198,8 @@ joins protected d e s disk task =
 
 -- ---- one task after another
 
-serves_by : (protected : Bool) (fb fa : ℕ) (f : Device → Stepped) (d : Device) (x : Stepped) (broken : Option ℕ) (new : Machine) (now : Disk) (before after : List ℕ) → f d ≡ x →
+serves_by : (protected : Bool) (fb fa : ℕ) (f : Device → Stepped) (d : Device) (x : Stepped) (broken : Option ℕ) (new : Machine) (now : Disk)
+    (before after : List ℕ) → f d ≡ x →
     fb ≤ fa → (fa ≡ fb → d ≡ reliable protected)
     → RunsIn protected d fb x.executed fa → joined new ≡ joined x.machine → now ≡ x.disk → after ≡ before ++ canon x.answers → broken ≡ x.rule →
     Serves protected fb before f broken (moment new (store_of now fa) after)
@@ -251,7 +254,8 @@ record Leads (d : Device) (s : Session) (disk : Disk) (task : Task) (more : List
   session : mid.session ≡ (begun d (with_tasks s more) disk task).machine.session
   ones_ : ones mid.tasks ≡ ones more
 
-leads : (protected : Bool) (fb fm : ℕ) (s : Session) (disk : Disk) (task : Task) (more : List Task) (rule : Option ℕ) (mid : Machine) (mid_disk : Disk) (before out : List ℕ) →
+leads : (protected : Bool) (fb fm : ℕ) (s : Session) (disk : Disk) (task : Task) (more : List Task) (rule : Option ℕ) (mid : Machine) (mid_disk : Disk)
+    (before out : List ℕ) →
     (g : Goes protected (moment (with_tasks s more) (store_of disk fb) before) task rule (moment mid (store_of mid_disk fm) out))
     → Leads g.serves.device s disk task more mid
 leads protected fb fm s disk task more rule mid mid_disk before out g =
@@ -265,12 +269,15 @@ leads protected fb fm s disk task more rule mid mid_disk before out g =
     record { live = live; stay = stay; tasks = tasks; session = session; ones_ = same ∙ ap ones tasks }
 
 -- and the others are left
-pub left_behind : (protected : Bool) (old : Moment) (task : Task) (rule : Option ℕ) (new : Moment) → Goes protected old task rule new → ones new.machine.tasks ≡ ones old.machine.tasks
+pub left_behind : (protected : Bool) (old : Moment) (task : Task) (rule : Option ℕ) (new : Moment) → Goes protected old task rule new
+    → ones new.machine.tasks ≡ ones old.machine.tasks
 left_behind protected old task rule new g =
-    (leads protected old.store.failures new.store.failures old.machine.session old.store.disk task old.machine.tasks rule new.machine new.store.disk old.output new.output
+    (leads protected old.store.failures new.store.failures old.machine.session old.store.disk task old.machine.tasks rule new.machine
+    new.store.disk old.output new.output
     g).ones_
 
-pub then_serves : (protected : Bool) (fb fm fa : ℕ) (s : Session) (disk : Disk) (task : Task) (more : List Task) (rule : Option ℕ) (mid : Machine) (mid_disk : Disk)
+pub then_serves : (protected : Bool) (fb fm fa : ℕ) (s : Session) (disk : Disk) (task : Task) (more : List Task) (rule : Option ℕ)
+    (mid : Machine) (mid_disk : Disk)
     (before out : List ℕ) (broken : Option ℕ) (new : Machine) (now : Disk) (after : List ℕ)
     → Goes protected (moment (with_tasks s more) (store_of disk fb) before) task rule (moment mid (store_of mid_disk fm) out)
     → Serves protected fm out (λ d. done_in_turn d mid.session mid_disk mid.tasks) broken (moment new (store_of now fa) after)
@@ -293,7 +300,8 @@ then_serves protected fb fm fa s disk task more rule mid mid_disk before out bro
     serves_by protected fb fa (λ d. done_in_turn d s disk (task ∷ more)) j.0 (then_stepped r q) broken new now before after is (omega (arith, h.rises, e.rises))
     (λ x. j.1.works (h.works (omega (arith, x, h.rises, e.rises))) (e.works (omega (arith, x, h.rises, e.rises))))
     (runs_append protected j.0 fb fm fa r.executed q.executed (j.1.runs fb fm h.runs)
-    (subst (λ (d : Device). RunsIn protected d fm q.executed fa) (sym j.1.later) (runs_as protected e.device fm fa (done_in_turn e.device mid.session mid_disk mid.tasks) q same
+    (subst (λ (d : Device). RunsIn protected d fm q.executed fa) (sym j.1.later)
+    (runs_as protected e.device fm fa (done_in_turn e.device mid.session mid_disk mid.tasks) q same
     e.runs)))
     (e.machine ∙ ap (λ (x : Stepped). x.machine) same)
     (e.disk_is ∙ ap (λ (x : Stepped). x.disk) same)
@@ -304,7 +312,8 @@ then_serves protected fb fm fa s disk task more rule mid mid_disk before out bro
     (sym ((looks h.device (with_tasks s more) disk task).rule l.live)))
 
 -- the first task was done, and memory ran out behind it
-pub then_stops : (protected : Bool) (fb fm fa : ℕ) (s : Session) (disk : Disk) (task : Task) (more : List Task) (rule : Option ℕ) (mid : Machine) (mid_disk : Disk)
+pub then_stops : (protected : Bool) (fb fm fa : ℕ) (s : Session) (disk : Disk) (task : Task) (more : List Task) (rule : Option ℕ)
+    (mid : Machine) (mid_disk : Disk)
     (before out : List ℕ) (new : Machine) (now : Disk) (after : List ℕ)
     → Goes protected (moment (with_tasks s more) (store_of disk fb) before) task rule (moment mid (store_of mid_disk fm) out)
     → Stops protected (moment mid (store_of mid_disk fm) out) (moment new (store_of now fa) after) →
@@ -379,7 +388,8 @@ stop_serves protected fb fa s disk task more rule new now before after h e =
     let size_back = sym size in
     let session_back = sym session in
     let stop : (stays more r || is_closed r.machine) ≡ true = (λ i. nat_lt (length more) (size_back i) || is_closed_phase (session_back i).phase) ∙ e in
-    serves_by protected fb fa (λ d. done_in_turn d s disk (task ∷ more)) h.device r rule new now before after (stop_at h.device s disk task more stop) h.rises h.works
+    serves_by protected fb fa (λ d. done_in_turn d s disk (task ∷ more)) h.device r rule new now before after
+    (stop_at h.device s disk task more stop) h.rises h.works
     h.runs h.machine h.disk_is h.output h.rule_is
 
 -- there is no task
@@ -401,16 +411,20 @@ goes_start protected old = record { works = λ result new h. h }
 abbrev pub at_tasks : Moment → Session → List Task → Moment
 at_tasks at session tasks = moment (with_tasks session tasks) at.store at.output
 
-works_then : {E : Type 0} (protected : Bool) (result : Result (Option ℕ) E) (session : Session) (task : Task) (behind : List Task) (rule : Option ℕ) (old next new : Moment)
-    → Goes protected (at_tasks old session behind) task rule next → Works protected result next new → Works protected result (at_tasks old session (task ∷ behind)) new
+works_then : {E : Type 0} (protected : Bool) (result : Result (Option ℕ) E) (session : Session) (task : Task) (behind : List Task) (rule : Option ℕ)
+    (old next new : Moment)
+    → Goes protected (at_tasks old session behind) task rule next → Works protected result next new
+    → Works protected result (at_tasks old session (task ∷ behind)) new
 works_then protected (Ok broken) session task behind rule old next new g h = record {
-  ok = then_serves protected old.store.failures next.store.failures new.store.failures session old.store.disk task behind rule next.machine next.store.disk old.output
+  ok = then_serves protected old.store.failures next.store.failures new.store.failures session old.store.disk task behind rule next.machine
+      next.store.disk old.output
       next.output broken new.machine new.store.disk new.output g h.ok;
   err = tt;
 }
 works_then protected (Err e) session task behind rule old next new g h = record {
   ok = tt;
-  err = then_stops protected old.store.failures next.store.failures new.store.failures session old.store.disk task behind rule next.machine next.store.disk old.output
+  err = then_stops protected old.store.failures next.store.failures new.store.failures session old.store.disk task behind rule next.machine
+      next.store.disk old.output
       next.output new.machine new.store.disk new.output g h.err;
 }
 
@@ -419,35 +433,44 @@ either true b e = refl
 either false b e = e
 
 -- what is left to do, with the tasks written out
-goes_as : {E : Type 0} (protected : Bool) (result : Result (Option ℕ) E) (old now new : Moment) (session : Session) (tasks : List Task) → GoesOn protected E old now →
+goes_as : {E : Type 0} (protected : Bool) (result : Result (Option ℕ) E) (old now new : Moment) (session : Session) (tasks : List Task)
+    → GoesOn protected E old now →
     now.machine ≡ with_tasks session tasks → Works protected result (at_tasks now session tasks) new → Works protected result old new
 goes_as protected result old now new session tasks g is h =
     g.works result new (subst (λ (m : Machine). Works protected result (moment m now.store now.output) new) (sym is) h)
 
 -- the first task was done
-pub goes_then : {E : Type 0} (protected : Bool) (old now next : Moment) (session : Session) (task : Task) (behind : List Task) (rule : Option ℕ) → GoesOn protected E old now →
+pub goes_then : {E : Type 0} (protected : Bool) (old now next : Moment) (session : Session) (task : Task) (behind : List Task) (rule : Option ℕ)
+    → GoesOn protected E old now →
     now.machine ≡ with_tasks session (task ∷ behind) → Goes protected (at_tasks now session behind) task rule next → GoesOn protected E old next
 goes_then protected old now next session task behind rule g is step =
-    record { works = λ result new h. goes_as protected result old now new session (task ∷ behind) g is (works_then protected result session task behind rule now next new step h) }
+    record {
+      works = λ result new h. goes_as protected result old now new session (task ∷ behind) g is
+          (works_then protected result session task behind rule now next new step h);
+    }
 
 -- the first task ended the session, or stays
-pub goes_stop : (protected : Bool) (E : Type 0) (old now new : Moment) (session : Session) (task : Task) (behind : List Task) (rule : Option ℕ) → GoesOn protected E old now →
+pub goes_stop : (protected : Bool) (E : Type 0) (old now new : Moment) (session : Session) (task : Task) (behind : List Task) (rule : Option ℕ)
+    → GoesOn protected E old now →
     now.machine ≡ with_tasks session (task ∷ behind)
     → Serves protected now.store.failures now.output (λ d. begun d (with_tasks session behind) now.store.disk task) rule new
     → (nat_lt (length behind) (length new.machine.tasks) || is_closed new.machine) ≡ true → Works {E = E} protected (Ok rule) old new
 goes_stop protected E old now new session task behind rule g is h stop =
     goes_as protected (Ok rule) old now new session (task ∷ behind) g is (record {
-      ok = stop_serves protected now.store.failures new.store.failures session now.store.disk task behind rule new.machine new.store.disk now.output new.output h stop;
+      ok = stop_serves protected now.store.failures new.store.failures session now.store.disk task behind rule new.machine new.store.disk
+          now.output new.output h stop;
       err = tt;
     })
 
 -- memory ran out at the first task
-pub goes_short : {E : Type 0} (protected : Bool) (e : E) (old now new : Moment) (session : Session) (task : Task) (behind : List Task) → GoesOn protected E old now →
+pub goes_short : {E : Type 0} (protected : Bool) (e : E) (old now new : Moment) (session : Session) (task : Task) (behind : List Task)
+    → GoesOn protected E old now →
     now.machine ≡ with_tasks session (task ∷ behind) → GivesUp (at_tasks now session behind) new → Works protected (Err e) old new
 goes_short protected e old now new session task behind g is h =
     goes_as protected (Err e) old now new session (task ∷ behind) g is (record {
       ok = tt;
-      err = first_stops protected now.store.failures new.store.failures session now.store.disk (task ∷ behind) behind new.machine new.store.disk now.output new.output h;
+      err = first_stops protected now.store.failures new.store.failures session now.store.disk (task ∷ behind) behind new.machine new.store.disk
+          now.output new.output h;
     })
 
 -- no task is left
@@ -459,10 +482,12 @@ goes_end protected E old now session g none =
 
 -- ---- a request that is the only task
 
-alone_handles : {E : Type 0} (protected : Bool) (result : Result (Option ℕ) E) (session : Session) (m : Message) (before : Store) (output : List ℕ) (new : Machine) (after : Store)
+alone_handles : {E : Type 0} (protected : Bool) (result : Result (Option ℕ) E) (session : Session) (m : Message) (before : Store) (output : List ℕ)
+    (new : Machine) (after : Store)
     (written : List ℕ)
     → breaks_rules session.held (length (segment_bytes m.segment)) m.head ≡ false →
-    Handles protected (λ d. handled d (with_tasks session []) before.disk m m.head) result (moment (with_tasks session []) before output) (moment new after written)
+    Handles protected (λ d. handled d (with_tasks session []) before.disk m m.head) result (moment (with_tasks session []) before output)
+    (moment new after written)
     → Works protected result (moment (with_tasks session (task_of before.disk.count m ∷ [])) before output) (moment new after written)
 alone_handles protected (Ok rule) session m before output new after written keeps h = record {
   ok = serves_same protected before.failures after.failures (λ d. done_in_turn d session before.disk (task_of before.disk.count m ∷ []))
@@ -476,7 +501,8 @@ alone_handles protected (Err e) session m before output new after written keeps 
   err = first_stops protected before.failures after.failures session before.disk (task_of before.disk.count m ∷ []) [] new after.disk output written h.err;
 }
 
-pub alone_works : {E : Type 0} (protected : Bool) (result : Result (Option ℕ) E) (s : Machine) (m : Message) (before : Store) (output : List ℕ) (new : Machine) (after : Store)
+pub alone_works : {E : Type 0} (protected : Bool) (result : Result (Option ℕ) E) (s : Machine) (m : Message) (before : Store) (output : List ℕ)
+    (new : Machine) (after : Store)
     (written : List ℕ)
     → s.tasks ≡ [] → breaks_rules s.session.held (length (segment_bytes m.segment)) m.head ≡ false →
     Handles protected (λ d. handled d s before.disk m m.head) result (moment s before output) (moment new after written)
@@ -498,7 +524,8 @@ short_works protected e s tasks before output = record {
 }
 
 -- memory ran out, whatever comes of the PDU
-pub short_halts : (protected : Bool) (n : ℕ) (s new : Machine) (disk : Disk) (out : List ℕ) (next : Next) → session_of s next ≡ s.session → closed new ≡ closed s →
+pub short_halts : (protected : Bool) (n : ℕ) (s new : Machine) (disk : Disk) (out : List ℕ) (next : Next) → session_of s next ≡ s.session
+    → closed new ≡ closed s →
     Halts protected next (moment s (store_of disk n) out) (moment new (store_of disk n) out)
 short_halts protected n s new disk out Dropped same e = record { machine = e; rises = omega arith; disk_is = refl; unwritten = refl }
 short_halts protected n s new disk out (Answered r) same e = record { machine = e; rises = omega arith; disk_is = refl; unwritten = refl }
@@ -511,7 +538,8 @@ short_halts protected n s new disk out (Queued session tasks) same e =
     })
 
 -- where a piece of a write ended makes no difference
-pub works_same : {E : Type 0} (protected : Bool) (result : Result (Option ℕ) E) (session : Session) (ts us : List Task) (before : Store) (output : List ℕ) (new : Machine)
+pub works_same : {E : Type 0} (protected : Bool) (result : Result (Option ℕ) E) (session : Session) (ts us : List Task) (before : Store)
+    (output : List ℕ) (new : Machine)
     (after : Store) (written : List ℕ) → ones ts ≡ ones us → Works protected result (moment (with_tasks session ts) before output) (moment new after written)
     → Works protected result (moment (with_tasks session us) before output) (moment new after written)
 works_same protected (Ok rule) session ts us before output new after written e h = record {

@@ -142,7 +142,8 @@ done_alone device s disk task = refl
 -- ---- a store
 
 -- Orders in two parts run as at once.
-pub runs_append : (protected : Bool) (device : Device) (before now after : ℕ) (a b : List Execution) → RunsIn protected device before a now → RunsIn protected (device_after a device) now b after →
+pub runs_append : (protected : Bool) (device : Device) (before now after : ℕ) (a b : List Execution) → RunsIn protected device before a now
+    → RunsIn protected (device_after a device) now b after →
     RunsIn protected device before (a ++ b) after
 runs_append protected device before now after [] b x y = subst (λ (n : ℕ). RunsIn protected device n b after) x y
 runs_append protected device before now after (e ∷ es) b x y = (x.0, x.1, runs_append protected (device_next device) x.0 now after es b x.2 y)

@@ -184,8 +184,10 @@ writes_open s disk _ _ (Waits w) o = o
 writes_open s disk _ _ (Opens m h total k e f) o =
     opened_open disk.count s.session.held h total (segment_bytes m.segment) f (immediate_fits disk.count h s.session.held total (segment_bytes m.segment) e f)
 
-executed_count : (protected : Bool) (device : Device) (disk : Disk) (order : Order) (bytes : List ℕ) → device ≡ reliable protected → (device 0 disk order bytes).disk.count ≡ disk.count
-executed_count protected device disk order bytes e = ap (λ (d : Device). (d 0 disk order bytes).disk.count) e ∙ count_by_plan (guarded protected (plan_of order disk.count)) disk order bytes
+executed_count : (protected : Bool) (device : Device) (disk : Disk) (order : Order) (bytes : List ℕ) → device ≡ reliable protected
+    → (device 0 disk order bytes).disk.count ≡ disk.count
+executed_count protected device disk order bytes e = ap (λ (d : Device). (d 0 disk order bytes).disk.count) e
+    ∙ count_by_plan (guarded protected (plan_of order disk.count)) disk order bytes
 
 execute_goes : (protected : Bool) (device : Device) (s : Machine) (disk : Disk) (tag : ℕ) (order : Order) (pieces : Pieces) → device ≡ reliable protected →
     TilesPlan (plan_of order disk.count) pieces
@@ -202,7 +204,8 @@ execute_goes protected device s disk tag order pieces e t o =
       silent = λ stay. none;
     }
 
-begins_go : (protected : Bool) → Begins (λ device s disk task r. device ≡ reliable protected → OnTask (IsOpen disk.count) task → IsSound disk.count s.tasks → Goes s disk r)
+begins_go : (protected : Bool) → Begins (λ device s disk task r. device ≡ reliable protected → OnTask (IsOpen disk.count) task → IsSound disk.count s.tasks
+    → Goes s disk r)
 begins_go protected = record {
   request_ = λ device s disk m none e open_ o.
       (let c = request_answered_reply s.session (waiting s.tasks) m m.head in
@@ -230,7 +233,8 @@ begins_go protected = record {
   };
 }
 
-begun_goes : (protected : Bool) (device : Device) (s : Session) (disk : Disk) (task : Task) (more : List Task) → device ≡ reliable protected → IsSound disk.count (task ∷ more) →
+begun_goes : (protected : Bool) (device : Device) (s : Session) (disk : Disk) (task : Task) (more : List Task) → device ≡ reliable protected
+    → IsSound disk.count (task ∷ more) →
     Goes (with_tasks s more) disk (begun device (with_tasks s more) disk task)
 begun_goes protected device s disk task more e o =
     begins (λ device s disk task r. device ≡ reliable protected → OnTask (IsOpen disk.count) task → IsSound disk.count s.tasks →
@@ -266,8 +270,10 @@ turns_go protected = record {
       });
 }
 
-done_goes : (protected : Bool) (s : Session) (disk : Disk) (tasks : List Task) → IsSound disk.count tasks → KeepsWrites disk.count (done_in_turn (reliable protected) s disk tasks)
-done_goes protected s disk tasks o = turns (λ device s disk tasks r. Keeps protected device disk tasks r) (turns_go protected) (reliable protected) s disk tasks refl o
+done_goes : (protected : Bool) (s : Session) (disk : Disk) (tasks : List Task) → IsSound disk.count tasks
+    → KeepsWrites disk.count (done_in_turn (reliable protected) s disk tasks)
+done_goes protected s disk tasks o = turns (λ device s disk tasks r. Keeps protected device disk tasks r) (turns_go protected)
+    (reliable protected) s disk tasks refl o
 
 -- ---- a Data-Out
 
@@ -324,7 +330,8 @@ parts_go protected disk = record {
   reject_and_close_ = λ s rule m o. reply_goes s disk _ refl o;
   login_ = λ s m k o. reply_goes s disk (login_step s.session m) (login_logs s.session m).is.ranges o;
   taken_ = λ s m h w v k e f o.
-      taken_kept disk.count (done_in_turn (reliable protected) s.session disk (with_write v s.tasks)) [] (done_goes protected s.session disk (with_write v s.tasks)
+      taken_kept disk.count (done_in_turn (reliable protected) s.session disk (with_write v s.tasks)) []
+      (done_goes protected s.session disk (with_write v s.tasks)
       (written_sound disk.count v s.tasks (taken_open disk.count (first_burst s.session.held) w v h (segment_bytes m.segment)
       (found_open disk.count s.tasks h.initiator_task_tag w e o) f) o));
   refused_ = λ s t m rule a x o. taken_kept disk.count (breaks t disk rule m) (m ∷ []) (reply_goes t disk _ refl (same_sound disk.count s t m x o));
@@ -352,17 +359,20 @@ step_count protected s disk m = ap (λ (d : Disk). d.count) (step_folds protecte
 pub answers_count : (protected : Bool) (s : Machine) (disk : Disk) (ms : List Message) → (answers protected s disk ms).disk.count ≡ disk.count
 unfolding answers
 answers_count protected s disk [] = refl
-answers_count protected s disk (m ∷ ms) = answers_count protected (step protected s disk m).machine (step protected s disk m).disk ms ∙ step_count protected s disk m
+answers_count protected s disk (m ∷ ms) = answers_count protected (step protected s disk m).machine (step protected s disk m).disk ms
+    ∙ step_count protected s disk m
 
 -- ---- from the opening state
 
-pub answers_sound : (protected : Bool) (s : Machine) (disk : Disk) (ms : List Message) → IsSound disk.count s.tasks → IsSound disk.count (answers protected s disk ms).machine.tasks
+pub answers_sound : (protected : Bool) (s : Machine) (disk : Disk) (ms : List Message) → IsSound disk.count s.tasks
+    → IsSound disk.count (answers protected s disk ms).machine.tasks
 unfolding answers
 answers_sound protected s disk [] o = o
 answers_sound protected s disk (m ∷ ms) o =
     let first : Stepped = step protected s disk m in
     let same : first.disk.count ≡ disk.count = step_count protected s disk m in
-    let now : IsSound first.disk.count first.machine.tasks = subst (λ (n : ℕ). IsSound n first.machine.tasks) (sym same) (step_goes protected disk s m o).sound in
+    let now : IsSound first.disk.count first.machine.tasks = subst (λ (n : ℕ). IsSound n first.machine.tasks) (sym same)
+    (step_goes protected disk s m o).sound in
     subst (λ (n : ℕ). IsSound n (answers protected first.machine first.disk ms).machine.tasks) same (answers_sound protected first.machine first.disk ms now)
 
 -- after any messages, the next one keeps what is said of writes
@@ -372,4 +382,5 @@ pub reached_keeps : (protected : Bool) (settings : Settings) (n : ℕ) (disk : D
 reached_keeps protected settings n disk ms m =
     let r : Stepped = answers protected (opening settings n) disk ms in
     step_goes protected r.disk r.machine m
-    (subst (λ (k : ℕ). IsSound k r.machine.tasks) (sym (answers_count protected (opening settings n) disk ms)) (answers_sound protected (opening settings n) disk ms tt))
+    (subst (λ (k : ℕ). IsSound k r.machine.tasks) (sym (answers_count protected (opening settings n) disk ms))
+    (answers_sound protected (opening settings n) disk ms tt))

@@ -69,10 +69,12 @@ IsBehind protected disk (o ∷ orders) n bytes =
 pub record Crashes (protected : Bool) (orders : List Supplied) (before after : Disk)
     (old new : ℕ → List ℕ → Type 0) : Type 0 where
   pub count : after.count ≡ before.count
-  pub adds : (n : ℕ) (bytes : List ℕ) → new n bytes → old n bytes ⊎ IsBehind protected before orders n bytes
+  pub adds : (n : ℕ) (bytes : List ℕ) → new n bytes → old n bytes
+      ⊎ IsBehind protected before orders n bytes
 
 -- The same where a PDU may be ready: by the commands of that one, or with none changed.
-abbrev pub CrashesReady : Bool → Connection → Disk → Disk → (ℕ → List ℕ → Type 0) → (ℕ → List ℕ → Type 0)
+abbrev pub CrashesReady : Bool → Connection → Disk → Disk → (ℕ → List ℕ → Type 0)
+    → (ℕ → List ℕ → Type 0)
     → Type 0
 CrashesReady protected old before after kept_before kept_after =
     Crashes protected [] before after kept_before kept_after
@@ -93,13 +95,15 @@ abbrev pub CrashesNext : Bool → Connection → List ℕ → Disk → Disk → 
 CrashesNext protected old piece before after kept_before kept_after =
     Crashes protected [] before after kept_before kept_after
     ⊎ ((m : Message) × IsNext old piece m
-    × Crashes protected (commands_at old.machine before.count m) before after kept_before kept_after)
+    × Crashes protected (commands_at old.machine before.count m) before after
+    kept_before kept_after)
 
 -- ---- a crash, for any bytes
 
 -- The first of these bytes complete some PDUs and one more. Behind the others, with at most n
 -- failures counted, the block has these contents as a command of that one leaves it.
-pub record IsPassed (protected : Bool) (old : Connection) (before : Store) (piece : List ℕ) (most n : ℕ)
+pub record IsPassed (protected : Bool) (old : Connection) (before : Store)
+    (piece : List ℕ) (most n : ℕ)
     (bytes : List ℕ) : Type 0 where
   pub messages : List Message
   pub message : Message
@@ -115,7 +119,8 @@ pub record IsPassed (protected : Bool) (old : Connection) (before : Store) (piec
 
 -- A crash behind a call with these bytes leaves each block as it would have left it before, or as a
 -- command of a PDU that they complete leaves it. There are as many blocks as before.
-pub record CrashesFed (protected : Bool) (old : Connection) (before : Store) (piece : List ℕ) (after : Store)
+pub record CrashesFed (protected : Bool) (old : Connection) (before : Store)
+    (piece : List ℕ) (after : Store)
     (kept_before kept_after : ℕ → List ℕ → Type 0) : Type 0 where
   pub count : after.disk.count ≡ before.disk.count
   pub adds : (n : ℕ) (bytes : List ℕ) → kept_after n bytes

@@ -91,14 +91,16 @@ progress framing messages stepped = record {
 -- A call took bytes that complete these PDUs, and answered them one after another. Each execution did
 -- what the order does if no failure was counted at it, and failed if one was. If no failure was
 -- counted at all, the answers are those of the machine.
-pub record Answers (protected : Bool) (old : Connection) (before : Store) (bytes : List ℕ) (now : Progress)
+pub record Answers (protected : Bool) (old : Connection) (before : Store)
+    (bytes : List ℕ) (now : Progress)
     (after : Store) : Type 0 where
   pub taken : Moves old.framing now.framing bytes now.messages
   pub limit : now.framing.limit ≡ old.framing.limit
   pub ready : is_ready now.framing ≡ false
   -- the failures that were counted behind the last of them
   pub failures : ℕ
-  pub may : MayAnswer protected old.machine before.disk before.failures now.messages now.stepped failures
+  pub may : MayAnswer protected old.machine before.disk before.failures
+      now.messages now.stepped failures
   pub works : after.failures ≡ before.failures
       → now.stepped ≡ answers protected old.machine before.disk now.messages
 
@@ -144,7 +146,8 @@ pub record Stands (output : List ℕ) (r : Stepped) (counted : ℕ) (after : Sto
   pub output_is : written ≡ output ++ canon r.answers
 
 -- The next PDU, of which some tasks were done.
-pub record StopsAt (protected : Bool) (framing : Framing) (rest : List ℕ) (r : Stepped) (counted : ℕ)
+pub record StopsAt (protected : Bool) (framing : Framing) (rest : List ℕ)
+    (r : Stepped) (counted : ℕ)
     (front : Stepped) (after : ℕ) : Type 0 where
   pub message : Message
   pub next : Framing
@@ -179,7 +182,8 @@ AsksForMemory framing rest =
 
 -- Memory ran out behind the PDUs that were answered, where what follows asks for it: nothing more
 -- was done, or some tasks of the next PDU. The session is closed.
-pub record StopsShort (protected : Bool) (output : List ℕ) (at : Remainder) (new : Machine) (after : Store)
+pub record StopsShort (protected : Bool) (output : List ℕ) (at : Remainder)
+    (new : Machine) (after : Store)
     (written : List ℕ) : Type 0 where
   pub front : Stepped
   pub stops :
@@ -191,7 +195,8 @@ pub record StopsShort (protected : Bool) (output : List ℕ) (at : Remainder) (n
   pub output_is : written ≡ output ++ canon (at.stepped.answers ++ front.answers)
 
 -- What a call left, by what it answers.
-abbrev pub LeavesBy : Bool → Result Phase TargetFault → List ℕ → Remainder → Machine → Store → List ℕ
+abbrev pub LeavesBy : Bool → Result Phase TargetFault → List ℕ → Remainder → Machine → Store
+    → List ℕ
     → Type 0
 LeavesBy protected (Err faults.NoMemory) output at new after written =
     StopsShort protected output at new after written
@@ -199,7 +204,8 @@ LeavesBy protected _ output at new after written = Stands output at.stepped at.c
 
 -- A call in a session that isn't closed took the first bytes of the piece, and answered the PDUs
 -- that they complete.
-pub record Feeds (protected : Bool) (old : Scene) (piece : List ℕ) (result : Result Phase TargetFault)
+pub record Feeds (protected : Bool) (old : Scene) (piece : List ℕ)
+    (result : Result Phase TargetFault)
     (new : Scene) : Type 0 where
   pub framing : Framing
   pub count : ℕ
@@ -227,7 +233,8 @@ FedIf protected false old piece result new = Feeds protected old piece result ne
 
 -- What a call of feed does with a piece of the stream.
 abbrev pub Fed : Bool → Scene → List ℕ → Result Phase TargetFault → Scene → Type 0
-Fed protected old piece result new = FedIf protected (is_closed old.connection.machine) old piece result new
+Fed protected old piece result new = FedIf protected
+    (is_closed old.connection.machine) old piece result new
 
 -- ---- a call of feed_next
 
@@ -247,7 +254,8 @@ FeedsNext protected old piece (Ok done) new = FeedsOne protected old piece done.
 FeedsNext protected old piece (Err fault) new = Feeds protected old piece (Err fault) new
 
 -- What a call of feed_next does, by whether the session is closed.
-abbrev pub FedNextIf : Bool → Bool → Scene → List ℕ → Result (ℕ × Phase) TargetFault → Scene → Type 0
+abbrev pub FedNextIf : Bool → Bool → Scene → List ℕ → Result (ℕ × Phase) TargetFault → Scene
+    → Type 0
 FedNextIf protected true old piece result new =
     (result ≡ Err faults.Closed) × (new.connection ≡ old.connection) × (new.store ≡ old.store)
     × (new.output ≡ old.output)
@@ -255,7 +263,8 @@ FedNextIf protected false old piece result new = FeedsNext protected old piece r
 
 -- What a call of feed_next does with a piece of the stream.
 abbrev pub FedNext : Bool → Scene → List ℕ → Result (ℕ × Phase) TargetFault → Scene → Type 0
-FedNext protected old piece result new = FedNextIf protected (is_closed old.connection.machine) old piece result new
+FedNext protected old piece result new = FedNextIf protected
+    (is_closed old.connection.machine) old piece result new
 
 -- ---- a call of finish
 
@@ -271,7 +280,8 @@ Finishes old (Err (faults.Protocol rule)) new = ⊥
 -- ---- a whole stream, in whatever pieces
 
 -- From the opening state this stream was taken, and these bytes were written.
-pub record HasAnswered (protected : Bool) (start : Beginning) (stream : List ℕ) (now : Connection) (disk_now : Disk)
+pub record HasAnswered (protected : Bool) (start : Beginning) (stream : List ℕ)
+    (now : Connection) (disk_now : Disk)
     (written : List ℕ) : Type 0 where
   pub messages : List Message
   pub taken : HasTaken stream messages now.framing

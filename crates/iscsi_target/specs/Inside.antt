@@ -114,7 +114,8 @@ moment machine store output = record { machine = machine; store = store; output 
 
 -- What any message leads to, behind this output and over a store whose failures were counted before
 -- and after, execution by execution.
-pub record Serves (protected : Bool) (failures : ℕ) (before : List ℕ) (step : Device → Stepped) (broken : Option ℕ)
+pub record Serves (protected : Bool) (failures : ℕ) (before : List ℕ)
+    (step : Device → Stepped) (broken : Option ℕ)
     (new : Moment) : Type 0 where
   pub device : Device
   pub rises : failures ≤ new.store.failures
@@ -134,7 +135,8 @@ pub record GivesUp (old new : Moment) : Type 0 where
   pub unwritten : new.output ≡ old.output
 
 -- What was done with a task, over a store: it was handled so, or memory ran out.
-pub record Handles {E : Type 0} (protected : Bool) (step : Device → Stepped) (result : Result (Option ℕ) E)
+pub record Handles {E : Type 0} (protected : Bool) (step : Device → Stepped)
+    (result : Result (Option ℕ) E)
     (old new : Moment) : Type 0 where
   pub ok : IfOk result (λ rule. Serves protected old.store.failures old.output step rule new)
   pub err : OnErr result (GivesUp old new)
@@ -153,14 +155,16 @@ pub record Stops (protected : Bool) (old new : Moment) : Type 0 where
       → is_closed (first_done done device old).machine ≡ false
   -- the failures that were counted behind the last of them
   pub failures : ℕ
-  pub runs : RunsIn protected device old.store.failures (first_done done device old).executed failures
+  pub runs : RunsIn protected device old.store.failures
+      (first_done done device old).executed failures
   pub rises : failures ≤ new.store.failures
   pub machine : closed new.machine ≡ closed (first_done done device old).machine
   pub disk_is : new.store.disk ≡ (first_done done device old).disk
   pub output : new.output ≡ old.output ++ canon (first_done done device old).answers
 
 -- What was done with its tasks in their turn, over a store.
-pub record Works {E : Type 0} (protected : Bool) (result : Result (Option ℕ) E) (old new : Moment) : Type 0 where
+pub record Works {E : Type 0} (protected : Bool) (result : Result (Option ℕ) E)
+    (old new : Moment) : Type 0 where
   pub ok : IfOk result (λ rule. Serves protected old.store.failures old.output
       (λ device. done_in_turn device old.machine.session old.store.disk old.machine.tasks) rule new)
   pub err : OnErr result (Stops protected old new)
@@ -172,7 +176,8 @@ Halts protected (Queued session tasks) old new =
 Halts protected _ old new = GivesUp old new
 
 -- What was done with a PDU of which this comes, over a store.
-pub record Follows {E : Type 0} (protected : Bool) (next : Next) (result : Result (Option ℕ) E) (old new : Moment)
+pub record Follows {E : Type 0} (protected : Bool) (next : Next)
+    (result : Result (Option ℕ) E) (old new : Moment)
     : Type 0 where
   pub ok : IfOk result (λ rule. Serves protected old.store.failures old.output
       (λ device. followed device old.machine old.store.disk next) rule new)
@@ -186,7 +191,8 @@ HaltsAt protected m old new =
     × Halts protected (full_met old.machine old.store.disk.count m).next old new)
 
 -- What was done with a message, over a store.
-pub record Answers {E : Type 0} (protected : Bool) (m : Message) (result : Result (Option ℕ) E) (old new : Moment)
+pub record Answers {E : Type 0} (protected : Bool) (m : Message)
+    (result : Result (Option ℕ) E) (old new : Moment)
     : Type 0 where
   pub ok : IfOk result (λ rule. Serves protected old.store.failures old.output
       (λ device. step_on device old.machine old.store.disk m) rule new)
@@ -215,7 +221,8 @@ pub record IsUnready (old : Scene) (broken : Option ℕ) (new : Scene) : Type 0 
   pub rule_is : broken ≡ None
 
 -- The PDU that is ready was answered, and the framer is free for the next one.
-pub record IsAnswered (protected : Bool) (old : Scene) (broken : Option ℕ) (new : Scene) : Type 0 where
+pub record IsAnswered (protected : Bool) (old : Scene) (broken : Option ℕ)
+    (new : Scene) : Type 0 where
   pub head : Head
   pub segment : List ℕ
   pub means : Means old.connection.framing.held head segment
@@ -226,7 +233,8 @@ pub record IsAnswered (protected : Bool) (old : Scene) (broken : Option ℕ) (ne
 
 -- The PDU that is ready was answered, if one is.
 abbrev pub AnswersReady : Bool → Scene → Option ℕ → Scene → Type 0
-AnswersReady protected old broken new = IsUnready old broken new ⊎ IsAnswered protected old broken new
+AnswersReady protected old broken new = IsUnready old broken new
+    ⊎ IsAnswered protected old broken new
 
 -- Memory ran out at the PDU that is ready: the session is closed, and the PDU is dropped.
 pub record ShutsReady (protected : Bool) (old new : Scene) : Type 0 where
@@ -250,7 +258,8 @@ RestFails framing rest (faults.Protocol rule) = ⊥
 RestFails framing rest faults.Closed = ⊥
 
 -- Bytes were taken up to the end of a PDU or of the piece, and the PDU was answered if it is whole.
-pub record TakesOne (protected : Bool) (old : Scene) (piece : List ℕ) (n : ℕ) (broken : Option ℕ) (new : Scene)
+pub record TakesOne (protected : Bool) (old : Scene) (piece : List ℕ) (n : ℕ)
+    (broken : Option ℕ) (new : Scene)
     : Type 0 where
   pub framing : Framing
   pub takes : Takes old.connection.framing piece n framing
@@ -266,7 +275,8 @@ pub record AreRefused (old : Scene) (piece : List ℕ) (fault : TargetFault) (ne
   pub output_is : new.output ≡ old.output
 
 -- Memory ran out at the PDU that they complete.
-pub record RunsOut (protected : Bool) (old : Scene) (piece : List ℕ) (fault : TargetFault) (new : Scene)
+pub record RunsOut (protected : Bool) (old : Scene) (piece : List ℕ)
+    (fault : TargetFault) (new : Scene)
     : Type 0 where
   pub memory : fault ≡ faults.NoMemory
   pub framing : Framing
@@ -277,7 +287,8 @@ pub record RunsOut (protected : Bool) (old : Scene) (piece : List ℕ) (fault : 
 
 -- Why no bytes could be taken, or no PDU answered.
 abbrev pub FailsOne : Bool → Scene → List ℕ → TargetFault → Scene → Type 0
-FailsOne protected old piece fault new = AreRefused old piece fault new ⊎ RunsOut protected old piece fault new
+FailsOne protected old piece fault new = AreRefused old piece fault new
+    ⊎ RunsOut protected old piece fault new
 
 -- A stream's `NoMemory` is the target's own.
 abbrev pub target_fault : StreamFault → TargetFault
@@ -291,7 +302,8 @@ target_fault stream.Failed = faults.Stream stream.Failed
 
 -- These bytes led a target and its store from here to there: the target took them and answered the
 -- PDUs that they complete. The target may keep the bytes of each write as one piece.
-pub record Advances (protected : Bool) (old : Connection) (before : Store) (bytes : List ℕ) (new : Connection)
+pub record Advances (protected : Bool) (old : Connection) (before : Store)
+    (bytes : List ℕ) (new : Connection)
     (after : Store) : Type 0 where
   pub messages : List Message
   pub taken : Moves old.framing new.framing bytes messages

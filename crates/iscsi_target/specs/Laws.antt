@@ -117,14 +117,16 @@ supplied e = (e.order, data_of e.pieces)
 abbrev pub MayLeave : Bool → Execution → Effect → Type 0
 MayLeave protected e after =
     (after ≡ effect protected e.disk e.order (data_of e.pieces))
-    ⊎ FailsBy (guarded protected (plan_of e.order e.disk.count)) e.disk e.order (data_of e.pieces) after
+    ⊎ FailsBy (guarded protected (plan_of e.order e.disk.count)) e.disk e.order
+    (data_of e.pieces) after
 
 -- What was executed, one after another, leads from one disk to another, each on the disk that the
 -- one before left.
 unfoldable pub Leads : Bool → Disk → List Execution → Disk → Type 0
 Leads protected disk [] last = last ≡ disk
 Leads protected disk (e ∷ es) last =
-    (after : Effect) × (e.disk ≡ disk) × MayLeave protected e after × Leads protected after.disk es last
+    (after : Effect) × (e.disk ≡ disk) × MayLeave protected e after
+    × Leads protected after.disk es last
 
 -- The command of a task, if it is one (section 11.3).
 abbrev pub task_open : Task → List Command
@@ -183,7 +185,8 @@ told_of tag outcome = record {
 
 -- What is to be told of what was executed, over a store that doesn't fail (section 11.4).
 abbrev pub due_for : Bool → Execution → Told
-due_for protected e = told_of e.initiator_task_tag (effect protected e.disk e.order (data_of e.pieces)).outcome
+due_for protected e = told_of e.initiator_task_tag
+    (effect protected e.disk e.order (data_of e.pieces)).outcome
 
 -- The commands that were accepted are those that were executed, in their order, and then those of
 -- the tasks that there are, unless the session is closed (section 4.2.2.1).

@@ -13,5 +13,6 @@ pub mod Feed
 pub mod Crash
 pub mod Reads
 pub mod Laws
+pub mod Access
 pub mod Inside
 pub mod Alike

@@ -309,7 +309,8 @@ step protected s disk m = step_on (reliable protected) s disk m
 unfoldable pub answers : Bool → Machine → Disk → List Message → Stepped
 answers protected s disk [] = unchanged s disk
 answers protected s disk (m ∷ ms) =
-    then_stepped (step protected s disk m) (answers protected (step protected s disk m).machine (step protected s disk m).disk ms)
+    then_stepped (step protected s disk m) (answers protected (step protected s disk m).machine
+    (step protected s disk m).disk ms)
 
 -- ---- a store that may fail
 
@@ -324,7 +325,8 @@ RunsIn protected device before (e ∷ es) after =
     × RunsIn protected (device_next device) now es after
 
 -- One message, over a store that may fail, whose failures were counted before and behind it.
-pub record MayStep (protected : Bool) (s : Machine) (disk : Disk) (before : ℕ) (m : Message) (r : Stepped)
+pub record MayStep (protected : Bool) (s : Machine) (disk : Disk) (before : ℕ)
+    (m : Message) (r : Stepped)
     (after : ℕ) : Type 0 where
   pub device : Device
   pub is : r ≡ step_on device s disk m
@@ -333,7 +335,8 @@ pub record MayStep (protected : Bool) (s : Machine) (disk : Disk) (before : ℕ)
 -- One message at which memory ran out, over a store that may fail. Some of the tasks were done, in
 -- their order, and the one at which memory ran out changed nothing. No task before that one ended the
 -- session, as a broken rule and a logout do.
-pub record MayStop (protected : Bool) (s : Machine) (disk : Disk) (before : ℕ) (m : Message) (r : Stepped)
+pub record MayStop (protected : Bool) (s : Machine) (disk : Disk) (before : ℕ)
+    (m : Message) (r : Stepped)
     (after : ℕ) : Type 0 where
   pub full : s.session.phase ≡ phases.Full
   pub session : Session
@@ -353,4 +356,5 @@ unfoldable pub MayAnswer : Bool → Machine → Disk → ℕ → List Message �
 MayAnswer protected s disk before [] r after = (r ≡ unchanged s disk) × (after ≡ before)
 MayAnswer protected s disk before (m ∷ ms) r after =
     (first : Stepped) × (later : Stepped) × (now : ℕ) × MayStep protected s disk before m first now
-    × MayAnswer protected first.machine first.disk now ms later after × (r ≡ then_stepped first later)
+    × MayAnswer protected first.machine first.disk now ms later after
+    × (r ≡ then_stepped first later)

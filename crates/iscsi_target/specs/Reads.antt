@@ -73,7 +73,8 @@ pub record SendsRuns (to : Reply) (read : Read) (count : ℕ) : Type 0 where
       (waiting to.machine.tasks) to.tag 0 0 (data_in_parts to.machine.session.held bytes))
 
 -- An order without data was executed over a store, and its answers were appended (section 11.4).
-pub record AnswersRead (protected : Bool) (to : Reply) (order : Order) (before after : Store) : Type 0 where
+pub record AnswersRead (protected : Bool) (to : Reply) (order : Order)
+    (before after : Store) : Type 0 where
   pub outcome : Outcome
   pub executes : Executes protected before.failures after.failures before.disk order []
       (record { disk = after.disk; outcome = outcome })

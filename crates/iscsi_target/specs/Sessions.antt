@@ -33,7 +33,8 @@ LoginIsAnswered = Row fresh (says first first_text ∷ says second second_text �
 -- It leads to full feature phase, with these held values (section 6.3).
 abbrev pub LoginLeads : Type 0
 LoginLeads =
-    (answers false fresh blank (says first first_text ∷ says second second_text ∷ [])).machine ≡ logged_in
+    (answers false fresh blank (says first first_text ∷ says second second_text ∷ [])).machine
+    ≡ logged_in
 
 -- WRITE(10) of the first eight blocks (SBC-3).
 abbrev pub write_of_eight : Cdb

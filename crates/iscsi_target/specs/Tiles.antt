@@ -119,4 +119,5 @@ pdu_answers s m _ = 0
 unfoldable pub r2ts_answered : Bool → Machine → Disk → List Message → ℕ
 r2ts_answered protected s disk [] = 0
 r2ts_answered protected s disk (m ∷ ms) =
-    pdu_answers s m m.head + r2ts_answered protected (step protected s disk m).machine (step protected s disk m).disk ms
+    pdu_answers s m m.head + r2ts_answered protected (step protected s disk m).machine
+    (step protected s disk m).disk ms

@@ -16,6 +16,7 @@ use Rattle.iscsi_login.specs.declared.preferences.Answered.TheVariants as answer
 use Rattle.iscsi_login.specs.Held.{Held}
 use Rattle.iscsi_login.specs.Negotiation.{standard}
 use Rattle.iscsi_target_session.specs.Configured.{Settings, open_to_all}
+use Rattle.iscsi_access.specs.declared.verdict.Progress.TheVariants as progress
 use Rattle.iscsi_target.specs.State.{Machine, opening}
 use Rattle.iscsi_target.specs.Machine.{answers}
 
@@ -220,6 +221,7 @@ logged_in = record {
     seen_keys = keys_given;
     has_text = true;
     has_operational_text = true;
+    progress = progress.Unasked;
     initiator_name = codes "iqn.2026-01.example:host";
     isid = 0x40 ∷ 0 ∷ 0 ∷ 1 ∷ 0 ∷ 0 ∷ [];
     session_type = session_types.Normal;

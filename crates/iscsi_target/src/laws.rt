@@ -8,6 +8,9 @@ ghost use Rattle.scsi_disk.specs.Runs.{disk_after};
 ghost use Rattle.iscsi_text.specs.Key.{is_among};
 ghost use Rattle.iscsi_pdu.specs.declared.head.Head.TheVariants as heads;
 ghost use Rattle.iscsi_pdu.specs.declared.head.login_request.LoginRequest.{LoginRequest};
+ghost use Rattle.iscsi_pdu.specs.declared.head.login_response.LoginResponse.{LoginResponse};
+ghost use Rattle.iscsi_text.specs.Text.{Pairs};
+ghost use Rattle.iscsi_target_session.specs.Login.{login_message};
 ghost use Rattle.iscsi_stream.specs.Stream.{Message, StreamMeans, Splits, longest_segment};
 ghost use Rattle.iscsi_pdu.specs.Meaning.{AreBytes};
 ghost use Rattle.iscsi_stream.specs.Canonical.{canon};
@@ -15,6 +18,7 @@ ghost use Rattle.iscsi_stream.specs.Framing.{HasTaken};
 ghost use Rattle.iscsi_login.specs.declared.phase.Phase.{Phase};
 ghost use Rattle.iscsi_login.specs.Negotiation.{IsInRange};
 ghost use Rattle.iscsi_login.specs.Held.{IsHeld};
+ghost use Rattle.iscsi_access.specs.Chap.{Chap};
 ghost use Rattle.iscsi_target.specs.declared.fault.TargetFault.{TargetFault};
 ghost use Rattle.iscsi_target_session.specs.Configured.{Settings};
 ghost use Rattle.iscsi_target_session.specs.Session.{limit, Session};
@@ -22,9 +26,10 @@ ghost use Rattle.iscsi_target.specs.State.{Execution, Machine, Stepped, closed, 
 ghost use Rattle.iscsi_target.specs.State.{joined};
 ghost use Rattle.iscsi_target.specs.Execution.{Device};
 ghost use Rattle.iscsi_target.specs.Machine.{is_closed, step, step_on, answers, then_stepped, done_first, done_in_turn, MayStep, MayAnswer};
+ghost use Rattle.iscsi_target.specs.Access.{HasResponded};
 ghost use Rattle.iscsi_target.specs.Queue.{IsNotBefore, IsQueue};
 ghost use Rattle.iscsi_target.specs.declared.tasks.Task.{Task};
-ghost use Rattle.iscsi_login.specs.declared.phase.Phase.TheVariants.{Full};
+ghost use Rattle.iscsi_login.specs.declared.phase.Phase.TheVariants.{Login, Full, Closed};
 ghost use Rattle.iscsi_login.specs.declared.stage.Stage.TheVariants as stages;
 ghost use Rattle.iscsi_target.specs.Feed.{Alike, Connection, Fed, FedAlike, FedAll, GoesWell, Holds, Meets, SameSession, Store, Writes, beginning, opening_connection, scene, stream_of};
 ghost use Rattle.iscsi_target.specs.Tiles.{TilesDataIn, IsTiled, IsModest, total_of, r2t_ranges, r2ts_answered};
@@ -44,17 +49,21 @@ pub fn worked_sessions()
 /// left out but those that wait, which come behind, or at which the session was closed.
 pub fn one_disk()
     ensures fold { (protected : Bool) (s : Machine) (disk : Disk) (ms : List Message)
-        → (answers protected s disk ms).disk ≡ disk_after protected (map supplied (answers protected s disk ms).executed) disk }
+        → (answers protected s disk ms).disk ≡ disk_after protected
+        (map supplied (answers protected s disk ms).executed) disk }
     // Over a store that may fail, each does what it does, or what it may do where the device fails.
-    ensures may { (protected : Bool) (s : Machine) (disk : Disk) (before after : ℕ) (ms : List Message) (r : Stepped)
+    ensures may { (protected : Bool) (s : Machine) (disk : Disk) (before after : ℕ)
+        (ms : List Message) (r : Stepped)
         → MayAnswer protected s disk before ms r after → Leads protected disk r.executed r.disk }
     ensures answered { (protected : Bool) (s : Machine) (disk : Disk) (ms : List Message)
         → response_tags (answers protected s disk ms).answers
         ≡ map (λ task. task.0) (tasks_done (answers protected s disk ms).executed) }
     // A response says of its command what came of it: status, residual and sense data.
     ensures told { (protected : Bool) (s : Machine) (disk : Disk) (ms : List Message)
-        → told_in (answers protected s disk ms).answers ≡ map (due_for protected) (answers protected s disk ms).executed }
-    ensures order { (protected : Bool) (settings : Settings) (n : ℕ) (disk : Disk) (ms : List Message)
+        → told_in (answers protected s disk ms).answers
+        ≡ map (due_for protected) (answers protected s disk ms).executed }
+    ensures order { (protected : Bool) (settings : Settings) (n : ℕ)
+        (disk : Disk) (ms : List Message)
         → AreInOrder (answers protected (opening settings n) disk ms) }
 {}
 
@@ -80,20 +89,25 @@ pub fn tasks_in_turn()
 /// a task, and no R2T was sent for one behind it. MaxCmdSN does not go back while a session is in
 /// full feature phase.
 pub fn queue()
-    ensures tasks { (protected : Bool) (settings : Settings) (n : ℕ) (disk : Disk) (ms : List Message)
+    ensures tasks { (protected : Bool) (settings : Settings) (n : ℕ)
+        (disk : Disk) (ms : List Message)
         → AllByRecursion HasCmdSn ms
         → IsQueue (answers protected (opening settings n) disk ms).machine.tasks }
-    ensures rises { (protected : Bool) (s : Machine) (disk : Disk) (m : Message) → s.session.exp_cmd_sn < 2 ^ 32
-        → waiting s.tasks ≤ 8 → s.session.phase ≡ Full → is_closed (step protected s disk m).machine ≡ false
+    ensures rises { (protected : Bool) (s : Machine) (disk : Disk) (m : Message)
+        → s.session.exp_cmd_sn < 2 ^ 32
+        → waiting s.tasks ≤ 8 → s.session.phase ≡ Full
+        → is_closed (step protected s disk m).machine ≡ false
         → IsNotBefore (max_cmd_sn s) (max_cmd_sn (step protected s disk m).machine) }
 {}
 
 /// Once a login is complete, its stage and the values that it agreed on stay, whatever comes, also
 /// where the session is closed.
 pub fn held_stays()
-    ensures stays { (protected : Bool) (settings : Settings) (n : ℕ) (disk : Disk) (ms more : List Message)
+    ensures stays { (protected : Bool) (settings : Settings) (n : ℕ) (disk : Disk)
+        (ms more : List Message)
         → (answers protected (opening settings n) disk ms).machine.session.stage ≡ stages.Full
-        → ((answers protected (opening settings n) disk (ms ++ more)).machine.session.stage ≡ stages.Full)
+        → ((answers protected (opening settings n) disk (ms ++ more)).machine.session.stage
+        ≡ stages.Full)
         × ((answers protected (opening settings n) disk (ms ++ more)).machine.session.held
         ≡ (answers protected (opening settings n) disk ms).machine.session.held) }
     // So does a fault that closes it.
@@ -105,28 +119,62 @@ pub fn held_stays()
 /// which gave one of them, and so is one in which a command was executed. Any other initiator has
 /// nothing executed, and leaves the blocks as they are.
 pub fn allowed_only()
-    ensures full { (protected : Bool) (settings : Settings) (names : List (List ℕ)) (n : ℕ) (disk : Disk)
+    ensures full { (protected : Bool) (settings : Settings)
+        (names : List (List ℕ)) (n : ℕ) (disk : Disk)
         (ms : List Message) → settings.access.names ≡ Some names
         → (answers protected (opening settings n) disk ms).machine.session.phase ≡ Full
-        → is_among names (answers protected (opening settings n) disk ms).machine.session.initiator_name
+        → is_among names (answers protected (opening settings n) disk
+        ms).machine.session.initiator_name
         ≡ true }
-    ensures executed { (protected : Bool) (settings : Settings) (names : List (List ℕ)) (n : ℕ) (disk : Disk)
+    ensures executed { (protected : Bool) (settings : Settings)
+        (names : List (List ℕ)) (n : ℕ) (disk : Disk)
         (ms : List Message) → settings.access.names ≡ Some names
         → (answers protected (opening settings n) disk ms).executed ≢ []
-        → is_among names (answers protected (opening settings n) disk ms).machine.session.initiator_name
+        → is_among names (answers protected (opening settings n) disk
+        ms).machine.session.initiator_name
         ≡ true }
     // A login that is refused leaves no name in the session: an empty one.
-    ensures others { (protected : Bool) (settings : Settings) (names : List (List ℕ)) (n : ℕ) (disk : Disk)
+    ensures others { (protected : Bool) (settings : Settings)
+        (names : List (List ℕ)) (n : ℕ) (disk : Disk)
         (ms : List Message) → settings.access.names ≡ Some names
         → let r = answers protected (opening settings n) disk ms in
         is_among names r.machine.session.initiator_name ≡ false
         → (r.executed ≡ []) × (r.disk ≡ disk) }
 {}
 
+/// Who may log in where CHAP is demanded: a session in full feature phase has had a login text with
+/// the name of an account that its initiator may use, and the response of this account's secret to
+/// the challenge of this login: MD5 of the identifier, the secret and the challenge (RFC 7143,
+/// section 12.1.3; RFC 1994, section 4.1). So no other message leads there, forged, repeated or cut.
+pub fn full_if_answered()
+    ensures answered { (protected : Bool) (settings : Settings) (n : ℕ) (disk : Disk)
+        (ms : List Message) (c : Chap) → settings.access.chap ≡ Some c
+        → let r = answers protected (opening settings n) disk ms in
+        r.machine.session.stage ≡ stages.Full
+        → HasResponded protected (opening settings n) disk c r.machine.session.initiator_name ms }
+    // So has a session in which any order was executed: before, no block is read or written.
+    ensures executed { (protected : Bool) (settings : Settings) (n : ℕ) (disk : Disk)
+        (ms : List Message) (c : Chap) → settings.access.chap ≡ Some c
+        → let r = answers protected (opening settings n) disk ms in r.executed ≢ []
+        → HasResponded protected (opening settings n) disk c r.machine.session.initiator_name ms }
+{}
+
+/// A login that is refused ends its session: where a message before full feature phase is answered by
+/// a Login Response of another class than 0, the session is closed, and no block is read or written
+/// (RFC 7143, section 11.13.5).
+pub fn refused_login()
+    ensures refused { (protected : Bool) (s : Machine) (disk : Disk) (m : Message)
+        (h : LoginResponse) (text : Pairs) → s.session.phase ≡ Login
+        → let r = step protected s disk m in r.answers ≡ login_message h text ∷ []
+        → h.status_class ≢ 0
+        → (r.machine.session.phase ≡ Closed) × (r.executed ≡ []) × (r.disk ≡ disk) }
+{}
+
 /// The order of acceptance is that of CmdSN: the requests that were accepted and aren't immediate
 /// have numbers one after another, from that of the first login request on.
 pub fn command_numbers()
-    ensures count_on { (protected : Bool) (settings : Settings) (n : ℕ) (disk : Disk) (first : Message)
+    ensures count_on { (protected : Bool) (settings : Settings) (n : ℕ)
+        (disk : Disk) (first : Message)
         (ms : List Message) (request : LoginRequest) → first.head ≡ heads.LoginRequest request
         → AllByRecursion HasCmdSn (first ∷ ms)
         → CountOn request.cmd_sn
@@ -139,9 +187,11 @@ pub fn command_numbers()
 /// Status numbers: the answers that carry StatSN and advance it have numbers one after another,
 /// round the circle of 2^32.
 pub fn status_numbers()
-    ensures count_on { (protected : Bool) (s : Machine) (disk : Disk) (ms : List Message) → s.session.stat_sn < 2 ^ 32
+    ensures count_on { (protected : Bool) (s : Machine) (disk : Disk) (ms : List Message)
+        → s.session.stat_sn < 2 ^ 32
         → CountOn s.session.stat_sn (stat_sns (answers protected s disk ms).answers) }
-    ensures next { (protected : Bool) (s : Machine) (disk : Disk) (ms : List Message) → s.session.stat_sn < 2 ^ 32
+    ensures next { (protected : Bool) (s : Machine) (disk : Disk) (ms : List Message)
+        → s.session.stat_sn < 2 ^ 32
         → (answers protected s disk ms).machine.session.stat_sn
         ≡ (s.session.stat_sn + length (stat_sns (answers protected s disk ms).answers)) % 2 ^ 32 }
 {}
@@ -150,10 +200,13 @@ pub fn status_numbers()
 /// are executed, one after another, and tile the data of each. Also whatever came before, the pieces
 /// of a write that is executed tile its transfer.
 pub fn tiling()
-    ensures data_in { (protected : Bool) (settings : Settings) (n : ℕ) (disk : Disk) (ms : List Message) (m : Message)
+    ensures data_in { (protected : Bool) (settings : Settings) (n : ℕ) (disk : Disk)
+        (ms : List Message) (m : Message)
         → IsInRange settings.preferences
-        → let r = answers protected (opening settings n) disk ms in TilesDataIn protected (step protected r.machine r.disk m) }
-    ensures writes { (protected : Bool) (settings : Settings) (n : ℕ) (disk : Disk) (ms : List Message) (m : Message)
+        → let r = answers protected (opening settings n) disk ms in TilesDataIn protected
+        (step protected r.machine r.disk m) }
+    ensures writes { (protected : Bool) (settings : Settings) (n : ℕ) (disk : Disk)
+        (ms : List Message) (m : Message)
         → let r = answers protected (opening settings n) disk ms in
         AllByRecursion IsTiled (step protected r.machine r.disk m).executed }
 {}
@@ -162,8 +215,10 @@ pub fn tiling()
 /// past the transfer of the write that is the first task. Also whatever came before, at most one R2T
 /// is unanswered.
 pub fn ready_to_transfer_bounds()
-    ensures modest { (protected : Bool) (settings : Settings) (n : ℕ) (disk : Disk) (ms : List Message) (m : Message)
-        → let r = answers protected (opening settings n) disk ms in let t = step protected r.machine r.disk m in
+    ensures modest { (protected : Bool) (settings : Settings) (n : ℕ) (disk : Disk)
+        (ms : List Message) (m : Message)
+        → let r = answers protected (opening settings n) disk ms in let t = step
+        protected r.machine r.disk m in
         AllByRecursion (IsModest t.machine.session.held (total_of t.machine.tasks)) (r2t_ranges t.answers) }
     ensures one { (protected : Bool) (settings : Settings) (n : ℕ) (disk : Disk) (ms : List Message)
         → length (r2t_ranges (answers protected (opening settings n) disk ms).answers)
@@ -173,7 +228,8 @@ pub fn ready_to_transfer_bounds()
 /// Silence outside the window: whatever came before, a request that isn't immediate and comes
 /// outside the window changes nothing and has no answer.
 pub fn silence_outside_the_window()
-    ensures silent { (protected : Bool) (settings : Settings) (n : ℕ) (disk : Disk) (ms : List Message) (m : Message)
+    ensures silent { (protected : Bool) (settings : Settings) (n : ℕ) (disk : Disk)
+        (ms : List Message) (m : Message)
         → let r = answers protected (opening settings n) disk ms in IsOutside r.machine m
         → step protected r.machine r.disk m ≡ unchanged r.machine r.disk }
 {}
@@ -181,19 +237,24 @@ pub fn silence_outside_the_window()
 /// What is held stays in range, and a segment of the length that the target declared is one that
 /// its framer takes.
 pub fn held_in_range()
-    ensures held { (protected : Bool) (settings : Settings) (n : ℕ) (disk : Disk) (ms : List Message)
+    ensures held { (protected : Bool) (settings : Settings) (n : ℕ)
+        (disk : Disk) (ms : List Message)
         → IsInRange settings.preferences
         → IsHeld (answers protected (opening settings n) disk ms).machine.session.held }
-    ensures limit { (protected : Bool) (settings : Settings) (n : ℕ) (disk : Disk) (ms : List Message)
-        → (answers protected (opening settings n) disk ms).machine.session.held.target_max_recv ≤ limit settings }
+    ensures limit { (protected : Bool) (settings : Settings) (n : ℕ)
+        (disk : Disk) (ms : List Message)
+        → (answers protected (opening settings n) disk
+        ms).machine.session.held.target_max_recv ≤ limit settings }
 {}
 
 /// Messages in two parts are answered as at once, also over a store that may fail.
 pub fn in_two_parts()
     ensures together { (protected : Bool) (s : Machine) (disk : Disk) (ms more : List Message)
         → answers protected s disk (ms ++ more) ≡ then_stepped (answers protected s disk ms)
-        (answers protected (answers protected s disk ms).machine (answers protected s disk ms).disk more) }
-    ensures may { (protected : Bool) (s : Machine) (disk : Disk) (before now after : ℕ) (ms more : List Message)
+        (answers protected (answers protected s disk ms).machine
+        (answers protected s disk ms).disk more) }
+    ensures may { (protected : Bool) (s : Machine) (disk : Disk) (before now after : ℕ)
+        (ms more : List Message)
         (a b : Stepped) → MayAnswer protected s disk before ms a now
         → MayAnswer protected a.machine a.disk now more b after
         → MayAnswer protected s disk before (ms ++ more) (then_stepped a b) after }
@@ -205,9 +266,11 @@ pub fn pieces_joined()
     ensures same { (device : Device) (s : Machine) (disk : Disk) (m : Message)
         → joined_stepped (step_on device (joined s) disk m)
         ≡ joined_stepped (step_on device s disk m) }
-    ensures may { (protected : Bool) (s : Machine) (disk : Disk) (before after : ℕ) (m : Message) (a : Stepped)
+    ensures may { (protected : Bool) (s : Machine) (disk : Disk) (before after : ℕ)
+        (m : Message) (a : Stepped)
         → MayStep protected (joined s) disk before m a after
-        → (b : Stepped) × MayStep protected s disk before m b after × (joined_stepped a ≡ joined_stepped b) }
+        → (b : Stepped) × MayStep protected s disk before m b after
+        × (joined_stepped a ≡ joined_stepped b) }
 {}
 
 /// Two streams of one meaning get the same answers, and so do a stream and its canonical form.
@@ -215,17 +278,21 @@ pub fn one_meaning_one_answer()
     ensures streams { (protected : Bool) (settings : Settings) (n : ℕ) (disk : Disk) (s t : List ℕ)
         (ms ns : List Message) → AreBytes s → AreBytes t → StreamMeans s ms
         → StreamMeans t ns → canon ms ≡ canon ns
-        → answers protected (opening settings n) disk ms ≡ answers protected (opening settings n) disk ns }
-    ensures canonical { (protected : Bool) (settings : Settings) (n : ℕ) (disk : Disk) (stream : List ℕ)
+        → answers protected (opening settings n) disk ms
+        ≡ answers protected (opening settings n) disk ns }
+    ensures canonical { (protected : Bool) (settings : Settings) (n : ℕ)
+        (disk : Disk) (stream : List ℕ)
         (ms ns : List Message) → AreBytes stream → StreamMeans stream ms → StreamMeans (canon ms) ns
-        → answers protected (opening settings n) disk ns ≡ answers protected (opening settings n) disk ms }
+        → answers protected (opening settings n) disk ns
+        ≡ answers protected (opening settings n) disk ms }
 {}
 
 /// Cuts make no difference, whatever pieces a stream of the profile comes in. What is written, the
 /// blocks and the session are those that its messages lead to, also if the session is closed before
 /// the end.
 pub fn any_pieces()
-    ensures meets { (protected : Bool) (settings : Settings) (n : ℕ) (store after : Store) (pieces : List (List ℕ))
+    ensures meets { (protected : Bool) (settings : Settings) (n : ℕ) (store after : Store)
+        (pieces : List (List ℕ))
         (target : Connection) (written : List ℕ) (ms : List Message)
         → FedAll protected (scene (opening_connection settings n) store []) pieces
         (scene target after written)
@@ -253,8 +320,10 @@ pub fn any_pieces()
         (ms : List Message) (given rest : List ℕ) → IsInRange settings.preferences
         → Splits longest_segment (stream_of pieces) ms given rest
         → stream_of others ≡ stream_of pieces
-        → FedAll protected (scene (opening_connection settings n) store []) pieces (scene a first written)
-        → FedAll protected (scene (opening_connection settings n) store []) others (scene b second rewritten)
+        → FedAll protected (scene (opening_connection settings n) store []) pieces
+        (scene a first written)
+        → FedAll protected (scene (opening_connection settings n) store []) others
+        (scene b second rewritten)
         → (rewritten ≡ written) × (second.disk ≡ first.disk) × SameSession a.machine b.machine }
 {}
 
@@ -265,15 +334,18 @@ pub fn canonical_form()
         (pieces others : List (List ℕ)) (a b : Connection) (written rewritten : List ℕ)
         (ms : List Message) → AreBytes (stream_of pieces) → StreamMeans (stream_of pieces) ms
         → stream_of others ≡ canon ms
-        → FedAll protected (scene (opening_connection settings n) store []) pieces (scene a first written)
-        → FedAll protected (scene (opening_connection settings n) store []) others (scene b second rewritten)
+        → FedAll protected (scene (opening_connection settings n) store []) pieces
+        (scene a first written)
+        → FedAll protected (scene (opening_connection settings n) store []) others
+        (scene b second rewritten)
         → (rewritten ≡ written) × (second.disk ≡ first.disk) × (b.machine ≡ a.machine) }
 {}
 
 /// A call has one outcome: if memory is there and the device doesn't fail, what a piece leads to is
 /// the same each time. This also holds if the piece breaks off within a PDU.
 pub fn one_outcome()
-    ensures alike { (protected : Bool) (stream piece output written rewritten : List ℕ) (ms : List Message)
+    ensures alike { (protected : Bool) (stream piece output written rewritten : List
+        ℕ) (ms : List Message)
         (old same a b : Connection) (before store first second : Store)
         (result other : Result Phase TargetFault) → (is_closed old.machine ≡ false → HasTaken stream ms old.framing)
         → Alike old same → store.disk ≡ before.disk

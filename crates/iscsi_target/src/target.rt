@@ -93,7 +93,8 @@ impl Target {
         ensures lasts { S.failures store.new ≡ 0
             → Lasts (S.synced store.new) (S.disk store.new) (S.kept store.new) }
         // Come what may, a crash leaves each block as before, or as a command of a PDU leaves it.
-        ensures crash { CrashesFed S.protected self.old (store_of (S.disk store.old) (S.failures store.old))
+        ensures crash { CrashesFed S.protected self.old
+            (store_of (S.disk store.old) (S.failures store.old))
             piece.now (store_of (S.disk store.new) (S.failures store.new))
             (S.kept store.old) (S.kept store.new) }
     {
@@ -122,7 +123,8 @@ impl Target {
         ensures lasts { S.failures store.new ≡ 0
             → Lasts (S.synced store.new) (S.disk store.new) (S.kept store.new) }
         // Come what may, a crash leaves each block as before, or as a command of the PDU does.
-        ensures crash { CrashesNext S.protected self.old piece.now (S.disk store.old) (S.disk store.new)
+        ensures crash { CrashesNext S.protected self.old piece.now
+            (S.disk store.old) (S.disk store.new)
             (S.kept store.old) (S.kept store.new) }
     {
         if self.machine.is_closed() {
@@ -256,7 +258,8 @@ fn feed_once<S: BlockStore>(
         (store_of (S.disk store.new) (S.failures store.new)) out.new.items) }
     ensures limit { framer.new.limit ≡ limit machine.new.session.settings }
     ensures unready { is_ready framer.new ≡ false }
-    ensures crash { CrashesNext S.protected (connection machine.old framer.old) piece.now (S.disk store.old)
+    ensures crash { CrashesNext S.protected (connection machine.old framer.old)
+        piece.now (S.disk store.old)
         (S.disk store.new) (S.kept store.old) (S.kept store.new) }
 {
     let (taken, broken) = feed_one(machine, framer, piece, store, out)?;
@@ -279,17 +282,20 @@ fn feed_one<S: BlockStore>(
     requires limit { framer.old.limit ≡ limit machine.old.session.settings }
     requires unready { is_ready framer.old ≡ false }
     requires live { is_closed machine.old ≡ false }
-    ensures ok { IfOk result (λ done. TakesOne S.protected (scene (connection machine.old framer.old)
+    ensures ok { IfOk result (λ done. TakesOne S.protected
+        (scene (connection machine.old framer.old)
         (store_of (S.disk store.old) (S.failures store.old)) out.old.items) piece.now done.0 done.1
         (scene (connection machine.new framer.new)
         (store_of (S.disk store.new) (S.failures store.new)) out.new.items)) }
-    ensures err { IfErr result (λ fault. FailsOne S.protected (scene (connection machine.old framer.old)
+    ensures err { IfErr result (λ fault. FailsOne S.protected
+        (scene (connection machine.old framer.old)
         (store_of (S.disk store.old) (S.failures store.old)) out.old.items) piece.now fault
         (scene (connection machine.new framer.new)
         (store_of (S.disk store.new) (S.failures store.new)) out.new.items)) }
     ensures limit { framer.new.limit ≡ limit machine.new.session.settings }
     ensures unready { is_ready framer.new ≡ false }
-    ensures crash { CrashesNext S.protected (connection machine.old framer.old) piece.now (S.disk store.old)
+    ensures crash { CrashesNext S.protected (connection machine.old framer.old)
+        piece.now (S.disk store.old)
         (S.disk store.new) (S.kept store.old) (S.kept store.new) }
 {
     let taken = take_bytes(machine, framer, piece)?;
@@ -338,7 +344,8 @@ fn answer_ready<S: BlockStore>(
 ) -> Result<Option<u8>, AllocError>
     requires limit { framer.old.limit ≡ limit machine.old.session.settings }
     requires live { is_closed machine.old ≡ false }
-    ensures ok { IfOk result (λ rule. AnswersReady S.protected (scene (connection machine.old framer.old)
+    ensures ok { IfOk result (λ rule. AnswersReady S.protected
+        (scene (connection machine.old framer.old)
         (store_of (S.disk store.old) (S.failures store.old)) out.old.items) rule
         (scene (connection machine.new framer.new)
         (store_of (S.disk store.new) (S.failures store.new)) out.new.items)) }

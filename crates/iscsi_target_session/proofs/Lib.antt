@@ -4,6 +4,7 @@ pub mod LoginTextLemmas
 pub mod TextReadingLemmas
 pub mod DeclaredLengthLemmas
 pub mod LoginLemmas
+pub mod ExchangeLemmas
 pub mod TextReplyLemmas
 pub mod TextReplyInvariant
 pub mod KindLemmas

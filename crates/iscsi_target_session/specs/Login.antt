@@ -1,8 +1,16 @@
 -- The login of a target: what each Login Request leads to (RFC 7143, sections 6.3, 11.12 and
 -- 11.13).
-use Rattle.std.specs.Prelude.{ℕ, ◌+◌, Bool, true, false, not, ◌==◌, ◌&&◌, ◌||◌, nat_lt, nat_le, if◌then◌else◌, List, [], ◌∷◌, ◌++◌, length, Option, Some, None, unwrap_or}
-use Rattle.iscsi_text.specs.Text.{Pairs}
-use Rattle.iscsi_text.specs.Reading.{text_in}
+use Rattle.std.specs.Prelude.{ℕ, ◌+◌, Bool, true, false, not, ◌==◌, ◌&&◌, ◌||◌, nat_lt, nat_le, if◌then◌else◌, List, [], ◌∷◌, ◌++◌, length, Option, Some, None, unwrap_or, codes}
+use Rattle.iscsi_text.specs.Text.{Pairs, without}
+use Rattle.iscsi_text.specs.Canonical.{canonical_text}
+use Rattle.iscsi_text.specs.Reading.{text_in, in_order}
+use Rattle.iscsi_access.specs.Chap.{Chap}
+use Rattle.iscsi_access.specs.Exchange.{judge, said_pairs}
+use Rattle.iscsi_access.specs.declared.verdict.Progress.{Progress}
+use Rattle.iscsi_access.specs.declared.verdict.Progress.TheVariants as progress
+use Rattle.iscsi_access.specs.declared.verdict.Said.{Said}
+use Rattle.iscsi_access.specs.declared.verdict.Verdict.{Verdict}
+use Rattle.iscsi_access.specs.declared.verdict.Verdict.TheVariants as verdicts
 use Rattle.iscsi_pdu.specs.declared.head.login_request.LoginRequest.{LoginRequest}
 use Rattle.iscsi_pdu.specs.declared.head.login_response.LoginResponse.{LoginResponse}
 use Rattle.iscsi_pdu.specs.declared.head.Head.{Head}
@@ -19,7 +27,7 @@ use Rattle.iscsi_target_session.specs.Session.{Session, Reply, shut, ended, coun
 use Rattle.scsi_disk.specs.Plan.{first_of}
 use Rattle.iscsi_pdu.specs.Rules.{kind_not_due}
 use Rattle.iscsi_target_session.specs.declared.status.Status.{Status}
-use Rattle.iscsi_target_session.specs.LoginText.{initiator_error, unsupported_version, session_does_not_exist, out_of_resources, is_operational, known_keys, seen_with, session_for, answer_pairs, held_after, text_refusals, initiator_for}
+use Rattle.iscsi_target_session.specs.LoginText.{initiator_error, authentication_failure, unsupported_version, session_does_not_exist, out_of_resources, is_operational, known_keys, seen_with, session_for, answer_pairs, held_after, text_refusals, initiator_for}
 
 -- ---- stages
 
@@ -138,19 +146,90 @@ after_text s r pairs = record s {
   held = held_after s pairs;
 }
 
--- A text that isn't refused is answered (section 6.3).
-abbrev pub text_answered : Session → LoginRequest → Pairs → Reply
-text_answered s r pairs = record {
+-- A text that isn't refused is answered by these pairs (section 6.3).
+abbrev pub answered_by : Session → LoginRequest → Pairs → Pairs → Reply
+answered_by s r pairs answer = record {
   session = counted (after_text s r pairs);
-  answers = answered s (text_response s r) (answer_pairs s pairs);
+  answers = answered s (text_response s r) answer;
   rule = None;
 }
+
+-- It is answered by the answer to each of its pairs (sections 6.2 and 6.3).
+abbrev pub text_answered : Session → LoginRequest → Pairs → Reply
+text_answered s r pairs = answered_by s r pairs (answer_pairs s pairs)
+
+-- A text where CHAP is not demanded (section 6.3).
+abbrev pub plain_text : Session → LoginRequest → Pairs → Reply
+plain_text s r pairs =
+    refuse_or (first_of (text_refusals s pairs)) s r (text_answered s r pairs)
+
+-- ---- a whole text, where CHAP is demanded
+
+-- The keys of the exchange (section 12.1.3).
+abbrev pub exchange_keys : List (List ℕ)
+exchange_keys = codes "AuthMethod" ∷ codes "CHAP_A" ∷ codes "CHAP_C" ∷ codes "CHAP_I"
+    ∷ codes "CHAP_N" ∷ codes "CHAP_R" ∷ []
+
+-- What a text says beside the exchange (section 12.1.3).
+abbrev pub rest_of : Pairs → Pairs
+rest_of pairs = without exchange_keys pairs
+
+-- The response was right (section 12.1.3).
+abbrev pub has_passed : Progress → Bool
+has_passed progress.Passed = true
+has_passed _ = false
+
+-- What the exchange makes of a text. In the operational stage a response is to have been right
+-- before (sections 6.3.2 and 12.1.3).
+abbrev pub verdict_for : Chap → Session → Pairs → Verdict
+verdict_for c s pairs =
+    if is_operational s.stage && not (has_passed s.progress) then verdicts.Refused
+    else judge c s.progress (initiator_for s (rest_of pairs)) pairs
+
+-- The request without its move to another stage (section 11.12.3).
+abbrev pub held_back : LoginRequest → LoginRequest
+held_back r = record r { transits = false; next_stage = None }
+
+-- The request as far as it is followed: it moves to no other stage before a response was right
+-- (section 6.3.2; a target that needs more texts of this stage answers without the T bit).
+abbrev pub allowed_move : Progress → LoginRequest → LoginRequest
+allowed_move p r = if has_passed p then r else held_back r
+
+-- The answer to a text, with what is said of the exchange (section 12.1.3).
+abbrev pub exchange_pairs : Chap → Said → Session → Pairs → Pairs
+exchange_pairs c said s rest = in_order (said_pairs c said ++ answer_pairs s rest)
+
+-- A text that isn't refused is answered, with what is said of the exchange (sections 6.3 and
+-- 12.1.3).
+abbrev pub exchange_answered : Chap → Said → Session → LoginRequest → Pairs → Reply
+exchange_answered c said s r rest = answered_by s r rest (exchange_pairs c said s rest)
+
+-- The verdict is followed; an answer that is too long is none (sections 11.13.5 and 12.1.3).
+abbrev pub by_verdict : Chap → Verdict → Session → LoginRequest → Pairs → Reply
+by_verdict c verdicts.Refused s r rest = refuse s r authentication_failure
+by_verdict c (verdicts.Goes p said) s r rest =
+    if nat_lt 8192 (length (canonical_text (exchange_pairs c said s rest)))
+    then refuse s r out_of_resources
+    else exchange_answered c said (record s { progress = p }) (allowed_move p r) rest
+
+-- A text where CHAP is demanded: what it says beside the exchange may be refused first (sections
+-- 11.13.5 and 12.1.3; the order is own rule).
+abbrev pub exchange_text : Chap → Session → LoginRequest → Pairs → Reply
+exchange_text c s r pairs =
+    refuse_or (first_of (text_refusals s (rest_of pairs))) s r
+    (by_verdict c (verdict_for c s pairs) s r (rest_of pairs))
+
+-- ---- any whole text
+
+-- A text, by what CHAP demands (section 12.1.3).
+abbrev pub text_by : Option Chap → Session → LoginRequest → Pairs → Reply
+text_by None s r pairs = plain_text s r pairs
+text_by (Some c) s r pairs = exchange_text c s r pairs
 
 -- The gathered bytes are a whole text, or not (section 6.1).
 abbrev pub whole_text : Session → LoginRequest → Option Pairs → Reply
 whole_text s r None = refuse s r initiator_error
-whole_text s r (Some pairs) =
-    refuse_or (first_of (text_refusals s pairs)) s r (text_answered s r pairs)
+whole_text s r (Some pairs) = text_by s.settings.access.chap s r pairs
 
 -- ---- a request
 

@@ -13,6 +13,8 @@ use Rattle.iscsi_login.specs.declared.stage.Session.TheVariants as session_types
 use Rattle.iscsi_login.specs.declared.stage.Stage.{Stage}
 use Rattle.iscsi_login.specs.declared.stage.Stage.TheVariants as stages
 use Rattle.iscsi_login.specs.Held.{Held, defaults, longest_taken}
+use Rattle.iscsi_access.specs.declared.verdict.Progress.{Progress}
+use Rattle.iscsi_access.specs.declared.verdict.Progress.TheVariants as progress
 use Rattle.iscsi_target_session.specs.Configured.{Settings}
 
 -- ---- the session
@@ -31,6 +33,8 @@ pub record Session : Type 0 where
   -- whether a whole text came, and whether one came in the operational stage
   pub has_text : Bool
   pub has_operational_text : Bool
+  -- how far CHAP has come, where it is demanded
+  pub progress : Progress
   -- who the initiator says that it is, once it did: its name and its ISID
   pub initiator_name : List ℕ
   pub isid : List ℕ
@@ -51,6 +55,7 @@ opening_session settings first_stat_sn = record {
   seen_keys = replicate 27 false;
   has_text = false;
   has_operational_text = false;
+  progress = progress.Unasked;
   initiator_name = [];
   isid = replicate 6 0;
   session_type = session_types.Normal;

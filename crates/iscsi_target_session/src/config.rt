@@ -1,17 +1,20 @@
 //! What a target is configured with.
 
-ghost use Rattle.std.specs.Prelude.{◌≡◌, IfOk, Some, map};
+ghost use Rattle.std.specs.Prelude.{◌≡◌, IfOk, Some, is_some, map};
+ghost use Rattle.std.specs.Option.{option_map};
 ghost use Rattle.iscsi_login.specs.Negotiation.{IsInRange};
 ghost use Rattle.iscsi_target_session.specs.Configured.{Configures, is_allowed};
 
 use crate::initiators::{Name, copies_of, has_name};
+use iscsi_access::Chap;
 use iscsi_login::{ConfigFault, Preferences, is_name};
 use std::alloc::{AllocError, Global};
 use std::marker::Model;
 
 /// What a target is configured with: its name, the tag of its portal group, the TSIH of a session
-/// that has logged in, what it prefers in a negotiation, and who may log in.
-#[derive(Debug, Drop)]
+/// that has logged in, what it prefers in a negotiation, and who may log in. It has no `Debug`, since
+/// it may hold secrets.
+#[derive(Drop)]
 pub struct Config {
     name: Vec<u8>,
     group: u16,
@@ -19,6 +22,8 @@ pub struct Config {
     preferences: Preferences,
     // none: everybody may log in
     names: Option<Vec<Name>>,
+    // none: CHAP is not demanded
+    chap: Option<Chap>,
 }
 
 impl Model for Config {
@@ -35,7 +40,7 @@ impl Model for Config {
       group = c.group;
       tsih = c.tsih;
       preferences = c.preferences;
-      access = record { names = option_map (λ v. v.items) c.names };
+      access = record { names = option_map (λ v. v.items) c.names; chap = c.chap };
     } };
 
     ghost invariant = { λ c. IsName c.name.items × (0 < c.tsih) × IsInRange c.preferences };
@@ -72,6 +77,7 @@ impl Config {
             tsih,
             preferences,
             names: None,
+            chap: None,
         })
     }
 
@@ -82,7 +88,7 @@ impl Config {
     /// On want of memory the configuration is dropped.
     pub fn with_names(self, alloc: Global, names: &[&[u8]]) -> Result<Config, AllocError>
         ensures names { IfOk result (λ config. config ≡ record self {
-          access = record { names = Some (map (λ name. name.now) names.now) };
+          access = record self.access { names = Some (map (λ name. name.now) names.now) };
         }) }
     {
         let names = copies_of(alloc, names)?;
@@ -90,6 +96,36 @@ impl Config {
             names: Some(names),
             ..self
         })
+    }
+
+    /// The same, which lets in nobody who does not answer this challenge by CHAP, in discovery
+    /// sessions too. It takes one login only, since the challenge is that login's (RFC 7143, section
+    /// 12.1.3; that discovery sessions demand it too is own rule).
+    ///
+    /// A text without AuthMethod, or one that offers no CHAP, is refused by status 02/01, and so is a
+    /// first request in the operational stage. CHAP is chosen wherever it is offered, also behind
+    /// `None`.
+    pub fn with_chap(self, chap: Chap) -> Config
+        ensures chap { result ≡ record self { access = record self.access { chap = Some chap } } }
+    {
+        Config {
+            chap: Some(chap),
+            ..self
+        }
+    }
+
+    // What CHAP demands, where it does.
+    pub(crate) fn chap(&self) -> Option<&Chap>
+        ensures { option_map (λ chap. chap.now) result ≡ self.now.access.chap }
+    {
+        self.chap.as_ref()
+    }
+
+    // Whether CHAP is demanded.
+    pub(crate) fn demands_chap(&self) -> bool
+        ensures { result ≡ is_some self.now.access.chap }
+    {
+        self.chap.is_some()
     }
 
     // Whether an initiator of this name may log in.

@@ -4,6 +4,7 @@
 
 mod config;
 mod initiators;
+pub mod laws;
 mod numbers;
 mod received;
 mod session;

@@ -8,6 +8,7 @@ ghost use Rattle.iscsi_target_session.specs.Session.{opening_session, max_cmd_sn
 ghost use Rattle.iscsi_target_session.specs.Rejecting.{reject, reject_and_close};
 ghost use Rattle.iscsi_target_session.specs.Replies.{Does};
 
+mod exchange;
 mod login;
 mod login_text;
 mod requests;
@@ -16,6 +17,7 @@ mod text_request;
 use crate::config::Config;
 use crate::numbers::Numbers;
 use crate::received::Received;
+use iscsi_access::Progress;
 use iscsi_login::{Params, Phase, Stage};
 use iscsi_pdu::rule::PROTOCOL_ERROR;
 use iscsi_pdu::{Head, Reject};
@@ -39,6 +41,7 @@ pub struct Session {
     seen_keys: [bool; 27],
     has_text: bool,
     has_operational_text: bool,
+    progress: Progress,
     initiator_name: Vec<u8>,
     isid: [u8; 6],
     session_type: iscsi_login::Session,
@@ -61,6 +64,7 @@ impl Model for Session {
       seen_keys = s.seen_keys;
       has_text = s.has_text;
       has_operational_text = s.has_operational_text;
+      progress = s.progress;
       initiator_name = s.initiator_name.items;
       isid = s.isid;
       session_type = s.session_type;
@@ -84,6 +88,7 @@ impl Session {
             seen_keys: [false; 27],
             has_text: false,
             has_operational_text: false,
+            progress: Progress::Unasked,
             initiator_name: Vec::new(alloc),
             isid: [0; 6],
             session_type: iscsi_login::Session::Normal,

@@ -7,8 +7,10 @@ use std::alloc::Global;
 use std::process::Abort;
 
 mod changes;
+mod chap;
 mod configs;
 mod dialogues;
+mod exchanges;
 mod queues;
 mod rows;
 

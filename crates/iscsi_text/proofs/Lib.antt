@@ -11,5 +11,6 @@ pub mod FirstFaultLemmas
 pub mod ReadInvariant
 pub mod RowLemmas
 pub mod SortLemmas
+pub mod WithoutLemmas
 pub mod NumeralLemmas
 pub mod TextLaws

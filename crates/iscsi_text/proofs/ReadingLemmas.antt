@@ -84,7 +84,7 @@ digits_read radix text = elim (decided _ (Decides-and _ _ (some_bytes text) (Dec
     ]
 
 -- a numeral is read, and nothing else
-abbrev Exact : List ℕ → Option ℕ → Type 0
+abbrev pub Exact : List ℕ → Option ℕ → Type 0
 Exact bytes r = MatchOption r ((n : ℕ) → Spells bytes n → ⊥) (Spells bytes)
 
 no_hexadecimal : (text : List ℕ) → (1 < length text → slice_index text 0 ≢ 48) → (n : ℕ) → IsHexadecimal text n → ⊥

@@ -1,10 +1,10 @@
 -- Texts of `key=value` pairs, each ended by a byte 0 (RFC 7143, section 6.1), and what they mean.
-use Rattle.std.specs.Prelude.{◌≡◌, ◌≢◌, ℕ, ◌≤◌, Bool, true, List, [], ◌∷◌, ◌++◌, length, map, filter, All, Option, Some, None}
+use Rattle.std.specs.Prelude.{◌≡◌, ◌≢◌, ℕ, ◌≤◌, Bool, true, not, List, [], ◌∷◌, ◌++◌, length, map, filter, All, Option, Some, None}
 use Rattle.std.specs.List.{flat_map, AllByRecursion}
 use Rattle.std.specs.Str.{bytes_eq}
 use Rattle.std.specs.Ordering.{nat_cmp, is_le}
 use Rattle.std.specs.Cmp.Lexicographic.{slice_cmp}
-use Rattle.iscsi_text.specs.Key.{IsKey, kind_of, target_address}
+use Rattle.iscsi_text.specs.Key.{IsKey, is_among, kind_of, target_address}
 use Rattle.iscsi_text.specs.Value.{Typed, Means}
 
 -- ---- the map
@@ -17,6 +17,10 @@ Pairs = List (List ℕ × Typed)
 -- The values of one key, in order: what the map has at this key (section 6.1).
 abbrev pub values_of : List ℕ → Pairs → List Typed
 values_of key pairs = map (λ p. p.1) (filter (λ p. bytes_eq p.0 key) pairs)
+
+-- The pairs of other keys than these, in their order (section 6.1).
+abbrev pub without : List (List ℕ) → Pairs → Pairs
+without keys pairs = filter (λ p. not (is_among keys p.0)) pairs
 
 -- No key but `TargetAddress` stands twice (sections 6.2 and 13.8).
 abbrev pub IsSingle : Pairs → Type 0

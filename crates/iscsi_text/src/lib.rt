@@ -13,5 +13,5 @@ pub use fault::TextFault;
 pub use key::{KeyKind, key_kind};
 pub use numeral::{read_number, write_number};
 pub use pair::Pair;
-pub use text::{Text, read_text, split_at_byte, value_in, write_pairs};
+pub use text::{Text, read_text, sort_pairs, split_at_byte, value_in, write_pairs};
 pub use value::Value;

@@ -1,22 +1,24 @@
 //! A text, read into the map from keys to values that it means.
 
-ghost use Rattle.std.specs.Prelude.{◌≡◌, ◌≢◌, ◌≤◌, ◌++◌, length, None, IfOk, IfErr, IfSome, OnOk, OnErr, slice_get};
+ghost use Rattle.std.specs.Prelude.{◌≡◌, ◌≢◌, ◌≤◌, ◌++◌, length, map, None, IfOk, IfErr, IfSome, OnOk, OnErr, slice_get};
 ghost use Rattle.std.specs.Option.{option_map};
 ghost use Rattle.iscsi_text.specs.Value.{typed};
-ghost use Rattle.iscsi_text.specs.Text.{Pairs, values_of, TextMeans, IsMeaning};
+ghost use Rattle.iscsi_text.specs.Text.{Pairs, values_of, without, TextMeans, IsMeaning};
 ghost use Rattle.iscsi_text.specs.Fault.{IsFirstFault};
 ghost use Rattle.iscsi_text.specs.Canonical.{canonical_text};
 ghost use Rattle.iscsi_text.specs.Reading.{text_in};
 ghost use Rattle.iscsi_text.specs.Inside.{all_shown};
 
+mod leaving_out;
 mod read;
 mod write;
 
 use crate::fault::TextFault;
 use crate::pair::Pair;
 use crate::value::Value;
+use leaving_out::pairs_without;
 use read::read_pairs;
-pub use read::split_at_byte;
+pub use read::{sort_pairs, split_at_byte};
 use std::alloc::{AllocError, Global};
 use std::marker::Model;
 use write::pairs_len;
@@ -106,6 +108,16 @@ impl<'a> Text<'a> {
         ensures value { option_map typed result ≡ slice_get (values_of key.now self.now) i }
     {
         value_in(&self.pairs, key, i)
+    }
+
+    /// The same text but for these keys, over the same bytes. The only error is that memory for its
+    /// list of pairs ran out.
+    pub fn without(&self, alloc: Global, keys: &[&[u8]]) -> Result<Text<'a>, AllocError>
+        ensures rest { IfOk result (λ text. text ≡
+            without (map (λ key. key.now) keys.now) self.now) }
+    {
+        let pairs = pairs_without(alloc, &self.pairs, keys)?;
+        Ok(Text { pairs })
     }
 
     /// How many bytes the canonical text has. They are at most those that were read.

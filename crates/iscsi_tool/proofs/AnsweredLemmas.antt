@@ -20,7 +20,8 @@ all_answered : (blocks : ℕ) (read : List ℕ) (disk_now : Disk) (written : Lis
     AnswersAll blocks read written
 all_answered blocks read disk_now written a ms given rest s = (a ms given rest s).output_is
 
-pub done_answered : (blocks : ℕ) (read : List ℕ) (disk_now : Disk) (written : List ℕ) → Serves false target_settings (zeros blocks) (Ok tt) read disk_now written
+pub done_answered : (blocks : ℕ) (read : List ℕ) (disk_now : Disk) (written : List ℕ)
+    → Serves false target_settings (zeros blocks) (Ok tt) read disk_now written
     × EndsBy false target_settings (zeros blocks) (Ok tt) read
     → AnswersBytes blocks (Ok tt) read written
 done_answered blocks read disk_now written s = (all_answered blocks read disk_now written s.0, s.1)

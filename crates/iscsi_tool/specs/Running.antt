@@ -17,10 +17,10 @@ use Rattle.iscsi_words.specs.declared.filter.Work.TheVariants.{Normalise}
 use Rattle.iscsi_tool.specs.declared.running.Outcome.{Outcome}
 use Rattle.iscsi_tool.specs.declared.running.Outcome.TheVariants as outcome
 use Rattle.iscsi_serve_words.specs.declared.command_line.LineFault.{LineFault}
-use Rattle.iscsi_serve_words.specs.declared.storage.Storage.{Storage}
+use Rattle.iscsi_serve_words.specs.declared.serve_words.ServeJob.{ServeJob}
 use Rattle.iscsi_serve_words.specs.Words.{words_status}
 use Rattle.iscsi_disk_service.specs.declared.storing.DiskFault.{DiskFault}
-use Rattle.iscsi_disk_service.specs.Disks.{EndsStorage, disk_status}
+use Rattle.iscsi_disk_service.specs.Disks.{EndsDisk, disk_status}
 use Rattle.iscsi_words.specs.declared.telling.Telling.{Telling}
 use Rattle.iscsi_comparison.specs.declared.files.Comparison.{Comparison}
 use Rattle.iscsi_words.specs.declared.words.Job.{Job}
@@ -108,18 +108,18 @@ abbrev pub EndsComparison : Comparison → Outcome → Type 0
 EndsComparison comparison ends =
     (said : Result Verdict ComparisonFault) × (ends ≡ of_comparison comparison said)
 
--- A service ended so: as its sessions did, or since this very image or export could
+-- A service ended so: as its sessions did, or since this very image, export or file of secrets could
 -- not be served.
-abbrev pub EndsService : Storage → Outcome → Type 0
-EndsService storage ends = (said : Result (Unit {0}) DiskFault) × EndsStorage storage said
+abbrev pub EndsService : ServeJob → Outcome → Type 0
+EndsService job ends = (said : Result (Unit {0}) DiskFault) × EndsDisk job said
     × (ends ≡ of_service said)
 
 -- A job ended so, with this read from the standard input and this written to the standard output.
 -- A service touches neither by itself, and a job over a capture reads a file of the process.
 abbrev pub Runs : Job → Outcome → List ℕ → List ℕ → Type 0
 Runs (job.Filter filter) ends read written = EndsFilter filter ends read written
-Runs (job.Serve storage service read_only) ends read written =
-    EndsService storage ends × (read ≡ []) × (written ≡ [])
+Runs (job.Serve served) ends read written =
+    EndsService served ends × (read ≡ []) × (written ≡ [])
 Runs (job.Loop blocks piece) ends read written = EndsLoop ends read written
 Runs (job.Compare comparison) ends read written = EndsComparison comparison ends
 Runs (job.Tell telling) ends read written = EndsTelling telling ends read written

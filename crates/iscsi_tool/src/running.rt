@@ -211,11 +211,7 @@ fn run_job<'a, S: AsStr, R: Read, W: Write>(
 {
     match job {
         Job::Filter(filter) => filtered(run_filter(rt.alloc(), filter, r, w)),
-        Job::Serve {
-            storage,
-            service,
-            read_only,
-        } => served(serve_storage(rt, words, storage, service, read_only)),
+        Job::Serve(job) => served(serve_storage(rt, words, job)),
         Job::Loop { blocks, piece } => ended(run_loop(rt, blocks, piece, r, w)),
         Job::Compare(comparison) => compare(rt, comparison, r, w),
         Job::Tell(telling) => filtered(run_telling(rt.alloc(), telling, r, w)),

@@ -1,8 +1,7 @@
 -- Which jobs can be run: the numbers of each are in their ranges.
 use Rattle.std.specs.Prelude.{◌≤◌, ◌<◌}
 use Rattle.scsi_disk.specs.Disk.{most_blocks}
-use Rattle.iscsi_serve_words.specs.Services.{CanServe}
-use Rattle.iscsi_serve_words.specs.Storage.{IsStorage}
+use Rattle.iscsi_serve_words.specs.Services.{IsServeJob}
 use Rattle.iscsi_words.specs.declared.capture_words.CaptureWork.{CaptureWork}
 use Rattle.iscsi_words.specs.declared.capture_words.CaptureWork.TheVariants as capture
 use Rattle.iscsi_words.specs.declared.filter.Work.{Work}
@@ -24,7 +23,7 @@ HasDisk _ = Unit {0}
 -- 1 to 4096 bytes.
 abbrev pub IsJob : Job → Type 0
 IsJob (job.Filter filter) = HasDisk filter.work
-IsJob (job.Serve storage service read_only) = IsStorage storage × CanServe service
+IsJob (job.Serve served) = IsServeJob served
 IsJob (job.Loop blocks piece) =
     (0 < blocks) × (blocks ≤ most_blocks) × (0 < piece) × (piece ≤ 4096)
 IsJob (job.Compare comparison) = Unit {0}

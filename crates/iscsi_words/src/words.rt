@@ -33,14 +33,7 @@ pub enum Job<'a> {
     /// Shows a stream in another form than by plain lines.
     Tell(Telling),
     /// A target's service of a disk.
-    Serve {
-        /// What the disk is kept in.
-        storage: Storage<'a>,
-        /// How it is served.
-        service: Service<'a>,
-        /// No block changes: each write is refused.
-        read_only: bool,
-    },
+    Serve(ServeJob<'a>),
     /// Both ends of a session over a socket, driven by a script on the standard input.
     Loop {
         /// How many blocks of 512 bytes the target's disk has, 1 to 2^40.
@@ -263,18 +256,7 @@ fn job_of<'a>(alloc: Global, matches: &ArgMatches<'a>) -> Result<Job<'a>, LineFa
         Some(JobWord::Compare) => comparison_of(alloc, asked),
         Some(JobWord::Connections) => Ok(connections_of(asked)),
         Some(JobWord::Answer) => answer_of(alloc, asked),
-        Some(JobWord::Serve) => {
-            let ServeJob {
-                storage,
-                service,
-                read_only,
-            } = service_of(alloc, asked)?;
-            Ok(Job::Serve {
-                storage,
-                service,
-                read_only,
-            })
-        }
+        Some(JobWord::Serve) => Ok(Job::Serve(service_of(alloc, asked)?)),
         Some(JobWord::Loop) => loop_of(alloc, asked),
         None => Err(no_job(alloc)),
     }

@@ -15,18 +15,21 @@ works_keep (Refuse sense) disk order bytes = refl
 works_keep (Take n) disk order bytes = refl
 works_keep (Give n) disk order bytes = refl
 
-pub fails_keep : (plan : Plan) (disk : Disk) (order : Order) (bytes : List ℕ) (left : Effect) → FailsBy (guarded true plan) disk order bytes left → left.disk ≡ disk
+pub fails_keep : (plan : Plan) (disk : Disk) (order : Order) (bytes : List ℕ) (left : Effect) → FailsBy (guarded true plan) disk order bytes left
+    → left.disk ≡ disk
 fails_keep (Refuse sense) disk order bytes left f = absurd f
 fails_keep (Take n) disk order bytes left f = absurd f
 fails_keep (Give n) disk order bytes left f = f.2
 
-pub order_keeps : (before after : ℕ) (disk : Disk) (order : Order) (bytes : List ℕ) (left : Effect) → Executes true before after disk order bytes left → left.disk ≡ disk
+pub order_keeps : (before after : ℕ) (disk : Disk) (order : Order) (bytes : List ℕ) (left : Effect) → Executes true before after disk order bytes left
+    → left.disk ≡ disk
 order_keeps before after disk order bytes left x = elim (cases_lt before after) [
   | inl lt ↦ fails_keep (plan_of order disk.count) disk order bytes left (x.fails lt)
   | inr ge ↦ ap (λ (e : Effect). e.disk) (x.works (omega (arith, ge, x.rises))) ∙ works_keep (plan_of order disk.count) disk order bytes
 ]
 
-pub run_keeps : (orders : List Supplied) (before after : ℕ) (disk last : Disk) (told : List Outcome) → RunsIn true before disk orders after last told → last ≡ disk
+pub run_keeps : (orders : List Supplied) (before after : ℕ) (disk last : Disk) (told : List Outcome) → RunsIn true before disk orders after last told
+    → last ≡ disk
 unfolding RunsIn
 run_keeps [] before after disk last told ran = ran.1
 run_keeps (o ∷ orders) before after disk last told ran =

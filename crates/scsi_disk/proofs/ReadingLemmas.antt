@@ -103,7 +103,8 @@ whole_data disk order range is is_disk =
     ∙ ap (λ (k : ℕ). take n (blocks_from disk k ((512 * range.count + 511) / 512))) is.first
     ∙ read_gives disk order n is_disk is.plan is.reads
 
-pub executed : (protected : Bool) (disk now : Disk) (order : Order) (range : BlockRange) (before after : ℕ) (bytes : List ℕ) → IsWhole disk order range → IsDisk disk
+pub executed : (protected : Bool) (disk now : Disk) (order : Order) (range : BlockRange) (before after : ℕ) (bytes : List ℕ) → IsWhole disk order range
+    → IsDisk disk
     → now ≡ disk → before ≤ after → WereRead disk range.first range.count before after bytes
     → Executes protected before after disk order [] (record { disk = now; outcome = good order (wanted_length order disk.count) bytes })
 executed protected disk now order range before after bytes is is_disk same rises were =
@@ -117,11 +118,13 @@ executed protected disk now order range before after bytes is is_disk same rises
           (inr (were.hides rose, (bytes, were.size, refl)), is.reads, same);
     }
 
-pub not_executed : (protected : Bool) (disk now : Disk) (order : Order) (range : BlockRange) (before after : ℕ) (o : Outcome) → IsWhole disk order range → now ≡ disk
+pub not_executed : (protected : Bool) (disk now : Disk) (order : Order) (range : BlockRange) (before after : ℕ) (o : Outcome) → IsWhole disk order range
+    → now ≡ disk
     → before < after → o ≡ check order ReadError → Executes protected before after disk order [] (record { disk = now; outcome = o })
 not_executed protected disk now order range before after o is same rose told = record {
   rises = omega (arith, rose);
   works = λ none. absurd (omega (arith, none, rose));
-  fails = λ _. failed protected before after 0 0 disk now order [] (512 * range.count) (plan_stays protected (plan_of order disk.count) (512 * range.count) is.plan)
+  fails = λ _. failed protected before after 0 0 disk now order [] (512 * range.count)
+      (plan_stays protected (plan_of order disk.count) (512 * range.count) is.plan)
       same o (inl told, is.reads, same);
 }

@@ -39,7 +39,8 @@ ran_next protected orders i o here is before now after start disk told left ran 
     let more : take (i + 1) orders ≡ take i orders ++ o ∷ [] = take_more orders i o here ∙ ap (λ y. take i orders ++ y ∷ []) (sym is) in
     rw more (ran_then protected (take i orders) o before now after start disk told left ran done)
 
-pub ran_rises : (protected : Bool) (orders : List Supplied) (before after : ℕ) (disk last : Disk) (told : List Outcome) → RunsIn protected before disk orders after last told → before
+pub ran_rises : (protected : Bool) (orders : List Supplied) (before after : ℕ) (disk last : Disk) (told : List Outcome)
+    → RunsIn protected before disk orders after last told → before
     ≤ after
 unfolding RunsIn
 ran_rises protected [] before after disk last told ran = let same = ran.0 in omega arith
@@ -50,7 +51,8 @@ ran_rises protected (o ∷ orders) before after disk last told ran =
 
 -- the first of some orders, where no failure was counted
 ran_first : (protected : Bool) (o : Supplied) (orders : List Supplied) (before now after : ℕ) (disk last : Disk) (left : Effect) (more : List Outcome)
-    → Executes protected before now disk o.0 o.1 left → RunsIn protected now left.disk orders after last more → after ≡ before → (now ≡ before) × (left ≡ effect protected disk o.0 o.1)
+    → Executes protected before now disk o.0 o.1 left → RunsIn protected now left.disk orders after last more → after ≡ before → (now ≡ before)
+    × (left ≡ effect protected disk o.0 o.1)
 ran_first protected o orders before now after disk last left more done ran same =
     let low = done.rises in
     let high = ran_rises protected orders now after left.disk last more ran in
@@ -66,7 +68,8 @@ ran_outcomes protected (o ∷ orders) before after disk last told same ran =
     ran.5 ∙ ap (λ t. ran.1.outcome ∷ t) (ran_outcomes protected orders ran.0 after ran.1.disk last ran.2 (same ∙ sym first.0) ran.4)
     ∙ ap (λ (left : Effect). left.outcome ∷ outcomes protected orders left.disk) first.1
 
-pub ran_disk : (protected : Bool) (orders : List Supplied) (before after : ℕ) (disk last : Disk) (told : List Outcome) → after ≡ before → RunsIn protected before disk orders after last told
+pub ran_disk : (protected : Bool) (orders : List Supplied) (before after : ℕ) (disk last : Disk) (told : List Outcome) → after ≡ before
+    → RunsIn protected before disk orders after last told
     → last ≡ disk_after protected orders disk
 unfolding RunsIn disk_after
 ran_disk protected [] before after disk last told same ran = ran.1

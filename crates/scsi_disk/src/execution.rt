@@ -195,7 +195,8 @@ pub fn execute<S: BlockStore>(
 ) -> Result<Outcome, AllocError>
     requires { IsSupplied (S.disk store.old).count order.now bytes.now }
     // It has the order's effect, or that of a failure where one was counted.
-    ensures ok { IfOk result (λ outcome. Executes S.protected (S.failures store.old) (S.failures store.new)
+    ensures ok { IfOk result (λ outcome. Executes S.protected (S.failures store.old)
+        (S.failures store.new)
         (S.disk store.old) order.now bytes.now
         (record { disk = S.disk store.new; outcome = outcome })) }
     ensures count { (S.disk store.new).count ≡ (S.disk store.old).count }
@@ -225,7 +226,8 @@ pub fn execute_planned<S: BlockStore>(
 ) -> Result<Outcome, AllocError>
     requires planned { planned ≡ plan_of order.now (S.disk store.old).count }
     requires supplied { IsSuppliedBy planned bytes.now }
-    ensures ok { IfOk result (λ outcome. Executes S.protected (S.failures store.old) (S.failures store.new)
+    ensures ok { IfOk result (λ outcome. Executes S.protected (S.failures store.old)
+        (S.failures store.new)
         (S.disk store.old) order.now bytes.now
         (record { disk = S.disk store.new; outcome = outcome })) }
     ensures count { (S.disk store.new).count ≡ (S.disk store.old).count }

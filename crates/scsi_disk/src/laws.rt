@@ -10,8 +10,10 @@ ghost use Rattle.scsi_disk.specs.Runs.{Supplied, RunsIn, disk_after, outcomes};
 /// Over a run of orders the count of failures does not fall. Where it stayed, outcomes and disk are
 /// the fold of the orders' effects.
 pub fn run_without_failures()
-    ensures rises { (protected : Bool) (before after : ℕ) (disk last : Disk) (orders : List Supplied)
-        (told : List Outcome) → RunsIn protected before disk orders after last told → before ≤ after }
+    ensures rises { (protected : Bool) (before after : ℕ) (disk last : Disk)
+        (orders : List Supplied)
+        (told : List Outcome) → RunsIn protected before disk orders after last told
+        → before ≤ after }
     ensures outcomes { (protected : Bool) (count : ℕ) (disk last : Disk) (orders : List Supplied)
         (told : List Outcome) → RunsIn protected count disk orders count last told
         → told ≡ outcomes protected orders disk }

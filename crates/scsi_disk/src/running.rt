@@ -25,14 +25,16 @@ pub fn run_orders<S: BlockStore>(
 ) -> Result<Vec<Outcome>, AllocError>
     requires { AreSupplied (S.disk store.old).count orders.now }
     // Each was executed once, in turn.
-    ensures ok { IfOk result (λ told. RunsIn S.protected (S.failures store.old) (S.disk store.old) orders.now
+    ensures ok { IfOk result (λ told. RunsIn S.protected (S.failures store.old)
+        (S.disk store.old) orders.now
         (S.failures store.new) (S.disk store.new) told.items) }
     // Where no failure was counted, what is synced lasts.
     ensures lasts { S.failures store.new ≡ S.failures store.old
         → Lasts (S.synced store.old) (S.disk store.old) (S.kept store.old)
         → Lasts (S.synced store.new) (S.disk store.new) (S.kept store.new) }
     // Memory ran out: so were some first orders.
-    ensures err { OnErr result (RunsSome S.protected (S.failures store.old) (S.disk store.old) orders.now
+    ensures err { OnErr result (RunsSome S.protected (S.failures store.old)
+        (S.disk store.old) orders.now
         (S.failures store.new) (S.disk store.new)) }
 {
     let mut told = Vec::new(alloc);

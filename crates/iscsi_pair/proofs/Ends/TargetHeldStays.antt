@@ -10,8 +10,16 @@ use Rattle.iscsi_target.specs.Execution.{reliable}
 -- what is held after the login stays, whatever comes
 pub held_stays : (s : Machine) (disk : Disk) (ms : List Message) → IsLater s.session.phase → Stays s (answers false s disk ms).machine
 unfolding answers
-held_stays s disk [] l = record { stage = refl; held = refl; has_text = refl; name = refl; later = λ l. l }
+held_stays s disk [] l = record { stage = refl; held = refl; has_text = refl; name = refl; progress = refl; later = λ l. l }
 held_stays s disk (m ∷ ms) l =
     let k : Stays s (step false s disk m).machine = step_stays (reliable false) s disk m l in
     let n = held_stays (step false s disk m).machine (step false s disk m).disk ms (k.later l) in
-    record { stage = n.stage ∙ k.stage; held = n.held ∙ k.held; has_text = n.has_text ∙ k.has_text; name = n.name ∙ k.name; later = λ x. n.later (k.later x) }
+    record {
+      stage = n.stage ∙ k.stage;
+      held = n.held ∙ k.held;
+      has_text = n.has_text ∙ k.has_text;
+      name = n.name ∙ k.name;
+      progress = n.progress
+          ∙ k.progress;
+      later = λ x. n.later (k.later x);
+    }

@@ -368,7 +368,8 @@ ends_unready piece (Err fault) v n r new e u none live = absurd (cc none)
 feeds_failed : (result : Result Phase TargetFault) (c : Opening) (moved out bytes : List ℕ) (old : Connection) (blocks : List ℕ) (new : Connection)
     (after written : List ℕ)
     → (l : TargetLives c moved out old blocks) → (f : Feeds false (scene old (store_of blocks) out) bytes result (scene new (store_of after) written))
-    → Told false (beginning c.target c.first_stat_sn (disk_of c.blocks)) (l.has.messages ++ f.messages) f.stepped f.stepped.disk (out ++ canon f.stepped.answers)
+    → Told false (beginning c.target c.first_stat_sn (disk_of c.blocks)) (l.has.messages ++ f.messages) f.stepped f.stepped.disk
+    (out ++ canon f.stepped.answers)
     → HasTaken (moved ++ take f.count bytes) (l.has.messages ++ f.messages) f.framing
     → new.machine.session.stage ≡ (said c (l.has.messages ++ f.messages)).machine.session.stage → Ends bytes result f.framing f.count f.stepped new
     → TargetFailed (result_err result) c (moved ++ bytes) written new
@@ -392,7 +393,8 @@ feeds_failed (Err (faults.Stream fault)) c moved out bytes old blocks new after 
 feeds_failed (Err (faults.Protocol rule)) c moved out bytes old blocks new after written l f t h s e =
     let is : f.stepped ≡ answers false old.machine (disk_of blocks) f.messages = f.answered.works refl in
     let over : is_closed f.stepped.machine ≡ true =
-    ap (λ (r : Stepped). is_closed r.machine) is ∙ answers_close false old.machine (disk_of blocks) f.messages rule (ap (λ (r : Stepped). r.rule) (sym is) ∙ e.0) in
+    ap (λ (r : Stepped). is_closed r.machine) is ∙ answers_close false old.machine (disk_of blocks) f.messages rule
+    (ap (λ (r : Stepped). r.rule) (sym is) ∙ e.0) in
     record {
       limit = f.framing.limit;
       messages = l.has.messages ++ f.messages;
@@ -450,7 +452,8 @@ feeds_side c moved out bytes old blocks result new after written l f =
       };
       lives = λ none live. record {
         limit = ap (λ (v : Framing). v.limit) (ends_limit bytes result f.framing f.count f.stepped new f.ends none live) ∙ f.answered.limit ∙ l.limit;
-        has = goes_on false c.target c.first_stat_sn (disk_of c.blocks) moved old (store_of blocks) out bytes result new (store_of after) written f refl live l.has;
+        has = goes_on false c.target c.first_stat_sn (disk_of c.blocks) moved old (store_of blocks) out bytes result new (store_of after)
+            written f refl live l.has;
         unready = ends_unready bytes result f.framing f.count f.stepped new f.ends f.answered.ready none live;
       };
     }

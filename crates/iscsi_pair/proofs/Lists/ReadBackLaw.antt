@@ -207,7 +207,7 @@ standard_normal blocks = record {
     tsih = omega arith;
     stat_sn = omega arith;
   };
-  suits = record { name = inr refl; auth = inl refl; access = refl };
+  suits = record { name = inr refl; auth = inl refl; access = refl; chap = refl };
   session = refl;
 }
   where

@@ -49,7 +49,8 @@ some_received : (c : Opening) (h : History) (i : initiator.Machine) (t : target.
     → requests_of events ≡ h.requests → RunsServed (new_pair c) events (level c i t blocks place place_back there here (canon (m ∷ ms)) (canon back)) h.outcomes
     → IsSound (disk_of blocks).count t.tasks → AreWritten (most_back c) here back
     → AreWritten (most_out c) there (m ∷ ms) → ReceivesWell (most_back c) t (disk_of blocks) (after_all here back) (m ∷ ms)
-    → (let r = answers false t (disk_of blocks) (m ∷ ms) in Stays c (between i r.machine r.disk (back ++ r.answers)) [] (so_far (after_all there (m ∷ ms)) here h))
+    → (let r = answers false t (disk_of blocks) (m ∷ ms) in Stays c (between i r.machine r.disk (back ++ r.answers)) []
+    (so_far (after_all there (m ∷ ms)) here h))
 some_received c h i t m ms back there here events blocks place place_back requests_are runs sound written sent received =
     let out : List Message = m ∷ ms in
     let d : Disk = disk_of blocks in

@@ -90,3 +90,18 @@ receives_answer m h pairs p s tag class left =
     (if number then protocol_error m 6 else in_turn m.unsent_text m h (Text pairs)) P
     (λ is. absurd (apart is (ap (λ (n : ℕ). not (n == 0)) class)))
     (λ is. cond_both number (protocol_error m 6) (in_turn m.unsent_text m h (Text pairs)) P (λ is. shut 6) (λ is. turn)))
+
+-- an answer to a whole text that stays in the stage is a fault
+pub receives_stay : (m : Machine) (h : LoginResponse) (pairs : Pairs) → m.phase ≡ phases.Login → m.started ≡ true → h.initiator_task_tag ≡ 0 →
+    h.transits ≡ false → m.unsent_text ≡ [] → Closes m (step m (answering h pairs))
+receives_stay m h pairs p s tag stays left =
+    let P : Stepped → Type 0 = λ r. Closes m r in
+    let shut : (r : ℕ) → P (protocol_error m r) = λ r. record { phase = refl; stage = refl } in
+    let number : Bool = not (is_expected m.exp_stat_sn (unwrap_or h.stat_sn 0)) in
+    let turn : P (in_turn m.unsent_text m h (Text pairs)) =
+    subst (λ (l : List ℕ). P (in_turn l m h (Text pairs))) (sym left) (rw stays (shut 7)) in
+    subst P (sym (receives m h pairs p s tag))
+    (cond_both (not (h.status_class == 0)) (fails m (Refused h.status_class h.status_detail))
+    (if number then protocol_error m 6 else in_turn m.unsent_text m h (Text pairs)) P
+    (λ is. record { phase = refl; stage = refl })
+    (λ is. cond_both number (protocol_error m 6) (in_turn m.unsent_text m h (Text pairs)) P (λ is. shut 6) (λ is. turn)))

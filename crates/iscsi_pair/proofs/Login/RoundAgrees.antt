@@ -8,7 +8,7 @@ use Rattle.std.proofs.Math.Nat.{mod-lt}
 use Rattle.std.proofs.lemmas.Bool.{leb-true, le-leb, lt-leb, le-ltb}
 use Rattle.std.proofs.lemmas.List.{append-nil, take-append-drop, length-take, length-drop}
 use Rattle.scsi_disk.specs.Disk.{Disk}
-use Rattle.iscsi_text.specs.Text.{Pairs}
+use Rattle.iscsi_text.specs.Text.{Pairs, IsMeaning}
 use Rattle.iscsi_text.specs.Canonical.{canonical_text}
 use Rattle.iscsi_text.specs.Reading.{text_in, in_order}
 use Rattle.iscsi_pdu.specs.declared.head.login_request.LoginRequest.{LoginRequest}
@@ -45,8 +45,8 @@ use Rattle.iscsi_target_session.specs.Login as target_login
 use Rattle.iscsi_pair.specs.World.{Opening, IsOpening}
 use Rattle.iscsi_pair.proofs.Wire.PrefixLemmas.{RequestFits, Readable, response_readable, request_readable, part_readable}
 use Rattle.iscsi_pair.proofs.Wire.OfferedTexts.{offers_read, offers_mean, declares}
-use Rattle.iscsi_pair.proofs.Login.TargetStep.{LogsIn, SettingsFit, Refuses, Gathers, Tells, login_step_is, gathers_more, tells_text}
-use Rattle.iscsi_pair.proofs.Login.InitiatorStep.{Closes, answering, with_answer, receives_refusal, receives_more, receives_answer}
+use Rattle.iscsi_pair.proofs.Login.TargetStep.{LogsIn, SettingsFit, Refuses, Gathers, Tells, HoldsBack, login_step_is, gathers_more, tells_text}
+use Rattle.iscsi_pair.proofs.Login.InitiatorStep.{Closes, answering, with_answer, receives_refusal, receives_more, receives_answer, receives_stay}
 
 -- ---- where the login is
 
@@ -123,6 +123,11 @@ request_fits c i last o e n = record {
 pub offered_read : (c : Opening) (i : initiator.Machine) → IsOpening c → i.settings ≡ c.initiator → IsStart i.stage
     → text_in (canonical_text (offered i)) ≡ Some (offered i)
 offered_read c i o e is = offers_read i.settings i.stage (subst AreValid (sym e) o.initiator) is
+
+offers_are_meant : (c : Opening) (i : initiator.Machine) → IsOpening c → i.settings ≡ c.initiator → IsStart i.stage → IsMeaning (offered i)
+offers_are_meant c i o e is =
+    let valid : AreValid i.settings = subst AreValid (sym e) o.initiator in
+    offers_mean i.settings.start i.stage i.settings.proposal valid.names.initiator valid.names.target valid.in_range.preferences is
 
 pub asking_readable : (c : Opening) (i : initiator.Machine) (t : target.Machine) (logins : Logins) (r : Message) → IsOpening c → Asking c i t logins r
     → Readable logins r
@@ -385,7 +390,7 @@ told_to stages.Security c i t logins next r reply o a is first q =
       number = mod-lt _ (omega arith);
       own = a.own;
       target_settings = q.settings ∙ a.target_settings;
-      logs_in = record { phase = q.phase stages.Operational asked_is; stat_sn = q.stat_sn; cmd_sn = q.cmd_sn };
+      logs_in = record { phase = q.phase stages.Operational asked_is; stat_sn = q.stat_sn; cmd_sn = q.cmd_sn; progress = q.progress };
       values = ap (λ (x : Held). x.values) h ∙ s.values;
       most = ap (λ (x : Held). x.target_max_recv) h ∙ s.most;
     })
@@ -438,11 +443,20 @@ told_round c i t logins next r disk reply o a left first q = record {
     read : text_in (canonical_text answer) ≡ Some answer
     read = (texts.reading_some (canonical_text answer) answer).1 (texts.canonical_means answer
         (answer_meaning q.session t.session.settings.preferences (subst (λ (x : target_settings.Settings). IsInRange x.preferences) (sym a.target_settings)
-        o.preferences) q.group q.most q.group_fits q.most_fits (offered i)
-        (offers_mean i.settings.start i.stage i.settings.proposal valid.names.initiator valid.names.target valid.in_range.preferences a.stage)))
-      where
-        valid : AreValid i.settings
-        valid = subst AreValid (sym a.settings) o.initiator
+        o.preferences) q.group q.most q.group_fits q.most_fits (offered i) (offers_are_meant c i o a.settings a.stage)))
+
+-- the login stays where it is, and so the initiator gives up
+stayed_round : (c : Opening) (i : initiator.Machine) (t : target.Machine) (logins next : Logins) (r : Message) (disk : Disk) (reply : target_session.Reply)
+    → Asking c i t logins r → i.unsent_text ≡ [] → HoldsBack (login_request i true) reply → Round c i (target.on disk t.tasks reply) next
+stayed_round c i t logins next r disk reply a left q = record {
+  answer = answering q.answer q.text;
+  is = q.is;
+  readable = λ back first. response_readable back q.answer q.text first q.last q.fits q.short
+      ((texts.reading_some (canonical_text q.text) q.text).1 (texts.canonical_means q.text q.means));
+  last = λ back first. response_last back q.answer q.text q.last;
+  short = short_text q.text q.short;
+  leads = inl (receives_stay i q.answer q.text a.phase a.started q.tag q.stays left);
+}
 
 -- ---- one round
 
@@ -464,9 +478,10 @@ last_round c i t logins r disk segment o a left short read =
     let next : Logins = after logins (login_message i true segment).head in
     let f : RequestFits h = request_fits c i true o a.settings a.number in
     subst (λ (x : target.Stepped). Round c i x next) (sym (login_step_is t disk h segment a.logs_in.phase short))
-    (elim (tells_text t.session h segment (offered i) (target_fits c t o a.target_settings) a.logs_in f refl read) [
+    (elim (tells_text t.session h segment (offered i) (target_fits c t o a.target_settings) a.logs_in f refl (offers_are_meant c i o a.settings a.stage) read) [
       | inl q ↦ refused_round c i t logins next r disk true (target_login.login_request t.session h segment) a q
-      | inr q ↦ told_round c i t logins next r disk (target_login.login_request t.session h segment) o a left (next_request logins i true segment) q
+      | inr (inl q) ↦ told_round c i t logins next r disk (target_login.login_request t.session h segment) o a left (next_request logins i true segment) q
+      | inr (inr q) ↦ stayed_round c i t logins next r disk (target_login.login_request t.session h segment) a left q
     ])
 
 -- a request whose text goes on
@@ -494,9 +509,11 @@ round_at : (left : List ℕ) (c : Opening) (i : initiator.Machine) (t : target.M
     → Round c i (target_machine.step false t disk (login_message i (is_sent left) a.segment)) (after logins (login_message i (is_sent left) a.segment).head)
 round_at [] c i t logins r disk o a left =
     elim a.how [
-      | inl w ↦ subst (λ (x : Segment). Round c i (target_machine.step false t disk (login_message i true x)) (after logins (login_message i true x).head)) (sym w.is)
+      | inl w ↦ subst (λ (x : Segment). Round c i (target_machine.step false t disk (login_message i true x))
+          (after logins (login_message i true x).head)) (sym w.is)
           (last_round c i t logins r disk (Text (offered i)) o a left refl refl)
-      | inr p ↦ subst (λ (x : Segment). Round c i (target_machine.step false t disk (login_message i true x)) (after logins (login_message i true x).head)) (sym p.is)
+      | inr p ↦ subst (λ (x : Segment). Round c i (target_machine.step false t disk (login_message i true x))
+          (after logins (login_message i true x).head)) (sym p.is)
           (last_round c i t logins r disk (Bytes p.bytes) o a left (fits_limit t p.bytes p.short)
           (ap text_in (ap (λ (x : List ℕ). t.session.gathered ++ x) (sym (append-nil p.bytes) ∙ ap (λ (x : List ℕ). p.bytes ++ x) (sym left)) ∙ p.text)
           ∙ offered_read c i o a.settings a.stage))
@@ -529,7 +546,7 @@ first_asks c o =
       number = omega arith;
       own = refl;
       target_settings = refl;
-      logs_in = record { phase = refl; stat_sn = o.stat_sn; cmd_sn = omega arith };
+      logs_in = record { phase = refl; stat_sn = o.stat_sn; cmd_sn = omega arith; progress = refl };
       values = refl;
       most = refl;
     }) refl refl

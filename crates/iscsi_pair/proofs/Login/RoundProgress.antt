@@ -48,6 +48,7 @@ use Rattle.iscsi_target_session.specs.Login.{text_ending}
 use Rattle.iscsi_pair.specs.World.{Opening, IsOpening, Suits}
 use Rattle.iscsi_target.specs.Machine as target_machine
 use Rattle.iscsi_target.specs.Machine.{is_over_limit}
+use Rattle.iscsi_target_session.proofs.ExchangeLemmas.{open_text}
 use Rattle.iscsi_pair.proofs.Login.TargetStep.{login_step_is, some_if}
 use Rattle.iscsi_pair.proofs.Login.InitiatorStep.{answering, with_answer, receives}
 use Rattle.iscsi_pair.proofs.Login.RoundAgrees.{Agreed, Asking, Asks_on, Leads, Round, IsWhole, IsPart, is_sent, fits_limit, offered_read}
@@ -221,8 +222,9 @@ gathers_well t h bytes none short more =
 answers_well : (t : target_session.Session) (h : LoginRequest) (segment : Segment) (pairs : Pairs) → first_of (request_refusals t h) ≡ None
     → length (entered t h).gathered + length (segment_bytes segment) ≤ 16384 → h.continues ≡ false
     → text_ending (entered t h).gathered segment ≡ Some pairs → first_of (text_refusals (record (entered t h) { gathered = [] }) pairs) ≡ None
+    → (entered t h).settings.access.chap ≡ None
     → login.login_request t h segment ≡ text_answered (record (entered t h) { gathered = [] }) h pairs
-answers_well t h segment pairs none short last read good =
+answers_well t h segment pairs none short last read good open_ =
     let e : target_session.Session = entered t h in
     let f : target_session.Session = record e { gathered = [] } in
     ap (λ (o : Option Status). login.refuse_or o (numbered t h) h (login.segment_taken e h segment)) none
@@ -230,6 +232,7 @@ answers_well t h segment pairs none short last read good =
     short)
     ∙ cond-false h.continues _ _ last
     ∙ ap (login.whole_text f h) read
+    ∙ open_text f h pairs open_
     ∙ ap (λ (o : Option Status). login.refuse_or o f h (text_answered f h pairs)) good
 
 -- ---- what the initiator does
@@ -418,7 +421,8 @@ last_turn c i t logins next r disk segment o suits a s left fits read size turn 
     let q : login.login_request t.session h segment ≡ text_answered e h given =
     answers_well t.session h segment given (not_refused c i t true a.stage s) (subst (λ (x : List ℕ). length x + length (segment_bytes segment) ≤ 16384)
     (sym same.gathered) size) refl
-    (ap (λ (x : List ℕ). text_ending x segment) same.gathered ∙ read) good in
+    (ap (λ (x : List ℕ). text_ending x segment) same.gathered ∙ read) good
+    (ap (λ (x : target_settings.Settings). x.access.chap) (same.settings ∙ a.target_settings) ∙ suits.chap) in
     let there : target_machine.step false t disk (login_message i true segment) ≡ target.on disk t.tasks (text_answered e h given) =
     login_step_is t disk h segment a.logs_in.phase fits ∙ ap (target.on disk t.tasks) q in
     let is : turn.answer ≡ answering (text_head e h) (answer_pairs e given) =
@@ -543,7 +547,8 @@ suited_by c i t logins next r answer disk a s q stages.Security is asks =
     let h : LoginRequest = login_request i true in
     let e : target_session.Session = emptied t.session h in
     let w : initiator.Machine = with_answer i (text_head e h) (answer_pairs e (offered i)) in
-    subst (λ (x : Stepped). Suited c x.machine (target_machine.step false t disk r).machine) (sym (q.now ∙ ap (λ (x : Stage). begins_stage (following_stage x) w) is))
+    subst (λ (x : Stepped). Suited c x.machine (target_machine.step false t disk r).machine)
+    (sym (q.now ∙ ap (λ (x : Stage). begins_stage (following_stage x) w) is))
     (subst (λ (x : target.Stepped). Suited c (begins_stage stages.Operational w).machine x.machine) (sym q.there)
     (next_suited c i t disk h (text_head e h) (answer_pairs e (offered i)) a.settings s is refl refl))
 suited_by c i t logins next r answer disk a s q stages.Operational is asks =
@@ -563,7 +568,8 @@ last_well c i t logins next r disk a s turn q =
     let on_ : GoesOn (begins_stage (following_stage i.stage) w) = enters_on (following_stage i.stage) w a.phase in
     let live : is_closed (step i turn.answer).machine ≡ false = ap (λ (x : Stepped). is_closed x.machine) q.now ∙ on_.live in
     record {
-      on = leads_on c i (step i turn.answer) (target_machine.step false t disk r).machine next turn.leads live (suited_by c i t logins next r turn.answer disk a s q
+      on = leads_on c i (step i turn.answer) (target_machine.step false t disk r).machine next turn.leads live
+          (suited_by c i t logins next r turn.answer disk a s q
           i.stage refl);
       open_ = ap (λ (x : target.Stepped). target_machine.is_closed x.machine) q.there ∙ phase_open (login.stage_after e h);
       rule = ap (λ (x : target.Stepped). x.rule) q.there;

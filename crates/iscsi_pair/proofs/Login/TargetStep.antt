@@ -1,12 +1,12 @@
 -- What a target answers to a Login Request of its initiator.
 use Rattle.std.proofs.Common.{◌≡◌, ◌<◌, ◌≤◌, ◌⊎◌, inl, inr, ℕ, ◌+◌, Bool, true, false, List, [], ◌∷◌, ◌++◌, length, Option, Some, None, refl, sym, ap, ◌∙◌}
 use Rattle.std.proofs.Common.{subst, arith}
-use Rattle.std.specs.Prelude.{◌==◌, nat_lt, is_some, IfSome, ◌^◌, if◌then◌else◌, unwrap_or}
+use Rattle.std.specs.Prelude.{◌==◌, not, ◌&&◌, nat_lt, is_some, IfSome, ◌^◌, if◌then◌else◌, unwrap_or}
 use Rattle.std.specs.List.{AllByRecursion}
 use Rattle.std.proofs.Math.Nat.{mod-lt}
 use Rattle.std.proofs.lemmas.Bool.{cond_both, ltb-false}
 use Rattle.scsi_disk.specs.Disk.{Disk}
-use Rattle.iscsi_text.specs.Text.{Pairs}
+use Rattle.iscsi_text.specs.Text.{Pairs, IsMeaning}
 use Rattle.iscsi_text.specs.Canonical.{canonical_text}
 use Rattle.iscsi_pdu.specs.declared.head.Head.TheVariants as heads
 use Rattle.iscsi_pdu.specs.declared.head.login_request.LoginRequest.{LoginRequest}
@@ -28,12 +28,21 @@ use Rattle.iscsi_target_session.specs.Configured.{Settings}
 use Rattle.iscsi_target_session.specs.Session.{Session, Reply}
 use Rattle.iscsi_target.specs.State.{Machine, on}
 use Rattle.scsi_disk.specs.Plan.{first_of}
-use Rattle.iscsi_target_session.specs.LoginText.{out_of_resources, text_refusals, session_for, declared_tag, declared_length, answer_pairs}
+use Rattle.iscsi_target_session.specs.LoginText.{out_of_resources, text_refusals, is_operational, initiator_for, session_for, declared_tag, declared_length, answer_pairs}
 use Rattle.iscsi_target_session.specs.Login.{login_request, request_refusals, refuse, refuse_or, response, login_message, numbered, entered, segment_taken}
+use Rattle.iscsi_target_session.specs.Login.{rest_of, has_passed, verdict_for, held_back, allowed_move, exchange_pairs, exchange_answered}
 use Rattle.iscsi_target_session.specs.Login.{gather, whole_text, text_ending, text_answered, text_response, stage_asked, stage_after, phase_at, tsih_at}
 use Rattle.iscsi_target.specs.Machine.{step, is_closed, is_over_limit, phase_step}
 use Rattle.iscsi_login.specs.Stage.{is_closed_phase}
+use Rattle.iscsi_target_session.proofs.ExchangeLemmas.{IsReason, text_cases}
+use Rattle.iscsi_access.specs.Chap.{Chap}
+use Rattle.iscsi_access.specs.declared.verdict.Progress.{Progress}
+use Rattle.iscsi_access.specs.declared.verdict.Progress.TheVariants.{Unasked, Chosen}
+use Rattle.iscsi_access.specs.declared.verdict.Said.{Said}
+use Rattle.iscsi_access.specs.declared.verdict.Said.TheVariants.{Method}
+use Rattle.iscsi_access.specs.declared.verdict.Verdict.TheVariants.{Goes}
 use Rattle.iscsi_pair.proofs.Wire.PrefixLemmas.{RequestFits, ResponseFits}
+use Rattle.iscsi_pair.proofs.Login.HeldBack.{Chooses, chooses, said_meaning}
 use Rattle.iscsi_target.specs.Execution.{reliable}
 
 -- ---- a request comes in a login
@@ -43,6 +52,8 @@ pub record LogsIn (s : Session) : Type 0 where
   pub phase : s.phase ≡ phases.Login
   pub stat_sn : s.stat_sn < 2 ^ 32
   pub cmd_sn : s.exp_cmd_sn < 2 ^ 32
+  -- CHAP has not begun: where it is demanded, the login ends at the first whole text
+  pub progress : s.progress ≡ Unasked
 
 pub login_step_is : (s : Machine) (disk : Disk) (h : LoginRequest) (segment : Segment) → s.session.phase ≡ phases.Login → is_over_limit s segment ≡ false
     → step false s disk (record { head = heads.LoginRequest h; segment = segment }) ≡ on disk s.tasks (login_request s.session h segment)
@@ -188,6 +199,20 @@ pub record Tells (s : Session) (h : LoginRequest) (pairs : Pairs) (r : Reply) : 
   pub phase : (to : Stage) → stage_asked h ≡ Some to → r.session.phase ≡ phase_at to
   pub stat_sn : r.session.stat_sn < 2 ^ 32
   pub cmd_sn : r.session.exp_cmd_sn < 2 ^ 32
+  pub progress : r.session.progress ≡ Unasked
+
+-- a whole text is answered, and the login stays in its stage
+pub record HoldsBack (h : LoginRequest) (r : Reply) : Type 0 where
+  pub answer : LoginResponse
+  pub text : Pairs
+  pub is : r.answers ≡ login_message answer text ∷ []
+  pub means : IsMeaning text
+  pub short : length (canonical_text text) ≤ 8192
+  pub class : answer.status_class ≡ 0
+  pub tag : answer.initiator_task_tag ≡ h.initiator_task_tag
+  pub last : answer.continues ≡ false
+  pub stays : answer.transits ≡ false
+  pub fits : ResponseFits answer
 
 -- what taking a request's stage and number keeps
 record Keeps (s e : Session) : Type 0 where
@@ -197,17 +222,18 @@ record Keeps (s e : Session) : Type 0 where
   gathered : e.gathered ≡ s.gathered
   stat_sn : e.stat_sn ≡ s.stat_sn
   cmd_sn : e.exp_cmd_sn < 2 ^ 32
+  progress : e.progress ≡ s.progress
 
 numbered_keeps : (s : Session) (h : LoginRequest) → s.exp_cmd_sn < 2 ^ 32 → RequestFits h → Keeps s (numbered s h)
 numbered_keeps s h sn f =
     cond_both s.begun s (record s { begun = true; exp_cmd_sn = h.cmd_sn; isid = h.isid }) (Keeps s)
-    (λ is. record { phase = refl; settings = refl; held = refl; gathered = refl; stat_sn = refl; cmd_sn = sn })
-    (λ is. record { phase = refl; settings = refl; held = refl; gathered = refl; stat_sn = refl; cmd_sn = f.cmd_sn })
+    (λ is. record { phase = refl; settings = refl; held = refl; gathered = refl; stat_sn = refl; cmd_sn = sn; progress = refl })
+    (λ is. record { phase = refl; settings = refl; held = refl; gathered = refl; stat_sn = refl; cmd_sn = f.cmd_sn; progress = refl })
 
 entered_keeps : (s : Session) (h : LoginRequest) → s.exp_cmd_sn < 2 ^ 32 → RequestFits h → Keeps s (entered s h)
 entered_keeps s h sn f =
     let k : Keeps s (numbered s h) = numbered_keeps s h sn f in
-    record { phase = k.phase; settings = k.settings; held = k.held; gathered = k.gathered; stat_sn = k.stat_sn; cmd_sn = k.cmd_sn }
+    record { phase = k.phase; settings = k.settings; held = k.held; gathered = k.gathered; stat_sn = k.stat_sn; cmd_sn = k.cmd_sn; progress = k.progress }
 
 gathers : (s e : Session) (h : LoginRequest) (bytes : List ℕ) → Keeps s e → LogsIn s → RequestFits h → Gathers s h bytes (gather e h bytes)
 gathers s e h bytes k l f = record {
@@ -218,7 +244,7 @@ gathers s e h bytes k l f = record {
   last = refl;
   fits = fits_response e h k.cmd_sn f (Some e.stat_sn) 0 0 0 false None refl tt (omega arith) refl (omega (arith, k.stat_sn, l.stat_sn)) (omega arith)
       (omega arith);
-  logs_in = record { phase = k.phase ∙ l.phase; stat_sn = mod-lt _ (omega arith); cmd_sn = k.cmd_sn };
+  logs_in = record { phase = k.phase ∙ l.phase; stat_sn = mod-lt _ (omega arith); cmd_sn = k.cmd_sn; progress = k.progress ∙ l.progress };
   settings = k.settings;
   held = k.held;
   gathered = ap (λ (x : List ℕ). x ++ bytes) k.gathered;
@@ -296,14 +322,44 @@ tells s e h pairs k fit l f short =
       phase = λ to asked. ap (λ (o : Option Stage). phase_at (unwrap_or o e.stage)) asked;
       stat_sn = mod-lt _ (omega arith);
       cmd_sn = k.cmd_sn;
+      progress = k.progress ∙ l.progress;
     }
 
--- a request that ends a text is refused, or the text is answered
+-- CHAP is chosen
+holds_back : (s e : Session) (c : Chap) (h : LoginRequest) (pairs : Pairs) → Keeps s e → SettingsFit s.settings → LogsIn s → RequestFits h → IsMeaning pairs
+    → nat_lt 8192 (length (canonical_text (exchange_pairs c Method e (rest_of pairs)))) ≡ false
+    → HoldsBack h (exchange_answered c Method (record e { gathered = []; progress = Chosen }) (held_back h) (rest_of pairs))
+holds_back s e c h pairs k fit l f is short =
+    let fits : SettingsFit e.settings = subst SettingsFit (sym k.settings) fit in
+    record {
+      answer = record (text_response e (held_back h)) { stat_sn = Some e.stat_sn };
+      text = exchange_pairs c Method e (rest_of pairs);
+      is = refl;
+      means = said_meaning (session_for e (rest_of pairs)) e.settings.preferences fits.preferences (declared_tag e (rest_of pairs)) (declared_length e)
+          (some_if _ e.settings.group (2 ^ 64) (omega (arith, fits.group)))
+          (some_if _ e.settings.preferences.max_recv (2 ^ 64) (omega (arith, fits.preferences.max_recv.1))) pairs is;
+      short = omega (arith, ltb-false 8192 (length (canonical_text (exchange_pairs c Method e (rest_of pairs)))) short);
+      class = refl;
+      tag = refl;
+      last = refl;
+      stays = refl;
+      fits = fits_response e h k.cmd_sn f (Some e.stat_sn) 0 0 (tsih_at e (stage_after e (held_back h))) false None refl tt
+          (tsih_fits e (stage_after e (held_back h)) fits.tsih) refl (omega (arith, k.stat_sn, l.stat_sn)) (omega arith) (omega arith);
+    }
+
+-- a reason refuses
+reason_refuses : (s : Session) (why : Status) → IsReason s why → IsRefusal why
+reason_refuses s why (inl e) = subst IsRefusal (sym e) (refl, (omega arith, omega arith))
+reason_refuses s why (inr (inl e)) = subst IsRefusal (sym e) (refl, (omega arith, omega arith))
+reason_refuses s why (inr (inr (inl e))) = subst IsRefusal (sym e) (refl, (omega arith, omega arith))
+reason_refuses s why (inr (inr (inr x))) = text_refusal s x.0 why x.1
+
+-- a request that ends a text is refused, or the text is answered, or CHAP is chosen
 pub tells_text : (s : Session) (h : LoginRequest) (segment : Segment) (pairs : Pairs) → SettingsFit s.settings → LogsIn s → RequestFits h → h.continues ≡ false
-    → text_ending s.gathered segment ≡ Some pairs
-    → Refuses h (login_request s h segment) ⊎ Tells s h pairs (login_request s h segment)
-tells_text s h segment pairs fit l f last read =
-    let P : Reply → Type 0 = λ r. Refuses h r ⊎ Tells s h pairs r in
+    → IsMeaning pairs → text_ending s.gathered segment ≡ Some pairs
+    → Refuses h (login_request s h segment) ⊎ (Tells s h pairs (login_request s h segment) ⊎ HoldsBack h (login_request s h segment))
+tells_text s h segment pairs fit l f last means read =
+    let P : Reply → Type 0 = λ r. Refuses h r ⊎ (Tells s h pairs r ⊎ HoldsBack h r) in
     let k : Keeps s (entered s h) = entered_keeps s h l.cmd_sn f in
     let now : Session = entered s h in
     let part : Reply = gather now h (segment_bytes segment) in
@@ -316,6 +372,32 @@ tells_text s h segment pairs fit l f last read =
     (λ over. inl (refuses (entered s h) h out_of_resources k.cmd_sn f (refl, (omega arith, omega arith))))
     (λ short. cond_both h.continues part whole P (λ is. absurd (apart is last))
     (λ is. subst (λ (o : Option Pairs). P (whole_text e h o)) (sym (ap (λ (g : List ℕ). text_ending g segment) k.gathered ∙ read))
-    (by_reason (first_of (text_refusals e pairs)) P e h (text_answered e h pairs)
-    (λ why is2. inl (refuses e h why k.cmd_sn f (text_refusal e pairs why is2)))
-    (λ none2. inr (tells s (entered s h) h pairs k fit l f (none_holds (text_refusals e pairs) none2).1.1.1.1.1.1.1.0))))))
+    (text_cases P e h (Some pairs) (record {
+      refused = λ why reason. inl (refuses e h why k.cmd_sn f (reason_refuses e why reason));
+      plain = λ given same open_ none2. inr (inl (told given (let q : pairs ≡ given = cc same in sym q) none2));
+      exchange = λ c p said given same demanded none2 verdict fits. inr (inr (chosen c p said given (let q : pairs ≡ given = cc same in sym q) verdict fits));
+    })))))
+  where
+    told : (given : Pairs) → given ≡ pairs → first_of (text_refusals (record (entered s h) { gathered = [] }) given) ≡ None
+        → Tells s h pairs (text_answered (record (entered s h) { gathered = [] }) h given)
+    told given same none =
+        let e : Session = record (entered s h) { gathered = [] } in
+        subst (λ (g : Pairs). Tells s h g (text_answered e h given)) same
+        (tells s (entered s h) h given (entered_keeps s h l.cmd_sn f) fit l f (none_holds (text_refusals e given) none).1.1.1.1.1.1.1.0)
+
+    chosen : (c : Chap) (p : Progress) (said : Said) (given : Pairs) → given ≡ pairs
+        → verdict_for c (record (entered s h) { gathered = [] }) given ≡ Goes p said
+        → nat_lt 8192 (length (canonical_text (exchange_pairs c said (record (entered s h) { gathered = [] }) (rest_of given)))) ≡ false
+        → HoldsBack h (exchange_answered c said (record (entered s h) { gathered = []; progress = p }) (allowed_move p h) (rest_of given))
+    chosen c p said given same verdict short =
+        let e : Session = record (entered s h) { gathered = [] } in
+        let k : Keeps s (entered s h) = entered_keeps s h l.cmd_sn f in
+        let is : Chooses p said = chooses c (is_operational e.stage && not (has_passed e.progress)) e.progress p (initiator_for e (rest_of given)) given said
+        (k.progress ∙ l.progress) verdict in
+        subst (λ (x : Progress). HoldsBack h (exchange_answered c said (record (entered s h) { gathered = []; progress = x })
+        (allowed_move x h) (rest_of given)))
+        (sym is.progress)
+        (subst (λ (x : Said). HoldsBack h (exchange_answered c x (record (entered s h) { gathered = []; progress = Chosen }) (held_back h) (rest_of given)))
+        (sym is.said_is)
+        (holds_back s (entered s h) c h given k fit l f (subst IsMeaning (sym same) means)
+        (subst (λ (x : Said). nat_lt 8192 (length (canonical_text (exchange_pairs c x e (rest_of given)))) ≡ false) is.said_is short)))

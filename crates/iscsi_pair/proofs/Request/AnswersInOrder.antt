@@ -46,7 +46,8 @@ short_message head bytes most le = le
 
 was_open : (b : Bool) (t : target.Machine) (disk : Disk) (ms : List Message) → target_machine.is_closed t ≡ b
     → target_machine.is_closed (answers false t disk ms).machine ≡ false → b ≡ false
-was_open true t disk ms shut live = absurd (apart (ap (λ (r : target.Stepped). target_machine.is_closed r.machine) (closed_answers false t disk ms shut) ∙ shut) live)
+was_open true t disk ms shut live = absurd (apart (ap (λ (r : target.Stepped). target_machine.is_closed r.machine) (closed_answers false t disk ms shut)
+    ∙ shut) live)
 was_open false t disk ms e live = refl
 
 -- where it is open in the end, it was when each message came

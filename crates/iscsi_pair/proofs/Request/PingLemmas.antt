@@ -168,9 +168,11 @@ local_ping m t disk bytes a e =
           (plain_one m.held.initiator_max_recv answer
           (λ logins. pong_readable logins t' (ping m) given (omega (arith, tag)) a.stat_sn_fits fits (omega (arith, few, a.is_held.initiator_max_recv.1)))
           (short_message answer.head given m.held.initiator_max_recv few));
-      ends = subst (λ (s : Submitted). Ends most_answers m.held s.machine (answers false t disk (submitted m request).output) (record { outcome = done.Ping given; disk = disk }))
+      ends = subst (λ (s : Submitted). Ends most_answers m.held s.machine (answers false t disk (submitted m request).output)
+          (record { outcome = done.Ping given; disk = disk }))
           (sym sent)
-          (subst (λ (x : initiator.Machine). Ends most_answers m.held x (answers false t disk (submitted m request).output) (record { outcome = done.Ping given; disk = disk }))
+          (subst (λ (x : initiator.Machine). Ends most_answers m.held x (answers false t disk (submitted m request).output)
+          (record { outcome = done.Ping given; disk = disk }))
           (sym is_m)
           (subst (λ (x : target.Stepped). Ends most_answers m.held (pinging begun_ m.window) x (record { outcome = done.Ping given; disk = disk })) (sym r) ends_));
     }
@@ -275,9 +277,11 @@ local_logout m t disk a e =
             (plain_one m.held.initiator_max_recv answer (λ logins. left_readable logins t' (logout_request m) (omega (arith, tag)) a.stat_sn_fits fits)
             (short_message answer.head [] m.held.initiator_max_recv (omega arith)));
       };
-      ends = subst (λ (s : Submitted). Ends most_answers m.held s.machine (answers false t disk (submitted m request).output) (record { outcome = done.Closed; disk = disk }))
+      ends = subst (λ (s : Submitted). Ends most_answers m.held s.machine (answers false t disk (submitted m request).output)
+          (record { outcome = done.Closed; disk = disk }))
           (sym sent)
-          (subst (λ (x : initiator.Machine). Ends most_answers m.held x (answers false t disk (submitted m request).output) (record { outcome = done.Closed; disk = disk }))
+          (subst (λ (x : initiator.Machine). Ends most_answers m.held x (answers false t disk (submitted m request).output)
+          (record { outcome = done.Closed; disk = disk }))
           (sym is_m)
           (subst (λ (x : target.Stepped). Ends most_answers m.held (leaving begun_ m.window) x (record { outcome = done.Closed; disk = disk })) (sym r) ends_));
     }

@@ -517,7 +517,8 @@ stat_sn_sent m t a = subst (λ (n : Option ℕ). unwrap_or n 0 < 2 ^ 32) (sym a.
 
 pub local_read : (m : initiator.Machine) (t : target.Machine) (disk : Disk) (lun : ℕ) (cdb : List ℕ) (expected : ℕ) → lun < 2 ^ 64 → length cdb ≡ 16
     → AreBytes cdb → AreInStep m t → (submitted m (requests.In lun cdb expected)).refusal ≡ None
-    → (let after : Effect = effect false disk (reading_order lun cdb expected) [] in Begins m.held m t disk (requests.In lun cdb expected) (local_command after))
+    → (let after : Effect = effect false disk (reading_order lun cdb expected) [] in Begins m.held m t disk (requests.In lun cdb expected)
+    (local_command after))
 unfolding answers
 local_read m t disk lun cdb expected on_ size are a e =
     let request : Request = requests.In lun cdb expected in
@@ -544,7 +545,8 @@ local_read m t disk lun cdb expected on_ size are a e =
       outstanding =
           Some (opens.In r0);
     } in
-    let executed : target.Stepped = having_accepted (read_command m lun cdb expected ∷ []) (execute (reliable false) t' disk (next_tag m.initiator_task_tag) order
+    let executed : target.Stepped = having_accepted (read_command m lun cdb expected ∷ [])
+    (execute (reliable false) t' disk (next_tag m.initiator_task_tag) order
     []) in
     let r : answers false t disk (submitted m request).output ≡ executed =
     ap (λ (s : Submitted). answers false t disk s.output) sent

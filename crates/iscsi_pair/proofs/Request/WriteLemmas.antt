@@ -222,7 +222,8 @@ sequence_taken t cmd_sn w disk h piece [] end due s is_due at tag all limit up r
     record {
       came = with_piece w.pieces h.buffer_offset piece;
       whole = received_more w h.buffer_offset piece all.0.0 ∙ ap (λ (x : List ℕ). data_of w.pieces ++ x) (sym (append-nil piece));
-      is = then_nothing (step_on (reliable false) (writer t cmd_sn w) disk (data_message h' piece)) ∙ data_taken t cmd_sn w disk h' piece all.0.1 limit tag here;
+      is = then_nothing (step_on (reliable false) (writer t cmd_sn w) disk (data_message h' piece))
+          ∙ data_taken t cmd_sn w disk h' piece all.0.1 limit tag here;
     }
 sequence_taken t cmd_sn w disk h piece (second ∷ more) end due s is_due at tag all limit up room =
     let h' : DataOut = record h { is_final = false } in
@@ -420,7 +421,8 @@ response_ends : (most : ℕ) → 1 ≤ most → (m : initiator.Machine) (t : tar
     (tag : ℕ) (pieces_ : Pieces)
     → Throughout m t cmd_sn bytes order disk → IsNear cmd_sn window → Awaits open_ [] → tag ≡ m.initiator_task_tag
     → effect false disk order (data_of pieces_) ≡ effect false disk order bytes
-    → Ends most m.held (waiting m open_ window) (execute (reliable false) (ready t cmd_sn) disk tag order pieces_) (local_command (effect false disk order bytes))
+    → Ends most m.held (waiting m open_ window) (execute (reliable false) (ready t cmd_sn) disk tag order pieces_)
+    (local_command (effect false disk order bytes))
 response_ends most le m t cmd_sn open_ window bytes order disk tag pieces_ a near d same data_ =
     let after : Effect = effect false disk order bytes in
     let s : target.Machine = ready t cmd_sn in
@@ -442,7 +444,8 @@ response_ends most le m t cmd_sn open_ window bytes order disk tag pieces_ a nea
     (tells_eight m.cmd_sn window a.cmd_sn_fits (subst (λ (x : ℕ). IsNear x window) a.cmd_sn_is near)) in
     record {
       last = last;
-      leads = subst (λ (ms : List Message). LeadsWithin most m.held (between (waiting m open_ window) (counted_on s) (execute (reliable false) s disk tag order pieces_).disk ms)
+      leads = subst (λ (ms : List Message). LeadsWithin most m.held (between (waiting m open_ window) (counted_on s)
+          (execute (reliable false) s disk tag order pieces_).disk ms)
           last)
           (sym is)
           (subst (λ (x : Disk). LeadsWithin most m.held (between (waiting m open_ window) (counted_on s) x (response ∷ [])) last) (sym disk_is)
@@ -481,7 +484,8 @@ GoesOn most c v w window =
 whole_is : (m : initiator.Machine) (t : target.Machine) (cmd_sn : ℕ) (v : Writing) (w : Write) (order : Order) (disk : Disk) → InHand m v w order
     → is_whole w ≡ true
     → proceed (reliable false) (ready t cmd_sn) disk w ≡ execute (reliable false) (ready t cmd_sn) disk w.initiator_task_tag order w.pieces
-whole_is m t cmd_sn v w order disk i whole = rw whole (ap (λ (x : Order). execute (reliable false) (ready t cmd_sn) disk w.initiator_task_tag x w.pieces) i.order_is)
+whole_is m t cmd_sn v w order disk i whole = rw whole (ap (λ (x : Order). execute (reliable false) (ready t cmd_sn) disk w.initiator_task_tag
+    x w.pieces) i.order_is)
 
 -- else the target asks for more
 part_is : (m : initiator.Machine) (t : target.Machine) (cmd_sn : ℕ) (v : Writing) (w : Write) (order : Order) (disk : Disk) → InHand m v w order
@@ -519,7 +523,8 @@ all_came most le m t cmd_sn v w window order disk a near i whole =
     let bytes : data_of w.pieces ≡ v.bytes = i.came ∙ take_all v.sent v.bytes (omega (arith, all)) in
     subst (λ (r : Stepped). Ends most m.held (writing m v window) r (local_command (effect false disk order v.bytes)))
     (sym (whole_is m t cmd_sn v w order disk i whole))
-    (response_ends most le m t cmd_sn (opens.Out v) window v.bytes order disk w.initiator_task_tag w.pieces a near (λ h. refl) i.tag (ap (effect false disk order) bytes))
+    (response_ends most le m t cmd_sn (opens.Out v) window v.bytes order disk w.initiator_task_tag w.pieces a near (λ h. refl) i.tag
+    (ap (effect false disk order) bytes))
 
 -- what isn't equal and not more is less
 below : (n total : ℕ) (part : (total == n) ≡ false) → n ≤ total → n < total
@@ -748,7 +753,8 @@ command_taken : (m : initiator.Machine) (t : target.Machine) (disk : Disk) (lun 
     → t.session.held.target_max_recv ≤ target_session.limit t.session.settings
     → length (immediate m bytes) ≤ t.session.held.target_max_recv
     → step_on (reliable false) (ready t m.cmd_sn) disk (write_message m lun cdb bytes)
-    ≡ having_accepted (write_message m lun cdb bytes ∷ []) (planned (reliable false) (ready t (next_sn m.cmd_sn)) disk (write_head m lun cdb bytes) (immediate m bytes)
+    ≡ having_accepted (write_message m lun cdb bytes ∷ []) (planned (reliable false) (ready t (next_sn m.cmd_sn)) disk
+    (write_head m lun cdb bytes) (immediate m bytes)
     (plan_of (writing_order lun cdb bytes) disk.count))
 unfolding segment_bytes
 command_taken m t disk lun cdb bytes lt held limit short =
@@ -1032,11 +1038,13 @@ local_write m t disk lun cdb bytes on_ size are a e =
     let first : Stepped = planned (reliable false) (ready t (next_sn m.cmd_sn)) disk (write_head m lun cdb bytes) (immediate m bytes) p in
     let x : Comes m i order bytes disk (first_answers m t disk lun cdb bytes p) =
     by_plan p m t disk lun cdb bytes m.window refl all (near_next (next_sn m.cmd_sn) m.cmd_sn m.window a.cmd_sn_fits refl a.window) (has_more m bytes) refl in
-    let r : Stepped = then_stepped (having_accepted (write_message m lun cdb bytes ∷ []) first) (answers false first.machine first.disk (unasked_data m bytes)) in
+    let r : Stepped = then_stepped (having_accepted (write_message m lun cdb bytes ∷ []) first)
+    (answers false first.machine first.disk (unasked_data m bytes)) in
     let is : answers false t disk (submitted m request).output ≡ r =
     ap (λ (s : Submitted). answers false t disk s.output) sent
     ∙ ap (λ (y : target.Machine). answers false y disk (accepted m request).output) is_t
-    ∙ ap (λ (y : Stepped). then_stepped y (answers false y.machine y.disk (unasked_data m bytes))) (command_taken m t disk lun cdb bytes a.cmd_sn_fits a.held limit
+    ∙ ap (λ (y : Stepped). then_stepped y (answers false y.machine y.disk (unasked_data m bytes)))
+    (command_taken m t disk lun cdb bytes a.cmd_sn_fits a.held limit
     short) in
     let most : ℕ = m.held.target_max_recv in
     let short_ : length (immediate m bytes) ≤ most = subst (λ (h : Held). length (immediate m bytes) ≤ h.target_max_recv) a.held short in

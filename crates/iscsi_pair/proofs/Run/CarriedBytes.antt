@@ -79,7 +79,8 @@ pub record Talks (most : ℕ) (P : Relation) (x : Exchange) (out : List Message)
 -- the initiator sends more
 pub talk_on : (most_out most : ℕ) (P : Relation) (i : initiator.Machine) (t : target.Machine) (disk : Disk) (out more back : List Message) (there here : Logins)
     (h : History) → ReceivesWell most t disk here out
-    → Sends (limits most_out most) P (between i (answers false t disk out).machine (answers false t disk out).disk (back ++ (answers false t disk out).answers)) more
+    → Sends (limits most_out most) P (between i (answers false t disk out).machine (answers false t disk out).disk
+    (back ++ (answers false t disk out).answers)) more
     (so_far there (after_all here (answers false t disk out).answers) h)
     → Talks most P (between i t disk back) (out ++ more) (so_far (after_all there more) here h)
 talk_on most_out most P i t disk out more back there here h received s =
@@ -247,7 +248,8 @@ pub record Stands (c : Opening) (P : Relation) (h : History) (w : World) : Type 
   pub to_target : Way (target_machine.is_closed session) (target_session.limit c.target) w.target.framing w.to_target out there
   pub to_initiator : Way (is_closed w.initiator.machine) (calls.limit c.initiator) w.initiator.framing w.to_initiator back here
   pub received : ReceivesWell (calls.limit c.initiator) session disk here out
-  pub kept : P (between w.initiator.machine (answers false session disk out).machine (answers false session disk out).disk (back ++ (answers false session disk out).answers))
+  pub kept : P (between w.initiator.machine (answers false session disk out).machine (answers false session disk out).disk
+      (back ++ (answers false session disk out).answers))
       (so_far there (after_all here (answers false session disk out).answers) h)
 
 -- the relation is kept between such ends
@@ -361,8 +363,10 @@ target_stands c P h old new s v unreceived more r t well other machine disk init
       (subst (λ (x : List ℕ). Way (is_closed old.initiator.machine) (calls.limit c.initiator) old.initiator.framing x t.back t.here)
       (ap (λ (x : target.Stepped). old.to_initiator ++ canon x.answers) (sym t.same) ∙ sym output) t.to_initiator);
   received = t.talks.received;
-  kept = subst (λ (i : calls.Connection). P (between i.machine (answers false t.now.machine t.now.disk t.left).machine (answers false t.now.machine t.now.disk t.left).disk
-      (t.back ++ (answers false t.now.machine t.now.disk t.left).answers)) (so_far t.there (after_all t.here (answers false t.now.machine t.now.disk t.left).answers) h))
+  kept = subst (λ (i : calls.Connection). P (between i.machine (answers false t.now.machine t.now.disk t.left).machine
+      (answers false t.now.machine t.now.disk t.left).disk
+      (t.back ++ (answers false t.now.machine t.now.disk t.left).answers))
+      (so_far t.there (after_all t.here (answers false t.now.machine t.now.disk t.left).answers) h))
       (sym initiator_) t.talks.kept;
 }
 

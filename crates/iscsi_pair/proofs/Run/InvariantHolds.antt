@@ -149,7 +149,8 @@ initiator_stands c P Q h g old new s i output left e talks there back = record {
       (after_all s.there output)) (sym e.queue) there);
   to_initiator = back;
   received = talks.received;
-  kept = subst (λ (x : initiator.Machine). Q (between x (answers false s.session s.disk (s.out ++ output)).machine (answers false s.session s.disk (s.out ++ output)).disk
+  kept = subst (λ (x : initiator.Machine). Q (between x (answers false s.session s.disk (s.out ++ output)).machine
+      (answers false s.session s.disk (s.out ++ output)).disk
       (left ++ (answers false s.session s.disk (s.out ++ output)).answers))
       (so_far (after_all s.there output) (after_all s.here (answers false s.session s.disk (s.out ++ output)).answers) g)) (sym e.initiator) talks.kept;
 }

@@ -50,7 +50,8 @@ none_said : (c : Opening) (i : initiator.Machine) (t : target.Machine) (disk : D
     (so_far there (after_all here (answers false t disk out).answers) h) → Serves c (between i t disk []) (so_far there here h)
 unfolding answers
 none_said c i t disk out back there here h p q k =
-    let k' = subst (λ (x : List Message). Serves c (between i (answers false t disk x).machine (answers false t disk x).disk (back ++ (answers false t disk x).answers))
+    let k' = subst (λ (x : List Message). Serves c (between i (answers false t disk x).machine (answers false t disk x).disk
+    (back ++ (answers false t disk x).answers))
     (so_far there (after_all here (answers false t disk x).answers) h)) p k in
     subst (λ (x : List Message). Serves c (between i t disk (x ++ [])) (so_far there here h)) q k'
 

@@ -12,7 +12,7 @@ use crate::numbers::next_number;
 use crate::peer::Peer;
 use crate::room::makes_room;
 use crate::system::watch;
-use iscsi_serving::SessionEnd;
+use iscsi_serving::{AccessFault, SessionEnd};
 use iscsi_target::Config;
 use mio::net::TcpStream;
 use std::alloc::Global;
@@ -22,6 +22,9 @@ use std::time::Instant;
 
 /// What is told if the system has no room for a connection.
 const NO_ROOM: &str = "accept failed: nobody is accepted until a seat is free or a second is over";
+
+/// What is told if the system gives no random bytes for the challenge of a login.
+const NO_RANDOM: &str = "no random bytes: the connection is closed";
 
 // The result of accepting a connection.
 #[derive(Clone, Copy, Debug, PartialEq, Eq)]
@@ -94,7 +97,7 @@ impl<'a> Server<'a> {
         match listener.accept() {
             Ok((stream, address)) => {
                 self.make_room(rt);
-                self.welcome(rt.alloc(), stream, address, now);
+                self.welcome(rt, stream, address, now);
                 if self.has_free() {
                     Accepted::One
                 } else {
@@ -145,9 +148,15 @@ impl<'a> Server<'a> {
     }
 
     // Gives a connection a seat, and a number that no other one has, which is the TSIH of its session.
-    // One for which there is no memory, or that the system does not watch, is closed.
+    // One for which there is no memory, or no random bytes, or that the system does not watch, is closed.
     #[tactic(auto, using(crate::proofs::RunningLemmas::none_idle, crate::proofs::RunningLemmas::then_idle))]
-    fn welcome(&mut self, alloc: Global, mut stream: TcpStream, address: SocketAddr, now: Instant)
+    fn welcome(
+        &mut self,
+        rt: &HostRuntime,
+        mut stream: TcpStream,
+        address: SocketAddr,
+        now: Instant,
+    )
         ensures runs { RunsIdle self.old.hall self.new.hall }
         ensures seats { length self.new.hall.seats ≡ length self.old.hall.seats }
         ensures sessions { self.new.sessions ≡ self.old.sessions }
@@ -159,14 +168,7 @@ impl<'a> Server<'a> {
             return;
         };
         self.last_number = number;
-        let options = self.options;
-        let Ok(config) = configuration(
-            alloc,
-            options.name,
-            number,
-            options.preferences,
-            options.initiators,
-        ) else {
+        let Some(config) = self.configured(rt, number) else {
             return;
         };
         let Some(seat) = self.seat(config) else {
@@ -181,6 +183,23 @@ impl<'a> Server<'a> {
             number,
             Peer::new(Connection::new(stream, address, now)),
         );
+    }
+
+    // The configuration of a connection of this number; none without memory or random bytes.
+    fn configured(&mut self, rt: &HostRuntime, number: u16) -> Option<Config>
+        ensures same { self.new ≡ self.old }
+    {
+        let options = self.options;
+        let alloc = rt.alloc();
+        let config = configuration(alloc, options.name, number, options.preferences).ok()?;
+        match self.access.demand(alloc, rt, config) {
+            Ok(config) => Some(config),
+            Err(AccessFault::NoMemory) => None,
+            Err(AccessFault::NoRandom) => {
+                self.lines.tell(rt, &NO_RANDOM);
+                None
+            }
+        }
     }
 
     // Gives a new session the first free seat of the hall.

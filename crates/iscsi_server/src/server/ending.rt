@@ -5,6 +5,7 @@ ghost use Rattle.iscsi_server.specs.Running.{RunsIdle};
 
 use super::Server;
 use crate::peer::Peer;
+use crate::refusals::Refusal;
 use crate::session_line::SessionLine;
 use crate::system::now;
 use crate::tally::Ended;
@@ -84,7 +85,8 @@ impl<'a> Server<'a> {
         }
     }
 
-    // Tells why the session of a seat ended, if that is a fault, and of all ends if that is asked for.
+    // Tells why the session of a seat ended, if that is a fault, and of all ends if that is asked for. Where
+    // not everybody may log in, one refused login a second is told, too.
     fn tell_end(&mut self, rt: &HostRuntime, seat: usize, end: Option<SessionEnd>)
         ensures same { self.new ≡ self.old }
     {
@@ -98,7 +100,24 @@ impl<'a> Server<'a> {
         } else if let Some(end) = end {
             let line = line_of(&self.numbers, &self.hall, seat, peer, end);
             self.lines.tell(rt, &line);
+        } else if let Some(refusal) = self.refusal(rt, seat) {
+            let Some(Some(peer)) = self.peers.get(seat) else {
+                return;
+            };
+            let line = line_of(&self.numbers, &self.hall, seat, peer, refusal);
+            self.lines.tell(rt, &line);
         }
+    }
+
+    // What is told of the login of a seat, if it was refused and is to be told now.
+    fn refusal(&mut self, rt: &HostRuntime, seat: usize) -> Option<Refusal>
+        ensures same { self.new ≡ self.old }
+    {
+        if self.access.is_open() {
+            return None;
+        }
+        let (class, detail) = self.peers.get(seat)?.as_ref()?.tally.refused()?;
+        self.refusals.tell(now(rt).ok()?, class, detail)
     }
 
     // Frees a seat, and tells why its session ended.

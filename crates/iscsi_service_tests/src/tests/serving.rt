@@ -4,6 +4,7 @@ use crate::asserts::same;
 use iscsi_examples::{CUT, FIRST_ANSWER, NAMELESS, PING, REFUSAL, pdus_of};
 use iscsi_initiator::InitiatorFault;
 use iscsi_service::{ServeFault, configuration, serve, serve_connections, serve_one};
+use iscsi_serving::EVERYBODY;
 use iscsi_stream::StreamFault;
 use iscsi_target::TargetFault;
 use scsi_disk::SparseStore;
@@ -156,7 +157,7 @@ fn connections_one_after_another(rt: HostRuntime) {
         initiators.push(initiator).expect(&rt, "an initiator");
     }
     let mut store = SparseStore::new(alloc, 8);
-    let ended = serve_connections(&rt, &listener, &mut store, 3, None);
+    let ended = serve_connections(&rt, &listener, &mut store, 3, EVERYBODY);
     same(
         &rt,
         &line_of(&rt, alloc, ended).as_str(),
@@ -172,7 +173,7 @@ fn connections_one_after_another(rt: HostRuntime) {
 #[test]
 fn no_connection_is_served(rt: HostRuntime) {
     let mut store = SparseStore::new(rt.alloc(), 1);
-    let served = serve(&rt, 0, &mut store, 0, None);
+    let served = serve(&rt, 0, &mut store, 0, EVERYBODY);
     same(
         &rt,
         &line_of(&rt, rt.alloc(), served).as_str(),

@@ -37,7 +37,8 @@ impl Machine {
         ensures answers { Answers S.protected received.now result
             (moment self.old (store_of (S.disk store.old) (S.failures store.old)) out.old.items)
             (moment self.new (store_of (S.disk store.new) (S.failures store.new)) out.new.items) }
-        ensures crash { Crashes S.protected (commands_at self.old (S.disk store.old).count received.now)
+        ensures crash { Crashes S.protected (commands_at self.old
+            (S.disk store.old).count received.now)
             (S.disk store.old) (S.disk store.new) (S.kept store.old) (S.kept store.new) }
     {
         match self.phase() {
@@ -108,7 +109,8 @@ impl Machine {
     ) -> Result<Option<u8>, AllocError>
         requires room { waiting self.old.tasks ≤ 7 }
         requires turn { self.old.tasks ≡ [] ⊎ (cmd_sn_of received.now.head ≢ None) }
-        ensures follows { Follows S.protected (admitted self.old (S.disk store.old).count received.now) result
+        ensures follows { Follows S.protected
+            (admitted self.old (S.disk store.old).count received.now) result
             (moment self.old (store_of (S.disk store.old) (S.failures store.old)) out.old.items)
             (moment self.new (store_of (S.disk store.new) (S.failures store.new)) out.new.items) }
         ensures crash { Crashes S.protected
@@ -157,7 +159,8 @@ impl Machine {
     ) -> Result<Option<u8>, AllocError>
         requires places { TakePlaces self.old.tasks }
         requires room { length self.old.tasks < 9 }
-        ensures handles { Handles S.protected (λ device. begun device self.old (S.disk store.old) task) result
+        ensures handles { Handles S.protected
+            (λ device. begun device self.old (S.disk store.old) task) result
             (moment self.old (store_of (S.disk store.old) (S.failures store.old)) out.old.items)
             (moment self.new (store_of (S.disk store.new) (S.failures store.new)) out.new.items) }
         ensures crash { Crashes S.protected (command_of task)
@@ -182,7 +185,8 @@ impl Machine {
             received.now received.now.head) result
             (moment self.old (store_of (S.disk store.old) (S.failures store.old)) out.old.items)
             (moment self.new (store_of (S.disk store.new) (S.failures store.new)) out.new.items) }
-        ensures crash { Crashes S.protected (command_in received.now.head (segment_bytes received.now.segment))
+        ensures crash { Crashes S.protected (command_in received.now.head
+            (segment_bytes received.now.segment))
             (S.disk store.old) (S.disk store.new) (S.kept store.old) (S.kept store.new) }
     {
         match &received.pdu.head {

@@ -34,7 +34,8 @@ impl Machine {
     ) -> Result<Option<u8>, AllocError>
         requires places { TakePlaces self.old.tasks }
         requires room { length self.old.tasks < 9 }
-        ensures handles { Handles S.protected (λ device. scsi_command device self.old (S.disk store.old)
+        ensures handles { Handles S.protected
+            (λ device. scsi_command device self.old (S.disk store.old)
             received.now command.now bytes.now) result
             (moment self.old (store_of (S.disk store.old) (S.failures store.old)) out.old.items)
             (moment self.new (store_of (S.disk store.new) (S.failures store.new)) out.new.items) }

@@ -163,10 +163,12 @@ impl Machine {
         out: &mut Vec<u8>,
     ) -> Result<Option<u8>, AllocError>
         requires { length bytes.now < 2 ^ 24 }
-        ensures follows { Follows S.protected (data_out self.old received.now head.now bytes.now) result
+        ensures follows { Follows S.protected
+            (data_out self.old received.now head.now bytes.now) result
             (moment self.old (store_of (S.disk store.old) (S.failures store.old)) out.old.items)
             (moment self.new (store_of (S.disk store.new) (S.failures store.new)) out.new.items) }
-        ensures crash { Crashes S.protected (commands_by (data_out self.old received.now head.now bytes.now))
+        ensures crash { Crashes S.protected (commands_by
+            (data_out self.old received.now head.now bytes.now))
             (S.disk store.old) (S.disk store.new) (S.kept store.old) (S.kept store.new) }
     {
         let Some((place, write)) = self.tasks.take_write(head.initiator_task_tag) else {

@@ -1,7 +1,7 @@
 //! The login (RFC 7143, sections 6.3, 11.12 and 11.13). One file, since each step of a login hands
 //! on to the next.
 
-ghost use Rattle.std.specs.Prelude.{◌≡◌, ◌↔◌, ◌<◌, ◌+◌, ◌^◌, ◌++◌, [], length, IsTrue, OnErr, OnOk, IfOk, IfSome, Some, false};
+ghost use Rattle.std.specs.Prelude.{◌≡◌, ◌↔◌, ◌<◌, ◌≤◌, ◌+◌, ◌^◌, ◌++◌, [], length, IsTrue, OnErr, OnOk, IfOk, IfSome, Some, false};
 ghost use Rattle.iscsi_text.specs.Text.{Pairs};
 ghost use Rattle.iscsi_text.specs.Canonical.{canonical_text};
 ghost use Rattle.iscsi_pdu.specs.Meaning.{Fits};
@@ -9,10 +9,10 @@ ghost use Rattle.iscsi_pdu.specs.declared.head.login_request.LoginRequest.{Login
 ghost use Rattle.iscsi_pdu.specs.declared.head.Head.TheVariants as heads;
 ghost use Rattle.iscsi_login.specs.Answer.{DeclaresWell};
 ghost use Rattle.iscsi_stream.specs.Segment.{Bytes, Text as Whole, segment_of, text_or_bytes};
-ghost use Rattle.iscsi_target_session.specs.Session.{ended};
+ghost use Rattle.iscsi_target_session.specs.Session.{counted, ended};
 ghost use Rattle.scsi_disk.specs.Plan.{first_of};
-ghost use Rattle.iscsi_target_session.specs.Login.{stage_named, is_due_stage, is_move, stage_asked, stage_after, tsih_at, phase_at, response, refuse, after_text, whole_text, segment_taken, request_refusals, login_request, login_step};
-ghost use Rattle.iscsi_target_session.specs.LoginText.{initiator_for};
+ghost use Rattle.iscsi_target_session.specs.Login.{stage_named, is_due_stage, is_move, stage_asked, stage_after, tsih_at, phase_at, response, refuse, after_text, answered_by, plain_text, whole_text, segment_taken, request_refusals, login_request, login_step};
+ghost use Rattle.iscsi_target_session.specs.LoginText.{initiator_for, answer_pairs};
 ghost use Rattle.iscsi_target_session.specs.Replies.{Replied, Does, Attempts};
 ghost use Rattle.iscsi_target_session.specs.Inside.{rolled_back, login_answer};
 
@@ -250,17 +250,63 @@ impl Session {
         ensures { Attempts (whole_text self.old request.now (Some text.now)) result
             self.old self.new out.old.items out.new.items }
     {
-        let answer = answer_text(
-            *out.allocator(),
+        if self.config.demands_chap() {
+            self.answer_exchange(request, text, out)
+        } else {
+            self.answer_plain(request, text, out)
+        }
+    }
+
+    // Answers or refuses a whole text where CHAP is not demanded.
+    fn answer_plain(
+        &mut self,
+        request: &LoginRequest,
+        text: &Text<'_>,
+        out: &mut Vec<u8>,
+    ) -> Result<Option<u8>, AllocError>
+        requires fits { Fits (heads.LoginRequest request.now) }
+        ensures { Attempts (plain_text self.old request.now text.now) result
+            self.old self.new out.old.items out.new.items }
+    {
+        let answer = self.answer_to(*out.allocator(), text)?;
+        if let Some(why) = self.text_refusal(text, &answer) {
+            return self.refuse(request, why, out);
+        }
+        self.send_answer(request, text, &answer, out)
+    }
+
+    // The answer to the pairs of a text.
+    pub(super) fn answer_to(&self, alloc: Global, text: &Text<'_>) -> Result<Vec<u8>, AllocError>
+        ensures { IfOk result (λ answer. answer.items ≡
+            canonical_text (answer_pairs self.now text.now)) }
+    {
+        answer_text(
+            alloc,
             text,
             self.config.preferences(),
             self.session_for(text),
             self.declared_tag(text),
             self.declared_length(),
-        )?;
-        if let Some(why) = self.text_refusal(text, &answer) {
-            return self.refuse(request, why, out);
-        }
+        )
+    }
+
+    // Sends this answer to a text that isn't refused, and follows the text.
+    pub(super) fn send_answer(
+        &mut self,
+        request: &LoginRequest,
+        text: &Text<'_>,
+        answer: &[u8],
+        out: &mut Vec<u8>,
+    ) -> Result<Option<u8>, AllocError>
+        requires fits { Fits (heads.LoginRequest request.now) }
+        requires declares { DeclaresWell text.now }
+        requires short { length answer.now ≤ 8192 }
+        ensures ok { IfOk result (λ rule. (pairs : Pairs) → answer.now ≡ canonical_text pairs
+            → Replied (answered_by self.old request.now text.now pairs) rule
+            self.new out.old.items out.new.items) }
+        ensures err { OnErr result (self.new ≡ self.old) }
+        ensures unwritten { OnErr result (out.new.items ≡ out.old.items) }
+    {
         let initiator_name = self.initiator_for(*out.allocator(), text)?;
         let stage = self.stage_after(request);
         let response = LoginResponse {
@@ -269,7 +315,7 @@ impl Session {
             tsih: self.tsih_at(stage),
             ..self.response(request)
         };
-        self.answer(response, &answer, out)?;
+        self.answer(response, answer, out)?;
         self.hold(stage, text, initiator_name);
         Ok(None)
     }
@@ -339,7 +385,7 @@ impl Session {
     }
 
     // A refusal, which carries no StatSN and closes the session.
-    fn refuse(
+    pub(super) fn refuse(
         &mut self,
         request: &LoginRequest,
         why: Status,
@@ -373,6 +419,7 @@ impl Session {
         ensures ok { IfOk result (λ rule. (pairs : Pairs) → text.now ≡ canonical_text pairs
             → Replied (login_answer self.old response pairs) rule
             self.new out.old.items out.new.items) }
+        ensures counts { OnOk result (self.new ≡ counted self.old) }
         ensures err { OnErr result (self.new ≡ self.old) }
         ensures unwritten { OnErr result (out.new.items ≡ out.old.items) }
     {

@@ -74,8 +74,8 @@ fn check_turn<S: BlockStore>(
     }
 }
 
-// Goes through the turns of a session, whose stream comes in pieces of this length.
-fn check<S: BlockStore>(
+/// Goes through the turns of a session, whose stream comes in pieces of this length.
+pub fn check<S: BlockStore>(
     rt: &impl Abort,
     alloc: Global,
     name: &str,
@@ -130,7 +130,7 @@ fn check_dialogue<S: BlockStore>(
 }
 
 /// The lengths of pieces: a PDU at a time, a byte, less than a header, a header, and all.
-const LENGTHS: &[usize] = &[BY_PDU, 1, 47, 48, 100_000];
+pub const LENGTHS: &[usize] = &[BY_PDU, 1, 47, 48, 100_000];
 
 // A session over a disk whose read or write of this number fails, in pieces of several lengths.
 fn check_failing(rt: &impl Abort, alloc: Global, at: u64, row: &Dialogue) {

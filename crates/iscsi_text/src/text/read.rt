@@ -1,8 +1,9 @@
 //! Reading a text into its pairs, in the order of their keys (RFC 7143, section 6.1).
 
-ghost use Rattle.std.specs.Prelude.{◌≡◌, ◌≢◌, ◌↔◌, IsTrue, [], IfSome, IfNone, IfOk, IfErr, OnOk, option_map};
+ghost use Rattle.std.specs.Prelude.{◌≡◌, ◌≢◌, ◌↔◌, IsTrue, [], IfSome, IfNone, IfOk, IfErr, OnOk, OnErr, option_map};
 ghost use Rattle.iscsi_text.specs.Text.{Pairs, IsInOrder, IsSingle, Arranges, HasNo, TextMeans};
 ghost use Rattle.iscsi_text.specs.Fault.{IsFirstFault};
+ghost use Rattle.iscsi_text.specs.Reading.{in_order};
 ghost use Rattle.iscsi_text.specs.Inside.{shown, all_shown, follows, ReadsEntry, IsWrong, Gathers, SplitsAt};
 
 use crate::fault::TextFault;
@@ -56,10 +57,23 @@ fn gather<'a>(bytes: &'a [u8], pairs: &mut Vec<Pair<'a>>) -> Result<Option<TextF
 
 // Puts pairs in the order of their keys. Those of one key stay in their order.
 fn sort(pairs: &mut Vec<Pair>) -> Result<(), AllocError>
-    ensures { OnOk result (Arranges (all_shown pairs.old.items) (all_shown pairs.new.items)) }
+    ensures ok { OnOk result (Arranges (all_shown pairs.old.items) (all_shown pairs.new.items)) }
+    ensures err { OnErr result (pairs.new.items ≡ pairs.old.items) }
 {
     pairs.sort_by_key(|pair| pair.key)?;
     Ok(())
+}
+
+/// Puts pairs in the byte order of their keys. Those of one key stay in their order.
+///
+/// More than 20 pairs take memory for a second list while they are sorted. When out of memory, the
+/// pairs are as they were.
+#[tactic(auto, using(crate::proofs::OrderLemmas::arranged_is))]
+pub fn sort_pairs(pairs: &mut Vec<Pair>) -> Result<(), AllocError>
+    ensures ok { OnOk result (all_shown pairs.new.items ≡ in_order (all_shown pairs.old.items)) }
+    ensures err { OnErr result (pairs.new.items ≡ pairs.old.items) }
+{
+    sort(pairs)
 }
 
 const TARGET_ADDRESS: &[u8] = b"TargetAddress";

@@ -46,99 +46,103 @@ const JOBS: &[(&str, &str)] = &[
     ),
     (
         "serve --port 3260 --blocks 2048 --sessions 5",
-        "Serve { storage: Memory { blocks: 2048 }, service: InTurn { port: 3260, sessions: Some(5) }, read_only: false }",
+        "Serve(ServeJob { storage: Memory { blocks: 2048 }, service: InTurn { port: 3260, sessions: Some(5) }, read_only: false, secrets: None })",
     ),
     (
         "serve --port 3260 --blocks 2048",
-        "Serve { storage: Memory { blocks: 2048 }, service: InTurn { port: 3260, sessions: None }, read_only: false }",
+        "Serve(ServeJob { storage: Memory { blocks: 2048 }, service: InTurn { port: 3260, sessions: None }, read_only: false, secrets: None })",
     ),
     (
         "serve --sessions=0 --blocks=1 --port=0",
-        "Serve { storage: Memory { blocks: 1 }, service: InTurn { port: 0, sessions: Some(0) }, read_only: false }",
+        "Serve(ServeJob { storage: Memory { blocks: 1 }, service: InTurn { port: 0, sessions: Some(0) }, read_only: false, secrets: None })",
     ),
     (
         "serve --port 65535 --sessions 065535 --blocks 1099511627776",
-        "Serve { storage: Memory { blocks: 1099511627776 }, service: InTurn { port: 65535, sessions: Some(65535) }, read_only: false }",
+        "Serve(ServeJob { storage: Memory { blocks: 1099511627776 }, service: InTurn { port: 65535, sessions: Some(65535) }, read_only: false, secrets: None })",
     ),
     (
         "serve --port 0 --sessions 1 --file disk.img",
-        "Serve { storage: Image(Image { path: \"disk.img\", origin: Found { blocks: None } }), service: InTurn { port: 0, sessions: Some(1) }, read_only: false }",
+        "Serve(ServeJob { storage: Image(Image { path: \"disk.img\", origin: Found { blocks: None } }), service: InTurn { port: 0, sessions: Some(1) }, read_only: false, secrets: None })",
     ),
     (
         "serve --file=/a/b --port 0 --sessions 1 --blocks 1099511627776",
-        "Serve { storage: Image(Image { path: \"/a/b\", origin: Found { blocks: Some(1099511627776) } }), service: InTurn { port: 0, sessions: Some(1) }, read_only: false }",
+        "Serve(ServeJob { storage: Image(Image { path: \"/a/b\", origin: Found { blocks: Some(1099511627776) } }), service: InTurn { port: 0, sessions: Some(1) }, read_only: false, secrets: None })",
     ),
     (
         "serve --create --blocks 8 --file - --port 0 --sessions 1",
-        "Serve { storage: Image(Image { path: \"-\", origin: New { blocks: 8 } }), service: InTurn { port: 0, sessions: Some(1) }, read_only: false }",
+        "Serve(ServeJob { storage: Image(Image { path: \"-\", origin: New { blocks: 8 } }), service: InTurn { port: 0, sessions: Some(1) }, read_only: false, secrets: None })",
     ),
     (
         "serve --port 1 --sessions 2 --file d --at-once 3",
-        "Serve { storage: Image(Image { path: \"d\", origin: Found { blocks: None } }), service: AtOnce(Options { listen: 127.0.0.1, port: 1, sessions: Some(2), at_once: 3, name: [105, 113, 110, 46, 50, 48, 50, 54, 45, 48, 49, 46, 101, 120, 97, 109, 112, 108, 101, 58, 100, 105, 115, 107], initiators: None, limits: Limits { idle: None, login_within: Some(30) }, preferences: Preferences { initial_r2t: false, immediate_data: true, max_burst: 262144, first_burst: 65536, time2wait: 2, time2retain: 20, max_recv: 8192 }, memory: 268435456, print_port: false, log: false }), read_only: false }",
+        "Serve(ServeJob { storage: Image(Image { path: \"d\", origin: Found { blocks: None } }), service: AtOnce(Options { listen: 127.0.0.1, port: 1, sessions: Some(2), at_once: 3, name: [105, 113, 110, 46, 50, 48, 50, 54, 45, 48, 49, 46, 101, 120, 97, 109, 112, 108, 101, 58, 100, 105, 115, 107], limits: Limits { idle: None, login_within: Some(30) }, preferences: Preferences { initial_r2t: false, immediate_data: true, max_burst: 262144, first_burst: 65536, time2wait: 2, time2retain: 20, max_recv: 8192 }, memory: 268435456, print_port: false, log: false }), read_only: false, secrets: None })",
     ),
     (
         "serve --port 1 --file d --at-once 3",
-        "Serve { storage: Image(Image { path: \"d\", origin: Found { blocks: None } }), service: AtOnce(Options { listen: 127.0.0.1, port: 1, sessions: None, at_once: 3, name: [105, 113, 110, 46, 50, 48, 50, 54, 45, 48, 49, 46, 101, 120, 97, 109, 112, 108, 101, 58, 100, 105, 115, 107], initiators: None, limits: Limits { idle: None, login_within: Some(30) }, preferences: Preferences { initial_r2t: false, immediate_data: true, max_burst: 262144, first_burst: 65536, time2wait: 2, time2retain: 20, max_recv: 8192 }, memory: 268435456, print_port: false, log: false }), read_only: false }",
+        "Serve(ServeJob { storage: Image(Image { path: \"d\", origin: Found { blocks: None } }), service: AtOnce(Options { listen: 127.0.0.1, port: 1, sessions: None, at_once: 3, name: [105, 113, 110, 46, 50, 48, 50, 54, 45, 48, 49, 46, 101, 120, 97, 109, 112, 108, 101, 58, 100, 105, 115, 107], limits: Limits { idle: None, login_within: Some(30) }, preferences: Preferences { initial_r2t: false, immediate_data: true, max_burst: 262144, first_burst: 65536, time2wait: 2, time2retain: 20, max_recv: 8192 }, memory: 268435456, print_port: false, log: false }), read_only: false, secrets: None })",
     ),
     (
         "serve --port 1 --sessions 2 --file d --at-once 3 --name n --segment 131072 --burst 131072",
-        "Serve { storage: Image(Image { path: \"d\", origin: Found { blocks: None } }), service: AtOnce(Options { listen: 127.0.0.1, port: 1, sessions: Some(2), at_once: 3, name: [110], initiators: None, limits: Limits { idle: None, login_within: Some(30) }, preferences: Preferences { initial_r2t: false, immediate_data: true, max_burst: 131072, first_burst: 65536, time2wait: 2, time2retain: 20, max_recv: 131072 }, memory: 268435456, print_port: false, log: false }), read_only: false }",
+        "Serve(ServeJob { storage: Image(Image { path: \"d\", origin: Found { blocks: None } }), service: AtOnce(Options { listen: 127.0.0.1, port: 1, sessions: Some(2), at_once: 3, name: [110], limits: Limits { idle: None, login_within: Some(30) }, preferences: Preferences { initial_r2t: false, immediate_data: true, max_burst: 131072, first_burst: 65536, time2wait: 2, time2retain: 20, max_recv: 131072 }, memory: 268435456, print_port: false, log: false }), read_only: false, secrets: None })",
     ),
     (
         "serve --port 1 --sessions 2 --file d --at-once 3 --name n --burst 512 --segment 1048576 --idle 1 --login-within 65535",
-        "Serve { storage: Image(Image { path: \"d\", origin: Found { blocks: None } }), service: AtOnce(Options { listen: 127.0.0.1, port: 1, sessions: Some(2), at_once: 3, name: [110], initiators: None, limits: Limits { idle: Some(1), login_within: Some(65535) }, preferences: Preferences { initial_r2t: false, immediate_data: true, max_burst: 512, first_burst: 512, time2wait: 2, time2retain: 20, max_recv: 1048576 }, memory: 268435456, print_port: false, log: false }), read_only: false }",
+        "Serve(ServeJob { storage: Image(Image { path: \"d\", origin: Found { blocks: None } }), service: AtOnce(Options { listen: 127.0.0.1, port: 1, sessions: Some(2), at_once: 3, name: [110], limits: Limits { idle: Some(1), login_within: Some(65535) }, preferences: Preferences { initial_r2t: false, immediate_data: true, max_burst: 512, first_burst: 512, time2wait: 2, time2retain: 20, max_recv: 1048576 }, memory: 268435456, print_port: false, log: false }), read_only: false, secrets: None })",
     ),
     (
         "serve --port 1 --sessions 2 --file d --at-once 3 --name n --first-burst 262144 --no-login-limit",
-        "Serve { storage: Image(Image { path: \"d\", origin: Found { blocks: None } }), service: AtOnce(Options { listen: 127.0.0.1, port: 1, sessions: Some(2), at_once: 3, name: [110], initiators: None, limits: Limits { idle: None, login_within: None }, preferences: Preferences { initial_r2t: false, immediate_data: true, max_burst: 262144, first_burst: 262144, time2wait: 2, time2retain: 20, max_recv: 8192 }, memory: 268435456, print_port: false, log: false }), read_only: false }",
+        "Serve(ServeJob { storage: Image(Image { path: \"d\", origin: Found { blocks: None } }), service: AtOnce(Options { listen: 127.0.0.1, port: 1, sessions: Some(2), at_once: 3, name: [110], limits: Limits { idle: None, login_within: None }, preferences: Preferences { initial_r2t: false, immediate_data: true, max_burst: 262144, first_burst: 262144, time2wait: 2, time2retain: 20, max_recv: 8192 }, memory: 268435456, print_port: false, log: false }), read_only: false, secrets: None })",
     ),
     (
         "serve --port 1 --sessions 2 --blocks 8 --at-once 3 --name n --memory 32768 --log",
-        "Serve { storage: Memory { blocks: 8 }, service: AtOnce(Options { listen: 127.0.0.1, port: 1, sessions: Some(2), at_once: 3, name: [110], initiators: None, limits: Limits { idle: None, login_within: Some(30) }, preferences: Preferences { initial_r2t: false, immediate_data: true, max_burst: 262144, first_burst: 65536, time2wait: 2, time2retain: 20, max_recv: 8192 }, memory: 32768, print_port: false, log: true }), read_only: false }",
+        "Serve(ServeJob { storage: Memory { blocks: 8 }, service: AtOnce(Options { listen: 127.0.0.1, port: 1, sessions: Some(2), at_once: 3, name: [110], limits: Limits { idle: None, login_within: Some(30) }, preferences: Preferences { initial_r2t: false, immediate_data: true, max_burst: 262144, first_burst: 65536, time2wait: 2, time2retain: 20, max_recv: 8192 }, memory: 32768, print_port: false, log: true }), read_only: false, secrets: None })",
     ),
     (
         "serve --size 32M",
-        "Serve { storage: Memory { blocks: 65536 }, service: InTurn { port: 3260, sessions: None }, read_only: false }",
+        "Serve(ServeJob { storage: Memory { blocks: 65536 }, service: InTurn { port: 3260, sessions: None }, read_only: false, secrets: None })",
     ),
     (
         "serve --size=512T --port 0",
-        "Serve { storage: Memory { blocks: 1099511627776 }, service: InTurn { port: 0, sessions: None }, read_only: false }",
+        "Serve(ServeJob { storage: Memory { blocks: 1099511627776 }, service: InTurn { port: 0, sessions: None }, read_only: false, secrets: None })",
     ),
     (
         "serve --file d",
-        "Serve { storage: Image(Image { path: \"d\", origin: Found { blocks: None } }), service: InTurn { port: 3260, sessions: None }, read_only: false }",
+        "Serve(ServeJob { storage: Image(Image { path: \"d\", origin: Found { blocks: None } }), service: InTurn { port: 3260, sessions: None }, read_only: false, secrets: None })",
     ),
     (
         "serve --file d --size 3G",
-        "Serve { storage: Image(Image { path: \"d\", origin: Found { blocks: Some(6291456) } }), service: InTurn { port: 3260, sessions: None }, read_only: false }",
+        "Serve(ServeJob { storage: Image(Image { path: \"d\", origin: Found { blocks: Some(6291456) } }), service: InTurn { port: 3260, sessions: None }, read_only: false, secrets: None })",
     ),
     (
         "serve --read-only --file d --size 4K",
-        "Serve { storage: Image(Image { path: \"d\", origin: Found { blocks: Some(8) } }), service: InTurn { port: 3260, sessions: None }, read_only: true }",
+        "Serve(ServeJob { storage: Image(Image { path: \"d\", origin: Found { blocks: Some(8) } }), service: InTurn { port: 3260, sessions: None }, read_only: true, secrets: None })",
+    ),
+    (
+        "serve --chap f --size 4K",
+        "Serve(ServeJob { storage: Memory { blocks: 8 }, service: InTurn { port: 3260, sessions: None }, read_only: false, secrets: Some(\"f\") })",
     ),
     (
         "serve --nbd host --read-only",
-        "Serve { storage: Nbd(NbdExport { word: \"host\", host: \"host\", port: 10809, name: \"\", blocks: None }), service: InTurn { port: 3260, sessions: None }, read_only: true }",
+        "Serve(ServeJob { storage: Nbd(NbdExport { word: \"host\", host: \"host\", port: 10809, name: \"\", blocks: None }), service: InTurn { port: 3260, sessions: None }, read_only: true, secrets: None })",
     ),
     (
         "serve --file d --create --size 010K",
-        "Serve { storage: Image(Image { path: \"d\", origin: New { blocks: 20 } }), service: InTurn { port: 3260, sessions: None }, read_only: false }",
+        "Serve(ServeJob { storage: Image(Image { path: \"d\", origin: New { blocks: 20 } }), service: InTurn { port: 3260, sessions: None }, read_only: false, secrets: None })",
     ),
     (
         "serve --nbd 127.0.0.1:1/disk --port 0",
-        "Serve { storage: Nbd(NbdExport { word: \"127.0.0.1:1/disk\", host: \"127.0.0.1\", port: 1, name: \"disk\", blocks: None }), service: InTurn { port: 0, sessions: None }, read_only: false }",
+        "Serve(ServeJob { storage: Nbd(NbdExport { word: \"127.0.0.1:1/disk\", host: \"127.0.0.1\", port: 1, name: \"disk\", blocks: None }), service: InTurn { port: 0, sessions: None }, read_only: false, secrets: None })",
     ),
     (
         "serve --nbd=host/a/b:c --blocks 8",
-        "Serve { storage: Nbd(NbdExport { word: \"host/a/b:c\", host: \"host\", port: 10809, name: \"a/b:c\", blocks: Some(8) }), service: InTurn { port: 3260, sessions: None }, read_only: false }",
+        "Serve(ServeJob { storage: Nbd(NbdExport { word: \"host/a/b:c\", host: \"host\", port: 10809, name: \"a/b:c\", blocks: Some(8) }), service: InTurn { port: 3260, sessions: None }, read_only: false, secrets: None })",
     ),
     (
         "serve --nbd [::1]:65535 --size 4K",
-        "Serve { storage: Nbd(NbdExport { word: \"[::1]:65535\", host: \"::1\", port: 65535, name: \"\", blocks: Some(8) }), service: InTurn { port: 3260, sessions: None }, read_only: false }",
+        "Serve(ServeJob { storage: Nbd(NbdExport { word: \"[::1]:65535\", host: \"::1\", port: 65535, name: \"\", blocks: Some(8) }), service: InTurn { port: 3260, sessions: None }, read_only: false, secrets: None })",
     ),
     (
         "serve --nbd [::1]/",
-        "Serve { storage: Nbd(NbdExport { word: \"[::1]/\", host: \"::1\", port: 10809, name: \"\", blocks: None }), service: InTurn { port: 3260, sessions: None }, read_only: false }",
+        "Serve(ServeJob { storage: Nbd(NbdExport { word: \"[::1]/\", host: \"::1\", port: 10809, name: \"\", blocks: None }), service: InTurn { port: 3260, sessions: None }, read_only: false, secrets: None })",
     ),
     (
         "answer --size 1536",
@@ -751,14 +755,7 @@ fn said_of(rt: &impl Abort, alloc: Global, line: &str) -> String {
 fn said_of_serve(rt: &impl Abort, alloc: Global, line: &str) -> String {
     let words = words_of(alloc, line).expect(rt, line);
     match read_serve_words(alloc, words.as_slice()) {
-        Ok(job) => {
-            let storage = job.storage;
-            let service = job.service;
-            let read_only = job.read_only;
-            format!(in alloc;
-                "Serve {{ storage: {storage:?}, service: {service:?}, read_only: {read_only} }}"
-            ).expect(rt, line)
-        }
+        Ok(job) => format!(in alloc; "Serve({job:?})").expect(rt, line),
         Err(LineFault::Usage(text)) => text,
         Err(LineFault::NoMemory) => panic!(rt; "memory"),
     }

@@ -11,5 +11,6 @@ returns c = record {
   read = λ protected seats after store last es past later e length r same split is p.
       read_bytes protected store.disk last.disk past later e length
       (subst (λ (x : List Execution). Follows protected store.disk x last.disk) split (runs_follows protected seats after store last es r same)) is p;
-  blocks = λ protected seats after store last es n r same. follow_block protected store.disk last.disk (executed_in es) (runs_follows protected seats after store last es r same) n;
+  blocks = λ protected seats after store last es n r same. follow_block protected store.disk last.disk (executed_in es)
+      (runs_follows protected seats after store last es r same) n;
 }

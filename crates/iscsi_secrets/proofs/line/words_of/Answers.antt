@@ -11,7 +11,8 @@ returns c = record {
   words = map_from_collect _ c.collect.ensures.ran
       (YieldsList-from_filter _ is_word
       (YieldsList-at c.filter.ensures.source
-      (YieldsList-from_slice_split _ is_blank (uncommented c.args.line.now) (c.split.ensures.rest ∙ c.uncommented.ensures) c.split.ensures.done c.split.ensures.closure
+      (YieldsList-from_slice_split _ is_blank (uncommented c.args.line.now) (c.split.ensures.rest ∙ c.uncommented.ensures) c.split.ensures.done
+      c.split.ensures.closure
       (λ x b q k. search (rules, tests))))
       c.filter.ensures.closure (λ x b q k. search (rules, tests)));
 }

@@ -17,9 +17,11 @@ returns-in_err-write_out-in-Ok-clause-err g c =
     let contents = g.W.Write.contents c.args.w.now in
     let now = g.W.Write.contents c.write_out.new.w in
     let p = err_from_is_err_and c.from_residual.result c.from_residual.ensures.1 in
-    rw (p.1, p.2) (breaks_held g.S.BlockStore.protected (service c.args.target.now before contents c.args.out.now.items) (service c.feed_next.new.self after now [])
+    rw (p.1, p.2) (breaks_held g.S.BlockStore.protected (service c.args.target.now before contents c.args.out.now.items)
+    (service c.feed_next.new.self after now [])
     c.args.piece.now c.in_err-write_out-in-Ok.field-0.0 contents now c.feed_next.new.out.items c.in_err-write_out-in-Ok.ensures.err
-    (write_loses g.S.BlockStore.protected c.args.target.now c.feed_next.new.self before mid after contents now c.args.out.now.items c.args.piece.now c.feed_next.new.out.items []
+    (write_loses g.S.BlockStore.protected c.args.target.now c.feed_next.new.self before mid after contents now c.args.out.now.items c.args.piece.now
+    c.feed_next.new.out.items []
     c.in_err-write_out-in-Ok.field-0.0 c.feed_next.result c.requires.live c.feed_next.ensures.fed c.in_err-write_out-in-Ok.ensures.store c.in_err-write_out-in-Ok.ensures.bytes
     c.in_err-write_out-in-Ok.ensures.err))
 
@@ -31,9 +33,11 @@ returns-in_err-write_out-in-Err-clause-err g c =
     let contents = g.W.Write.contents c.args.w.now in
     let now = g.W.Write.contents c.write_out-in-Err.new.w in
     let p = err_from_is_err_and c.from_residual-in_err-write_out-in-Err.result c.from_residual-in_err-write_out-in-Err.ensures.1 in
-    rw (p.1, p.2) (breaks_held g.S.BlockStore.protected (service c.args.target.now before contents c.args.out.now.items) (service c.feed_next.new.self after now [])
+    rw (p.1, p.2) (breaks_held g.S.BlockStore.protected (service c.args.target.now before contents c.args.out.now.items)
+    (service c.feed_next.new.self after now [])
     c.args.piece.now c.in_err-write_out-in-Err.field-0.0 contents now c.feed_next.new.out.items c.in_err-write_out-in-Err.ensures.err
-    (write_loses g.S.BlockStore.protected c.args.target.now c.feed_next.new.self before mid after contents now c.args.out.now.items c.args.piece.now c.feed_next.new.out.items []
+    (write_loses g.S.BlockStore.protected c.args.target.now c.feed_next.new.self before mid after contents now c.args.out.now.items c.args.piece.now
+    c.feed_next.new.out.items []
     c.in_err-write_out-in-Err.field-0.0 c.feed_next.result c.requires.live c.feed_next.ensures.fed c.in_err-write_out-in-Err.ensures.store
     c.in_err-write_out-in-Err.ensures.bytes c.in_err-write_out-in-Err.ensures.err))
 
@@ -44,9 +48,11 @@ returns-in_ok-write_out-in-Ok-clause-goes g c =
     let after : Store = store_of (g.S.BlockStore.disk c.write_out.new.store) (g.S.BlockStore.failures c.write_out.new.store) in
     let contents = g.W.Write.contents c.args.w.now in
     rw c.in_ok-write_out-in-Ok.ensures.none
-    (goes_written g.S.BlockStore.protected (service c.args.target.now before contents c.args.out.now.items) (take c.in-Ok.done.0 c.args.piece.now) c.feed_next.new.self mid after
+    (goes_written g.S.BlockStore.protected (service c.args.target.now before contents c.args.out.now.items) (take c.in-Ok.done.0 c.args.piece.now)
+    c.feed_next.new.self mid after
     contents (g.W.Write.contents c.write_out.new.w) c.feed_next.new.out.items
-    (next_goes g.S.BlockStore.protected c.args.target.now c.feed_next.new.self before mid contents c.args.out.now.items c.args.piece.now c.feed_next.new.out.items c.in-Ok.done
+    (next_goes g.S.BlockStore.protected c.args.target.now c.feed_next.new.self before mid contents c.args.out.now.items c.args.piece.now
+    c.feed_next.new.out.items c.in-Ok.done
     c.in-Ok.ensures.fed)
     c.in_ok-write_out-in-Ok.ensures.store c.in_ok-write_out-in-Ok.ensures.bytes c.in_ok-write_out-in-Ok.ensures.ok)
 
@@ -57,12 +63,15 @@ returns-in_ok-write_out-in-Ok-clause-closes g c =
     let after : Store = store_of (g.S.BlockStore.disk c.write_out.new.store) (g.S.BlockStore.failures c.write_out.new.store) in
     let contents = g.W.Write.contents c.args.w.now in
     λ over. (
-      next_is_closed g.S.BlockStore.protected (is_closed c.args.target.now.machine) c.args.target.now c.feed_next.new.self before mid c.args.out.now.items c.args.piece.now
+      next_is_closed g.S.BlockStore.protected (is_closed c.args.target.now.machine) c.args.target.now c.feed_next.new.self before mid
+          c.args.out.now.items c.args.piece.now
           c.feed_next.new.out.items c.in-Ok.done c.in-Ok.ensures.fed over,
       closes_synced g.S.BlockStore.protected (service c.args.target.now before contents c.args.out.now.items) (take c.in-Ok.done.0 c.args.piece.now) mid after
-          (next_rises g.S.BlockStore.protected c.args.target.now c.feed_next.new.self before mid c.args.out.now.items c.args.piece.now c.feed_next.new.out.items c.feed_next.result
+          (next_rises g.S.BlockStore.protected c.args.target.now c.feed_next.new.self before mid c.args.out.now.items c.args.piece.now
+          c.feed_next.new.out.items c.feed_next.result
           c.feed_next.ensures.fed) c.in_ok-write_out-in-Ok.ensures.store
-          (next_closes g.S.BlockStore.protected c.args.target.now c.feed_next.new.self before mid contents c.args.out.now.items c.args.piece.now c.feed_next.new.out.items c.in-Ok.done
+          (next_closes g.S.BlockStore.protected c.args.target.now c.feed_next.new.self before mid contents c.args.out.now.items c.args.piece.now
+          c.feed_next.new.out.items c.in-Ok.done
           c.in-Ok.ensures.fed over),
     )
 
@@ -71,7 +80,8 @@ returns-else-len-gt-MOST_WAITING-clause-goes g c =
     let before : Store = store_of (g.S.BlockStore.disk c.args.store.now) (g.S.BlockStore.failures c.args.store.now) in
     let after : Store = store_of (g.S.BlockStore.disk c.feed_next.new.store) (g.S.BlockStore.failures c.feed_next.new.store) in
     let contents = g.W.Write.contents c.args.w.now in
-    next_goes g.S.BlockStore.protected c.args.target.now c.feed_next.new.self before after contents c.args.out.now.items c.args.piece.now c.feed_next.new.out.items c.in-Ok.done
+    next_goes g.S.BlockStore.protected c.args.target.now c.feed_next.new.self before after contents c.args.out.now.items c.args.piece.now
+    c.feed_next.new.out.items c.in-Ok.done
     c.in-Ok.ensures.fed
 
 pub returns-else-len-gt-MOST_WAITING-clause-closes : goal.returns-else-len-gt-MOST_WAITING-clause-closes
@@ -80,9 +90,11 @@ returns-else-len-gt-MOST_WAITING-clause-closes g c =
     let after : Store = store_of (g.S.BlockStore.disk c.feed_next.new.store) (g.S.BlockStore.failures c.feed_next.new.store) in
     let contents = g.W.Write.contents c.args.w.now in
     λ over. (
-      next_is_closed g.S.BlockStore.protected (is_closed c.args.target.now.machine) c.args.target.now c.feed_next.new.self before after c.args.out.now.items c.args.piece.now
+      next_is_closed g.S.BlockStore.protected (is_closed c.args.target.now.machine) c.args.target.now c.feed_next.new.self before after
+          c.args.out.now.items c.args.piece.now
           c.feed_next.new.out.items c.in-Ok.done c.in-Ok.ensures.fed over,
-      next_closes g.S.BlockStore.protected c.args.target.now c.feed_next.new.self before after contents c.args.out.now.items c.args.piece.now c.feed_next.new.out.items c.in-Ok.done
+      next_closes g.S.BlockStore.protected c.args.target.now c.feed_next.new.self before after contents c.args.out.now.items c.args.piece.now
+          c.feed_next.new.out.items c.in-Ok.done
           c.in-Ok.ensures.fed over,
     )
 
@@ -92,7 +104,8 @@ returns-in_ok-write_out-in-Err-clause-err g c =
     let mid : Store = store_of (g.S.BlockStore.disk c.feed_next.new.store) (g.S.BlockStore.failures c.feed_next.new.store) in
     let after : Store = store_of (g.S.BlockStore.disk c.write_out-in-Err.new.store) (g.S.BlockStore.failures c.write_out-in-Err.new.store) in
     let contents = g.W.Write.contents c.args.w.now in
-    rw c.from.ensures (fault_breaks g.S.BlockStore.protected c.args.target.now c.feed_next.new.self before mid after contents (g.W.Write.contents c.write_out-in-Err.new.w)
+    rw c.from.ensures (fault_breaks g.S.BlockStore.protected c.args.target.now c.feed_next.new.self before mid after contents
+    (g.W.Write.contents c.write_out-in-Err.new.w)
     c.args.out.now.items c.args.piece.now c.feed_next.new.out.items c.in-Err.fault c.requires.live c.in-Err.ensures.fed
     c.in_ok-write_out-in-Err.ensures.store c.in_ok-write_out-in-Err.ensures.bytes c.in_ok-write_out-in-Err.ensures.ok)
 
@@ -102,7 +115,8 @@ returns-in_ok-write_out-in-Ok-clause-open g c =
     let mid : Store = store_of (g.S.BlockStore.disk c.feed_next.new.store) (g.S.BlockStore.failures c.feed_next.new.store) in
     let after : Store = store_of (g.S.BlockStore.disk c.write_out.new.store) (g.S.BlockStore.failures c.write_out.new.store) in
     let contents = g.W.Write.contents c.args.w.now in
-    λ open_. next_is_open g.S.BlockStore.protected (is_closed c.args.target.now.machine) c.args.target.now c.feed_next.new.self before mid c.args.out.now.items c.args.piece.now
+    λ open_. next_is_open g.S.BlockStore.protected (is_closed c.args.target.now.machine) c.args.target.now c.feed_next.new.self before mid
+    c.args.out.now.items c.args.piece.now
     c.feed_next.new.out.items c.in-Ok.done c.in-Ok.ensures.fed open_
 
 pub returns-else-len-gt-MOST_WAITING-clause-open : goal.returns-else-len-gt-MOST_WAITING-clause-open
@@ -110,7 +124,8 @@ returns-else-len-gt-MOST_WAITING-clause-open g c =
     let before : Store = store_of (g.S.BlockStore.disk c.args.store.now) (g.S.BlockStore.failures c.args.store.now) in
     let after : Store = store_of (g.S.BlockStore.disk c.feed_next.new.store) (g.S.BlockStore.failures c.feed_next.new.store) in
     let contents = g.W.Write.contents c.args.w.now in
-    λ open_. next_is_open g.S.BlockStore.protected (is_closed c.args.target.now.machine) c.args.target.now c.feed_next.new.self before after c.args.out.now.items c.args.piece.now
+    λ open_. next_is_open g.S.BlockStore.protected (is_closed c.args.target.now.machine) c.args.target.now c.feed_next.new.self before after
+    c.args.out.now.items c.args.piece.now
     c.feed_next.new.out.items c.in-Ok.done c.in-Ok.ensures.fed open_
 
 pub returns-in_err-write_out-in-Ok-clause-crash : goal.returns-in_err-write_out-in-Ok-clause-crash
@@ -119,9 +134,11 @@ returns-in_err-write_out-in-Ok-clause-crash g c =
     let mid : Store = store_of (g.S.BlockStore.disk c.feed_next.new.store) (g.S.BlockStore.failures c.feed_next.new.store) in
     let after : Store = store_of (g.S.BlockStore.disk c.write_out.new.store) (g.S.BlockStore.failures c.write_out.new.store) in
     let contents = g.W.Write.contents c.args.w.now in
-    crashes_synced g.S.BlockStore.protected c.args.target.now before mid after c.args.piece.now (g.S.BlockStore.kept c.args.store.now) (g.S.BlockStore.kept c.feed_next.new.store)
+    crashes_synced g.S.BlockStore.protected c.args.target.now before mid after c.args.piece.now (g.S.BlockStore.kept c.args.store.now)
+    (g.S.BlockStore.kept c.feed_next.new.store)
     (g.S.BlockStore.kept c.write_out.new.store)
-    (next_crashes g.S.BlockStore.protected c.args.target.now c.feed_next.new.self before mid c.args.out.now.items c.args.piece.now c.feed_next.new.out.items c.feed_next.result
+    (next_crashes g.S.BlockStore.protected c.args.target.now c.feed_next.new.self before mid c.args.out.now.items c.args.piece.now
+    c.feed_next.new.out.items c.feed_next.result
     (g.S.BlockStore.kept c.args.store.now) (g.S.BlockStore.kept c.feed_next.new.store) c.feed_next.ensures.fed c.feed_next.ensures.crash)
     c.in_err-write_out-in-Ok.ensures.store c.in_err-write_out-in-Ok.ensures.kept
 
@@ -131,9 +148,11 @@ returns-in_err-write_out-in-Err-clause-crash g c =
     let mid : Store = store_of (g.S.BlockStore.disk c.feed_next.new.store) (g.S.BlockStore.failures c.feed_next.new.store) in
     let after : Store = store_of (g.S.BlockStore.disk c.write_out-in-Err.new.store) (g.S.BlockStore.failures c.write_out-in-Err.new.store) in
     let contents = g.W.Write.contents c.args.w.now in
-    crashes_synced g.S.BlockStore.protected c.args.target.now before mid after c.args.piece.now (g.S.BlockStore.kept c.args.store.now) (g.S.BlockStore.kept c.feed_next.new.store)
+    crashes_synced g.S.BlockStore.protected c.args.target.now before mid after c.args.piece.now (g.S.BlockStore.kept c.args.store.now)
+    (g.S.BlockStore.kept c.feed_next.new.store)
     (g.S.BlockStore.kept c.write_out-in-Err.new.store)
-    (next_crashes g.S.BlockStore.protected c.args.target.now c.feed_next.new.self before mid c.args.out.now.items c.args.piece.now c.feed_next.new.out.items c.feed_next.result
+    (next_crashes g.S.BlockStore.protected c.args.target.now c.feed_next.new.self before mid c.args.out.now.items c.args.piece.now
+    c.feed_next.new.out.items c.feed_next.result
     (g.S.BlockStore.kept c.args.store.now) (g.S.BlockStore.kept c.feed_next.new.store) c.feed_next.ensures.fed c.feed_next.ensures.crash)
     c.in_err-write_out-in-Err.ensures.store c.in_err-write_out-in-Err.ensures.kept
 
@@ -143,9 +162,11 @@ returns-in_ok-write_out-in-Ok-clause-crash g c =
     let mid : Store = store_of (g.S.BlockStore.disk c.feed_next.new.store) (g.S.BlockStore.failures c.feed_next.new.store) in
     let after : Store = store_of (g.S.BlockStore.disk c.write_out.new.store) (g.S.BlockStore.failures c.write_out.new.store) in
     let contents = g.W.Write.contents c.args.w.now in
-    crashes_synced g.S.BlockStore.protected c.args.target.now before mid after c.args.piece.now (g.S.BlockStore.kept c.args.store.now) (g.S.BlockStore.kept c.feed_next.new.store)
+    crashes_synced g.S.BlockStore.protected c.args.target.now before mid after c.args.piece.now (g.S.BlockStore.kept c.args.store.now)
+    (g.S.BlockStore.kept c.feed_next.new.store)
     (g.S.BlockStore.kept c.write_out.new.store)
-    (next_crashes g.S.BlockStore.protected c.args.target.now c.feed_next.new.self before mid c.args.out.now.items c.args.piece.now c.feed_next.new.out.items c.feed_next.result
+    (next_crashes g.S.BlockStore.protected c.args.target.now c.feed_next.new.self before mid c.args.out.now.items c.args.piece.now
+    c.feed_next.new.out.items c.feed_next.result
     (g.S.BlockStore.kept c.args.store.now) (g.S.BlockStore.kept c.feed_next.new.store) c.feed_next.ensures.fed c.feed_next.ensures.crash)
     c.in_ok-write_out-in-Ok.ensures.store c.in_ok-write_out-in-Ok.ensures.kept
 
@@ -155,9 +176,11 @@ returns-in_ok-write_out-in-Err-clause-crash g c =
     let mid : Store = store_of (g.S.BlockStore.disk c.feed_next.new.store) (g.S.BlockStore.failures c.feed_next.new.store) in
     let after : Store = store_of (g.S.BlockStore.disk c.write_out-in-Err.new.store) (g.S.BlockStore.failures c.write_out-in-Err.new.store) in
     let contents = g.W.Write.contents c.args.w.now in
-    crashes_synced g.S.BlockStore.protected c.args.target.now before mid after c.args.piece.now (g.S.BlockStore.kept c.args.store.now) (g.S.BlockStore.kept c.feed_next.new.store)
+    crashes_synced g.S.BlockStore.protected c.args.target.now before mid after c.args.piece.now (g.S.BlockStore.kept c.args.store.now)
+    (g.S.BlockStore.kept c.feed_next.new.store)
     (g.S.BlockStore.kept c.write_out-in-Err.new.store)
-    (next_crashes g.S.BlockStore.protected c.args.target.now c.feed_next.new.self before mid c.args.out.now.items c.args.piece.now c.feed_next.new.out.items c.feed_next.result
+    (next_crashes g.S.BlockStore.protected c.args.target.now c.feed_next.new.self before mid c.args.out.now.items c.args.piece.now
+    c.feed_next.new.out.items c.feed_next.result
     (g.S.BlockStore.kept c.args.store.now) (g.S.BlockStore.kept c.feed_next.new.store) c.feed_next.ensures.fed c.feed_next.ensures.crash)
     c.in_ok-write_out-in-Err.ensures.store c.in_ok-write_out-in-Err.ensures.kept
 
@@ -166,7 +189,8 @@ returns-else-len-gt-MOST_WAITING-clause-crash g c =
     let before : Store = store_of (g.S.BlockStore.disk c.args.store.now) (g.S.BlockStore.failures c.args.store.now) in
     let after : Store = store_of (g.S.BlockStore.disk c.feed_next.new.store) (g.S.BlockStore.failures c.feed_next.new.store) in
     let contents = g.W.Write.contents c.args.w.now in
-    next_crashes g.S.BlockStore.protected c.args.target.now c.feed_next.new.self before after c.args.out.now.items c.args.piece.now c.feed_next.new.out.items c.feed_next.result
+    next_crashes g.S.BlockStore.protected c.args.target.now c.feed_next.new.self before after c.args.out.now.items c.args.piece.now
+    c.feed_next.new.out.items c.feed_next.result
     (g.S.BlockStore.kept c.args.store.now) (g.S.BlockStore.kept c.feed_next.new.store) c.feed_next.ensures.fed c.feed_next.ensures.crash
 
 pub returns-in_ok-write_out-in-Ok-clause-advances : goal.returns-in_ok-write_out-in-Ok-clause-advances
@@ -176,7 +200,8 @@ returns-in_ok-write_out-in-Ok-clause-advances g c =
     let after : Store = store_of (g.S.BlockStore.disk c.write_out.new.store) (g.S.BlockStore.failures c.write_out.new.store) in
     let contents = g.W.Write.contents c.args.w.now in
     λ open_. comes_synced g.S.BlockStore.protected c.args.target.now c.feed_next.new.self before mid after (take c.in-Ok.done.0 c.args.piece.now)
-    (next_advances g.S.BlockStore.protected (is_closed c.args.target.now.machine) c.args.target.now c.feed_next.new.self before mid c.args.out.now.items c.args.piece.now
+    (next_advances g.S.BlockStore.protected (is_closed c.args.target.now.machine) c.args.target.now c.feed_next.new.self before mid
+    c.args.out.now.items c.args.piece.now
     c.feed_next.new.out.items c.in-Ok.done c.in-Ok.ensures.fed open_)
     c.in_ok-write_out-in-Ok.ensures.store
 
@@ -185,7 +210,8 @@ returns-else-len-gt-MOST_WAITING-clause-advances g c =
     let before : Store = store_of (g.S.BlockStore.disk c.args.store.now) (g.S.BlockStore.failures c.args.store.now) in
     let after : Store = store_of (g.S.BlockStore.disk c.feed_next.new.store) (g.S.BlockStore.failures c.feed_next.new.store) in
     let contents = g.W.Write.contents c.args.w.now in
-    λ open_. next_advances g.S.BlockStore.protected (is_closed c.args.target.now.machine) c.args.target.now c.feed_next.new.self before after c.args.out.now.items c.args.piece.now
+    λ open_. next_advances g.S.BlockStore.protected (is_closed c.args.target.now.machine) c.args.target.now c.feed_next.new.self before after
+    c.args.out.now.items c.args.piece.now
     c.feed_next.new.out.items c.in-Ok.done c.in-Ok.ensures.fed open_
 
 pub returns-in_err-write_out-in-Ok-clause-unsent : goal.returns-in_err-write_out-in-Ok-clause-unsent

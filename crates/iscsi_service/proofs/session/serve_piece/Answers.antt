@@ -16,7 +16,8 @@ pub loop-rest-init : goal.loop-rest-init
 loop-rest-init g c =
     let before : Store = store_of (g.S.BlockStore.disk c.args.store.now) (g.S.BlockStore.failures c.args.store.now) in (
       c.requires.live,
-      subst (λ (waiting : List ℕ). PieceUpTo g.S.BlockStore.protected (service c.args.target.now before (g.W.Write.contents c.args.w.now) []) c.args.piece.now c.args.piece.now
+      subst (λ (waiting : List ℕ). PieceUpTo g.S.BlockStore.protected (service c.args.target.now before (g.W.Write.contents c.args.w.now) [])
+          c.args.piece.now c.args.piece.now
           (service c.args.target.now before (g.W.Write.contents c.args.w.now) waiting)) (sym c.clear.ensures.items)
           (piece_start g.S.BlockStore.protected (service c.args.target.now before (g.W.Write.contents c.args.w.now) []) c.args.piece.now),
       piece_begins g.S.BlockStore.protected c.args.target.now before c.args.piece.now,
@@ -24,7 +25,8 @@ loop-rest-init g c =
       λ synced. (
         c.args.store.now,
         synced,
-        last_begins g.S.BlockStore.protected c.args.target.now before (g.W.Write.contents c.args.w.now) _ c.args.piece.now (g.S.BlockStore.kept c.args.store.now),
+        last_begins g.S.BlockStore.protected c.args.target.now before (g.W.Write.contents c.args.w.now) _ c.args.piece.now
+            (g.S.BlockStore.kept c.args.store.now),
       ),
     )
 
@@ -36,7 +38,8 @@ returns-in_err-taken-clause-err g c =
     (g.W.Write.contents c.loop-rest.w) c.loop-rest.out.items in
     let after : Store = store_of (g.S.BlockStore.disk c.serve_next.new.store) (g.S.BlockStore.failures c.serve_next.new.store) in
     let p = err_from_is_err_and c.from_residual.result c.from_residual.ensures.1 in
-    rw (p.1, p.2) (piece_breaks g.S.BlockStore.protected old mid (service c.serve_next.new.target after (g.W.Write.contents c.serve_next.new.w) []) c.args.piece.now c.loop-rest.rest.now
+    rw (p.1, p.2) (piece_breaks g.S.BlockStore.protected old mid (service c.serve_next.new.target after (g.W.Write.contents c.serve_next.new.w) [])
+    c.args.piece.now c.loop-rest.rest.now
     c.in_err-taken.field-0.0 c.loop-rest.invariant.1 c.in_err-taken.ensures.err)
 
 pub returns-in_err-write_out-clause-err : goal.returns-in_err-write_out-clause-err
@@ -49,11 +52,13 @@ returns-in_err-write_out-clause-err g c =
     let contents = g.W.Write.contents c.serve_next.new.w in
     let new : Service = service c.serve_next.new.target after contents c.serve_next.new.out.items in
     let left : List ℕ = drop c.in_ok-taken.taken c.loop-rest.rest.now in
-    let up : PieceUpTo g.S.BlockStore.protected old c.args.piece.now left new = piece_next g.S.BlockStore.protected old mid new c.args.piece.now c.loop-rest.rest.now c.in_ok-taken.taken c.loop-rest.invariant.1
+    let up : PieceUpTo g.S.BlockStore.protected old c.args.piece.now left new = piece_next g.S.BlockStore.protected old mid new c.args.piece.now
+    c.loop-rest.rest.now c.in_ok-taken.taken c.loop-rest.invariant.1
     c.in_ok-taken.ensures.goes in
     let p = err_from_is_err_and c.from_residual-in_err-write_out.result c.from_residual-in_err-write_out.ensures.1 in
     let last : Store = store_of (g.S.BlockStore.disk c.write_out.new.store) (g.S.BlockStore.failures c.write_out.new.store) in
-    rw (p.1, p.2) (piece_lost g.S.BlockStore.protected old c.args.piece.now left c.serve_next.new.target after last contents (g.W.Write.contents c.write_out.new.w)
+    rw (p.1, p.2) (piece_lost g.S.BlockStore.protected old c.args.piece.now left c.serve_next.new.target after last contents
+    (g.W.Write.contents c.write_out.new.w)
     c.serve_next.new.out.items c.in_err-write_out.field-0.0 up c.in_err-write_out.ensures.store c.in_err-write_out.ensures.bytes
     c.in_err-write_out.ensures.err)
 
@@ -67,11 +72,13 @@ returns-then-is_over-clause-goes g c =
     let contents = g.W.Write.contents c.serve_next.new.w in
     let new : Service = service c.serve_next.new.target after contents c.serve_next.new.out.items in
     let left : List ℕ = drop c.in_ok-taken.taken c.loop-rest.rest.now in
-    let up : PieceUpTo g.S.BlockStore.protected old c.args.piece.now left new = piece_next g.S.BlockStore.protected old mid new c.args.piece.now c.loop-rest.rest.now c.in_ok-taken.taken c.loop-rest.invariant.1
+    let up : PieceUpTo g.S.BlockStore.protected old c.args.piece.now left new = piece_next g.S.BlockStore.protected old mid new c.args.piece.now
+    c.loop-rest.rest.now c.in_ok-taken.taken c.loop-rest.invariant.1
     c.in_ok-taken.ensures.goes in
     let over = c.in_ok-taken.ensures.closes (sym c.is_over.ensures ∙ c.if-is_over.true) in
     let last : Store = store_of (g.S.BlockStore.disk c.write_out.new.store) (g.S.BlockStore.failures c.write_out.new.store) in
-    piece_over g.S.BlockStore.protected old c.args.piece.now left c.serve_next.new.target after last contents (g.W.Write.contents c.write_out.new.w) c.serve_next.new.out.items up over.0
+    piece_over g.S.BlockStore.protected old c.args.piece.now left c.serve_next.new.target after last contents (g.W.Write.contents c.write_out.new.w)
+    c.serve_next.new.out.items up over.0
     c.in_ok-write_out.ensures.store c.in_ok-write_out.ensures.bytes c.in_ok-write_out.ensures.ok
 
 pub returns-then-is_over-clause-closes : goal.returns-then-is_over-clause-closes
@@ -98,16 +105,19 @@ loop-rest-preserved g c =
     let contents = g.W.Write.contents c.serve_next.new.w in
     let new : Service = service c.serve_next.new.target after contents c.serve_next.new.out.items in
     let left : List ℕ = drop c.in_ok-taken.taken c.loop-rest.rest.now in
-    let up : PieceUpTo g.S.BlockStore.protected old c.args.piece.now left new = piece_next g.S.BlockStore.protected old mid new c.args.piece.now c.loop-rest.rest.now c.in_ok-taken.taken c.loop-rest.invariant.1
+    let up : PieceUpTo g.S.BlockStore.protected old c.args.piece.now left new = piece_next g.S.BlockStore.protected old mid new c.args.piece.now
+    c.loop-rest.rest.now c.in_ok-taken.taken c.loop-rest.invariant.1
     c.in_ok-taken.ensures.goes in (
       c.in_ok-taken.ensures.open (sym c.is_over.ensures ∙ c.if-is_over.false),
       subst (λ (x : List ℕ). PieceUpTo g.S.BlockStore.protected old c.args.piece.now x new)
           (sym (take_rest c.loop-rest.rest.now c.in_ok-taken.taken)) up,
       subst (λ (x : List ℕ). AdvancesUpTo g.S.BlockStore.protected c.args.target.now old.store c.args.piece.now x c.serve_next.new.target after)
           (sym (take_rest c.loop-rest.rest.now c.in_ok-taken.taken))
-          (piece_advances g.S.BlockStore.protected c.args.target.now c.loop-rest.target c.serve_next.new.target old.store mid.store after c.args.piece.now c.loop-rest.rest.now
+          (piece_advances g.S.BlockStore.protected c.args.target.now c.loop-rest.target c.serve_next.new.target old.store mid.store after
+          c.args.piece.now c.loop-rest.rest.now
           c.in_ok-taken.taken c.loop-rest.invariant.2 (c.in_ok-taken.ensures.advances (sym c.is_over.ensures ∙ c.if-is_over.false))),
-      piece_crashes g.S.BlockStore.protected c.args.target.now c.loop-rest.target old.store mid.store after c.args.piece.now c.loop-rest.rest.now (g.S.BlockStore.kept c.args.store.now)
+      piece_crashes g.S.BlockStore.protected c.args.target.now c.loop-rest.target old.store mid.store after c.args.piece.now c.loop-rest.rest.now
+          (g.S.BlockStore.kept c.args.store.now)
           (g.S.BlockStore.kept c.loop-rest.store) (g.S.BlockStore.kept c.serve_next.new.store) c.loop-rest.invariant.2 c.loop-rest.invariant.3
           c.serve_next.ensures.crash,
       λ synced. subst (λ (x : List ℕ). SomeSynced g.S.BlockStore.synced (λ s. store_of (g.S.BlockStore.disk s) (g.S.BlockStore.failures s))
@@ -117,7 +127,8 @@ loop-rest-preserved g c =
           (last_more g.S.BlockStore.protected g.S.BlockStore.synced (λ s. store_of (g.S.BlockStore.disk s) (g.S.BlockStore.failures s)) g.S.BlockStore.kept
           c.serve_next.new.store old c.args.piece.now c.loop-rest.rest.now c.in_ok-taken.taken c.loop-rest.target c.serve_next.new.target mid.store
           mid.contents contents mid.waiting c.serve_next.new.out.items (g.S.BlockStore.kept c.loop-rest.store) (c.loop-rest.invariant.4 synced) up
-          (piece_advances g.S.BlockStore.protected c.args.target.now c.loop-rest.target c.serve_next.new.target old.store mid.store after c.args.piece.now c.loop-rest.rest.now
+          (piece_advances g.S.BlockStore.protected c.args.target.now c.loop-rest.target c.serve_next.new.target old.store mid.store after
+          c.args.piece.now c.loop-rest.rest.now
           c.in_ok-taken.taken c.loop-rest.invariant.2 (c.in_ok-taken.ensures.advances (sym c.is_over.ensures ∙ c.if-is_over.false)))
           (c.in_ok-taken.ensures.advances (sym c.is_over.ensures ∙ c.if-is_over.false)) c.serve_next.ensures.crash c.in_ok-taken.ensures.sent),
     )
@@ -131,7 +142,8 @@ returns-in_err-write_out-2-clause-err g c =
     let store : Store = store_of (g.S.BlockStore.disk c.loop-rest.store) (g.S.BlockStore.failures c.loop-rest.store) in
     let p = err_from_is_err_and c.from_residual-in_err-write_out-2.result c.from_residual-in_err-write_out-2.ensures.1 in
     let last : Store = store_of (g.S.BlockStore.disk c.write_out-2.new.store) (g.S.BlockStore.failures c.write_out-2.new.store) in
-    rw (p.1, p.2) (piece_lost g.S.BlockStore.protected old c.args.piece.now c.loop-rest.rest.now c.loop-rest.target store last (g.W.Write.contents c.loop-rest.w)
+    rw (p.1, p.2) (piece_lost g.S.BlockStore.protected old c.args.piece.now c.loop-rest.rest.now c.loop-rest.target store last
+    (g.W.Write.contents c.loop-rest.w)
     (g.W.Write.contents c.write_out-2.new.w) c.loop-rest.out.items c.in_err-write_out-2.field-0.0 c.loop-rest.invariant.1 c.in_err-write_out-2.ensures.store
     c.in_err-write_out-2.ensures.bytes c.in_err-write_out-2.ensures.err)
 
@@ -153,7 +165,8 @@ returns-in_err-taken-clause-crash g c =
     let before : Store = store_of (g.S.BlockStore.disk c.args.store.now) (g.S.BlockStore.failures c.args.store.now) in
     let mid : Store = store_of (g.S.BlockStore.disk c.loop-rest.store) (g.S.BlockStore.failures c.loop-rest.store) in
     let after : Store = store_of (g.S.BlockStore.disk c.serve_next.new.store) (g.S.BlockStore.failures c.serve_next.new.store) in
-    piece_crashes g.S.BlockStore.protected c.args.target.now c.loop-rest.target before mid after c.args.piece.now c.loop-rest.rest.now (g.S.BlockStore.kept c.args.store.now)
+    piece_crashes g.S.BlockStore.protected c.args.target.now c.loop-rest.target before mid after c.args.piece.now c.loop-rest.rest.now
+    (g.S.BlockStore.kept c.args.store.now)
     (g.S.BlockStore.kept c.loop-rest.store) (g.S.BlockStore.kept c.serve_next.new.store) c.loop-rest.invariant.2 c.loop-rest.invariant.3
     c.serve_next.ensures.crash
 
@@ -163,9 +176,11 @@ returns-in_err-write_out-clause-crash g c =
     let mid : Store = store_of (g.S.BlockStore.disk c.loop-rest.store) (g.S.BlockStore.failures c.loop-rest.store) in
     let after : Store = store_of (g.S.BlockStore.disk c.serve_next.new.store) (g.S.BlockStore.failures c.serve_next.new.store) in
     let last : Store = store_of (g.S.BlockStore.disk c.write_out.new.store) (g.S.BlockStore.failures c.write_out.new.store) in
-    crashes_synced g.S.BlockStore.protected c.args.target.now before after last c.args.piece.now (g.S.BlockStore.kept c.args.store.now) (g.S.BlockStore.kept c.serve_next.new.store)
+    crashes_synced g.S.BlockStore.protected c.args.target.now before after last c.args.piece.now (g.S.BlockStore.kept c.args.store.now)
+    (g.S.BlockStore.kept c.serve_next.new.store)
     (g.S.BlockStore.kept c.write_out.new.store)
-    (piece_crashes g.S.BlockStore.protected c.args.target.now c.loop-rest.target before mid after c.args.piece.now c.loop-rest.rest.now (g.S.BlockStore.kept c.args.store.now)
+    (piece_crashes g.S.BlockStore.protected c.args.target.now c.loop-rest.target before mid after c.args.piece.now c.loop-rest.rest.now
+    (g.S.BlockStore.kept c.args.store.now)
     (g.S.BlockStore.kept c.loop-rest.store) (g.S.BlockStore.kept c.serve_next.new.store) c.loop-rest.invariant.2 c.loop-rest.invariant.3
     c.serve_next.ensures.crash) c.in_err-write_out.ensures.store c.in_err-write_out.ensures.kept
 
@@ -175,9 +190,11 @@ returns-then-is_over-clause-crash g c =
     let mid : Store = store_of (g.S.BlockStore.disk c.loop-rest.store) (g.S.BlockStore.failures c.loop-rest.store) in
     let after : Store = store_of (g.S.BlockStore.disk c.serve_next.new.store) (g.S.BlockStore.failures c.serve_next.new.store) in
     let last : Store = store_of (g.S.BlockStore.disk c.write_out.new.store) (g.S.BlockStore.failures c.write_out.new.store) in
-    crashes_synced g.S.BlockStore.protected c.args.target.now before after last c.args.piece.now (g.S.BlockStore.kept c.args.store.now) (g.S.BlockStore.kept c.serve_next.new.store)
+    crashes_synced g.S.BlockStore.protected c.args.target.now before after last c.args.piece.now (g.S.BlockStore.kept c.args.store.now)
+    (g.S.BlockStore.kept c.serve_next.new.store)
     (g.S.BlockStore.kept c.write_out.new.store)
-    (piece_crashes g.S.BlockStore.protected c.args.target.now c.loop-rest.target before mid after c.args.piece.now c.loop-rest.rest.now (g.S.BlockStore.kept c.args.store.now)
+    (piece_crashes g.S.BlockStore.protected c.args.target.now c.loop-rest.target before mid after c.args.piece.now c.loop-rest.rest.now
+    (g.S.BlockStore.kept c.args.store.now)
     (g.S.BlockStore.kept c.loop-rest.store) (g.S.BlockStore.kept c.serve_next.new.store) c.loop-rest.invariant.2 c.loop-rest.invariant.3
     c.serve_next.ensures.crash) c.in_ok-write_out.ensures.store c.in_ok-write_out.ensures.kept
 
@@ -186,7 +203,8 @@ returns-in_err-write_out-2-clause-crash g c =
     let before : Store = store_of (g.S.BlockStore.disk c.args.store.now) (g.S.BlockStore.failures c.args.store.now) in
     let store : Store = store_of (g.S.BlockStore.disk c.loop-rest.store) (g.S.BlockStore.failures c.loop-rest.store) in
     let last : Store = store_of (g.S.BlockStore.disk c.write_out-2.new.store) (g.S.BlockStore.failures c.write_out-2.new.store) in
-    crashes_synced g.S.BlockStore.protected c.args.target.now before store last c.args.piece.now (g.S.BlockStore.kept c.args.store.now) (g.S.BlockStore.kept c.loop-rest.store)
+    crashes_synced g.S.BlockStore.protected c.args.target.now before store last c.args.piece.now (g.S.BlockStore.kept c.args.store.now)
+    (g.S.BlockStore.kept c.loop-rest.store)
     (g.S.BlockStore.kept c.write_out-2.new.store) c.loop-rest.invariant.3 c.in_err-write_out-2.ensures.store c.in_err-write_out-2.ensures.kept
 
 pub returns-clause-crash : goal.returns-clause-crash
@@ -194,7 +212,8 @@ returns-clause-crash g c =
     let before : Store = store_of (g.S.BlockStore.disk c.args.store.now) (g.S.BlockStore.failures c.args.store.now) in
     let store : Store = store_of (g.S.BlockStore.disk c.loop-rest.store) (g.S.BlockStore.failures c.loop-rest.store) in
     let last : Store = store_of (g.S.BlockStore.disk c.write_out-2.new.store) (g.S.BlockStore.failures c.write_out-2.new.store) in
-    crashes_synced g.S.BlockStore.protected c.args.target.now before store last c.args.piece.now (g.S.BlockStore.kept c.args.store.now) (g.S.BlockStore.kept c.loop-rest.store)
+    crashes_synced g.S.BlockStore.protected c.args.target.now before store last c.args.piece.now (g.S.BlockStore.kept c.args.store.now)
+    (g.S.BlockStore.kept c.loop-rest.store)
     (g.S.BlockStore.kept c.write_out-2.new.store) c.loop-rest.invariant.3 c.in_ok-write_out-2.ensures.store c.in_ok-write_out-2.ensures.kept
 
 pub returns-clause-advances : goal.returns-clause-advances
@@ -236,7 +255,8 @@ returns-in_err-write_out-clause-unsent g c =
     let last : Store = store_of (g.S.BlockStore.disk c.write_out.new.store) (g.S.BlockStore.failures c.write_out.new.store) in
     let new : Service = service c.serve_next.new.target after contents c.serve_next.new.out.items in
     let left : List ℕ = drop c.in_ok-taken.taken c.loop-rest.rest.now in
-    let up : PieceUpTo g.S.BlockStore.protected old c.args.piece.now left new = piece_next g.S.BlockStore.protected old mid new c.args.piece.now c.loop-rest.rest.now c.in_ok-taken.taken c.loop-rest.invariant.1
+    let up : PieceUpTo g.S.BlockStore.protected old c.args.piece.now left new = piece_next g.S.BlockStore.protected old mid new c.args.piece.now
+    c.loop-rest.rest.now c.in_ok-taken.taken c.loop-rest.invariant.1
     c.in_ok-taken.ensures.goes in
     let over = c.in_ok-taken.ensures.closes (sym c.is_over.ensures ∙ c.if-is_over.true) in
     let p = err_from_is_err_and c.from_residual-in_err-write_out.result c.from_residual-in_err-write_out.ensures.1 in
@@ -247,7 +267,8 @@ returns-in_err-write_out-clause-unsent g c =
     c.serve_next.ensures.crash c.in_ok-taken.ensures.sent in (
       l.0,
       l.1,
-      last_synced g.S.BlockStore.protected old c.args.piece.now c.serve_next.new.target (store_of (g.S.BlockStore.disk l.0) (g.S.BlockStore.failures l.0)) after last contents
+      last_synced g.S.BlockStore.protected old c.args.piece.now c.serve_next.new.target
+          (store_of (g.S.BlockStore.disk l.0) (g.S.BlockStore.failures l.0)) after last contents
           (g.W.Write.contents c.write_out.new.w) c.serve_next.new.out.items [] (g.S.BlockStore.kept l.0) (g.S.BlockStore.kept c.serve_next.new.store)
           (g.S.BlockStore.kept c.write_out.new.store) l.2 c.in_err-write_out.ensures.store c.in_err-write_out.ensures.kept
           (held_all c.in_err-write_out.field-0.0 contents (g.W.Write.contents c.write_out.new.w) c.serve_next.new.out.items (cc)
@@ -266,7 +287,8 @@ returns-in_err-write_out-2-clause-unsent g c =
     let l = c.loop-rest.invariant.4 synced in (
       l.0,
       l.1,
-      last_done g.S.BlockStore.protected old c.args.piece.now c.loop-rest.rest.now c.loop-rest.target (store_of (g.S.BlockStore.disk l.0) (g.S.BlockStore.failures l.0)) mid.store last
+      last_done g.S.BlockStore.protected old c.args.piece.now c.loop-rest.rest.now c.loop-rest.target
+          (store_of (g.S.BlockStore.disk l.0) (g.S.BlockStore.failures l.0)) mid.store last
           mid.contents (g.W.Write.contents c.write_out-2.new.w) mid.waiting [] (g.S.BlockStore.kept l.0) (g.S.BlockStore.kept c.loop-rest.store)
           (g.S.BlockStore.kept c.write_out-2.new.store) l.2 c.in_err-write_out-2.ensures.store c.in_err-write_out-2.ensures.kept
           (held_all c.in_err-write_out-2.field-0.0 mid.contents (g.W.Write.contents c.write_out-2.new.w) mid.waiting (cc) c.in_err-write_out-2.ensures.err),

@@ -11,7 +11,8 @@ invariant-loop-rest g l =
     (is_closed l.target.machine ≡ false) × PieceUpTo g.S.BlockStore.protected
     (service l.fn.target (store_of (g.S.BlockStore.disk l.fn.store) (g.S.BlockStore.failures l.fn.store)) (g.W.Write.contents l.fn.w) []) l.fn.piece l.rest
     (service l.target (store_of (g.S.BlockStore.disk l.store) (g.S.BlockStore.failures l.store)) (g.W.Write.contents l.w) l.out.items)
-    × AdvancesUpTo g.S.BlockStore.protected l.fn.target (store_of (g.S.BlockStore.disk l.fn.store) (g.S.BlockStore.failures l.fn.store)) l.fn.piece l.rest l.target
+    × AdvancesUpTo g.S.BlockStore.protected l.fn.target (store_of (g.S.BlockStore.disk l.fn.store) (g.S.BlockStore.failures l.fn.store))
+    l.fn.piece l.rest l.target
     (store_of (g.S.BlockStore.disk l.store) (g.S.BlockStore.failures l.store))
     × Crashed g.S.BlockStore.protected l.fn.target (store_of (g.S.BlockStore.disk l.fn.store) (g.S.BlockStore.failures l.fn.store)) l.fn.piece
     (store_of (g.S.BlockStore.disk l.store) (g.S.BlockStore.failures l.store)) (g.S.BlockStore.kept l.fn.store) (g.S.BlockStore.kept l.store)

@@ -24,7 +24,8 @@ returns-in_err-n-clause-serves g c =
     let store : Store = store_of (g.S.BlockStore.disk c.loop-out.store) (g.S.BlockStore.failures c.loop-out.store) in
     let r0 = g.R.Read.remaining c.args.r.now in
     let w0 = g.W.Write.contents c.args.w.now in
-    let due : List ℕ → Type 0 = λ read. CrashesFed g.S.BlockStore.protected (opening_connection c.args.config 1) first read store (g.S.BlockStore.kept c.args.store.now)
+    let due : List ℕ → Type 0 = λ read. CrashesFed g.S.BlockStore.protected (opening_connection c.args.config 1) first read store
+    (g.S.BlockStore.kept c.args.store.now)
     (g.S.BlockStore.kept c.loop-out.store) in
     let p = err_from_is_err_and c.from_residual.result c.from_residual.ensures.1 in
     rw (p.1, p.2) (read_stops g.S.BlockStore.protected c.args.config c.requires.range first c.loop-out.target store r0 (g.R.Read.remaining c.loop-out.r)
@@ -37,7 +38,8 @@ returns-clause-serves g c =
     let store : Store = store_of (g.S.BlockStore.disk c.loop-out.store) (g.S.BlockStore.failures c.loop-out.store) in
     let r0 = g.R.Read.remaining c.args.r.now in
     let w0 = g.W.Write.contents c.args.w.now in
-    let due : List ℕ → Type 0 = λ read. CrashesFed g.S.BlockStore.protected (opening_connection c.args.config 1) first read store (g.S.BlockStore.kept c.args.store.now)
+    let due : List ℕ → Type 0 = λ read. CrashesFed g.S.BlockStore.protected (opening_connection c.args.config 1) first read store
+    (g.S.BlockStore.kept c.args.store.now)
     (g.S.BlockStore.kept c.loop-out.store) in
     rw c.from.ensures (finish_stops g.S.BlockStore.protected c.args.config c.requires.range c.in-Err.fault first c.loop-out.target c.finish.new.self store r0
     (g.R.Read.remaining c.loop-out.r) (g.R.Read.remaining c.next.new.r) w0 (g.W.Write.contents c.loop-out.w) due c.loop-out.invariant.1.read
@@ -49,7 +51,8 @@ returns-in-Ok-clause-serves g c =
     let store : Store = store_of (g.S.BlockStore.disk c.loop-out.store) (g.S.BlockStore.failures c.loop-out.store) in
     let r0 = g.R.Read.remaining c.args.r.now in
     let w0 = g.W.Write.contents c.args.w.now in
-    let due : List ℕ → Type 0 = λ read. CrashesFed g.S.BlockStore.protected (opening_connection c.args.config 1) first read store (g.S.BlockStore.kept c.args.store.now)
+    let due : List ℕ → Type 0 = λ read. CrashesFed g.S.BlockStore.protected (opening_connection c.args.config 1) first read store
+    (g.S.BlockStore.kept c.args.store.now)
     (g.S.BlockStore.kept c.loop-out.store) in
     end_stops g.S.BlockStore.protected c.args.config c.requires.range first c.loop-out.target c.finish.new.self store r0 (g.R.Read.remaining c.loop-out.r)
     (g.R.Read.remaining c.next.new.r) w0 (g.W.Write.contents c.loop-out.w) due c.loop-out.invariant.1.read c.loop-out.invariant.1.crash c.loop-out.invariant.0
@@ -68,13 +71,16 @@ returns-in_err-serve_piece-clause-serves g c =
     let w1 = g.W.Write.contents c.loop-out.w in
     let w2 = g.W.Write.contents c.serve_piece.new.w in
     let piece : List ℕ = take c.in-Some.n c.next.new.buffer in
-    let due : List ℕ → Type 0 = λ read. CrashesFed g.S.BlockStore.protected (opening_connection c.args.config 1) first read after (g.S.BlockStore.kept c.args.store.now)
+    let due : List ℕ → Type 0 = λ read. CrashesFed g.S.BlockStore.protected (opening_connection c.args.config 1) first read after
+    (g.S.BlockStore.kept c.args.store.now)
     (g.S.BlockStore.kept c.serve_piece.new.store) in
     let crash : due (c.loop-out.invariant.1.read.stream ++ piece) =
-    session_crashes g.S.BlockStore.protected c.args.config first c.loop-out.target store after r0 r1 w0 w1 (g.S.BlockStore.kept c.args.store.now) (g.S.BlockStore.kept c.loop-out.store)
+    session_crashes g.S.BlockStore.protected c.args.config first c.loop-out.target store after r0 r1 w0 w1 (g.S.BlockStore.kept c.args.store.now)
+    (g.S.BlockStore.kept c.loop-out.store)
     (g.S.BlockStore.kept c.serve_piece.new.store) piece c.loop-out.invariant.1 c.serve_piece.ensures.crash in
     let p = err_from_is_err_and c.from_residual-in_err-serve_piece.result c.from_residual-in_err-serve_piece.ensures.1 in
-    rw (p.1, p.2) (fault_stops g.S.BlockStore.protected c.args.config c.requires.range c.in_err-serve_piece.field-0.0 first c.loop-out.target c.serve_piece.new.target store after r0 r1 r2 w0 w1 w2 piece
+    rw (p.1, p.2) (fault_stops g.S.BlockStore.protected c.args.config c.requires.range c.in_err-serve_piece.field-0.0 first c.loop-out.target
+    c.serve_piece.new.target store after r0 r1 r2 w0 w1 w2 piece
     due c.loop-out.invariant.1.read crash (rw c.in-Some.is at c.in_ok-n.ensures.piece).2 c.in_err-serve_piece.ensures.err)
 
 pub returns-in_err-serve_piece-clause-blocks : goal.returns-in_err-serve_piece-clause-blocks
@@ -89,7 +95,8 @@ returns-in_err-serve_piece-clause-blocks g c =
     let w1 = g.W.Write.contents c.loop-out.w in
     let w2 = g.W.Write.contents c.serve_piece.new.w in
     let piece : List ℕ = take c.in-Some.n c.next.new.buffer in
-    fault_executed g.S.BlockStore.protected c.args.config c.in_err-serve_piece.field-0.0 first c.loop-out.target c.serve_piece.new.target store after r0 r1 w0 w1 w2 piece
+    fault_executed g.S.BlockStore.protected c.args.config c.in_err-serve_piece.field-0.0 first c.loop-out.target c.serve_piece.new.target store
+    after r0 r1 w0 w1 w2 piece
     c.loop-out.invariant.1.read c.in_err-serve_piece.ensures.err
 
 pub returns-then-branch-clause-serves : goal.returns-then-branch-clause-serves
@@ -104,12 +111,15 @@ returns-then-branch-clause-serves g c =
     let w1 = g.W.Write.contents c.loop-out.w in
     let w2 = g.W.Write.contents c.serve_piece.new.w in
     let piece : List ℕ = take c.in-Some.n c.next.new.buffer in
-    let due : List ℕ → Type 0 = λ read. CrashesFed g.S.BlockStore.protected (opening_connection c.args.config 1) first read after (g.S.BlockStore.kept c.args.store.now)
+    let due : List ℕ → Type 0 = λ read. CrashesFed g.S.BlockStore.protected (opening_connection c.args.config 1) first read after
+    (g.S.BlockStore.kept c.args.store.now)
     (g.S.BlockStore.kept c.serve_piece.new.store) in
     let crash : due (c.loop-out.invariant.1.read.stream ++ piece) =
-    session_crashes g.S.BlockStore.protected c.args.config first c.loop-out.target store after r0 r1 w0 w1 (g.S.BlockStore.kept c.args.store.now) (g.S.BlockStore.kept c.loop-out.store)
+    session_crashes g.S.BlockStore.protected c.args.config first c.loop-out.target store after r0 r1 w0 w1 (g.S.BlockStore.kept c.args.store.now)
+    (g.S.BlockStore.kept c.loop-out.store)
     (g.S.BlockStore.kept c.serve_piece.new.store) piece c.loop-out.invariant.1 c.serve_piece.ensures.crash in
-    over_stops g.S.BlockStore.protected c.args.config c.requires.range first c.loop-out.target c.serve_piece.new.target store after r0 r1 r2 w0 w1 w2 piece due c.loop-out.invariant.1.read crash
+    over_stops g.S.BlockStore.protected c.args.config c.requires.range first c.loop-out.target c.serve_piece.new.target store after r0 r1 r2 w0 w1 w2 piece due
+    c.loop-out.invariant.1.read crash
     (rw c.in-Some.is at c.in_ok-n.ensures.piece).2 c.in_ok-serve_piece.ensures.goes
     (c.serve_piece.ensures.closes (c.in_ok-serve_piece.was ∙ ok_is c.in_ok-serve_piece.field-0 c.if-branch.true))
 
@@ -126,7 +136,8 @@ returns-then-branch-clause-blocks g c =
     let w2 = g.W.Write.contents c.serve_piece.new.w in
     let piece : List ℕ = take c.in-Some.n c.next.new.buffer in
     let more : ReadUpTo g.S.BlockStore.protected c.args.config (outside first r0 w0) c.serve_piece.new.target (outside after r2 w2) =
-    read_more g.S.BlockStore.protected c.args.config first c.loop-out.target c.serve_piece.new.target store after r0 r1 r2 w0 w1 w2 piece c.loop-out.invariant.1.read (rw c.in-Some.is
+    read_more g.S.BlockStore.protected c.args.config first c.loop-out.target c.serve_piece.new.target store after r0 r1 r2 w0 w1 w2 piece
+    c.loop-out.invariant.1.read (rw c.in-Some.is
     at c.in_ok-n.ensures.piece).2
     c.in_ok-serve_piece.ensures.goes in
     more.served.executed
@@ -143,7 +154,8 @@ returns-then-branch-clause-end g c = λ h.
     let w1 = g.W.Write.contents c.loop-out.w in
     let w2 = g.W.Write.contents c.serve_piece.new.w in
     let piece : List ℕ = take c.in-Some.n c.next.new.buffer in
-    over_ends g.S.BlockStore.protected c.args.config first c.loop-out.target store after r0 r1 r2 w0 w1 piece c.loop-out.invariant.1.read (rw c.in-Some.is at c.in_ok-n.ensures.piece).2
+    over_ends g.S.BlockStore.protected c.args.config first c.loop-out.target store after r0 r1 r2 w0 w1 piece c.loop-out.invariant.1.read
+    (rw c.in-Some.is at c.in_ok-n.ensures.piece).2
     (c.serve_piece.ensures.closes (c.in_ok-serve_piece.was ∙ ok_is c.in_ok-serve_piece.field-0 c.if-branch.true)) h
 
 pub loop-out-preserved : goal.loop-out-preserved
@@ -160,7 +172,8 @@ loop-out-preserved g c =
     let piece : List ℕ = take c.in-Some.n c.next.new.buffer in
     let open_ = c.in_ok-serve_piece.was ∙ ok_open c.in_ok-serve_piece.field-0 c.if-branch.false in (
       c.serve_piece.ensures.open open_,
-      session_more g.S.BlockStore.protected c.args.config first c.loop-out.target c.serve_piece.new.target store after r0 r1 r2 w0 w1 w2 (g.S.BlockStore.kept c.args.store.now)
+      session_more g.S.BlockStore.protected c.args.config first c.loop-out.target c.serve_piece.new.target store after r0 r1 r2 w0 w1 w2
+          (g.S.BlockStore.kept c.args.store.now)
           (g.S.BlockStore.kept c.loop-out.store) (g.S.BlockStore.kept c.serve_piece.new.store) piece c.loop-out.invariant.1 (rw c.in-Some.is at
           c.in_ok-n.ensures.piece).2
           c.in_ok-serve_piece.ensures.goes (c.serve_piece.ensures.advances open_) c.serve_piece.ensures.crash,
@@ -202,7 +215,8 @@ returns-in_err-serve_piece-clause-unsent g c =
     let p = err_from_is_err_and c.from_residual-in_err-serve_piece.result c.from_residual-in_err-serve_piece.ensures.1 in
     rw (p.1, p.2) (λ is synced.
     let l = c.in_err-serve_piece.ensures.unsent (cc) (c.loop-out.invariant.2 synced) in
-    let m = session_last g.S.BlockStore.protected c.args.config c.requires.range first c.loop-out.target c.serve_piece.new.target (store_of (g.S.BlockStore.disk l.0) (g.S.BlockStore.failures l.0)) store
+    let m = session_last g.S.BlockStore.protected c.args.config c.requires.range first c.loop-out.target c.serve_piece.new.target
+    (store_of (g.S.BlockStore.disk l.0) (g.S.BlockStore.failures l.0)) store
     after r0 r1 r2 w0 w1 w2 (g.S.BlockStore.kept c.args.store.now) (g.S.BlockStore.kept c.loop-out.store) (g.S.BlockStore.kept l.0)
     (g.S.BlockStore.kept c.serve_piece.new.store) piece c.loop-out.invariant.1 (rw c.in-Some.is at c.in_ok-n.ensures.piece).2 l.2 in
     (l.0, l.1, m))

@@ -28,7 +28,8 @@ loop-piece-preserved g c =
     let memory : (c.feed-fed.result ≡ Err faults.NoMemory → ⊥) = has_memory c.feed-fed.result (sym c.has_run_out.ensures ∙ c.if-has_run_out.false) in
     let fed : Fed g.S.BlockStore.protected (scene c.loop-piece.target mid c.loop-piece.output.items) c.piece-item.result.items c.feed-fed.result
     (scene c.feed-fed.new.self after c.feed-fed.new.out.items) = rw c.deref.ensures.value at c.feed-fed.ensures.fed in
-    let up : failures c.loop-piece.store ≤ failures c.feed-fed.new.store = fed_rises g.S.BlockStore.protected (scene c.loop-piece.target mid c.loop-piece.output.items) c.piece-item.result.items c.feed-fed.result
+    let up : failures c.loop-piece.store ≤ failures c.feed-fed.new.store = fed_rises g.S.BlockStore.protected
+    (scene c.loop-piece.target mid c.loop-piece.output.items) c.piece-item.result.items c.feed-fed.result
     (scene c.feed-fed.new.self after c.feed-fed.new.out.items) memory fed in
     let low = c.loop-piece.invariant.rises in
     let items : Vec ℕ Global → List ℕ = λ piece. piece.items in
@@ -39,6 +40,7 @@ loop-piece-preserved g c =
           let well : GoesWell c.feed-fed.result mid after = record { memory = memory; device = omega (arith, up, low, same) } in
           subst (λ (x : List (List ℕ)). FedAll g.S.BlockStore.protected (scene start before []) x (scene c.feed-fed.new.self after c.feed-fed.new.out.items))
           (sym (mapped_more items c.args.pieces.now c.loop-piece.piece-index c.piece-item.result (omega arith) (sym c.piece-item.is)))
-          (fed_more g.S.BlockStore.protected start before [] (map items (take c.loop-piece.piece-index c.args.pieces.now)) c.loop-piece.target mid c.loop-piece.output.items
+          (fed_more g.S.BlockStore.protected start before [] (map items (take c.loop-piece.piece-index c.args.pieces.now)) c.loop-piece.target mid
+          c.loop-piece.output.items
           c.piece-item.result.items c.feed-fed.result c.feed-fed.new.self after c.feed-fed.new.out.items (c.loop-piece.invariant.fed at_mid) fed well));
     }

@@ -23,19 +23,23 @@ returns g c =
     let fed_second : failures c.answer_pieces-2.new.store ≡ failures c.args.other.now
     → FedAll g.S.BlockStore.protected (scene (opening_connection settings n) other []) others (scene b.target second b.output.items) =
     subst (λ (x : Settings). failures c.answer_pieces-2.new.store ≡ failures c.args.other.now
-    → FedAll g.S.BlockStore.protected (scene (opening_connection x n) other []) others (scene b.target second b.output.items)) c.requires.config c.in_ok-second.ensures.fed in
+    → FedAll g.S.BlockStore.protected (scene (opening_connection x n) other []) others (scene b.target second b.output.items)) c.requires.config
+    c.in_ok-second.ensures.fed in
     record {
       first = c.in_ok-first.ensures.fed;
       second = c.in_ok-second.ensures.fed;
       alike = λ ms well well_other p q.
-          (let d = done_alike g.S.BlockStore.protected settings n store other first second pieces others a.target b.target a.output.items b.output.items ms c.requires.disk
+          (let d = done_alike g.S.BlockStore.protected settings n store other first second pieces others a.target b.target a.output.items
+          b.output.items ms c.requires.disk
           (c.in_ok-first.ensures.fed well) (fed_second well_other) p q in
           (d.output, d.disk, d.machine));
       front = λ ms given rest same_given second_rest well well_other p q.
-          (let d = wrote_alike g.S.BlockStore.protected settings n store other first second pieces others a.target b.target a.output.items b.output.items ms given rest same_given
+          (let d = wrote_alike g.S.BlockStore.protected settings n store other first second pieces others a.target b.target a.output.items b.output.items
+          ms given rest same_given
           second_rest c.in_ok-first.ensures.in_range c.requires.disk (c.in_ok-first.ensures.fed well) (fed_second well_other) p q in
           (d.output, d.disk, d.held, d.stage));
       phase = λ ms given rest same_given second_rest well well_other p q.
-          (wrote_alike g.S.BlockStore.protected settings n store other first second pieces others a.target b.target a.output.items b.output.items ms given rest same_given second_rest
+          (wrote_alike g.S.BlockStore.protected settings n store other first second pieces others a.target b.target a.output.items b.output.items ms given rest
+          same_given second_rest
           c.in_ok-first.ensures.in_range c.requires.disk (c.in_ok-first.ensures.fed well) (fed_second well_other) p q).phase;
     }

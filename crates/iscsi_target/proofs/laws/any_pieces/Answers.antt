@@ -6,9 +6,11 @@ use Rattle.iscsi_target.proofs.laws.any_pieces.Goals as goal
 pub returns : goal.returns
 returns c = record {
   meets = λ protected settings n store after pieces target written ms. fed_stream protected settings n store pieces target after written ms;
-  writes = λ protected settings n store after pieces target written ms given rest p. fed_any protected settings n store pieces target after written ms given rest
+  writes = λ protected settings n store after pieces target written ms given rest p. fed_any protected settings n store pieces target
+      after written ms given rest
       (omega (arith, p.max_recv.1));
-  holds = λ protected settings n store after pieces target written ms given rest p. fed_holds protected settings n store pieces target after written ms given rest
+  holds = λ protected settings n store after pieces target written ms given rest p. fed_holds protected settings n store pieces target
+      after written ms given rest
       (omega (arith, p.max_recv.1));
   alike = λ protected settings n store first second pieces others a b written rewritten ms given rest p s e f g.
       let t = subst (λ (x : List ℕ). Splits longest_segment x ms given rest) (sym e) s in

@@ -12,6 +12,7 @@ returns c = record {
       let q : ReadsAs longest_segment no_login (stream_of others) ms =
       subst (λ (x : List ℕ). ReadsAs longest_segment no_login x ms) (sym e) (canon_again longest_segment no_login (stream_of pieces) ms bytes p) in
       let x : Meets protected (beginning settings n store.disk) ms a first.disk written = fed_stream protected settings n store pieces a first written ms f p in
-      let y : Meets protected (beginning settings n store.disk) ms b second.disk rewritten = fed_stream protected settings n store others b second rewritten ms g q in
+      let y : Meets protected (beginning settings n store.disk) ms b second.disk rewritten = fed_stream protected settings n store others b
+      second rewritten ms g q in
       (y.output_is ∙ sym x.output_is, y.disk_is ∙ sym x.disk_is, y.machine ∙ sym x.machine);
 }

@@ -6,5 +6,10 @@ use Rattle.iscsi_target.proofs.laws.pieces_joined.Goals as goal
 pub returns : goal.returns
 returns c = record {
   same = step_joined;
-  may = λ protected s disk before after m a p. (step_on p.device s disk m, may_apart protected s disk before after m a p, may_same protected s disk before after m a p);
+  may = λ protected s disk before after m a p. (
+    step_on p.device s disk m,
+    may_apart protected s disk before after m a p,
+    may_same protected s
+        disk before after m a p,
+  );
 }

@@ -40,7 +40,8 @@ returns-in-Err-clause-err g c =
       closed_ = c.close.ensures ∙ ap closed (sym c.close.ensures);
       halts = subst (λ (x : Machine). HaltsAt g.S.BlockStore.protected (message_of c.args.framer.now c.in-Some.pdu.head c.in-Some.pdu.bytes.now) old
           (moment x after c.answer_pdu.new.out.items)) (sym c.close.ensures)
-          (subst (λ (x : Message). HaltsAt g.S.BlockStore.protected x old (moment (closed c.answer_pdu.new.self) after c.answer_pdu.new.out.items)) same (halts_closed g.S.BlockStore.protected m old new halts));
+          (subst (λ (x : Message). HaltsAt g.S.BlockStore.protected x old (moment (closed c.answer_pdu.new.self) after c.answer_pdu.new.out.items)) same
+          (halts_closed g.S.BlockStore.protected m old new halts));
     }
 
 pub returns-in-Ok-clause-crash : goal.returns-in-Ok-clause-crash

@@ -29,7 +29,8 @@ returns-in_err-taken-clause-fed g c =
     let out : List ℕ = c.args.out.now.items in
     let piece : List ℕ = c.args.piece.now in
     let p = err_from_is_err_and c.from_residual.result c.from_residual.ensures.1 in
-    rw (p.1, p.2) (ends_failed g.S.BlockStore.protected old before out piece c.loop-rest.rest.now now mid c.loop-rest.out.items c.in_err-taken.field-0.0 new after
+    rw (p.1, p.2) (ends_failed g.S.BlockStore.protected old before out piece c.loop-rest.rest.now now mid c.loop-rest.out.items
+    c.in_err-taken.field-0.0 new after
     c.feed_one.new.out.items c.loop-rest.invariant.0 c.in_err-taken.ensures.err)
 
 pub returns-in-Some-clause-fed : goal.returns-in-Some-clause-fed
@@ -43,9 +44,11 @@ returns-in-Some-clause-fed g c =
     let out : List ℕ = c.args.out.now.items in
     let piece : List ℕ = c.args.piece.now in
     let left : List ℕ = drop c.in_ok-taken.taken c.loop-rest.rest.now in
-    let fed = fed_one g.S.BlockStore.protected old before out piece c.loop-rest.rest.now left now mid c.loop-rest.out.items c.in_ok-taken.taken c.in_ok-taken.broken new after
+    let fed = fed_one g.S.BlockStore.protected old before out piece c.loop-rest.rest.now left now mid c.loop-rest.out.items c.in_ok-taken.taken
+    c.in_ok-taken.broken new after
     c.feed_one.new.out.items c.loop-rest.invariant.0 c.in_ok-taken.ensures.ok refl in
-    ends_broken g.S.BlockStore.protected old before out piece left new after c.feed_one.new.out.items c.in-Some.rule fed.fed (fed.rule ∙ c.in-Some.is) c.phase-phase.ensures.joined
+    ends_broken g.S.BlockStore.protected old before out piece left new after c.feed_one.new.out.items c.in-Some.rule fed.fed (fed.rule ∙ c.in-Some.is)
+    c.phase-phase.ensures.joined
 
 pub returns-then-is_closed-clause-fed : goal.returns-then-is_closed-clause-fed
 returns-then-is_closed-clause-fed g c =
@@ -58,7 +61,8 @@ returns-then-is_closed-clause-fed g c =
     let out : List ℕ = c.args.out.now.items in
     let piece : List ℕ = c.args.piece.now in
     let left : List ℕ = drop c.in_ok-taken.taken c.loop-rest.rest.now in
-    let fed = fed_one g.S.BlockStore.protected old before out piece c.loop-rest.rest.now left now mid c.loop-rest.out.items c.in_ok-taken.taken c.in_ok-taken.broken new after
+    let fed = fed_one g.S.BlockStore.protected old before out piece c.loop-rest.rest.now left now mid c.loop-rest.out.items c.in_ok-taken.taken
+    c.in_ok-taken.broken new after
     c.feed_one.new.out.items c.loop-rest.invariant.0 c.in_ok-taken.ensures.ok refl in
     let none : c.in_ok-taken.broken ≡ None = search rules in
     ends_closed g.S.BlockStore.protected old before out piece left new after c.feed_one.new.out.items c.phase-phase.result fed.fed (fed.rule
@@ -83,13 +87,15 @@ loop-rest-preserved g c =
     let out : List ℕ = c.args.out.now.items in
     let piece : List ℕ = c.args.piece.now in
     let left : List ℕ = drop c.in_ok-taken.taken c.loop-rest.rest.now in
-    let fed = fed_one g.S.BlockStore.protected old before out piece c.loop-rest.rest.now left now mid c.loop-rest.out.items c.in_ok-taken.taken c.in_ok-taken.broken new after
+    let fed = fed_one g.S.BlockStore.protected old before out piece c.loop-rest.rest.now left now mid c.loop-rest.out.items c.in_ok-taken.taken
+    c.in_ok-taken.broken new after
     c.feed_one.new.out.items c.loop-rest.invariant.0 c.in_ok-taken.ensures.ok refl in
     let none : c.in_ok-taken.broken ≡ None = search rules in (
       subst (λ (x : List ℕ). GoesUpTo g.S.BlockStore.protected (scene old before out) piece x (scene new after c.feed_one.new.out.items))
           (sym (take_rest c.loop-rest.rest.now c.in_ok-taken.taken))
           (record { fed = fed.fed; rule = fed.rule ∙ none; live = sym c.is_closed.ensures ∙ c.if-is_closed.false }),
-      crashes_on g.S.BlockStore.protected old before out piece c.loop-rest.rest.now now mid c.loop-rest.out.items c.in_ok-taken.taken c.in_ok-taken.broken new after
+      crashes_on g.S.BlockStore.protected old before out piece c.loop-rest.rest.now now mid c.loop-rest.out.items c.in_ok-taken.taken
+          c.in_ok-taken.broken new after
           c.feed_one.new.out.items (g.S.BlockStore.kept c.args.store.now) (g.S.BlockStore.kept c.loop-rest.store) (g.S.BlockStore.kept c.feed_one.new.store)
           c.loop-rest.invariant.0 c.in_ok-taken.ensures.ok c.loop-rest.invariant.1 c.feed_one.ensures.crash,
     )
@@ -102,7 +108,8 @@ returns-clause-fed g c =
     let mid : Store = store_of (g.S.BlockStore.disk c.loop-rest.store) (g.S.BlockStore.failures c.loop-rest.store) in
     let out : List ℕ = c.args.out.now.items in
     let piece : List ℕ = c.args.piece.now in
-    ends_live g.S.BlockStore.protected old before out piece c.loop-rest.rest.now now mid c.loop-rest.out.items c.phase.result c.loop-rest.invariant.0 c.phase.ensures.joined
+    ends_live g.S.BlockStore.protected old before out piece c.loop-rest.rest.now now mid c.loop-rest.out.items c.phase.result c.loop-rest.invariant.0
+    c.phase.ensures.joined
     c.phase.ensures.phase (eqb-true (length c.loop-rest.rest.now) 0 (sym c.loop-rest-test.ensures))
 
 pub returns-in_err-taken-clause-crash : goal.returns-in_err-taken-clause-crash
@@ -113,7 +120,8 @@ returns-in_err-taken-clause-crash g c =
     let mid : Store = store_of (g.S.BlockStore.disk c.loop-rest.store) (g.S.BlockStore.failures c.loop-rest.store) in
     let new : Connection = connection c.feed_one.new.machine c.feed_one.new.framer in
     let after : Store = store_of (g.S.BlockStore.disk c.feed_one.new.store) (g.S.BlockStore.failures c.feed_one.new.store) in
-    crashes_failed g.S.BlockStore.protected old before c.args.out.now.items c.args.piece.now c.loop-rest.rest.now now mid c.loop-rest.out.items c.in_err-taken.field-0.0 new after
+    crashes_failed g.S.BlockStore.protected old before c.args.out.now.items c.args.piece.now c.loop-rest.rest.now now mid c.loop-rest.out.items
+    c.in_err-taken.field-0.0 new after
     c.feed_one.new.out.items (g.S.BlockStore.kept c.args.store.now) (g.S.BlockStore.kept c.loop-rest.store) (g.S.BlockStore.kept c.feed_one.new.store)
     c.loop-rest.invariant.0 c.in_err-taken.ensures.err c.loop-rest.invariant.1 c.feed_one.ensures.crash
 

@@ -25,10 +25,12 @@ returns-in-Some-clause-fed g c =
     let after : Store = store_of (g.S.BlockStore.disk c.feed_one.new.store) (g.S.BlockStore.failures c.feed_one.new.store) in
     let out : List ℕ = c.args.out.now.items in
     let piece : List ℕ = c.args.piece.now in
-    let fed = fed_one g.S.BlockStore.protected old before out piece piece (drop c.in_ok-taken.taken piece) old before out c.in_ok-taken.taken c.in_ok-taken.broken new after
+    let fed = fed_one g.S.BlockStore.protected old before out piece piece (drop c.in_ok-taken.taken piece) old before out c.in_ok-taken.taken
+    c.in_ok-taken.broken new after
     c.feed_one.new.out.items
     (fed_none g.S.BlockStore.protected old before out piece c.requires.unready c.requires.live) c.in_ok-taken.ensures.ok refl in
-    ends_broken g.S.BlockStore.protected old before out piece (drop c.in_ok-taken.taken piece) new after c.feed_one.new.out.items c.in-Some.rule fed.fed (fed.rule
+    ends_broken g.S.BlockStore.protected old before out piece (drop c.in_ok-taken.taken piece) new after c.feed_one.new.out.items
+    c.in-Some.rule fed.fed (fed.rule
     ∙ c.in-Some.is) c.phase-phase.ensures.joined
 
 pub returns-in-None-clause-fed : goal.returns-in-None-clause-fed
@@ -39,5 +41,6 @@ returns-in-None-clause-fed g c =
     let after : Store = store_of (g.S.BlockStore.disk c.feed_one.new.store) (g.S.BlockStore.failures c.feed_one.new.store) in
     let out : List ℕ = c.args.out.now.items in
     let piece : List ℕ = c.args.piece.now in
-    next_fed g.S.BlockStore.protected old before out piece c.in_ok-taken.taken c.phase-phase.result new after c.feed_one.new.out.items c.requires.unready c.requires.live
+    next_fed g.S.BlockStore.protected old before out piece c.in_ok-taken.taken c.phase-phase.result new after c.feed_one.new.out.items
+    c.requires.unready c.requires.live
     (rw c.in-None.is at c.in_ok-taken.ensures.ok) c.phase-phase.ensures.joined c.phase-phase.ensures.phase

@@ -30,7 +30,8 @@ returns-clause-limit g c =
     let after : Store = store_of (g.S.BlockStore.disk c.answer_ready.new.store) (g.S.BlockStore.failures c.answer_ready.new.store) in
     let out : List ℕ = c.args.out.now.items in
     let piece : List ℕ = c.args.piece.now in
-    let fed = fed_one g.S.BlockStore.protected old before out piece piece (drop c.in_ok-taken.taken piece) old before out c.in_ok-taken.taken c.in_ok-broken.broken new after
+    let fed = fed_one g.S.BlockStore.protected old before out piece piece (drop c.in_ok-taken.taken piece) old before out c.in_ok-taken.taken
+    c.in_ok-broken.broken new after
     c.answer_ready.new.out.items
     (fed_none g.S.BlockStore.protected old before out piece c.requires.unready c.requires.live) (returns-clause-ok g c) refl in
     stays_within g.S.BlockStore.protected old before out piece (drop c.in_ok-taken.taken piece) new after c.answer_ready.new.out.items fed.fed c.requires.limit
@@ -43,7 +44,8 @@ returns-clause-unready g c =
     let after : Store = store_of (g.S.BlockStore.disk c.answer_ready.new.store) (g.S.BlockStore.failures c.answer_ready.new.store) in
     let out : List ℕ = c.args.out.now.items in
     let piece : List ℕ = c.args.piece.now in
-    let fed = fed_one g.S.BlockStore.protected old before out piece piece (drop c.in_ok-taken.taken piece) old before out c.in_ok-taken.taken c.in_ok-broken.broken new after
+    let fed = fed_one g.S.BlockStore.protected old before out piece piece (drop c.in_ok-taken.taken piece) old before out c.in_ok-taken.taken
+    c.in_ok-broken.broken new after
     c.answer_ready.new.out.items
     (fed_none g.S.BlockStore.protected old before out piece c.requires.unready c.requires.live) (returns-clause-ok g c) refl in
     fed.fed.answered.ready

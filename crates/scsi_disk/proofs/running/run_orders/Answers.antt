@@ -8,7 +8,12 @@ pub loop-order-init : goal.loop-order-init
 loop-order-init g c =
     let disk = g.S.BlockStore.disk in
     let failures = g.S.BlockStore.failures in
-    record { count = refl; ran = ran_none g.S.BlockStore.protected (failures c.args.store.now) (disk c.args.store.now) _ c.new-told.ensures.items; lasts = λ same settled. settled }
+    record {
+      count = refl;
+      ran = ran_none g.S.BlockStore.protected (failures c.args.store.now) (disk c.args.store.now) _ c.new-told.ensures.items;
+      lasts
+          = λ same settled. settled;
+    }
 
 pub execute-requires : goal.execute-requires
 execute-requires g c =
@@ -21,7 +26,8 @@ pub returns-in_err-outcome-clause-err : goal.returns-in_err-outcome-clause-err
 returns-in_err-outcome-clause-err g c =
     let failures = g.S.BlockStore.failures in
     let disk = g.S.BlockStore.disk in
-    let ran : RunsSome g.S.BlockStore.protected (failures c.args.store.now) (disk c.args.store.now) c.args.orders.now (failures c.execute.new.store) (disk c.execute.new.store) = (
+    let ran : RunsSome g.S.BlockStore.protected (failures c.args.store.now) (disk c.args.store.now) c.args.orders.now (failures c.execute.new.store)
+    (disk c.execute.new.store) = (
       c.loop-order.order-index,
       c.loop-order.told.items,
       omega arith,
@@ -40,7 +46,8 @@ returns-in_err-push-clause-err g c =
     let i = c.loop-order.order-index in
     let o = c.loop-order-item.result in
     let done = rw c.as_slice.ensures at c.in_ok-outcome.ensures.ok in
-    let ran : RunsSome g.S.BlockStore.protected (failures c.args.store.now) (disk c.args.store.now) orders (failures c.execute.new.store) (disk c.execute.new.store) = (
+    let ran : RunsSome g.S.BlockStore.protected (failures c.args.store.now) (disk c.args.store.now) orders (failures c.execute.new.store)
+    (disk c.execute.new.store) = (
       i + 1,
       c.loop-order.told.items ++ c.in_ok-outcome.outcome ∷ [],
       omega arith,
@@ -56,7 +63,8 @@ loop-order-preserved g c =
     let done = rw c.as_slice.ensures at c.in_ok-outcome.ensures.ok in
     record {
       count = c.in_ok-outcome.ensures.count ∙ c.loop-order.invariant.count;
-      ran = rw c.in_ok-push.ensures.items (ran_next g.S.BlockStore.protected orders i o (omega arith) c.loop-order-item.is _ _ _ _ _ _ _ c.loop-order.invariant.ran done);
+      ran = rw c.in_ok-push.ensures.items (ran_next g.S.BlockStore.protected orders i o (omega arith) c.loop-order-item.is _ _ _ _ _ _ _
+          c.loop-order.invariant.ran done);
       lasts = λ same settled.
           (let before = ran_rises g.S.BlockStore.protected _ _ _ _ _ _ c.loop-order.invariant.ran in
           let after = done.rises in

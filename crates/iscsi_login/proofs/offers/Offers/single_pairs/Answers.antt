@@ -1,4 +1,4 @@
-use Rattle.std.proofs.Common.{◌≡◌, List, ◌∷◌, [], ◌++◌, length, slice_set, sym, ap, ◌∙◌}
+use Rattle.std.proofs.Common.{◌∷◌, [], ◌++◌, length, slice_set, sym, ap, ◌∙◌}
 use Rattle.std.proofs.lemmas.List.{length-map}
 use borrow.Rule.Slice.PartMut.{put_mid}
 use Rattle.iscsi_text.specs.Inside.{shown, all_shown}

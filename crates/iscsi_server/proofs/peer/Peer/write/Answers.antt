@@ -15,7 +15,8 @@ returns-in_default-clause-runs g c = sync_at g.S.BlockStore.protected c.args.sea
     c.requires.some c.offered.ensures.syncs
 
 pub returns-in-Bytes-clause-runs : goal.returns-in-Bytes-clause-runs
-returns-in-Bytes-clause-runs g c = write_at g.S.BlockStore.protected c.args.seat c.in-Bytes.count c.args.left.now c.give.new.self c.args.hall.now c.sent-in-Bytes.new.self
+returns-in-Bytes-clause-runs g c = write_at g.S.BlockStore.protected c.args.seat c.in-Bytes.count c.args.left.now c.give.new.self c.args.hall.now
+    c.sent-in-Bytes.new.self
     (store_of (g.S.BlockStore.disk c.args.store.now) (g.S.BlockStore.failures c.args.store.now))
     (store_of (g.S.BlockStore.disk c.offered.new.store) (g.S.BlockStore.failures c.offered.new.store))
     c.give.ensures.pdus c.give.ensures.given c.sent-in-Bytes.ensures.sent c.sent-in-Bytes.ensures.machines c.offered.ensures.syncs

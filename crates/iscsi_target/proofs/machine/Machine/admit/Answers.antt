@@ -70,7 +70,8 @@ returns-clause-follows g c =
     let after : Store = (store_of (g.S.BlockStore.disk c.work_off.new.store) (g.S.BlockStore.failures c.work_off.new.store)) in
     admitted_follows g.S.BlockStore.protected c.work_off.result c.args.self.now (g.S.BlockStore.disk c.args.store.now).count c.args.received.now before
     c.args.out.now.items c.work_off.new.self after c.work_off.new.out.items kept
-    (subst (λ (x : Machine). Works g.S.BlockStore.protected c.work_off.result (moment x before c.args.out.now.items) (moment c.work_off.new.self after c.work_off.new.out.items))
+    (subst (λ (x : Machine). Works g.S.BlockStore.protected c.work_off.result (moment x before c.args.out.now.items)
+    (moment c.work_off.new.self after c.work_off.new.out.items))
     pushed c.work_off.ensures.works)
 
 pub returns-then-len-eq0-clause-crash : goal.returns-then-len-eq0-clause-crash

@@ -25,7 +25,8 @@ pub returns-in_default-clause-follows : goal.returns-in_default-clause-follows
 returns-in_default-clause-follows g c =
     let none : write_of c.args.self.now.tasks c.args.head.now.initiator_task_tag
     ≡ None = ap (λ (x : Machine). write_of x.tasks c.args.head.now.initiator_task_tag) (sym c.self.view_is) ∙ c.in_default.ensures.none in
-    dropped_follows g.S.BlockStore.protected (g.S.BlockStore.failures c.args.store.now) c.args.self.now (data_out c.args.self.now c.args.received.now c.args.head.now c.args.bytes.now)
+    dropped_follows g.S.BlockStore.protected (g.S.BlockStore.failures c.args.store.now) c.args.self.now
+    (data_out c.args.self.now c.args.received.now c.args.head.now c.args.bytes.now)
     (g.S.BlockStore.disk c.args.store.now) (with_tasks c.self.inside.session c.take_write.new.self) c.args.out.now.items
     (data_dropped c.args.self.now c.args.received.now c.args.head.now c.args.bytes.now none)
     (ap (with_tasks c.self.inside.session) c.in_default.ensures.kept ∙ c.self.view_is)
@@ -88,12 +89,14 @@ returns-clause-follows g c =
     (with_write (joined_write (with_data c.in-Some.write c.args.head.now c.args.bytes.now)) c.args.self.now.tasks) =
     ap (with_tasks c.self.inside.session) put ∙ ap (λ (x : Machine). with_tasks x.session
     (with_write (joined_write (with_data c.in-Some.write c.args.head.now c.args.bytes.now)) x.tasks)) c.self.view_is in
-    works_follow g.S.BlockStore.protected c.work_off.result (data_out c.args.self.now c.args.received.now c.args.head.now c.args.bytes.now) c.args.self.now.session
+    works_follow g.S.BlockStore.protected c.work_off.result (data_out c.args.self.now c.args.received.now c.args.head.now c.args.bytes.now)
+    c.args.self.now.session
     (with_write (with_data c.in-Some.write c.args.head.now c.args.bytes.now) c.args.self.now.tasks) c.args.self.now
     (store_of (g.S.BlockStore.disk c.args.store.now) (g.S.BlockStore.failures c.args.store.now)) c.args.out.now.items c.work_off.new.self
     (store_of (g.S.BlockStore.disk c.work_off.new.store) (g.S.BlockStore.failures c.work_off.new.store)) c.work_off.new.out.items
     (data_taken_by c.args.self.now c.args.received.now c.args.head.now c.args.bytes.now c.in-Some.write here due)
-    (works_same g.S.BlockStore.protected c.work_off.result c.args.self.now.session (with_write (joined_write (with_data c.in-Some.write c.args.head.now c.args.bytes.now))
+    (works_same g.S.BlockStore.protected c.work_off.result c.args.self.now.session
+    (with_write (joined_write (with_data c.in-Some.write c.args.head.now c.args.bytes.now))
     c.args.self.now.tasks) (with_write (with_data c.in-Some.write c.args.head.now c.args.bytes.now) c.args.self.now.tasks)
     (store_of (g.S.BlockStore.disk c.args.store.now) (g.S.BlockStore.failures c.args.store.now)) c.args.out.now.items c.work_off.new.self
     (store_of (g.S.BlockStore.disk c.work_off.new.store) (g.S.BlockStore.failures c.work_off.new.store)) c.work_off.new.out.items
@@ -128,8 +131,10 @@ returns-clause-crash g c =
     subst (λ (x : Next). Crashes g.S.BlockStore.protected (commands_by x) (g.S.BlockStore.disk c.args.store.now) (g.S.BlockStore.disk c.work_off.new.store)
     (g.S.BlockStore.kept c.args.store.now) (g.S.BlockStore.kept c.work_off.new.store))
     (sym (data_taken_by c.args.self.now c.args.received.now c.args.head.now c.args.bytes.now c.in-Some.write here due))
-    (subst (λ (orders : List Supplied). Crashes g.S.BlockStore.protected orders (g.S.BlockStore.disk c.args.store.now) (g.S.BlockStore.disk c.work_off.new.store)
+    (subst (λ (orders : List Supplied). Crashes g.S.BlockStore.protected orders (g.S.BlockStore.disk c.args.store.now)
+    (g.S.BlockStore.disk c.work_off.new.store)
     (g.S.BlockStore.kept c.args.store.now) (g.S.BlockStore.kept c.work_off.new.store))
     (commands_same (with_write (joined_write v) c.args.self.now.tasks) (with_write v c.args.self.now.tasks) (ones_written v c.args.self.now.tasks))
-    (subst (λ (x : Machine). Crashes g.S.BlockStore.protected (commands_of x.tasks) (g.S.BlockStore.disk c.args.store.now) (g.S.BlockStore.disk c.work_off.new.store)
+    (subst (λ (x : Machine). Crashes g.S.BlockStore.protected (commands_of x.tasks) (g.S.BlockStore.disk c.args.store.now)
+    (g.S.BlockStore.disk c.work_off.new.store)
     (g.S.BlockStore.kept c.args.store.now) (g.S.BlockStore.kept c.work_off.new.store)) whole c.work_off.ensures.crash))

@@ -13,7 +13,8 @@ send_outcome-requires g c =
     let short : c.args.order.expected < 2 ^ 32 = search rules in
     omega (
       arith,
-      given_most g.S.BlockStore.protected (g.S.BlockStore.failures c.args.store.now) fa (g.S.BlockStore.disk c.args.store.now) c.args.order [] e c.in_ok-outcome.ensures.ok,
+      given_most g.S.BlockStore.protected (g.S.BlockStore.failures c.args.store.now) fa (g.S.BlockStore.disk c.args.store.now) c.args.order [] e
+          c.in_ok-outcome.ensures.ok,
       short,
     )
 
@@ -26,7 +27,8 @@ returns-in_err-send_outcome-clause-handles g c = record {
       on_err c.from_residual-in_err-send_outcome.result (record {
         machine = refl;
         rises = c.in_ok-outcome.ensures.ok.rises;
-        disk_is = order_keeps g.S.BlockStore.protected (g.S.BlockStore.failures c.args.store.now) fa (g.S.BlockStore.disk c.args.store.now) c.args.order [] e c.in_ok-outcome.ensures.ok
+        disk_is = order_keeps g.S.BlockStore.protected (g.S.BlockStore.failures c.args.store.now) fa (g.S.BlockStore.disk c.args.store.now) c.args.order [] e
+            c.in_ok-outcome.ensures.ok
             c.requires.gives;
         unwritten = c.in_err-send_outcome.ensures.err;
       });
@@ -37,7 +39,8 @@ returns-clause-handles g c = record {
   ok = let fa : ℕ = g.S.BlockStore.failures c.execute_planned.new.store in
       let now = g.S.BlockStore.disk c.execute_planned.new.store in
       let e : Effect = record { disk = now; outcome = c.in_ok-outcome.outcome } in
-      order_serves g.S.BlockStore.protected (g.S.BlockStore.failures c.args.store.now) fa c.args.tag c.args.self.now (g.S.BlockStore.disk c.args.store.now) c.args.order [] e
+      order_serves g.S.BlockStore.protected (g.S.BlockStore.failures c.args.store.now) fa c.args.tag c.args.self.now
+      (g.S.BlockStore.disk c.args.store.now) c.args.order [] e
       c.count.new.self now c.args.out.now.items c.send_outcome.new.out.items c.in_ok-outcome.ensures.ok c.count.ensures refl
       c.in_ok-send_outcome.ensures.ok;
   err = search rules;

@@ -9,7 +9,8 @@ returns-clause-handles g c = record {
       let now = g.S.BlockStore.disk c.send_read.new.store in
       let answers = c.in_ok-send_read.ensures.ok in
       let e : Effect = record { disk = now; outcome = answers.outcome } in
-      order_serves g.S.BlockStore.protected (g.S.BlockStore.failures c.args.store.now) fa c.args.tag c.args.self.now (g.S.BlockStore.disk c.args.store.now) c.args.order.now [] e
+      order_serves g.S.BlockStore.protected (g.S.BlockStore.failures c.args.store.now) fa c.args.tag c.args.self.now
+      (g.S.BlockStore.disk c.args.store.now) c.args.order.now [] e
       c.count.new.self now c.args.out.now.items c.send_read.new.out.items answers.executes c.count.ensures refl answers.output;
   err = search rules;
 }

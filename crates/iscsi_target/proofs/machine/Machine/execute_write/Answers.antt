@@ -21,14 +21,17 @@ returns-clause-handles g c = record {
       let now = g.S.BlockStore.disk c.execute.new.store in
       let e : Effect = record { disk = now; outcome = c.in_ok-outcome.outcome } in
       let w = c.write.inside in
-      let none : e.outcome.bytes ≡ [] = write_gives_none g.S.BlockStore.protected (g.S.BlockStore.failures c.args.store.now) fa (g.S.BlockStore.disk c.args.store.now) w.order
+      let none : e.outcome.bytes ≡ [] = write_gives_none g.S.BlockStore.protected (g.S.BlockStore.failures c.args.store.now) fa
+      (g.S.BlockStore.disk c.args.store.now) w.order
       c.deref.result.now e c.in_ok-outcome.ensures.ok c.write.invariant.is_write in
       subst (λ (v : Write). Serves g.S.BlockStore.protected (g.S.BlockStore.failures c.args.store.now) c.args.out.now.items
       (λ (d : Device). execute d c.args.self.now (g.S.BlockStore.disk c.args.store.now) v.initiator_task_tag v.order v.pieces) None
       (moment c.count.new.self (store_of now fa) c.append_response.new.out.items)) c.write.view_is
-      (order_serves g.S.BlockStore.protected (g.S.BlockStore.failures c.args.store.now) fa w.initiator_task_tag c.args.self.now (g.S.BlockStore.disk c.args.store.now) w.order
+      (order_serves g.S.BlockStore.protected (g.S.BlockStore.failures c.args.store.now) fa w.initiator_task_tag c.args.self.now
+      (g.S.BlockStore.disk c.args.store.now) w.order
       (with_piece [] 0 w.data.items) e c.count.new.self now c.args.out.now.items c.append_response.new.out.items
-      (subst (λ (bytes : List ℕ). Executes g.S.BlockStore.protected (g.S.BlockStore.failures c.args.store.now) fa (g.S.BlockStore.disk c.args.store.now) w.order bytes e)
+      (subst (λ (bytes : List ℕ). Executes g.S.BlockStore.protected (g.S.BlockStore.failures c.args.store.now) fa
+      (g.S.BlockStore.disk c.args.store.now) w.order bytes e)
       (c.deref.ensures.value ∙ sym (data_of_one w.data.items)) c.in_ok-outcome.ensures.ok)
       c.count.ensures refl
       (told_write c.args.self.now w.initiator_task_tag c.in_ok-outcome.outcome c.response_head-head.result c.args.out.now.items c.reserve.new.self.items
@@ -45,7 +48,8 @@ returns-clause-crash g c =
     let supplied : IsSupplied (g.S.BlockStore.disk c.args.store.now).count w.order c.deref.result.now = search rules in
     subst (λ (v : Write). Crashes g.S.BlockStore.protected ((v.order, data_of v.pieces) ∷ []) (g.S.BlockStore.disk c.args.store.now)
     (g.S.BlockStore.disk c.execute.new.store) (g.S.BlockStore.kept c.args.store.now) (g.S.BlockStore.kept c.execute.new.store)) c.write.view_is
-    (subst (λ (bytes : List ℕ). Crashes g.S.BlockStore.protected ((w.order, bytes) ∷ []) (g.S.BlockStore.disk c.args.store.now) (g.S.BlockStore.disk c.execute.new.store)
+    (subst (λ (bytes : List ℕ). Crashes g.S.BlockStore.protected ((w.order, bytes) ∷ []) (g.S.BlockStore.disk c.args.store.now)
+    (g.S.BlockStore.disk c.execute.new.store)
     (g.S.BlockStore.kept c.args.store.now) (g.S.BlockStore.kept c.execute.new.store))
     (c.deref.ensures.value ∙ sym (data_of_one w.data.items))
     (one_done g.S.BlockStore.protected w.order c.deref.result.now (g.S.BlockStore.disk c.args.store.now) (g.S.BlockStore.disk c.execute.new.store)

@@ -36,7 +36,8 @@ returns-in-NopOut-clause-handles g c =
 
 pub returns-in-ScsiCommand-clause-crash : goal.returns-in-ScsiCommand-clause-crash
 returns-in-ScsiCommand-clause-crash g c =
-    subst (λ (orders : List Supplied). Crashes g.S.BlockStore.protected orders (g.S.BlockStore.disk c.args.store.now) (g.S.BlockStore.disk c.scsi_command.new.store)
+    subst (λ (orders : List Supplied). Crashes g.S.BlockStore.protected orders (g.S.BlockStore.disk c.args.store.now)
+    (g.S.BlockStore.disk c.scsi_command.new.store)
     (g.S.BlockStore.kept c.args.store.now) (g.S.BlockStore.kept c.scsi_command.new.store))
     (command_is_in c.received.inside.continued c.received.inside.pdu.head c.received.inside.pdu.bytes.now c.args.received.now c.received.view_is
     c.in-ScsiCommand.head c.in-ScsiCommand.is) c.scsi_command.ensures.crash

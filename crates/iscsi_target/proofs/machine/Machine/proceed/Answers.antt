@@ -23,7 +23,8 @@ returns-then-is_whole-clause-handles g c = record {
 
 pub returns-then-is_idle-clause-handles : goal.returns-then-is_idle-clause-handles
 returns-then-is_idle-clause-handles g c =
-    leaves_handles g.S.BlockStore.protected c.send_r2t.result (g.S.BlockStore.failures c.args.store.now) (send_r2t c.args.self.now (g.S.BlockStore.disk c.args.store.now) c.args.write)
+    leaves_handles g.S.BlockStore.protected c.send_r2t.result (g.S.BlockStore.failures c.args.store.now)
+    (send_r2t c.args.self.now (g.S.BlockStore.disk c.args.store.now) c.args.write)
     (λ (d : Device). proceed d c.args.self.now (g.S.BlockStore.disk c.args.store.now) c.args.write)
     (g.S.BlockStore.disk c.args.store.now) c.args.self.now c.send_r2t.new.self c.args.out.now.items c.send_r2t.new.out.items
     (λ (d : Device). proceeds_asking d c.args.self.now (g.S.BlockStore.disk c.args.store.now) c.args.write (sym c.is_whole.ensures ∙ c.if-is_whole.false)

@@ -11,7 +11,8 @@ use Rattle.iscsi_target.proofs.machine.Machine.scsi_command.Goals as goal
 
 pub returns-then-breaks_burst_rules-clause-handles : goal.returns-then-breaks_burst_rules-clause-handles
 returns-then-breaks_burst_rules-clause-handles g c =
-    leaves_handles g.S.BlockStore.protected c.reject_and_close.result (g.S.BlockStore.failures c.args.store.now) (breaks c.args.self.now (g.S.BlockStore.disk c.args.store.now)
+    leaves_handles g.S.BlockStore.protected c.reject_and_close.result (g.S.BlockStore.failures c.args.store.now)
+    (breaks c.args.self.now (g.S.BlockStore.disk c.args.store.now)
     data_out_of_order
     c.args.received.now) (λ (d : Device). scsi_command d c.args.self.now (g.S.BlockStore.disk c.args.store.now) c.args.received.now c.args.command.now
     c.args.bytes.now) (g.S.BlockStore.disk c.args.store.now) c.args.self.now c.reject_and_close.new.self c.args.out.now.items c.reject_and_close.new.out.items

@@ -67,7 +67,8 @@ admit-requires-clause-turn g c = inl (subst (MayCome c.args.self.now c.args.rece
 pub returns-in-AtOnce-clause-follows : goal.returns-in-AtOnce-clause-follows
 returns-in-AtOnce-clause-follows g c =
     let n : ℕ = (g.S.BlockStore.disk c.args.store.now).count in
-    follows_as g.S.BlockStore.protected c.admit.result (admitted c.args.self.now n c.args.received.now) (full_met c.args.self.now n c.args.received.now).next c.args.self.now
+    follows_as g.S.BlockStore.protected c.admit.result (admitted c.args.self.now n c.args.received.now)
+    (full_met c.args.self.now n c.args.received.now).next c.args.self.now
     (store_of (g.S.BlockStore.disk c.args.store.now) (g.S.BlockStore.failures c.args.store.now)) c.args.out.now.items c.admit.new.self
     (store_of (g.S.BlockStore.disk c.admit.new.store) (g.S.BlockStore.failures c.admit.new.store)) c.admit.new.out.items
     (sym (judged c.args.self.now n c.args.received.now _ c.judge.result _ c.judge.ensures c.in-AtOnce.is)) c.admit.ensures.follows
@@ -84,7 +85,8 @@ returns-in-InTurn-clause-follows g c =
     let n : ℕ = (g.S.BlockStore.disk c.args.store.now).count in
     let before : Store = store_of (g.S.BlockStore.disk c.args.store.now) (g.S.BlockStore.failures c.args.store.now) in
     let after : Store = store_of (g.S.BlockStore.disk c.admit-in-InTurn.new.store) (g.S.BlockStore.failures c.admit-in-InTurn.new.store) in
-    follows_as g.S.BlockStore.protected c.admit-in-InTurn.result (admitted (advanced c.args.self.now) n c.args.received.now) (full_met c.args.self.now n c.args.received.now).next
+    follows_as g.S.BlockStore.protected c.admit-in-InTurn.result (admitted (advanced c.args.self.now) n c.args.received.now)
+    (full_met c.args.self.now n c.args.received.now).next
     c.args.self.now before c.args.out.now.items c.admit-in-InTurn.new.self after c.admit-in-InTurn.new.out.items
     (sym (judged c.args.self.now n c.args.received.now _ c.judge.result _ c.judge.ensures c.in-InTurn.is))
     (in_its_turn g.S.BlockStore.protected c.admit-in-InTurn.result c.args.self.now n c.args.received.now before c.args.out.now.items
@@ -95,7 +97,8 @@ returns-in-InTurn-clause-follows g c =
 pub returns-in-InTurn-clause-crash : goal.returns-in-InTurn-clause-crash
 returns-in-InTurn-clause-crash g c =
     let n : ℕ = (g.S.BlockStore.disk c.args.store.now).count in
-    subst (λ (x : Next). Crashes g.S.BlockStore.protected (commands_by x) (g.S.BlockStore.disk c.args.store.now) (g.S.BlockStore.disk c.admit-in-InTurn.new.store)
+    subst (λ (x : Next). Crashes g.S.BlockStore.protected (commands_by x) (g.S.BlockStore.disk c.args.store.now)
+    (g.S.BlockStore.disk c.admit-in-InTurn.new.store)
     (g.S.BlockStore.kept c.args.store.now) (g.S.BlockStore.kept c.admit-in-InTurn.new.store))
     (ap (λ (x : Machine). admitted x n c.args.received.now) c.advance.ensures
     ∙ sym (judged c.args.self.now n c.args.received.now _ c.judge.result _ c.judge.ensures c.in-InTurn.is)) c.admit-in-InTurn.ensures.crash

@@ -14,7 +14,8 @@ use Rattle.iscsi_target.proofs.machine.Machine.work_off.Goals.{then-is_closed-vi
 
 pub loop-task-init : goal.loop-task-init
 loop-task-init g c = record {
-  works = goes_start g.S.BlockStore.protected (moment c.args.self.now (store_of (g.S.BlockStore.disk c.args.store.now) (g.S.BlockStore.failures c.args.store.now))
+  works = goes_start g.S.BlockStore.protected (moment c.args.self.now
+      (store_of (g.S.BlockStore.disk c.args.store.now) (g.S.BlockStore.failures c.args.store.now))
       c.args.out.now.items);
   crash = goes_first g.S.BlockStore.protected (commands_of c.args.self.now.tasks) (g.S.BlockStore.disk c.args.store.now) (g.S.BlockStore.kept c.args.store.now);
 }
@@ -27,7 +28,8 @@ returns-in_err-broken-clause-works g c =
     c.loop-task.out.items in
     let new : Moment = moment c.begin.new.self (store_of (g.S.BlockStore.disk c.begin.new.store) (g.S.BlockStore.failures c.begin.new.store))
     c.begin.new.out.items in
-    let h = goes_short g.S.BlockStore.protected c.in_err-broken.field-0.0 old now new c.self.inside.session c.in-Some.task c.take_first.new.self c.loop-task.invariant.works
+    let h = goes_short g.S.BlockStore.protected c.in_err-broken.field-0.0 old now new c.self.inside.session c.in-Some.task c.take_first.new.self
+    c.loop-task.invariant.works
     (sym c.self.view_is
     ∙ ap (with_tasks c.self.inside.session) c.in-Some.ensures.some) c.in_err-broken.ensures.handles.err in
     record { ok = search rules; err = on_err c.from_residual.result h.err }
@@ -45,7 +47,8 @@ returns-then-is_closed-clause-works g c =
     c.loop-task.out.items in
     let new : Moment = moment c.begin.new.self (store_of (g.S.BlockStore.disk c.begin.new.store) (g.S.BlockStore.failures c.begin.new.store))
     c.begin.new.out.items in
-    goes_stop g.S.BlockStore.protected AllocError old now new c.self.inside.session c.in-Some.task c.take_first.new.self c.in_ok-broken.broken c.loop-task.invariant.works
+    goes_stop g.S.BlockStore.protected AllocError old now new c.self.inside.session c.in-Some.task c.take_first.new.self c.in_ok-broken.broken
+    c.loop-task.invariant.works
     (sym c.self.view_is
     ∙ ap (with_tasks c.self.inside.session) c.in-Some.ensures.some) c.in_ok-broken.ensures.handles.ok stop
 
@@ -63,8 +66,10 @@ loop-task-preserved g c =
     let step : Goes g.S.BlockStore.protected taken c.in-Some.task c.in_ok-broken.broken new =
     record { serves = c.in_ok-broken.ensures.handles.ok; live = sym c.is_closed.ensures ∙ c.if-is_closed.false; done = search rules } in
     record {
-      works = goes_then g.S.BlockStore.protected old now new c.self.inside.session c.in-Some.task c.take_first.new.self c.in_ok-broken.broken c.loop-task.invariant.works is step;
-      crash = tasks_left g.S.BlockStore.protected (commands_of c.args.self.now.tasks) c.take_first.new.self c.begin.new.self.tasks (g.S.BlockStore.disk c.args.store.now)
+      works = goes_then g.S.BlockStore.protected old now new c.self.inside.session c.in-Some.task c.take_first.new.self c.in_ok-broken.broken
+          c.loop-task.invariant.works is step;
+      crash = tasks_left g.S.BlockStore.protected (commands_of c.args.self.now.tasks) c.take_first.new.self c.begin.new.self.tasks
+          (g.S.BlockStore.disk c.args.store.now)
           (g.S.BlockStore.disk c.begin.new.store) (g.S.BlockStore.kept c.args.store.now) (g.S.BlockStore.kept c.begin.new.store)
           (left_behind g.S.BlockStore.protected taken c.in-Some.task c.in_ok-broken.broken new step)
           (task_done g.S.BlockStore.protected (commands_of c.args.self.now.tasks) c.loop-task.self c.self.inside.session c.in-Some.task c.take_first.new.self

@@ -8,9 +8,11 @@ use Rattle.iscsi_target.proofs.machine.Machine.work_off.Given as goal
 
 abbrev pub invariant-loop-task : goal.invariant-loop-task
 invariant-loop-task g l = record {
-  works : GoesOn g.S.BlockStore.protected AllocError (moment l.initial.self (store_of (g.S.BlockStore.disk l.initial.store) (g.S.BlockStore.failures l.initial.store))
+  works : GoesOn g.S.BlockStore.protected AllocError (moment l.initial.self
+      (store_of (g.S.BlockStore.disk l.initial.store) (g.S.BlockStore.failures l.initial.store))
       l.initial.out.items) (moment l.self (store_of (g.S.BlockStore.disk l.store) (g.S.BlockStore.failures l.store)) l.out.items);
-  crash : Pends g.S.BlockStore.protected (commands_of l.initial.self.tasks) (commands_of l.self.tasks) (g.S.BlockStore.disk l.initial.store) (g.S.BlockStore.disk l.store)
+  crash : Pends g.S.BlockStore.protected (commands_of l.initial.self.tasks) (commands_of l.self.tasks) (g.S.BlockStore.disk l.initial.store)
+      (g.S.BlockStore.disk l.store)
       (g.S.BlockStore.kept l.initial.store) (g.S.BlockStore.kept l.store);
 }
 

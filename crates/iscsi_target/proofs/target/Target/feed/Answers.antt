@@ -10,5 +10,6 @@ returns-clause-stream g c = λ settings n disk stream works live h.
     (store_of (g.S.BlockStore.disk c.args.store.now) (g.S.BlockStore.failures c.args.store.now)) c.args.out.now.items c.args.piece.now c.feed_all.result
     (connection c.feed_all.new.machine c.feed_all.new.framer) (store_of (g.S.BlockStore.disk c.feed_all.new.store)
     (g.S.BlockStore.failures c.feed_all.new.store)) c.feed_all.new.out.items c.feed_all.ensures.fed works live
-    (subst (λ (o : Connection). HasAnswered g.S.BlockStore.protected (beginning settings n disk) stream o (g.S.BlockStore.disk c.args.store.now) c.args.out.now.items)
+    (subst (λ (o : Connection). HasAnswered g.S.BlockStore.protected (beginning settings n disk) stream o
+    (g.S.BlockStore.disk c.args.store.now) c.args.out.now.items)
     (sym c.self.view_is) h)

@@ -4,8 +4,8 @@ use Rattle.iscsi_text.specs.declared.pair.Pair.{Pair}
 use Rattle.iscsi_text.proofs.SortLemmas.{sorted_in_order, same_values}
 use Rattle.iscsi_text.proofs.text.read.sort.Goals as goal
 
-pub returns : goal.returns
-returns c =
+pub returns-clause-ok : goal.returns-clause-ok
+returns-clause-ok c =
     let xs = c.args.pairs.now.items in
     let ys = c.sort_by_key.new.self.items in
     let sorted = c.in_ok-sort_by_key.ensures in

@@ -1,15 +1,14 @@
-use Rattle.std.proofs.Common.{◌≡◌, ◌++◌, take, ◌+◌, sym, ap, subst, ◌∙◌, arith}
+use Rattle.std.proofs.Common.{◌≡◌, ◌++◌, take, ◌+◌, sym, subst, arith}
 use Rattle.std.specs.List.{flat_map}
 use Rattle.std.proofs.lemmas.List.{take_all}
 use Rattle.iscsi_text.specs.Value.{typed}
 use Rattle.iscsi_text.specs.Text.{Arranges}
-use Rattle.iscsi_text.specs.Canonical.{canonical_text}
 use Rattle.iscsi_text.specs.Inside.{all_shown}
-use Rattle.iscsi_login.specs.Answer.{answers_to, declarations, answer}
+use Rattle.iscsi_login.specs.Answer.{answers_to, declarations}
 use Rattle.iscsi_login.proofs.AnswerLoopLemmas.{stands_at, none_past_end, no_answer_before, answered_more}
 use Rattle.iscsi_text.proofs.OrderLemmas.{arranged_is}
-use Rattle.iscsi_login.proofs.answer.answer_text.Goals as goal
-use Rattle.iscsi_login.proofs.answer.answer_text.Goals.{in-Some+in_ok-add_answer, in_default}
+use Rattle.iscsi_login.proofs.answer.answer_pairs.Goals as goal
+use Rattle.iscsi_login.proofs.answer.answer_pairs.Goals.{in-Some+in_ok-add_answer, in_default}
 
 pub add_answer-requires-clause-new : goal.add_answer-requires-clause-new
 add_answer-requires-clause-new c =
@@ -34,12 +33,9 @@ loop-n-preserved c = elim c.match-pair.branch [
 pub returns : goal.returns
 returns c =
     let all : take c.loop-n.n c.args.text.now ≡ c.args.text.now = take_all c.loop-n.n c.args.text.now (omega (arith, c.len-n-end.ensures.count)) in
-    let arranged : all_shown c.loop-n.pairs.items ≡ answer c.args.session c.args.preferences.now c.args.tag c.args.max_recv c.args.text.now =
-    arranged_is (declarations c.args.tag c.args.max_recv ++ flat_map (answers_to c.args.session c.args.preferences.now) c.args.text.now)
-    (all_shown c.loop-n.pairs.items)
-    (subst (λ given. Arranges (declarations c.args.tag c.args.max_recv ++ flat_map (answers_to c.args.session c.args.preferences.now) given)
-    (all_shown c.loop-n.pairs.items)) all c.loop-n.invariant) in
     record {
-      answer = c.in_ok-write_pairs.ensures.ok ∙ ap (λ bs. bs ++ canonical_text (all_shown c.deref.result.now)) c.new-out.ensures.items
-          ∙ ap (λ ps. canonical_text (all_shown ps)) c.deref.ensures.value ∙ ap canonical_text arranged;
+      answer = arranged_is (declarations c.args.tag c.args.max_recv ++ flat_map (answers_to c.args.session c.args.preferences.now) c.args.text.now)
+          (all_shown c.loop-n.pairs.items)
+          (subst (λ given. Arranges (declarations c.args.tag c.args.max_recv ++ flat_map (answers_to c.args.session c.args.preferences.now) given)
+          (all_shown c.loop-n.pairs.items)) all c.loop-n.invariant);
     }

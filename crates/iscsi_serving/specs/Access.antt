@@ -1,0 +1,20 @@
+-- Who may log in at a service.
+use Rattle.std.specs.Prelude.{◌≡◌, ℕ, List, Option, None, Some, map}
+use Rattle.iscsi_secrets.specs.Secrets.{Secrets, demand_of}
+use Rattle.iscsi_serving.specs.declared.access.Access.{Access}
+use Rattle.iscsi_target_session.specs.Configured.{Settings}
+
+-- The settings with these names of initiators, where names are listed.
+abbrev pub named : Option (List (List ℕ)) → Settings → Settings
+named None settings = settings
+named (Some names) settings = record settings {
+  access = record settings.access { names = Some names };
+}
+
+-- Where there are secrets, a login has to show one, by a challenge of its own.
+abbrev pub Demands : Option Secrets → Settings → Settings → Type 0
+Demands None settings made = made ≡ settings
+Demands (Some secrets) settings made = (identifier : ℕ) × (challenge : List ℕ)
+    × (made ≡ record settings {
+      access = record settings.access { chap = Some (demand_of secrets identifier challenge) };
+    })

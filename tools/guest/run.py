@@ -1,0 +1,133 @@
+#!/usr/bin/env python3
+"""Tries `serve` with open-iscsi on Linux, in a guest.
+
+    tools/guest/run.py [PROGRAM]
+
+PROGRAM is crates/lanthovur/out/lanthovur if none is named; `./lanthovur </dev/null` builds it. The guest is made of what this
+machine has (Debian: qemu-system-x86, busybox-static, cpio, kmod, open-iscsi) and of a kernel with its modules: that of this
+machine, or what the variables KERNEL and MODULES name, such as boot/vmlinuz-* and the folder above lib/modules of a kernel package that
+`dpkg -x` unpacked. Without one of them each case is skipped, with a word. The last line is 'N passed, M failed, K skipped'. It
+takes two minutes.
+"""
+import os
+import re
+import socket
+import subprocess
+import sys
+import tempfile
+
+sys.path.insert(0, os.path.dirname(os.path.abspath(__file__)))
+import guest  # noqa: E402
+
+TOP = os.path.dirname(os.path.dirname(os.path.dirname(os.path.abspath(__file__))))
+TARGET = "iqn.2026-01.example:disk"
+ALICE, DISK = "0aVJt9oCrFPqzPaR", "7fTQyM3kWb1LxHnE"
+SECRETS = f"user alice {ALICE}\ntarget disk {DISK}\n"
+
+# What each job begins with: `node` is iscsiadm for the disk, `record` makes its record with some values, and `try` logs in by it.
+TOOLS = """
+TARGET=%s
+PORTAL=10.0.2.2:%d
+node() { iscsiadm -m node -T $TARGET -p $PORTAL "$@"; }
+record() {
+    node -o new > /dev/null
+    while [ $# -gt 0 ]; do node -o update -n "$1" -v "$2" > /dev/null; shift 2; done
+}
+has_disk() { for n in 1 2 3 4 5 6 7 8; do [ -b /dev/sda ] && return 0; sleep 1; done; return 1; }
+lasts() {
+    head -c 1048576 /dev/urandom > /tmp/written
+    dd if=/tmp/written of=/dev/sda bs=64k oflag=direct 2> /dev/null
+    dd if=/dev/sda of=/tmp/read bs=64k count=16 iflag=direct 2> /dev/null
+    cmp /tmp/written /tmp/read
+}
+try() {
+    name=$1; shift
+    record "$@"
+    node --login > /tmp/said 2>&1; status=$?
+    data=none
+    [ $status -eq 0 ] && has_disk && lasts && data=same
+    echo "RESULT $name $status $data"
+    node --logout > /dev/null 2>&1
+    node -o delete > /dev/null 2>&1
+    sleep 1
+}
+"""
+CHAP = f"""
+AUTH=node.session.auth
+one() {{ echo $AUTH.authmethod CHAP $AUTH.username $1 $AUTH.password $2; }}
+both() {{ echo $(one alice {ALICE}) $AUTH.username_in $1 $AUTH.password_in $2; }}
+try no_secret
+try one_way $(one alice {ALICE})
+try mutual $(both disk {DISK})
+try wrong_secret $(one alice {DISK})
+try wrong_name $(one carol {ALICE})
+try wrong_target $(both disk {ALICE})
+"""
+# What iscsiadm returns: 0, 24 for a login that the target refuses, 19 for one that the initiator gives up.
+CHAP_RESULTS = {
+    "no_secret": ("24", "none"),
+    "one_way": ("0", "same"),
+    "mutual": ("0", "same"),
+    "wrong_secret": ("24", "none"),
+    "wrong_name": ("24", "none"),
+    "wrong_target": ("19", "none"),
+}
+
+
+class Service:
+    """`serve --at-once` with these words, which ends with the block."""
+
+    def __init__(self, program, *words):
+        with socket.create_server(("127.0.0.1", 0)) as other:
+            self.port = other.getsockname()[1]
+        words = [program, "serve", "--size", "64M", "--at-once", "8", "--port", str(self.port), *words]
+        self.process = subprocess.Popen(words, stdin=subprocess.DEVNULL, stdout=subprocess.PIPE, stderr=subprocess.DEVNULL)
+        if self.process.stdout.readline() != b"listening\n":
+            raise OSError("the service did not start")
+
+    def __enter__(self):
+        return self
+
+    def __exit__(self, *_):
+        self.process.kill()
+        self.process.wait()
+
+
+def results(room, port, job):
+    """The results that a job tells, by their names, and all that it printed."""
+    text = guest.run(room, TOOLS % (TARGET, port) + job)
+    return {name: (status, data) for name, status, data in re.findall(r"RESULT (\S+) (\S+) (\S+)", text)}, text
+
+
+def logs_in_by_secret(program, room):
+    """open-iscsi logs in by CHAP, one-way and mutual, and what it writes is read; with another secret, another name, or none, it is refused."""
+    path = f"{room}/secrets"
+    with open(path, "w") as file:
+        file.write(SECRETS)
+    os.chmod(path, 0o600)
+    with Service(program, "--chap", path) as service:
+        seen, text = results(room, service.port, CHAP)
+    return seen == CHAP_RESULTS or (seen, text[-2000:])
+
+
+CASES = [logs_in_by_secret]
+
+
+def main():
+    program = os.path.abspath(sys.argv[1] if len(sys.argv) > 1 else f"{TOP}/crates/lanthovur/out/lanthovur")
+    counts = {"passed": 0, "failed": 0, "skipped": 0}
+    for case in CASES:
+        with tempfile.TemporaryDirectory() as room:
+            try:
+                seen = case(program, room)
+                outcome, more = ("passed", "") if seen is True else ("failed", seen)
+            except guest.Missing as missing:
+                outcome, more = "skipped", missing
+        counts[outcome] += 1
+        print(f"{outcome:8} {case.__doc__} {more}", flush=True)
+    print(", ".join(f"{count} {outcome}" for outcome, count in counts.items()))
+    return 1 if counts["failed"] else 0
+
+
+if __name__ == "__main__":
+    sys.exit(main())
