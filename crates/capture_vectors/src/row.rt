@@ -22,7 +22,7 @@ pub fn row_of(line: &str) -> Option<Row<'_>> {
     if line.starts_with("#") {
         return None;
     }
-    let mut words = line.split(' ');
+    let mut words = line.split_whitespace();
     let file = words.next()?;
     let connection = words.next()?;
     let end = words.next()?;

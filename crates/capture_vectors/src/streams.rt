@@ -21,9 +21,12 @@ pub fn stream_is_so(alloc: Global, file: &[u8], stream: &[u8], row: Row<'_>) -> 
     let mut bytes = Vec::new(alloc);
     let ended = captured.read_to_end(&mut bytes).is_ok();
     let fault = captured.fault();
-    let front = stream.get(..bytes.len());
-    let count = bytes.len() as u64;
-    Ok(ended == fault.is_none() && front == Some(bytes.as_slice()) && is_told(fault, row, count))
+    Ok(ended == fault.is_none() && are_told(&bytes, fault, stream, row))
+}
+
+// Whether bytes, and a fault behind them, are those that are due.
+fn are_told(bytes: &[u8], fault: Option<CapturesFault>, stream: &[u8], row: Row<'_>) -> bool {
+    stream.get(..bytes.len()) == Some(bytes) && is_told(fault, row, bytes.len() as u64)
 }
 
 // Whether a fault, behind this many bytes, is the one that is due.

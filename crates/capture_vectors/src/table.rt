@@ -144,15 +144,8 @@ impl Table {
 
     /// Takes a segment, and says whether there was memory.
     pub fn take(&mut self, segment: &Segment<'_>) -> bool {
-        let (k, forward) = match self.find(segment) {
-            Some(found) => found,
-            None => {
-                let begun = Connection::of(self.alloc, segment);
-                if self.connections.push(begun).is_err() {
-                    return false;
-                }
-                (self.connections.len() - 1, !(segment.syn && segment.ack))
-            }
+        let Some((k, forward)) = self.place(segment) else {
+            return false;
         };
         let Some(connection) = self.connections.get_mut(k) else {
             return false;
@@ -163,6 +156,20 @@ impl Table {
             connection.answered.take(self.alloc, segment);
         }
         true
+    }
+
+    // The connection of a segment, which may begin with it, and whether its initiator sent it; none
+    // if there is no memory.
+    fn place(&mut self, segment: &Segment<'_>) -> Option<(usize, bool)> {
+        if let Some(found) = self.find(segment) {
+            return Some(found);
+        }
+        let number = self.connections.len();
+        let begun = Connection::of(self.alloc, segment);
+        if self.connections.push(begun).is_err() {
+            return None;
+        }
+        Some((number, !(segment.syn && segment.ack)))
     }
 
     // The connection of a segment, the last one with its ends, and whether its initiator sent it. A

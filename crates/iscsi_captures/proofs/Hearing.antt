@@ -2,13 +2,14 @@
 use Rattle.std.proofs.Common.{◌≡◌, ℕ, Bool, true, false, List, [], refl, sym, ap, ◌∙◌, subst}
 use Rattle.std.proofs.lemmas.Bool.{eqb-true, eqb-false}
 use Rattle.std.specs.Prelude.{◌≢◌, ◌==◌, ◌&&◌, if◌then◌else◌, slice_get, IfSome, IfOk, IfErr, Some, None, Option, Result, Ok, Err}
-use Rattle.iscsi_captures.specs.declared.connections.Connection.{Connection}
-use Rattle.iscsi_captures.specs.declared.ends.Side.TheVariants.{Lower, Upper}
+use Rattle.capture_connections.specs.declared.connections.Connection.{Connection}
+use Rattle.capture_connections.specs.declared.ends.Side.TheVariants.{Lower, Upper}
 use Rattle.iscsi_captures.specs.declared.captured.Wanted.{Wanted}
-use Rattle.iscsi_captures.specs.declared.ends.Side.{Side}
-use Rattle.iscsi_captures.specs.declared.heard.Heard.{Heard}
-use Rattle.iscsi_captures.specs.Directions.{HearsWanted, IsFor, IsMeant, is_side, other_side}
-use Rattle.iscsi_captures.specs.Following.{Hears, KeepsAll, Table}
+use Rattle.capture_connections.specs.declared.ends.Side.{Side}
+use Rattle.capture_connections.specs.declared.heard.Heard.{Heard}
+use Rattle.capture_connections.specs.Sides.{is_side, other_side}
+use Rattle.iscsi_captures.specs.Meant.{HearsWanted, IsFor, IsMeant}
+use Rattle.capture_connections.specs.Following.{Hears, KeepsAll, Table}
 use Rattle.iscsi_captures.specs.Giving.{IfCut}
 use Rattle.iscsi_captures.specs.declared.fault.CapturesFault.{CapturesFault}
 use Rattle.iscsi_captures.specs.declared.fault.CapturesFault.TheVariants as faults

@@ -6,9 +6,9 @@ use Rattle.std.proofs.KnownBytes.{Appends-trans, Appends-kept}
 use Rattle.std.proofs.lemmas.List.{take_at}
 use Rattle.iscsi_stream.proofs.LoopInvariants.{WroteUpTo}
 use Rattle.iscsi_captures.specs.declared.captured.End.TheVariants.{Initiator}
-use Rattle.iscsi_captures.specs.declared.connections.Connection.{Connection}
-use Rattle.iscsi_captures.specs.declared.ends.Side.{Side}
-use Rattle.iscsi_captures.specs.Directions.{IsMeant}
+use Rattle.capture_connections.specs.declared.connections.Connection.{Connection}
+use Rattle.capture_connections.specs.declared.ends.Side.{Side}
+use Rattle.iscsi_captures.specs.Meant.{IsMeant}
 use Rattle.iscsi_captures.specs.Listing.{AreLinesFrom, GoesOn, IsLineOf, Lists, WroteLines, line_front}
 use Rattle.iscsi_captures.specs.Giving.{IsFileFault}
 use Rattle.iscsi_captures.specs.declared.fault.CapturesFault.{CapturesFault}

@@ -8,9 +8,9 @@ use Rattle.std.proofs.lemmas.List.{take-append-drop}
 use Rattle.iscsi_captures.specs.declared.captured.Wanted.{Wanted}
 use Rattle.iscsi_captures.specs.declared.fault.CapturesFault.{CapturesFault}
 use Rattle.iscsi_captures.specs.declared.fault.CapturesFault.TheVariants.{Read}
-use Rattle.iscsi_captures.specs.declared.heard.Heard.{Heard}
-use Rattle.iscsi_captures.specs.Directions.{HearsWanted}
-use Rattle.iscsi_captures.specs.Following.{Table}
+use Rattle.capture_connections.specs.declared.heard.Heard.{Heard}
+use Rattle.iscsi_captures.specs.Meant.{HearsWanted}
+use Rattle.capture_connections.specs.Following.{Table}
 use Rattle.iscsi_captures.specs.Giving.{Adds, AddsSome, IsFaultOf, IsWhole, Listening, ReadsOn, WasRead}
 
 -- ---- bytes that were read of a file

@@ -1,25 +1,22 @@
 -- What a captured direction gives to who reads it, when it ends, and why it fails.
-use Rattle.std.specs.Prelude.{◌≡◌, ◌⊎◌, ℕ, Bool, true, false, nat_lt, if◌then◌else◌, List, [], ◌∷◌, ◌++◌, slice_get, Option, Some, None, IfSome, Result, Ok, Err}
+use Rattle.std.specs.Prelude.{◌≡◌, ◌⊎◌, ℕ, Bool, true, false, List, [], ◌∷◌, ◌++◌, slice_get, Option, Some, None, IfSome, Result, Ok, Err}
 use Rattle.std.specs.Io.KnownBytes.{Consumes, IsAtEnd}
 use Rattle.capture_file.specs.declared.fault.PacketFault.{PacketFault}
 use Rattle.capture_file.specs.declared.fault.PacketFault.TheVariants as packets
 use Rattle.capture_file.specs.declared.segment.Segment.{Segment}
 use Rattle.capture_file.specs.Segments.{plain_segment, segment_in}
 use Rattle.iscsi_captures.specs.declared.captured.Wanted.{Wanted}
-use Rattle.iscsi_captures.specs.declared.connections.Connection.{Connection}
-use Rattle.iscsi_captures.specs.declared.ends.Side.{Side}
+use Rattle.capture_connections.specs.declared.connections.Connection.{Connection}
+use Rattle.capture_connections.specs.declared.ends.Side.{Side}
 use Rattle.iscsi_captures.specs.declared.fault.CapturesFault.{CapturesFault}
 use Rattle.iscsi_captures.specs.declared.fault.CapturesFault.TheVariants as faults
 use Rattle.iscsi_captures.specs.declared.file.Numbered.{Numbered}
 use Rattle.iscsi_captures.specs.declared.file.Stood.{Stood}
 use Rattle.iscsi_captures.specs.declared.file.Stood.TheVariants as stood
-use Rattle.iscsi_captures.specs.declared.half.Half.{Half}
-use Rattle.iscsi_captures.specs.declared.half.Stop.{Stop}
-use Rattle.iscsi_captures.specs.declared.half.Stop.TheVariants.{Gap}
-use Rattle.iscsi_captures.specs.declared.heard.Heard.{Heard}
-use Rattle.iscsi_captures.specs.Directions.{HearsWanted, IsMeant}
-use Rattle.iscsi_captures.specs.Following.{Table, no_connections}
-use Rattle.iscsi_captures.specs.Listing.{sent_at}
+use Rattle.capture_connections.specs.declared.heard.Heard.{Heard}
+use Rattle.capture_connections.specs.Following.{Table, no_connections, stop_at_end}
+use Rattle.capture_connections.specs.Sides.{sent_at}
+use Rattle.iscsi_captures.specs.Meant.{HearsWanted, IsMeant}
 
 -- ---- what is read
 
@@ -62,12 +59,6 @@ abbrev pub WasRead : Option (List ℕ) → Option (List ℕ) → Type 0
 WasRead old new = (read : List ℕ) × Consumes old new read
 
 -- ---- when it ends
-
--- why a direction is not followed to its end if the capture ends here
-abbrev pub stop_at_end : Option Stop → Half → Option Stop
-stop_at_end (Some stop) half = Some stop
-stop_at_end None half =
-    if nat_lt 0 half.waiting then Some (Gap half.known half.waits_from) else None
 
 -- The connection is there, and nothing of its direction that is wanted is missing.
 abbrev pub IsWhole : Table → Wanted → Type 0

@@ -1,10 +1,5 @@
-pub mod Belonging
 pub mod Faults
-pub mod SameEnds
-pub mod Following
-pub mod Private
-pub mod Directions
+pub mod Meant
 pub mod Listing
 pub mod Written
 pub mod Giving
-pub mod Waiting

@@ -2,31 +2,18 @@
 use Rattle.std.specs.Prelude.{◌≡◌, ◌⊎◌, ℕ, suc, List, [], ◌∷◌, ◌++◌, Option, Result, Err, codes, decimal}
 use Rattle.std.specs.Io.KnownBytes.{Appends, Keeps}
 use Rattle.std.specs.Net.Text.{socket_text}
-use Rattle.std.specs.declared.net.socket_addr.SocketAddr.{SocketAddr}
 use Rattle.iscsi_captures.specs.declared.captured.End.TheVariants.{Initiator}
-use Rattle.iscsi_captures.specs.declared.connections.Connection.{Connection}
-use Rattle.iscsi_captures.specs.declared.ends.Ends.{Ends}
-use Rattle.iscsi_captures.specs.declared.ends.Side.{Side}
-use Rattle.iscsi_captures.specs.declared.ends.Side.TheVariants.{Lower, Upper}
-use Rattle.iscsi_captures.specs.declared.half.Half.{Half}
+use Rattle.capture_connections.specs.declared.connections.Connection.{Connection}
+use Rattle.capture_connections.specs.declared.ends.Side.{Side}
 use Rattle.iscsi_captures.specs.declared.fault.CapturesFault.{CapturesFault}
 use Rattle.iscsi_captures.specs.declared.fault.CapturesFault.TheVariants as faults
-use Rattle.iscsi_captures.specs.Directions.{IsMeant, other_side}
+use Rattle.capture_connections.specs.Sides.{address_at, other_side, sent_at}
+use Rattle.iscsi_captures.specs.Meant.{IsMeant}
 use Rattle.iscsi_captures.specs.Written.{WroteLess}
 
 -- the text goes on
 abbrev pub GoesOn : List ℕ → List ℕ → Type 0
 GoesOn old new = (more : List ℕ) × (new ≡ old ++ more)
-
--- the address of an end
-abbrev pub address_at : Side → Ends → SocketAddr
-address_at Lower ends = ends.lower
-address_at Upper ends = ends.upper
-
--- what an end of a connection sent
-abbrev pub sent_at : Side → Connection → Half
-sent_at Lower connection = connection.lower
-sent_at Upper connection = connection.upper
 
 -- a line before its remarks: the number of a connection, its ends, and how many bytes of each of
 -- them are known, with this end first

@@ -6,18 +6,15 @@
 ghost use Rattle.std.specs.Prelude.{◌≡◌, ◌≤◌, ◌<◌, ◌^◌, ◌⊎◌, ℕ, List, [], Option, None, Some, true, false, min, drop, take, length, IfOk, IfErr, OnOk, OnErr, IfSome, IsSome};
 ghost use Rattle.std.specs.Io.{ReadsAtMost};
 ghost use Rattle.std.specs.Io.KnownBytes.{IsAtEnd, ReadConsumes};
-ghost use Rattle.iscsi_captures.specs.Directions.{HearsWanted, IsFor, IsMeant, is_side};
-ghost use Rattle.iscsi_captures.specs.Following.{Table};
+ghost use Rattle.capture_connections.specs.Following.{Table};
+ghost use Rattle.capture_connections.specs.Sides.{is_side};
 ghost use Rattle.iscsi_captures.specs.Giving.{AddsSome, HasEnded, IfCut, IsDirectionFault, IsFaultOf, IsWhole, ReadsOn, WasRead, unread};
-ghost use Rattle.iscsi_captures.specs.declared.ends.Side.{Side};
+ghost use Rattle.iscsi_captures.specs.Meant.{HearsWanted, IsFor, IsMeant};
+ghost use Rattle.capture_connections.specs.declared.ends.Side.{Side};
 
-use crate::belonging::Start;
-use crate::connections::{Connection, Connections};
-use crate::ends::Side;
 use crate::fault::CapturesFault;
 use crate::file::{CaptureFile, Numbered, Stood};
-use crate::half::Stop;
-use crate::heard::{Heard, heard_of};
+use capture_connections::{Connection, Connections, Heard, Side, Start, Stop, heard_of};
 use std::alloc::{AllocError, Global};
 use std::io::{self, ErrorKind, Read};
 use std::marker::Model;
@@ -236,9 +233,9 @@ fn hear_segment(
     out.clear();
     let number = match connections.take(*heard, out) {
         Ok(number) => number,
-        Err(fault) => {
+        Err(_) => {
             out.clear();
-            return Err(fault);
+            return Err(CapturesFault::NoMemory);
         }
     };
     connections.keep_within();

@@ -4,6 +4,7 @@ ghost use Rattle.std.specs.Prelude.{◌≡◌, ℕ};
 ghost use Rattle.iscsi_captures.specs.declared.fault.CapturesFault.TheVariants.{NoMemory};
 ghost use Rattle.iscsi_captures.specs.Faults.{fault_status};
 
+use capture_connections::ConnectionsFault;
 use iscsi_stream::StreamFault;
 use std::alloc::{AllocError, AllocFailed};
 use std::fmt::{self, Debug, Formatter, Write};
@@ -122,6 +123,14 @@ impl CapturesFault {
 impl Debug for CapturesFault {
     fn fmt<W: Write>(&self, f: &mut Formatter<W>) -> fmt::Result {
         write!(f, "CapturesFault({self})")
+    }
+}
+
+impl From<ConnectionsFault> for CapturesFault {
+    ghost from_gives = { λ _ fault. fault ≡ NoMemory };
+
+    fn from(_fault: ConnectionsFault) -> CapturesFault {
+        CapturesFault::NoMemory
     }
 }
 

@@ -3,12 +3,11 @@
 ghost use Rattle.iscsi_captures.specs.Written.{Wrote};
 ghost use Rattle.iscsi_explain.specs.Showing.{AppendsSome};
 
-use crate::connections::{Connection, Connections};
 use crate::fault::CapturesFault;
 use crate::file::{CaptureFile, Numbered, Stood};
-use crate::heard::heard_of;
 use crate::moment::nanoseconds_of;
 use crate::talk::{Scene, Standing, Talk, first_of, has_port};
+use capture_connections::{Connection, Connections, heard_of};
 use iscsi_explain::Form;
 use iscsi_stream::write_fully;
 use std::alloc::{AllocError, Global};

@@ -6,12 +6,10 @@ ghost use Rattle.iscsi_captures.specs.Giving.{IsFileFault};
 ghost use Rattle.iscsi_captures.specs.Listing.{AreLinesFrom, GoesOn, IsLineOf, Lists};
 ghost use Rattle.iscsi_captures.specs.Written.{WroteLess};
 
-use crate::connections::{Connection, Connections};
 use crate::fault::CapturesFault;
 use crate::file::{CaptureFile, Numbered, Stood};
-use crate::half::{Half, Stop};
-use crate::heard::heard_of;
 use crate::talk::is_begun;
+use capture_connections::{Connection, Connections, Half, Stop, heard_of};
 use std::alloc::{AllocError, Global};
 use std::io::{Read, Write};
 

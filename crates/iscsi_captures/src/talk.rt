@@ -4,15 +4,11 @@ ghost use Rattle.std.specs.Prelude.{◌≡◌, OnOk, OnErr, ℕ, List};
 ghost use Rattle.iscsi_stream.specs.Stream.{Message};
 ghost use Rattle.iscsi_explain.specs.Showing.{AppendsSome};
 
-use crate::belonging::Start;
 use crate::captured::stop_fault;
-use crate::connections::{Connection, PORT};
-use crate::ends::Side;
 use crate::fault::CapturesFault;
 use crate::file::Numbered;
-use crate::half::Stop;
-use crate::heard::{Heard, Said};
 use crate::moment::{is_precise, nanoseconds_of};
+use capture_connections::{Connection, Heard, PORT, Said, Side, Start, Stop};
 use iscsi_explain::{Form, Manner, Origin, Requests, Stamp, pass_on};
 use iscsi_stream::{Framer, LONGEST_SEGMENT, ToolFault};
 use std::alloc::{AllocError, Global};

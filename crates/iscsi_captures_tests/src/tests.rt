@@ -6,8 +6,10 @@ mod interleaved;
 mod listings;
 mod streams;
 
+use crate::asserts::{same_bytes, same_text};
 use iscsi_captures::{Captured, CapturesFault, Wanted, normalise_captured};
 use std::alloc::Global;
+use std::fmt::Debug;
 use std::io::{Read, Write};
 use std::process::Abort;
 
@@ -34,6 +36,20 @@ pub fn bytes_of(rt: &impl Abort, alloc: Global, text: &str) -> Vec<u8> {
         }
     }
     out
+}
+
+/// Asserts that a job ended with the fault that has this text, or well if it is empty.
+pub fn ends_so(
+    rt: &impl Abort,
+    alloc: Global,
+    ended: Result<(), CapturesFault>,
+    fault: &str,
+    row: &impl Debug,
+) {
+    match ended {
+        Ok(()) => same_bytes(rt, b"", fault.as_bytes(), row),
+        Err(said) => same_text(rt, alloc, &said, fault, row),
+    }
 }
 
 /// Writes the canonical stream of one direction of a capture.

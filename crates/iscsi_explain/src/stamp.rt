@@ -3,7 +3,7 @@
 use std::alloc::{AllocError, Global};
 
 /// Which end of a connection sent a PDU.
-#[derive(Clone, Copy, Debug, PartialEq, Eq)]
+#[derive(Clone, Copy)]
 pub enum Origin {
     /// The initiator.
     Initiator,
@@ -12,7 +12,7 @@ pub enum Origin {
 }
 
 /// Where and when a PDU of a capture was seen.
-#[derive(Clone, Copy, Debug, PartialEq, Eq)]
+#[derive(Clone, Copy)]
 pub struct Stamp {
     /// The number of its connection, from 0.
     pub connection: usize,

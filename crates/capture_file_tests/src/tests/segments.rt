@@ -54,30 +54,31 @@ const FRAME: &str = "02000000 00020200 00000001 0800\
      4500002d 00014000 40060000 c0000201 c0000202\
      8f3c0cbc 11223344 55667788 50180200 00000000 68656c6c 6f 00";
 
-/// What a test looks at in a segment.
-type Seen = (Endpoint, Endpoint, u32, u32, usize);
+/// What a packet tells.
+#[derive(Clone, Copy, PartialEq)]
+enum Told {
+    Nothing,
+    Fault(PacketFault),
+    Segment(Endpoint, Endpoint, u32, u32, usize),
+}
 
 // What a packet tells.
-fn seen(found: Result<Option<Segment<'_>>, PacketFault>) -> Result<Option<Seen>, PacketFault> {
-    let Some(segment) = found? else {
-        return Ok(None);
-    };
-    Ok(Some((
-        segment.source,
-        segment.destination,
-        segment.sequence,
-        segment.acknowledged,
-        segment.bytes.len(),
-    )))
+fn seen(found: Result<Option<Segment<'_>>, PacketFault>) -> Told {
+    match found {
+        Err(fault) => Told::Fault(fault),
+        Ok(None) => Told::Nothing,
+        Ok(Some(segment)) => Told::Segment(
+            segment.source,
+            segment.destination,
+            segment.sequence,
+            segment.acknowledged,
+            segment.bytes.len(),
+        ),
+    }
 }
 
 // What the frame tells with its byte changed.
-fn changed(
-    rt: &impl Abort,
-    frame: &mut [u8],
-    at: usize,
-    value: u8,
-) -> Result<Option<Seen>, PacketFault> {
+fn changed(rt: &impl Abort, frame: &mut [u8], at: usize, value: u8) -> Told {
     let Some(byte) = frame.get_mut(at) else {
         panic!(rt; "no byte");
     };
@@ -103,6 +104,18 @@ enum Makes {
     Other,
 }
 
+impl Makes {
+    // Whether this is what a changed byte made, where the frame told the first before.
+    fn is_so(self, told: Told, first: Told) -> bool {
+        match self {
+            Makes::Same => told == first,
+            Makes::Nothing => matches!(told, Told::Nothing),
+            Makes::Fragment => matches!(told, Told::Fault(PacketFault::Fragment)),
+            Makes::Other => matches!(told, Told::Segment(..)) && told != first,
+        }
+    }
+}
+
 /// Bytes of the frame, the first and the last, and what each other value of one makes.
 const BYTES: &[(usize, usize, Makes)] = &[
     (0, 11, Makes::Same),
@@ -124,12 +137,7 @@ fn check_value(rt: &impl Abort, frame: &mut [u8], at: usize, value: u8, makes: M
     let first = seen(segment_of(packet_of(1, frame.len(), frame)));
     let was = frame.get(at).copied();
     let told = changed(rt, frame, at, value);
-    let is_due = match makes {
-        Makes::Same => told == first,
-        Makes::Nothing => told == Ok(None),
-        Makes::Fragment => told == Err(PacketFault::Fragment),
-        Makes::Other => told != first && told.is_ok() && told != Ok(None),
-    };
+    let is_due = makes.is_so(told, first);
     same(rt, &(is_due || was == Some(value)), &true, &(at, value));
 }
 

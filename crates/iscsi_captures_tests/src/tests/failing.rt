@@ -14,27 +14,39 @@ const WANTED: Wanted = Wanted {
     end: End::Initiator,
 };
 
-// The capture cut off after this many bytes: either the request was written, or nothing.
-fn is_cut_off(rt: &impl Abort, alloc: Global, file: &[u8], login: &[u8]) {
-    let mut source = file;
-    let mut out = Vec::new(alloc);
-    let result = normalise(alloc, &mut source, WANTED, &mut out);
-    // Records end behind 24, 80, 136, 240 and 344 bytes.
-    let at = match file.len() {
+// Where the record begins in which the capture is cut off after this many bytes, if it is. Records
+// end behind 24, 80, 136, 240 and 344 bytes.
+fn cut_record(len: usize) -> Option<u64> {
+    match len {
         0 | 24 | 80 | 136 | 240 | 344 => None,
         1..24 => Some(0),
         24..80 => Some(24),
         80..136 => Some(80),
         136..240 => Some(136),
         _ => Some(240),
-    };
-    let place = match result {
+    }
+}
+
+// Where the file is cut off, as the fault says.
+fn place_of(ended: Result<(), CapturesFault>) -> Option<u64> {
+    match ended {
         Err(CapturesFault::Truncated { at }) => Some(at),
         _ => None,
-    };
-    same(rt, &place, &at, &file.len());
-    let due = if file.len() < 240 { &login[..0] } else { login };
-    same_bytes(rt, &out, due, &file.len());
+    }
+}
+
+// What is written of the capture with this many bytes.
+fn written_by(len: usize, login: &[u8]) -> &[u8] {
+    if len < 240 { &login[..0] } else { login }
+}
+
+// The capture cut off after this many bytes: either the request was written, or nothing.
+fn is_cut_off(rt: &impl Abort, alloc: Global, file: &[u8], login: &[u8]) {
+    let mut source = file;
+    let mut out = Vec::new(alloc);
+    let result = normalise(alloc, &mut source, WANTED, &mut out);
+    same(rt, &place_of(result), &cut_record(file.len()), &file.len());
+    same_bytes(rt, &out, written_by(file.len(), login), &file.len());
 }
 
 #[test]

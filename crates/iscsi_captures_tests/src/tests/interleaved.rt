@@ -1,10 +1,10 @@
 //! Both directions of captures, in the order of the capture.
 
-use super::bytes_of;
 use super::captures::{
     BARE, BEGUN, CONFLICT, CUT, ELSEWHERE, FRAGMENT, GAP, LATE, LINK, LOST, REUSED, SILENT, WHOLE,
 };
-use crate::asserts::{same_bytes, same_text};
+use super::{bytes_of, ends_so};
+use crate::asserts::same_bytes;
 use iscsi_captures::show_capture;
 use iscsi_explain::Form;
 use std::alloc::Global;
@@ -84,11 +84,7 @@ fn is_shown(
         all.push_str(part).expect(rt, "memory");
     }
     same_bytes(rt, &out, all.as_bytes(), &fault);
-    if let Err(said) = result {
-        same_text(rt, alloc, &said, fault, &due);
-    } else {
-        same_bytes(rt, b"", fault.as_bytes(), &due);
-    }
+    ends_so(rt, alloc, result, fault, &due);
 }
 
 #[test]

@@ -1,8 +1,8 @@
 //! The lines of connections.
 
-use super::bytes_of;
 use super::captures::{BEGUN, CONFLICT, CUT, FRAGMENT, GAP, LATE, LINK, RESET, REUSED, WHOLE};
-use crate::asserts::{same_bytes, same_text};
+use super::{bytes_of, ends_so};
+use crate::asserts::same_bytes;
 use iscsi_captures::list_connections;
 use std::alloc::Global;
 use std::process::Abort;
@@ -48,11 +48,7 @@ fn is_listed(rt: &impl Abort, alloc: Global, capture: &str, lines: &[u8], fault:
     let mut out = Vec::new(alloc);
     let result = list_connections(alloc, &mut source, &mut out);
     same_bytes(rt, &out, lines, &lines);
-    if let Err(said) = result {
-        same_text(rt, alloc, &said, fault, &lines);
-    } else {
-        same_bytes(rt, b"", fault.as_bytes(), &lines);
-    }
+    ends_so(rt, alloc, result, fault, &lines);
 }
 
 #[test]

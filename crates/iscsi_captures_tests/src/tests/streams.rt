@@ -3,8 +3,8 @@
 use super::captures::{
     BEGUN, CONFLICT, CUT, FRAGMENT, GAP, LATE, LINK, LOGIN, PING, RESET, REUSED, WHOLE,
 };
-use super::{bytes_of, normalise};
-use crate::asserts::{same_bytes, same_text};
+use super::{bytes_of, ends_so, normalise};
+use crate::asserts::same_bytes;
 use crate::uses::show_initiator;
 use iscsi_captures::{End, Wanted};
 use std::alloc::Global;
@@ -56,11 +56,7 @@ fn is_written(rt: &impl Abort, alloc: Global, file: &[u8], wanted: Wanted, due: 
     let result = normalise(alloc, &mut source, wanted, &mut out);
     let due = bytes_of(rt, alloc, due);
     same_bytes(rt, &out, &due, &fault);
-    if let Err(said) = result {
-        same_text(rt, alloc, &said, fault, &wanted);
-    } else {
-        same_bytes(rt, b"", fault.as_bytes(), &wanted);
-    }
+    ends_so(rt, alloc, result, fault, &wanted);
 }
 
 #[test]

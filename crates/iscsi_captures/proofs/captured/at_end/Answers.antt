@@ -2,10 +2,10 @@
 use Rattle.std.proofs.Common.{◌≡◌, length, refl, sym, ap, ◌∙◌, subst, Some}
 use Rattle.std.specs.Prelude.{slice_get, Option, List}
 use Rattle.std.proofs.lemmas.Option.{slice_get_read}
-use Rattle.iscsi_captures.specs.Giving.{stop_at_end}
-use Rattle.iscsi_captures.specs.declared.connections.Connection.{Connection}
-use Rattle.iscsi_captures.specs.declared.half.Half.{Half}
-use Rattle.iscsi_captures.specs.declared.half.Stop.{Stop}
+use Rattle.capture_connections.specs.Following.{stop_at_end}
+use Rattle.capture_connections.specs.declared.connections.Connection.{Connection}
+use Rattle.capture_connections.specs.declared.half.Half.{Half}
+use Rattle.capture_connections.specs.declared.half.Stop.{Stop}
 use Rattle.iscsi_captures.proofs.captured.at_end.Goals as goal
 
 pub returns-in-Some-stopped-clause-fault : goal.returns-in-Some-stopped-clause-fault

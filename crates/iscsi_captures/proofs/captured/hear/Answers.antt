@@ -1,5 +1,5 @@
 -- A segment adds what it says; a packet with none adds nothing.
-use Rattle.iscsi_captures.specs.Following.{Table}
+use Rattle.capture_connections.specs.Following.{Table}
 use Rattle.iscsi_captures.specs.Giving.{AddsSome}
 use Rattle.iscsi_captures.proofs.Reading.{adds_nothing, ok_one, on_err}
 use Rattle.iscsi_captures.proofs.captured.hear.Goals as goal

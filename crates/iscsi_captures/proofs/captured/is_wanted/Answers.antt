@@ -1,7 +1,7 @@
 -- The connection at the place, if there is one, is the one that is wanted or another one.
 use Rattle.std.proofs.Common.{length, refl}
 use Rattle.std.proofs.lemmas.Option.{slice_get_read}
-use Rattle.iscsi_captures.proofs.Places.{get_behind}
+use Rattle.capture_connections.proofs.Places.{get_behind}
 use Rattle.iscsi_captures.proofs.captured.is_wanted.Goals as goal
 use Rattle.iscsi_captures.proofs.Hearing.{none_there, one_cut, one_result}
 

@@ -1,6 +1,6 @@
 -- A step that fails before a segment is heard adds nothing.
 use Rattle.std.proofs.lemmas.Result.{err_from_is_err_and}
-use Rattle.iscsi_captures.specs.Following.{Table}
+use Rattle.capture_connections.specs.Following.{Table}
 use Rattle.iscsi_captures.specs.Giving.{AddsSome}
 use Rattle.iscsi_captures.proofs.Reading.{adds_nothing, on_err}
 use Rattle.iscsi_captures.proofs.captured.step.Goals as goal

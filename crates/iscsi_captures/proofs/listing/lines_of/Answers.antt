@@ -1,7 +1,7 @@
 -- One line more for the next connection.
 use Rattle.std.proofs.Common.{◌≡◌, ◌<◌, ℕ, ◌+◌, List, [], ◌∷◌, ◌++◌, length, take, string_bytes, sym, ap, ◌∙◌, subst, arith}
 use Rattle.std.proofs.lemmas.List.{length-take-le, take_more}
-use Rattle.iscsi_captures.specs.declared.connections.Connection.{Connection}
+use Rattle.capture_connections.specs.declared.connections.Connection.{Connection}
 use Rattle.iscsi_captures.specs.Listing.{AreLinesFrom, IsLineOf}
 use Rattle.iscsi_captures.proofs.Listed.{lines_more}
 use Rattle.iscsi_captures.proofs.listing.lines_of.Goals as goal
