@@ -1,0 +1,253 @@
+//! What the PDUs of a target answer.
+
+ghost use Rattle.std.specs.Prelude.{◌≡◌, ◌≤◌, ◌++◌, IfOk, IfSome, OnOk, OnErr, None, Some};
+ghost use Rattle.std.specs.Option.{option_map};
+ghost use Rattle.iscsi_initiator.specs.Full.{residual, sense_of};
+ghost use Rattle.iscsi_job.specs.declared.item.Ended.TheVariants.{Ping as IsPing};
+ghost use Rattle.iscsi_job.specs.Answers.{answered, on_data, on_sense, on_text};
+
+use crate::fault::Reason;
+use crate::item::{Asked, Ended, Item, Moves};
+use crate::recording::{MOST_OPEN, Noted};
+use iscsi_pdu::{DataIn, Head, RESERVED_TAG, ScsiResponse, TextResponse};
+use scsi_cdb::Residual;
+use std::alloc::AllocError;
+
+/// Notes what a PDU of the target answers, or says why it has no place in a job. No request before
+/// `first_open` is without an answer. If memory runs out, nothing is noted of it.
+pub(crate) fn take(
+    noted: &mut Vec<Noted>,
+    first_open: &mut usize,
+    head: &Head,
+    bytes: &[u8],
+) -> Result<Option<Reason>, AllocError> {
+    let Some(tag) = tag_of(head) else {
+        return Ok(reason_of(head));
+    };
+    if tag == RESERVED_TAG {
+        return Ok(None);
+    }
+    let Some(index) = open_with(noted, *first_open, tag) else {
+        return Ok(Some(Reason::Unasked));
+    };
+    if index - *first_open > MOST_OPEN {
+        return Ok(Some(Reason::Open));
+    }
+    let Some(found) = noted.get_mut(index) else {
+        return Ok(Some(Reason::Unasked));
+    };
+    let said = answered(&mut found.item, head, bytes)?;
+    *first_open = next_open(noted, *first_open);
+    Ok(said)
+}
+
+// The tag of the request that a PDU answers.
+fn tag_of(head: &Head) -> Option<u32> {
+    match head {
+        Head::NopIn(head) => Some(head.initiator_task_tag),
+        Head::ScsiResponse(head) => Some(head.initiator_task_tag),
+        Head::TaskResponse(head) => Some(head.initiator_task_tag),
+        Head::TextResponse(head) => Some(head.initiator_task_tag),
+        Head::DataIn(head) => Some(head.initiator_task_tag),
+        Head::LogoutResponse(head) => Some(head.initiator_task_tag),
+        Head::NopOut(_)
+        | Head::ScsiCommand(_)
+        | Head::TaskRequest(_)
+        | Head::LoginRequest(_)
+        | Head::TextRequest(_)
+        | Head::DataOut(_)
+        | Head::LogoutRequest(_)
+        | Head::LoginResponse(_)
+        | Head::ReadyToTransfer(_)
+        | Head::AsyncMessage(_)
+        | Head::Reject(_) => None,
+    }
+}
+
+// Why a PDU that answers no request has no place in a job, if it has none.
+fn reason_of(head: &Head) -> Option<Reason> {
+    match head {
+        Head::LoginResponse(_) | Head::ReadyToTransfer(_) | Head::AsyncMessage(_) => None,
+        Head::Reject(_) => Some(Reason::Rejected),
+        Head::NopIn(_)
+        | Head::ScsiResponse(_)
+        | Head::TaskResponse(_)
+        | Head::TextResponse(_)
+        | Head::DataIn(_)
+        | Head::LogoutResponse(_) => None,
+        Head::NopOut(_)
+        | Head::ScsiCommand(_)
+        | Head::TaskRequest(_)
+        | Head::LoginRequest(_)
+        | Head::TextRequest(_)
+        | Head::DataOut(_)
+        | Head::LogoutRequest(_) => Some(Reason::Kind),
+    }
+}
+
+// The index of the first request with a tag that is without an answer, from this one on.
+fn open_with(noted: &[Noted], from: usize, tag: u32) -> Option<usize>
+    ensures behind { IfSome result (λ index. from ≤ index) }
+{
+    for index in from..noted.len() {
+        let Some(found) = noted.get(index) else {
+            return None;
+        };
+        if found.tag == tag && found.item.ended.is_none() {
+            return Some(index);
+        }
+    }
+    None
+}
+
+// The index of the first request without an answer, from this one on.
+fn next_open(noted: &[Noted], from: usize) -> usize {
+    for index in from..noted.len() {
+        match noted.get(index) {
+            Some(found) if found.item.ended.is_some() => {}
+            _ => return index,
+        }
+    }
+    from.max(noted.len())
+}
+
+// Notes what a PDU answers to its request.
+fn answered(item: &mut Item, head: &Head, bytes: &[u8]) -> Result<Option<Reason>, AllocError>
+    ensures refusal { IfOk result (λ refusal.
+        refusal ≡ (answered item.old head.now bytes.now).refusal) }
+    ensures item { OnOk result (item.new ≡ (answered item.old head.now bytes.now).item) }
+    ensures err { OnErr result (item.new ≡ item.old) }
+{
+    match (head, item.asked) {
+        (
+            Head::DataIn(head),
+            Asked::Command {
+                moves: Moves::In,
+                expected,
+                ..
+            },
+        ) => { data(item, expected, head, bytes) }
+        (Head::ScsiResponse(head), Asked::Command { .. }) => response(item, head, bytes),
+        (Head::NopIn(_), Asked::Ping) => pong(item, bytes),
+        (Head::TextResponse(head), Asked::Text) => text(item, head, bytes),
+        (Head::LogoutResponse(_), Asked::Logout) => Ok(ends(item, Ended::Closed)),
+        (Head::TaskResponse(head), Asked::Task(_)) => Ok(ends(item, Ended::Task(head.response))),
+        _ => Ok(Some(Reason::Unasked)),
+    }
+}
+
+// A request ended.
+fn ends(item: &mut Item, ended: Ended) -> Option<Reason>
+    ensures none { result ≡ None }
+    ensures ended { item.new ≡ record item.old { ended = Some ended } }
+{
+    item.ended = Some(ended);
+    None
+}
+
+// Data of a read; with a status they end it.
+fn data(
+    item: &mut Item,
+    expected: u32,
+    head: &DataIn,
+    bytes: &[u8],
+) -> Result<Option<Reason>, AllocError>
+    ensures refusal { IfOk result (λ refusal.
+        refusal ≡ (on_data item.old expected head.now bytes.now).refusal) }
+    ensures item { OnOk result (item.new ≡ (on_data item.old expected head.now bytes.now).item) }
+    ensures err { OnErr result (item.new ≡ item.old) }
+{
+    let held = item.received.len();
+    if head.buffer_offset as usize != held || held.saturating_add(bytes.len()) > expected as usize {
+        return Ok(Some(Reason::Order));
+    }
+    item.received.extend_from_slice(bytes)?;
+    if !head.has_status {
+        return Ok(None);
+    }
+    let residual = residual(
+        head.overflow.unwrap_or(false),
+        head.underflow.unwrap_or(false),
+        head.residual.unwrap_or(0),
+    );
+    let ended = Ended::Command {
+        response: 0,
+        status: head.status.unwrap_or(0),
+        residual,
+    };
+    Ok(ends(item, ended))
+}
+
+// A response ends its command, with its sense.
+fn response(
+    item: &mut Item,
+    head: &ScsiResponse,
+    bytes: &[u8],
+) -> Result<Option<Reason>, AllocError>
+    ensures refusal { IfOk result (λ refusal.
+        refusal ≡ (on_sense (sense_of bytes.now) item.old head.now).refusal) }
+    ensures item { OnOk result (item.new ≡ (on_sense (sense_of bytes.now) item.old head.now).item) }
+    ensures err { OnErr result (item.new ≡ item.old) }
+{
+    let Some(sense) = sense_of(bytes) else {
+        return Ok(Some(Reason::Sense));
+    };
+    item.sense.extend_from_slice(sense)?;
+    let residual = residual(head.overflow, head.underflow, head.residual.unwrap_or(0));
+    let ended = Ended::Command {
+        response: head.response,
+        status: head.status.unwrap_or(0),
+        residual,
+    };
+    Ok(ends(item, ended))
+}
+
+// The answer to a ping.
+fn pong(item: &mut Item, bytes: &[u8]) -> Result<Option<Reason>, AllocError>
+    ensures ok { IfOk result (λ refusal. (refusal ≡ None)
+        × (item.new ≡ record item.old { ended = Some IsPing; received = item.old.received ++ bytes.now })) }
+    ensures err { OnErr result (item.new ≡ item.old) }
+{
+    item.received.extend_from_slice(bytes)?;
+    Ok(ends(item, Ended::Ping))
+}
+
+// The answer to a text.
+fn text(item: &mut Item, head: &TextResponse, bytes: &[u8]) -> Result<Option<Reason>, AllocError>
+    ensures refusal { IfOk result (λ refusal.
+        refusal ≡ (on_text item.old head.now bytes.now).refusal) }
+    ensures item { OnOk result (item.new ≡ (on_text item.old head.now bytes.now).item) }
+    ensures err { OnErr result (item.new ≡ item.old) }
+{
+    if !head.is_final || head.continues {
+        return Ok(Some(Reason::Parts));
+    }
+    item.received.extend_from_slice(bytes)?;
+    Ok(ends(item, Ended::Text))
+}
+
+// The residual that a PDU names; overflow is looked at first.
+fn residual(overflow: bool, underflow: bool, count: u32) -> Residual
+    ensures { result ≡ residual overflow underflow count }
+{
+    if overflow {
+        Residual::Over(count)
+    } else if underflow {
+        Residual::Under(count)
+    } else {
+        Residual::Exact
+    }
+}
+
+// The sense bytes behind their length; none where the segment is empty (RFC 7143, section 11.4.7).
+fn sense_of(bytes: &[u8]) -> Option<&[u8]>
+    ensures { option_map (λ sense. sense.now) result ≡ sense_of bytes.now }
+{
+    if bytes.is_empty() {
+        return Some(bytes);
+    }
+    let [high, low, sense @ ..] = bytes else {
+        return None;
+    };
+    sense.get(..usize::from(u16::from_be_bytes([*high, *low])))
+}

@@ -1,0 +1,14 @@
+//! The job of a recorded session: what its initiator asked, and what came of each request (RFC 7143,
+//! section 11).
+#![tactic(auto)]
+
+mod answers;
+mod fault;
+mod item;
+mod pdus;
+mod recording;
+mod requests;
+
+pub use fault::{JobFault, Reason, Which};
+pub use item::{Asked, Ended, Item, Moves, Outcome, outcome_of};
+pub use recording::{MOST_OPEN, Noted, Recording};
