@@ -3,9 +3,10 @@
 use Rattle.std.specs.Prelude.{ℕ, ◌+◌, Bool, true, false, not, ◌==◌, ◌&&◌, ◌||◌, nat_lt, nat_le, if◌then◌else◌, List, [], ◌∷◌, ◌++◌, length, filter, Option, Some, None, is_some, Result, Ok, Err, codes}
 use Rattle.std.specs.List.{list_any, slice_split}
 use Rattle.std.specs.Str.{bytes_eq}
+use Rattle.std.specs.Char.{is_ascii_control}
 use Rattle.iscsi_access.specs.Chap.{Account, Chap, has_secret}
 use Rattle.iscsi_secrets.specs.declared.fault.SecretsFault.{SecretsFault}
-use Rattle.iscsi_secrets.specs.declared.fault.SecretsFault.TheVariants.{TooLong, BadLine, BadSecret, SameName, SameSecret, TooManyUsers, SecondTarget}
+use Rattle.iscsi_secrets.specs.declared.fault.SecretsFault.TheVariants.{TooLong, BadLine, BadName, BadSecret, SameName, SameSecret, TooManyUsers, SecondTarget}
 
 -- Who may log in, and as whom the target answers, if it does.
 pub record Secrets : Type 0 where
@@ -42,9 +43,25 @@ words_of line = filter is_word (slice_split is_blank (uncommented line))
 
 -- ---- one line more
 
+-- A name has at most 255 bytes, and no control character (RFC 7143, section 6.1).
+abbrev pub is_name : List ℕ → Bool
+is_name name = nat_le (length name) 255 && not (list_any is_ascii_control name)
+
 -- A secret has 12 to 255 bytes.
 abbrev pub is_secret : List ℕ → Bool
 is_secret secret = nat_le 12 (length secret) && nat_le (length secret) 255
+
+-- What is wrong with the name and the secret of this line, if anything is: the name's fault comes first.
+unfoldable pub wrong_account : ℕ → List ℕ → List ℕ → Option SecretsFault
+wrong_account line name secret =
+    if not (is_name name) then Some (BadName line)
+    else if not (is_secret secret) then Some (BadSecret line)
+    else None
+
+-- A fault, or else what a line makes.
+abbrev pub unless : Option SecretsFault → Result Secrets SecretsFault → Result Secrets SecretsFault
+unless None made = made
+unless (Some fault) made = Err fault
 
 -- One of the accounts has the name.
 abbrev pub has_name : List Account → List ℕ → Bool
@@ -66,23 +83,23 @@ is_known s name = has_name s.accounts name || is_own_name s.own name
 
 -- `user NAME SECRET [IQN]`, on the line of this number: one account more, of 64.
 abbrev pub with_user : ℕ → Secrets → Account → Result Secrets SecretsFault
-with_user line s account =
-    if not (is_secret account.secret) then Err (BadSecret line)
-    else if is_known s account.name then Err (SameName line)
+with_user line s account = unless (wrong_account line account.name account.secret) (
+    if is_known s account.name then Err (SameName line)
     else if is_own_secret s.own account.secret then Err (SameSecret line)
     else if nat_lt (length s.accounts) 64 then Ok (record s {
       accounts = s.accounts ++ account ∷ [];
     })
     else Err (TooManyUsers line)
+    )
 
 -- `target NAME SECRET`, on the line of this number: the target's own account, of which there is one.
 abbrev pub with_target : ℕ → Secrets → Account → Result Secrets SecretsFault
-with_target line s account =
-    if not (is_secret account.secret) then Err (BadSecret line)
-    else if is_some s.own then Err (SecondTarget line)
+with_target line s account = unless (wrong_account line account.name account.secret) (
+    if is_some s.own then Err (SecondTarget line)
     else if is_known s account.name then Err (SameName line)
     else if has_secret s.accounts account.secret then Err (SameSecret line)
     else Ok (record s { own = Some account })
+    )
 
 -- A name with its secret, and the InitiatorName to which they are bound, if they are.
 abbrev pub account_of : List ℕ → List ℕ → Option (List ℕ) → Account
@@ -93,14 +110,14 @@ account_of name secret initiator = record {
 }
 
 -- A line of three words.
-abbrev pub with_three : ℕ → Secrets → List ℕ → Account → Result Secrets SecretsFault
+unfoldable pub with_three : ℕ → Secrets → List ℕ → Account → Result Secrets SecretsFault
 with_three line s kind account =
     if bytes_eq kind (codes "user") then with_user line s account
     else if bytes_eq kind (codes "target") then with_target line s account
     else Err (BadLine line)
 
 -- A line of four words.
-abbrev pub with_four : ℕ → Secrets → List ℕ → Account → Result Secrets SecretsFault
+unfoldable pub with_four : ℕ → Secrets → List ℕ → Account → Result Secrets SecretsFault
 with_four line s kind account =
     if bytes_eq kind (codes "user") then with_user line s account
     else Err (BadLine line)

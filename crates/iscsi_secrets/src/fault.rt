@@ -30,6 +30,9 @@ pub enum SecretsFault {
     /// The line is of neither form.
     #[error("line {0}: this is neither 'user NAME SECRET [IQN]' nor 'target NAME SECRET'")]
     BadLine(u64),
+    /// The name has more than 255 bytes, or a control character.
+    #[error("line {0}: a name has at most 255 bytes, and no control character")]
+    BadName(u64),
     /// The secret has fewer than 12 bytes, or more than 255.
     #[error("line {0}: a secret has 12 to 255 bytes")]
     BadSecret(u64),

@@ -1,9 +1,11 @@
 //! Secrets, and the lines of a text that give them.
 
 ghost use Rattle.std.specs.Prelude.{◌≡◌, ◌≢◌, ◌||◌, true, false, IfOk, IfErr, OnOk, Ok, Err, Some, None, map};
+ghost use Rattle.std.specs.Char.{is_ascii_control};
+ghost use Rattle.std.specs.List.{list_any};
 ghost use Rattle.iscsi_access.specs.Chap.{has_secret};
 ghost use Rattle.iscsi_secrets.specs.declared.fault.SecretsFault.TheVariants as faults;
-ghost use Rattle.iscsi_secrets.specs.Secrets.{account_of, demand_of, has_name, is_own_name, is_own_secret, is_secret, secrets_in, with_four, with_three, with_user, with_target, with_words, words_of};
+ghost use Rattle.iscsi_secrets.specs.Secrets.{account_of, demand_of, has_name, is_name, is_own_name, is_own_secret, secrets_in, with_four, with_three, with_user, with_target, with_words, words_of, wrong_account};
 
 use crate::fault::SecretsFault;
 use crate::line::{lines_of, words_of};
@@ -13,6 +15,9 @@ use std::marker::Model;
 
 /// The most bytes of a text.
 pub(crate) const LONGEST_TEXT: usize = 65_536;
+
+/// The most bytes of a name.
+const LONGEST_NAME: usize = 255;
 
 /// The most users.
 const MOST_USERS: usize = 64;
@@ -49,6 +54,7 @@ impl Secrets {
     /// answers by the name and secret of its line.
     /// - Words are parted by blanks, tabs or carriage returns. A `#` begins a comment, also inside a
     ///   word, so that no word has one.
+    /// - A name has at most 255 bytes, and no control character (RFC 7143, section 6.1).
     /// - A secret has 12 to 255 bytes.
     /// - No name stands twice, and the target's secret is none of a user's.
     /// - There is at most one target, and there are at most 64 users and 65,536 bytes.
@@ -125,6 +131,7 @@ impl Secrets {
     }
 
     // Takes a line of three words.
+    #[tactic(auto, unfolding(crate::specs::Secrets::with_three))]
     fn take_three(
         &mut self,
         alloc: Global,
@@ -150,6 +157,7 @@ impl Secrets {
     }
 
     // Takes a line of four words.
+    #[tactic(auto, unfolding(crate::specs::Secrets::with_four))]
     fn take_four(
         &mut self,
         alloc: Global,
@@ -174,7 +182,7 @@ impl Secrets {
     // Takes a user.
     #[tactic(auto, using(crate::proofs::ApartLemmas::apart_longer))]
     fn take_user(&mut self, line: u64, account: Account) -> Result<(), SecretsFault>
-        requires { is_secret account.secret ≡ true }
+        requires { wrong_account line account.name account.secret ≡ None }
         ensures ok { OnOk result (with_user line self.old account ≡ Ok self.new) }
         ensures err { IfErr result (λ fault. fault ≢ faults.NoMemory →
             with_user line self.old account ≡ Err fault) }
@@ -194,7 +202,7 @@ impl Secrets {
 
     // Takes the target.
     fn take_target(&mut self, line: u64, account: Account) -> Result<(), SecretsFault>
-        requires { is_secret account.secret ≡ true }
+        requires { wrong_account line account.name account.secret ≡ None }
         ensures ok { OnOk result (with_target line self.old account ≡ Ok self.new) }
         ensures err { IfErr result (λ fault. with_target line self.old account ≡ Err fault) }
     {
@@ -212,19 +220,42 @@ impl Secrets {
     }
 }
 
-// The account of a name and a secret, which any initiator may use.
+// The account of a name and a secret, which any initiator may use. The name's fault comes first.
+#[tactic(auto, unfolding(crate::specs::Secrets::wrong_account))]
 fn account_of(alloc: Global, line: u64, name: &[u8], secret: &[u8]) -> Result<Account, SecretsFault>
     ensures ok { IfOk result (λ account. (account ≡ account_of name.now secret.now None)
-        × (is_secret secret.now ≡ true)) }
+        × (wrong_account line name.now secret.now ≡ None)) }
     ensures err { IfErr result (λ fault. fault ≢ faults.NoMemory →
-        (fault ≡ faults.BadSecret line) × (is_secret secret.now ≡ false)) }
+        wrong_account line name.now secret.now ≡ Some fault) }
 {
+    if !is_name(name) {
+        return Err(SecretsFault::BadName(line));
+    }
     let name = name.to_vec(alloc)?;
     let secret = secret.to_vec(alloc)?;
     match Account::new(name, secret) {
         Ok(account) => Ok(account),
         Err(_) => Err(SecretsFault::BadSecret(line)),
     }
+}
+
+// Whether a name is none too long, and has no control character.
+fn is_name(name: &[u8]) -> bool
+    ensures { result ≡ is_name name.now }
+{
+    name.len() <= LONGEST_NAME && !has_control(name)
+}
+
+// Whether one of the bytes is a control character.
+fn has_control(name: &[u8]) -> bool
+    ensures { result ≡ list_any is_ascii_control name.now }
+{
+    for b in name {
+        if b.is_ascii_control() {
+            return true;
+        }
+    }
+    false
 }
 
 // Whether an earlier line has the account's name.

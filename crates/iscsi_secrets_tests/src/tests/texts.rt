@@ -162,6 +162,21 @@ const FAULTS: &[(&str, &[u8], Option<SecretsFault>)] = &[
         Some(SecretsFault::BadSecret(2)),
     ),
     (
+        "a byte 0 in a name",
+        b"user alice secretsecret12\ntarget bo\0b othersecret34",
+        Some(SecretsFault::BadName(2)),
+    ),
+    (
+        "a delete in a name, and a short secret",
+        b"user al\x7fice short",
+        Some(SecretsFault::BadName(1)),
+    ),
+    (
+        "a name with bytes of UTF-8",
+        b"user al\xc3\xafce secretsecret12",
+        None,
+    ),
+    (
         "a name twice",
         b"user alice secretsecret12\nuser alice thirdsecret56",
         Some(SecretsFault::SameName(2)),
@@ -233,6 +248,24 @@ fn sixty_four_users_are_the_most(rt: HostRuntime) {
     same(&rt, &fault, &Some(SecretsFault::TooManyUsers(65)), &"65");
 }
 
+// The fault of a user whose name has so many bytes.
+fn fault_of_name(rt: &impl Abort, alloc: Global, length: usize) -> Option<SecretsFault> {
+    let mut text = Vec::new(alloc);
+    let name = vec![in alloc; b'a'; length].expect(rt, "a name");
+    text.extend_from_slice(b"user ").expect(rt, "a text");
+    text.extend_from_slice(&name).expect(rt, "a text");
+    text.extend_from_slice(b" secretsecret12")
+        .expect(rt, "a text");
+    Secrets::read(alloc, &text).err()
+}
+
+#[test]
+fn a_name_has_at_most_255_bytes(rt: HostRuntime) {
+    same(&rt, &fault_of_name(&rt, rt.alloc(), 255), &None, &"255");
+    let fault = fault_of_name(&rt, rt.alloc(), 256);
+    same(&rt, &fault, &Some(SecretsFault::BadName(1)), &"256");
+}
+
 #[test]
 fn a_text_has_at_most_65536_bytes(rt: HostRuntime) {
     let most = vec![in rt.alloc(); b'#'; 65_536].expect(&rt, "a text");
@@ -254,6 +287,10 @@ const PRINTED: &[(SecretsFault, &str)] = &[
         "may be used by others than its owner",
     ),
     (SecretsFault::TooLong, "has more than 65536 bytes"),
+    (
+        SecretsFault::BadName(2),
+        "line 2: a name has at most 255 bytes, and no control character",
+    ),
     (
         SecretsFault::BadSecret(3),
         "line 3: a secret has 12 to 255 bytes",
