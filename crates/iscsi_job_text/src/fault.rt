@@ -1,0 +1,108 @@
+//! Why a text is no job.
+
+ghost use Rattle.std.specs.Prelude.{◌≡◌};
+ghost use Rattle.iscsi_job_text.specs.declared.fault.LineFault.TheVariants as line;
+
+use std::alloc::{AllocError, AllocFailed};
+use thiserror::Error;
+
+/// Why a line of a job is refused (own rules).
+#[derive(Clone, Copy, Debug, PartialEq, Eq, Error)]
+pub enum LineReason {
+    /// Its first word is that of no request.
+    #[error("no request")]
+    Request,
+    /// The logical unit is neither a number below 256 nor 16 hex digits.
+    #[error("no logical unit")]
+    Unit,
+    /// The descriptor block is not 1 to 16 bytes of hex.
+    #[error("no descriptor block")]
+    Block,
+    /// A command says neither `none`, `in` nor `out`.
+    #[error("no direction")]
+    Direction,
+    /// A number is missing, is no decimal number or is too large.
+    #[error("no number")]
+    Number,
+    /// Bytes are missing, or are no hex digits in pairs.
+    #[error("no hex")]
+    Hex,
+    /// An outcome stands under no request, is the second one there, or is that of another kind of
+    /// request.
+    #[error("outcome of no request")]
+    Stray,
+    /// An outcome is none that is known.
+    #[error("no outcome")]
+    Outcome,
+    /// More words stand there than the line takes.
+    #[error("too many words")]
+    Words,
+    /// The line is not UTF-8.
+    #[error("not UTF-8")]
+    Utf8,
+}
+
+/// Why a text is no job.
+#[derive(Clone, Copy, Debug, PartialEq, Eq, Error)]
+pub enum TextFault {
+    /// Memory ran out.
+    #[error("memory")]
+    NoMemory,
+    /// A read failed, or 16,777,216 of them did not reach the end.
+    #[error("read failed")]
+    Read,
+    /// The text has more than 1,073,741,824 bytes.
+    #[error("over 1073741824 bytes")]
+    TooLong,
+    /// A line is refused.
+    #[error("line {line}: {reason}")]
+    Line {
+        /// Its number, from 1.
+        line: u64,
+        /// Why.
+        reason: LineReason,
+    },
+}
+
+/// Why a line is not taken.
+#[derive(Clone, Copy)]
+pub(crate) enum LineFault {
+    /// Memory ran out.
+    NoMemory,
+    /// It is refused.
+    Refused(LineReason),
+}
+
+impl LineFault {
+    /// The fault of a text in which the line with this number has this fault.
+    pub(crate) fn at(self, line: u64) -> TextFault {
+        match self {
+            LineFault::NoMemory => TextFault::NoMemory,
+            LineFault::Refused(reason) => TextFault::Line { line, reason },
+        }
+    }
+}
+
+impl From<LineReason> for LineFault {
+    ghost from_gives = { λ reason fault. fault ≡ line.Refused reason };
+
+    fn from(reason: LineReason) -> LineFault {
+        LineFault::Refused(reason)
+    }
+}
+
+impl From<AllocError> for LineFault {
+    ghost from_gives = { λ _ fault. fault ≡ line.NoMemory };
+
+    fn from(_error: AllocError) -> LineFault {
+        LineFault::NoMemory
+    }
+}
+
+impl<T: Drop> From<AllocFailed<T>> for LineFault {
+    ghost from_gives = { λ _ fault. fault ≡ line.NoMemory };
+
+    fn from(_error: AllocFailed<T>) -> LineFault {
+        LineFault::NoMemory
+    }
+}

@@ -1,0 +1,60 @@
+//! The line of a request, read.
+
+use crate::fault::{LineFault, LineReason};
+use crate::scripts::{blocks_of_one_byte, without_data};
+use crate::words::Words;
+use iscsi_job::{Asked, Moves};
+use std::alloc::Global;
+
+/// What the line of a request asks, and the bytes that it sends.
+pub(crate) fn request_of(alloc: Global, line: &str) -> Result<(Asked, Vec<u8>), LineFault> {
+    let mut words = Words::of(line);
+    let request = request_in(alloc, &mut words)?;
+    words.end()?;
+    Ok(request)
+}
+
+// The request that begins with the next word.
+fn request_in(alloc: Global, words: &mut Words<'_>) -> Result<(Asked, Vec<u8>), LineFault> {
+    match words.take() {
+        Some("command") => command(alloc, words),
+        Some("write") => blocks_of_one_byte(alloc, words),
+        Some("ping") => Ok((Asked::Ping, words.bytes_if_any(alloc)?)),
+        Some("text") => Ok((Asked::Text, words.bytes_if_any(alloc)?)),
+        Some(name) => Ok((without_data(name, words)?, Vec::new(alloc))),
+        None => Err(LineFault::Refused(LineReason::Request)),
+    }
+}
+
+// A command with its descriptor block.
+fn command(alloc: Global, words: &mut Words<'_>) -> Result<(Asked, Vec<u8>), LineFault> {
+    let lun = words.lun()?;
+    let cdb = words.block()?;
+    let (moves, expected, sent) = moved(alloc, words)?;
+    let asked = Asked::Command {
+        lun,
+        cdb,
+        moves,
+        expected,
+    };
+    Ok((asked, sent))
+}
+
+// Which way the data of a command go, how many bytes are expected, and those that are sent.
+fn moved(alloc: Global, words: &mut Words<'_>) -> Result<(Moves, u32, Vec<u8>), LineFault> {
+    match words.take() {
+        Some("none") => Ok((Moves::In, 0, Vec::new(alloc))),
+        Some("in") => {
+            let expected = words.number(u64::from(u32::MAX))? as u32;
+            Ok((Moves::In, expected, Vec::new(alloc)))
+        }
+        Some("out") => {
+            let sent = words.bytes_if_any(alloc)?;
+            match u32::try_from(sent.len()) {
+                Ok(expected) => Ok((Moves::Out, expected, sent)),
+                Err(_) => Err(LineFault::Refused(LineReason::Hex)),
+            }
+        }
+        _ => Err(LineFault::Refused(LineReason::Direction)),
+    }
+}

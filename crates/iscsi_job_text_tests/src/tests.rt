@@ -1,0 +1,4 @@
+//! Jobs as text, by example.
+
+mod memory;
+mod texts;

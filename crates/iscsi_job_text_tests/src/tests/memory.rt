@@ -1,0 +1,48 @@
+//! Memory that is refused, for `rt try --test --fail-alloc`: nothing but its want may come in place of
+//! a job or of its text.
+
+use crate::asserts::same;
+use iscsi_job::Item;
+use iscsi_job_text::{TextFault, read_job, write_item};
+use std::alloc::Global;
+use std::process::Abort;
+
+/// A job of each kind of request, with data.
+const TEXT: &str = "write 0 1 5a\n  was status 02 sense 700005\n\
+    command 1 1a0000000000 in 4\n  was good under 1 data 00ff00\n\
+    ping 616263\n  was ping 616263\n\
+    text 6100\n  was text 6200\n\
+    task 01\n  was done 00\n\
+    logout\n  was closed\n";
+
+// The job of the text, read once more where memory ran out.
+fn read_at_last(rt: &impl Abort, alloc: Global) -> Vec<Item> {
+    match read_job(alloc, &mut TEXT.as_bytes()) {
+        Ok(items) => items,
+        Err(fault) => {
+            same(rt, &fault, &TextFault::NoMemory, &"fault");
+            read_job(alloc, &mut TEXT.as_bytes()).expect(rt, "once more")
+        }
+    }
+}
+
+// Appends the lines of a request, once more where memory ran out.
+fn write_at_last(rt: &impl Abort, alloc: Global, item: &Item, text: &mut String) {
+    let mut lines = String::new(alloc);
+    if write_item(alloc, item, &mut lines).is_err() {
+        lines = String::new(alloc);
+        write_item(alloc, item, &mut lines).expect(rt, "once more");
+    }
+    if text.push_str(lines.as_str()).is_err() {
+        text.push_str(lines.as_str()).expect(rt, "once more");
+    }
+}
+
+#[test]
+fn refused_memory_changes_no_job(rt: HostRuntime) {
+    let mut text = String::new(rt.alloc());
+    for item in read_at_last(&rt, rt.alloc()).iter() {
+        write_at_last(&rt, rt.alloc(), item, &mut text);
+    }
+    same(&rt, &text.as_str(), &TEXT, &"text");
+}

@@ -1,0 +1,3 @@
+//! Jobs done again, by example.
+
+mod live;
