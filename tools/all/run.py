@@ -69,6 +69,7 @@ SCRIPTS = [
     Script("memory, writes", "memory/writes.py", "minutes", 30, MEASURED),
     Script("captures, long", "captures/long.py", "a minute", 30, MEASURED),
     Script("floods", "strangers/floods.py", "a minute", 20),
+    Script("replay", "replay/run.py", "minutes", 30, unproved=UNPROVED),
     Script("many_sessions", "many_sessions/run.py", "minutes", 30, unproved=UNPROVED),
     Script("lasting", "lasting/run.py", "minutes", 60, unproved=UNPROVED),
     Script("nbd", "nbd/run.py", "minutes", 60, unproved=UNPROVED),

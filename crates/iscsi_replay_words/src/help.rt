@@ -1,0 +1,37 @@
+//! The pages of help.
+
+/// What stands below the page of all words.
+pub const PROGRAM: &str = "\nRecorded sessions:\n  \
+    job          Print the job of a recorded session: each request with its outcome\n  \
+    replay       Do a job again at a live target, and print where outcomes differ\n";
+
+/// The page of `job`.
+pub(crate) const JOB: &str =
+    "Print the job of a recorded session: each request with its outcome\n\n\
+    Usage: lanthovur job <INITIATOR> <TARGET>\n       \
+    lanthovur job --capture <FILE> --connection <K>\n\n\
+    Arguments:\n  \
+    <INITIATOR>        File with the bytes from the initiator\n  \
+    <TARGET>           File with the bytes from the target\n\n\
+    Options:\n      \
+    --capture <FILE>   Read a capture file (pcap or pcapng) instead\n      \
+    --connection <K>   Connection to read, by its number in the list of 'connections'\n  \
+    -h, --help         Print help\n";
+
+/// The page of `replay`.
+pub(crate) const REPLAY: &str =
+    "Do a job again at a live target, and print where outcomes differ\n\n\
+    Usage: lanthovur replay [OPTIONS] --to <ADDR:PORT> <JOB>\n\n\
+    Arguments:\n  \
+    <JOB>                    File of the job, as 'job' prints it; - is standard input\n\n\
+    Options:\n      \
+    --to <ADDR:PORT>         Target's address; the port is 3260 if it is left out\n      \
+    --name <IQN>             Target's name (default iqn.2026-01.example:disk)\n      \
+    --initiator-name <IQN>   Initiator's name (default iqn.2026-01.example:host)\n      \
+    --lun <N>                Send each command to unit N, 0 to 255, instead of the recorded one\n      \
+    --all                    Go on behind a difference, and print their number at the end\n      \
+    --ignore <COMMAND>       Let the data of a command differ: inquiry, report-luns or\n                           \
+    mode-sense; may be repeated\n      \
+    --writes                 Let the job change the disk\n      \
+    --wait <SECONDS>         Longest wait for the target, 1 to 65535 (default 30)\n  \
+    -h, --help               Print help\n";

@@ -1,0 +1,61 @@
+//! What the words `job` and `replay` do.
+
+use crate::ending::Ending;
+use crate::job_words::source_of;
+use crate::jobs::write_job;
+use crate::replay_words::replay_of;
+use crate::replays::run_replay;
+use std::convert::AsStr;
+use std::io::Write;
+
+/// Does what a command line asks for, if its first word is `job` or `replay`, and returns the exit
+/// status; nothing of other words.
+///
+/// The status is 0 if all is done, 1 if outcomes differ or something is refused, 2 for words that ask
+/// for nothing or for help, 3 for memory, and 4 for reading, writing and the network. What there is to
+/// say of that goes to `errors`; a write there that fails changes nothing.
+pub fn run_recorded<S: AsStr, W: Write, E: Write>(
+    rt: &HostRuntime,
+    words: &[S],
+    w: &mut W,
+    errors: &mut E,
+) -> Option<u8> {
+    let [word, rest @ ..] = words else {
+        return None;
+    };
+    match word.as_str() {
+        "job" => Some(ended(job_ending(rt, rest, w), errors)),
+        "replay" => {
+            let ending = replay_ending(rt, rest, w, errors);
+            Some(ended(ending, errors))
+        }
+        _ => None,
+    }
+}
+
+// Tells an ending, and returns its status.
+fn ended<E: Write>(ending: Ending<'_>, errors: &mut E) -> u8 {
+    let _ = ending.tell(errors);
+    ending.status()
+}
+
+// How the words behind `job` end.
+fn job_ending<'a, S: AsStr, W: Write>(rt: &HostRuntime, words: &'a [S], w: &mut W) -> Ending<'a> {
+    match source_of(rt.alloc(), words) {
+        Ok(source) => write_job(rt, source, w),
+        Err(fault) => Ending::Words(fault),
+    }
+}
+
+// How the words behind `replay` end.
+fn replay_ending<'a, S: AsStr, W: Write, E: Write>(
+    rt: &HostRuntime,
+    words: &'a [S],
+    w: &mut W,
+    errors: &mut E,
+) -> Ending<'a> {
+    match replay_of(rt.alloc(), words) {
+        Ok(asked) => run_replay(rt, asked, w, errors),
+        Err(fault) => Ending::Words(fault),
+    }
+}
