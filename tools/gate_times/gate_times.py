@@ -61,7 +61,11 @@ def edit_of(words):
     number = os.path.basename(words[words.index("--incremental") + 1])
     if not number.isdigit():
         return f"{crate}: all of them"
-    names = sorted(os.listdir(f"crates/{crate}/must-fail"))
+    try:
+        names = sorted(os.listdir(f"crates/{crate}/must-fail"))
+    except OSError:
+        # another checkout's
+        return None
     return f"{crate}: {names[int(number)]}" if int(number) < len(names) else None
 
 
