@@ -72,14 +72,23 @@ CHAP_RESULTS = {
     "wrong_name": ("24", "none"),
     "wrong_target": ("19", "none"),
 }
+# What iscsiadm finds by discovery, and the disk by the record that it made then.
+DISCOVERY = """
+iscsiadm -m discovery -t sendtargets -p $PORTAL > /tmp/found 2> /tmp/said; status=$?
+data=none
+[ "$(cat /tmp/found)" = "$PORTAL,1 $TARGET" ] && node --login > /tmp/said 2>&1 && has_disk && lasts && data=same
+cat /tmp/found /tmp/said
+echo "RESULT discovery $status $data"
+"""
 
 
 class Service:
-    """`serve --at-once` with these words, which ends with the block."""
+    """`serve --at-once` with these words, in which PORT is its port, and which ends with the block."""
 
     def __init__(self, program, *words):
         with socket.create_server(("127.0.0.1", 0)) as other:
             self.port = other.getsockname()[1]
+        words = [word.replace("PORT", str(self.port)) for word in words]
         words = [program, "serve", "--size", "64M", "--at-once", "8", "--port", str(self.port), *words]
         self.process = subprocess.Popen(words, stdin=subprocess.DEVNULL, stdout=subprocess.PIPE, stderr=subprocess.DEVNULL)
         if self.process.stdout.readline() != b"listening\n":
@@ -110,7 +119,14 @@ def logs_in_by_secret(program, room):
     return seen == CHAP_RESULTS or (seen, text[-2000:])
 
 
-CASES = [logs_in_by_secret]
+def finds_the_portal(program, room):
+    """iscsiadm finds the target at the portal that is told, and logs in there."""
+    with Service(program, "--portal", "10.0.2.2:PORT") as service:
+        seen, text = results(room, service.port, DISCOVERY)
+    return seen == {"discovery": ("0", "same")} or (seen, text[-2000:])
+
+
+CASES = [logs_in_by_secret, finds_the_portal]
 
 
 def main():

@@ -56,11 +56,13 @@ def reasons(lines):
 
 
 class Service:
-    """A service with so many sessions in all, and further words; it ends when they were served, or is ended."""
+    """A service with so many sessions in all, and further words, in which PORT is its port; it ends when they were served, or is
+    ended."""
 
     def __init__(self, program, sessions, *words, blocks=BLOCKS):
         with socket.create_server(("127.0.0.1", 0)) as other:
             self.port = other.getsockname()[1]
+        words = [word.replace("PORT", str(self.port)) for word in words]
         words = ["serve", "--port", str(self.port), "--blocks", str(blocks), "--sessions", str(sessions), *words]
         pipe = subprocess.PIPE
         self.process = subprocess.Popen([program, *words], stdin=subprocess.DEVNULL, stdout=pipe, stderr=pipe)
@@ -397,6 +399,24 @@ def listed_initiators(program, room):
     return seen == [[False, True, False, True]] * 2 or seen
 
 
+def found(service, *words):
+    """What iscsi-ls finds at a service: a line of targets and one of units."""
+    words = ["iscsi-ls", *words, f"iscsi://127.0.0.1:{service.port}"]
+    ran = subprocess.run(words, stdin=subprocess.DEVNULL, stdout=subprocess.PIPE, stderr=subprocess.DEVNULL, timeout=SECONDS)
+    return ran.returncode, [b" ".join(line.split()) for line in ran.stdout.splitlines()]
+
+
+def told_portal(program, room):
+    """iscsi-ls finds the target at the portal that is told, and with -s its unit, beside the discovery session."""
+    with Service(program, 3, "--at-once", "2", "--portal", "127.0.0.1:PORT") as service:
+        target = f"Target:{NAME} Portal:127.0.0.1:{service.port},1".encode()
+        seen = [found(service), found(service, "-s")]
+        ended = service.ended()
+    # It takes the last block for the size, and so tells 3 MiB of 4.
+    due = [(0, [target]), (0, [target, b"Lun:0 Type:DIRECT_ACCESS (Size:3M)"])]
+    return (seen, ended) == (due, (b"listening\n", b"", 0)) or (seen, ended)
+
+
 CASES = [
     (two_perf, ["iscsi-perf"]),
     (two_halves, ["qemu-img"]),
@@ -414,6 +434,7 @@ CASES = [
     (as_before, []),
     (other_name, ["iscsi-inq"]),
     (listed_initiators, ["iscsi-inq"]),
+    (told_portal, ["iscsi-ls"]),
 ]
 
 

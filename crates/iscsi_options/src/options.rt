@@ -39,6 +39,9 @@ pub struct Options<'a> {
     pub at_once: u16,
     /// The target's name: 1 to 223 bytes, each of `!` to `~`.
     pub name: &'a [u8],
+    /// The address that initiators are told to use, if they are told one: 1 to 255 bytes, each of `!`
+    /// to `~`, and none a comma.
+    pub portal: Option<&'a [u8]>,
     /// How long a peer may keep its seat.
     pub limits: Limits,
     /// What the target prefers in a login. `max_recv` and `max_burst` are 512 to 1048576 bytes, and

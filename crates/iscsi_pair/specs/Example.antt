@@ -8,7 +8,7 @@ use Rattle.iscsi_login.specs.Negotiation.{standard}
 use Rattle.iscsi_login.specs.declared.stage.Stage.TheVariants as stages
 use Rattle.iscsi_login.specs.declared.stage.Session.TheVariants as sessions
 use Rattle.iscsi_login.specs.declared.offers.Auth.TheVariants as auths
-use Rattle.iscsi_target_session.specs.Configured.{open_to_all}
+use Rattle.iscsi_target_session.specs.Configured.{no_extras}
 use Rattle.iscsi_initiator.specs.declared.request.Done.{Done}
 use Rattle.iscsi_initiator.specs.declared.request.Done.TheVariants as done
 use Rattle.iscsi_initiator.specs.Block.{record_of}
@@ -64,7 +64,7 @@ standard_opening blocks = record {
     group = 1;
     tsih = 1;
     preferences = standard;
-    access = open_to_all;
+    extras = no_extras;
   };
   first_stat_sn = 1;
   blocks = blocks;

@@ -198,8 +198,8 @@ pub record Suits (c : Opening) : Type 0 where
   pub name : (c.initiator.proposal.session ≡ sessions.Discovery)
       ⊎ (c.initiator.proposal.target ≡ c.target.name)
   pub auth : (c.initiator.start ≡ stages.Operational) ⊎ (c.initiator.proposal.auth ≢ auths.Chap)
-  pub access : target_settings.is_allowed c.target.access c.initiator.proposal.initiator ≡ true
-  pub chap : c.target.access.chap ≡ None
+  pub access : target_settings.is_allowed c.target.extras c.initiator.proposal.initiator ≡ true
+  pub chap : c.target.extras.chap ≡ None
 
 -- A request is handed in once the initiator has completed its login.
 abbrev pub IsInTime : Event → World → Type 0

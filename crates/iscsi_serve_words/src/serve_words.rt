@@ -4,6 +4,7 @@
 ghost use Rattle.std.specs.Prelude.{◌≡◌, ◌<◌, ◌≤◌, IfOk, IfSome};
 ghost use Rattle.scsi_disk.specs.Disk.{most_blocks};
 ghost use Rattle.iscsi_login.specs.Name.{IsName};
+ghost use Rattle.iscsi_portal.specs.Portal.{IsPortal};
 ghost use Rattle.iscsi_options.specs.Options.{AreOffered, IsMemory, longest_asked};
 ghost use Rattle.iscsi_serve_words.specs.Services.{IsServeJob};
 ghost use Rattle.iscsi_serve_words.specs.Storage.{IsStorage};
@@ -21,6 +22,7 @@ use iscsi_options::{
     LEAST_MEMORY, LOGIN_WITHIN, LONGEST_ASKED, Limits, MEMORY, MOST_AT_ONCE, MOST_MEMORY, Options,
     SHORTEST_ASKED,
 };
+use iscsi_portal::is_portal;
 use std::alloc::{AllocError, Global};
 use std::convert::AsStr;
 use std::net::{IpAddr, Ipv4Addr};
@@ -72,6 +74,9 @@ const BAD_LISTEN: &str =
     "is no address: '--listen <ADDR>' takes an IPv4 or IPv6 address (default 127.0.0.1)";
 
 const BAD_NAME: &str = "is no name: '--name <IQN>' takes 1 to 223 bytes, each from '!' to '~'";
+
+const BAD_PORTAL: &str =
+    "is no portal: '--portal <ADDR:PORT>' takes 1 to 255 bytes, each from '!' to '~' but ','";
 
 const BAD_INITIATOR: &str =
     "is no name: '--initiator <IQN>' takes 1 to 223 bytes, each from '!' to '~'";
@@ -187,6 +192,7 @@ fn with_options<'a>(alloc: Global, program: Command<'a>) -> Result<Command<'a>, 
     );
     let listen_help = "IPv4 or IPv6 address to listen on (default 127.0.0.1)";
     let name_help = "Name of the target (default iqn.2026-01.example:disk)";
+    let portal_help = "Address that initiators are to use, which discovery tells (default none)";
     let idle_help = "End a session after S seconds without a byte, 1 to 65535 (default never)";
     let login_help = "End a connection without a login after S seconds, 1 to 65535 (default 30)";
     let memory_help = "Memory limit of a disk in memory, at least 32768 bytes (default 268435456)";
@@ -195,6 +201,7 @@ fn with_options<'a>(alloc: Global, program: Command<'a>) -> Result<Command<'a>, 
         .next_help_heading("Options that need --at-once");
     let program = with_word(program, option(alloc, "listen", "ADDR", listen_help))?;
     let program = with_word(program, option(alloc, "name", "IQN", name_help))?;
+    let program = with_word(program, option(alloc, "portal", "ADDR:PORT", portal_help))?;
     let program = with_word(program, option(alloc, "idle", "S", idle_help))?;
     let program = with_word(program, option(alloc, "login-within", "S", login_help))?;
     let program = with_word(program, no_login_limit(alloc))?;
@@ -351,6 +358,7 @@ pub fn service_of<'a>(alloc: Global, asked: &ArgMatches<'a>) -> Result<ServeJob<
         return Err(refused(alloc, digits, BAD_AT_ONCE));
     };
     let (listen, name) = place_of(alloc, asked)?;
+    let portal = portal_of(alloc, asked)?;
     let limits = Limits {
         idle: seconds_of(alloc, asked, "idle", BAD_IDLE)?,
         login_within: login_within_of(alloc, asked)?,
@@ -362,6 +370,7 @@ pub fn service_of<'a>(alloc: Global, asked: &ArgMatches<'a>) -> Result<ServeJob<
         sessions,
         at_once,
         name,
+        portal,
         limits,
         preferences,
         memory: memory_of(alloc, asked)?,
@@ -467,6 +476,19 @@ fn place_of<'a>(alloc: Global, asked: &ArgMatches<'a>) -> Result<(IpAddr, &'a [u
         return Err(refused(alloc, name, BAD_NAME));
     }
     Ok((listen, name.as_bytes()))
+}
+
+// The address of the portal that initiators are to use, if it is said.
+fn portal_of<'a>(alloc: Global, asked: &ArgMatches<'a>) -> Result<Option<&'a [u8]>, LineFault>
+    ensures portal { IfOk result (λ portal. IfSome portal (λ address. IsPortal address.now)) }
+{
+    let Some(address) = asked.get_str("portal") else {
+        return Ok(None);
+    };
+    if !is_portal(address.as_bytes()) {
+        return Err(refused(alloc, address, BAD_PORTAL));
+    }
+    Ok(Some(address.as_bytes()))
 }
 
 // The number of seconds, 1 to 65535, that a word has, if it stands there.

@@ -1,7 +1,7 @@
 -- A service of several sessions at a time: what it has, and when it is done.
 use Rattle.std.specs.Prelude.{◌≡◌, ℕ, ◌<◌, Bool, true, false, nat_le, List, length, Option, None, Some, is_some}
 use Rattle.iscsi_login.specs.declared.preferences.Preferences.{Preferences}
-use Rattle.iscsi_target_session.specs.Configured.{Settings, open_to_all}
+use Rattle.iscsi_target_session.specs.Configured.{Settings, no_extras}
 use Rattle.iscsi_hall.specs.Seats.{Hall, seat_at}
 
 -- The seats, how many logins were completed, and how many are to be; none: any number.
@@ -25,12 +25,19 @@ abbrev pub IsDone : Service → Type 0
 IsDone service = (has_all service.sessions service.logins ≡ true) × IsEmpty service.hall
 
 -- What the target is configured with for the session of a number: portal group 1, and the number as
--- its TSIH (RFC 7143, section 11.12.6; own rule). Everybody may log in.
+-- its TSIH (RFC 7143, section 11.12.6; own rule). It is told no more.
 abbrev pub settings_of : List ℕ → ℕ → Preferences → Settings
 settings_of name number preferences = record {
   name = name;
   group = 1;
   tsih = number;
   preferences = preferences;
-  access = open_to_all;
+  extras = no_extras;
+}
+
+-- The settings with the address of this portal, where one is told (RFC 7143, section 13.8).
+abbrev pub told : Option (List ℕ) → Settings → Settings
+told None settings = settings
+told (Some portal) settings = record settings {
+  extras = record settings.extras { portal = Some portal };
 }

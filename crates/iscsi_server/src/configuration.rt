@@ -1,11 +1,14 @@
 //! What the target of a session is configured with.
 
-ghost use Rattle.std.specs.Prelude.{◌≡◌, IfOk, OnOk};
+ghost use Rattle.std.specs.Prelude.{◌≡◌, IfOk, IfSome, OnOk};
+ghost use Rattle.std.specs.Option.{option_map};
 ghost use Rattle.iscsi_login.specs.Name.{IsName};
 ghost use Rattle.iscsi_login.specs.Negotiation.{IsInRange};
-ghost use Rattle.iscsi_server.specs.Serving.{settings_of};
+ghost use Rattle.iscsi_portal.specs.Portal.{IsPortal};
+ghost use Rattle.iscsi_server.specs.Serving.{settings_of, told};
 
 use iscsi_login::Preferences;
+use iscsi_portal::Portal;
 use iscsi_target::Config;
 use std::alloc::{AllocError, Global};
 
@@ -25,6 +28,26 @@ pub fn configuration(
 {
     match Config::new(alloc, name, GROUP, number, preferences) {
         Ok(config) => Ok(config),
+        Err(_) => Err(AllocError),
+    }
+}
+
+/// The same, which tells initiators to use the portal of this address, if there is one. If its bytes are
+/// an address, the only error is that memory ran out; the configuration is dropped then.
+pub fn with_address(
+    alloc: Global,
+    config: Config,
+    portal: Option<&[u8]>,
+) -> Result<Config, AllocError>
+    ensures told { IfOk result
+        (λ made. made ≡ told (option_map (λ portal. portal.now) portal) config) }
+    ensures ok { OnOk result (IfSome portal (λ portal. IsPortal portal.now)) }
+{
+    let Some(bytes) = portal else {
+        return Ok(config);
+    };
+    match Portal::new(alloc, bytes) {
+        Ok(portal) => Ok(config.with_portal(portal)),
         Err(_) => Err(AllocError),
     }
 }

@@ -69,6 +69,25 @@ const STRANGER: &str =
 const REFUSED: &str =
     "23040000 00000000 40000002 00000000 00000000 00000000 00000000 00000001 00000008 02020000 00000000 00000000";
 
+// A login for discovery at a service that tells a portal, a request for all targets, and a logout.
+const DISCOVERY: &str =
+    "43870000 0000008a 40000001 00000000 00000000 00000000 00000001 00000000 00000000 00000000 00000000 00000000 'AuthMethod=None|DefaultTime2Retain=0|DefaultTime2Wait=2|ErrorRecoveryLevel=0|InitiatorName=iqn.2026-01.example:host|SessionType=Discovery|";
+
+const DISCOVERED: &str =
+    "23870000 0000006b 40000001 00000001 00000000 00000000 00000001 00000001 00000008 00000000 00000000 00000000 'AuthMethod=None|DefaultTime2Retain=0|DefaultTime2Wait=2|ErrorRecoveryLevel=0|MaxRecvDataSegmentLength=8192|";
+
+const ALL_TARGETS: &str =
+    "44800000 00000010 00000000 00000000 00000001 ffffffff 00000001 00000002 00000000 00000000 00000000 00000000 'SendTargets=All|";
+
+const TOLD_TARGET: &str =
+    "24800000 00000043 00000000 00000000 00000001 ffffffff 00000002 00000001 00000008 00000000 00000000 00000000 'TargetName=iqn.2026-01.example:disk|TargetAddress=192.0.2.7:3260,1|";
+
+const LOGOUT_FROM_DISCOVERY: &str =
+    "46800000 00000000 00000000 00000000 00000002 00000000 00000001 00000003 00000000 00000000 00000000 00000000";
+
+const LEFT_DISCOVERY: &str =
+    "26800000 00000000 00000000 00000000 00000002 00000000 00000003 00000001 00000008 00000000 00000000 00000000";
+
 /// What clients do one after another: the client, its requests, the answers.
 type Rows<'a> = &'a [(usize, &'static str, &'static str)];
 
@@ -81,6 +100,7 @@ fn options(sessions: u16, at_once: u16, idle: u16) -> Options<'static> {
         sessions: Some(sessions),
         at_once,
         name: b"iqn.2026-01.example:disk",
+        portal: None,
         limits: Limits {
             idle: Some(idle),
             login_within: None,
@@ -300,6 +320,23 @@ fn listed_initiators(rt: HostRuntime) {
         LISTED,
         "an initiator that is listed",
     );
+}
+
+/// A discovery session of a service that tells a portal: its keys have values, and the name comes before
+/// the address.
+const TOLD: Rows<'static> = &[
+    (0, DISCOVERY, DISCOVERED),
+    (0, ALL_TARGETS, TOLD_TARGET),
+    (0, LOGOUT_FROM_DISCOVERY, LEFT_DISCOVERY),
+];
+
+#[test]
+fn a_told_portal(rt: HostRuntime) {
+    let asked = Options {
+        portal: Some(b"192.0.2.7:3260"),
+        ..options(1, 2, 5)
+    };
+    check(&rt, &rt, asked, TOLD, "a portal");
 }
 
 /// One session at a time: the second one has its turns when the first one is over.

@@ -15,7 +15,7 @@ use Rattle.iscsi_stream.specs.Framing.{IsBegun, last_place}
 use Rattle.iscsi_login.specs.Negotiation.{standard}
 use Rattle.iscsi_target.specs.declared.fault.TargetFault.{TargetFault}
 use Rattle.iscsi_target.specs.declared.fault.TargetFault.TheVariants as faults
-use Rattle.iscsi_target_session.specs.Configured.{Settings, open_to_all}
+use Rattle.iscsi_target_session.specs.Configured.{Settings, no_extras}
 use Rattle.iscsi_target_session.specs.Session.{limit}
 use Rattle.iscsi_stream.specs.Canonical.{canon}
 use Rattle.iscsi_target.specs.State.{Execution, Stepped, opening, unchanged}
@@ -34,7 +34,7 @@ target_settings = record {
   group = 1;
   tsih = 1;
   preferences = standard;
-  access = open_to_all;
+  extras = no_extras;
 }
 
 -- A target's fault as the end of its session; its `NoMemory` is the session's own.

@@ -8,7 +8,7 @@ use Rattle.iscsi_target_session.specs.Configured.{Settings}
 abbrev pub named : Option (List (List ℕ)) → Settings → Settings
 named None settings = settings
 named (Some names) settings = record settings {
-  access = record settings.access { names = Some names };
+  extras = record settings.extras { names = Some names };
 }
 
 -- Where there are secrets, a login has to show one, by a challenge of its own.
@@ -16,5 +16,5 @@ abbrev pub Demands : Option Secrets → Settings → Settings → Type 0
 Demands None settings made = made ≡ settings
 Demands (Some secrets) settings made = (identifier : ℕ) × (challenge : List ℕ)
     × (made ≡ record settings {
-      access = record settings.access { chap = Some (demand_of secrets identifier challenge) };
+      extras = record settings.extras { chap = Some (demand_of secrets identifier challenge) };
     })

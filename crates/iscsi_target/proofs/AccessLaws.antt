@@ -119,7 +119,7 @@ exchange_guards c p said s r pairs is =
       live = λ a h q. moves s r p (verdict_stays c b s.progress name pairs p said is) h (at_full (stage_after s (allowed_move p r)) q);
     }
 
-whole_guards : (c : Chap) (s : Session) (r : Request) (text : Option Pairs) → s.settings.access.chap ≡ Some c → Guards c s text (whole_text s r text).session
+whole_guards : (c : Chap) (s : Session) (r : Request) (text : Option Pairs) → s.settings.extras.chap ≡ Some c → Guards c s text (whole_text s r text).session
 whole_guards c s r text d = text_cases (λ x. Guards c s text x.session) s r text (record {
   refused = λ why reason. unmoved c s text _ (record { progress = refl; stage = refl; has_text = refl; name = refl }) (λ e. absurd (cc e));
   plain = λ pairs is open_ none. absurd (let bad : Some c ≡ None = sym d ∙ open_ in cc bad);
@@ -140,14 +140,14 @@ whole_guards c s r text d = text_cases (λ x. Guards c s text x.session) s r tex
 regathered : (c : Chap) (s : Session) (text : Option Pairs) (n : Session) → Guards c (record s { gathered = [] }) text n → Guards c s text n
 regathered c s text n g = record { has_text = g.has_text; name = g.name; passes = g.passes; full = g.full; live = g.live }
 
-gather_guards : (c : Chap) (s : Session) (r : Request) (segment : Segment) (more : Bool) → s.settings.access.chap ≡ Some c
+gather_guards : (c : Chap) (s : Session) (r : Request) (segment : Segment) (more : Bool) → s.settings.extras.chap ≡ Some c
     → Guards c s (text_ending s.gathered segment)
     (if more then gather s r (segment_bytes segment) else whole_text (record s { gathered = [] }) r (text_ending s.gathered segment)).session
 gather_guards c s r segment true e = unmoved c s _ _ (record { progress = refl; stage = refl; has_text = refl; name = refl }) (λ f. f)
 gather_guards c s r segment false e = regathered c s (text_ending s.gathered segment) _
     (whole_guards c (record s { gathered = [] }) r (text_ending s.gathered segment) e)
 
-segment_guards : (c : Chap) (s : Session) (r : Request) (segment : Segment) → s.settings.access.chap ≡ Some c
+segment_guards : (c : Chap) (s : Session) (r : Request) (segment : Segment) → s.settings.extras.chap ≡ Some c
     → Guards c s (text_ending s.gathered segment) (segment_taken s r segment).session
 segment_guards c s r segment e = by_cases (nat_lt 16384 (length s.gathered + length (segment_bytes segment)))
     (λ f. rw f (unmoved c s (text_ending s.gathered segment) _ (record { progress = refl; stage = refl; has_text = refl; name = refl }) (λ g. absurd (cc g))))
@@ -210,12 +210,12 @@ by_none c s t r text None reply same g = g refl
 by_none c s t r text (Some why) reply same g =
     unmoved c s text _ (record { progress = same.progress; stage = same.stage; has_text = same.has_text; name = same.name }) (λ e. absurd (cc e))
 
-request_guards : (c : Chap) (s : Session) (r : Request) (segment : Segment) → s.settings.access.chap ≡ Some c
+request_guards : (c : Chap) (s : Session) (r : Request) (segment : Segment) → s.settings.extras.chap ≡ Some c
     → Guards c s (text_ending s.gathered segment) (login_request s r segment).session
 request_guards c s r segment e =
     let b : Begun s (numbered s r) = numbered_begun s r in
     let g : Guards c (entered s r) (text_ending (entered s r).gathered segment) (segment_taken (entered s r) r segment).session =
-    segment_guards c (entered s r) r segment (ap (λ (p : Settings). p.access.chap) b.settings ∙ e) in
+    segment_guards c (entered s r) r segment (ap (λ (p : Settings). p.extras.chap) b.settings ∙ e) in
     by_none c s (numbered s r) r (text_ending s.gathered segment) (first_of (request_refusals s r)) (segment_taken (entered s r) r segment) b.same
     (λ none. record {
       has_text = λ f. g.has_text (b.same.has_text ∙ f);
@@ -233,7 +233,7 @@ request_guards c s r segment e =
       live = λ a h q. g.live (λ f. b.same.progress ∙ a (sym b.phase ∙ f)) (λ f. b.same.progress ∙ h (enters s r none f)) q;
     })
 
-login_guards : (c : Chap) (s : Session) (head : Head) (segment : Segment) → s.settings.access.chap ≡ Some c
+login_guards : (c : Chap) (s : Session) (head : Head) (segment : Segment) → s.settings.extras.chap ≡ Some c
     → Guards c s (text_ending s.gathered segment) (login_in s head segment).session
 login_guards c s (LoginRequest r) segment e = request_guards c s r segment e
 login_guards c s _ segment e =
@@ -248,7 +248,7 @@ later_guards protected c s disk m l was =
     let x = step_stays (reliable protected) s disk m l in
     unmoved c s.session _ _ (record { progress = x.progress; stage = x.stage; has_text = x.has_text; name = x.name }) was
 
-step_guards : (protected : Bool) (c : Chap) (s : Machine) (disk : Disk) (m : Message) → s.session.settings.access.chap ≡ Some c
+step_guards : (protected : Bool) (c : Chap) (s : Machine) (disk : Disk) (m : Message) → s.session.settings.extras.chap ≡ Some c
     → Guards c s.session (text_ending s.session.gathered m.segment) (step protected s disk m).machine.session
 step_guards protected c s disk m d = by_phase s.session.phase refl
   where
@@ -269,7 +269,7 @@ step_guards protected c s disk m d = by_phase s.session.phase refl
 
 -- what holds of a session at each message
 record Held (c : Chap) (s : Session) : Type 0 where
-  demands : s.settings.access.chap ≡ Some c
+  demands : s.settings.extras.chap ≡ Some c
   stage : s.stage ≡ stages.Full → s.progress ≡ Passed
   phase : s.phase ≡ phases.Full → s.progress ≡ Passed
 
@@ -278,7 +278,7 @@ held_on protected c s disk m h =
     let g : Guards c s.session (text_ending s.session.gathered m.segment) (step protected s disk m).machine.session = step_guards protected
     c s disk m h.demands in
     record {
-      demands = ap (λ (p : Settings). p.access.chap) (step_settings (reliable protected) s disk m) ∙ h.demands;
+      demands = ap (λ (p : Settings). p.extras.chap) (step_settings (reliable protected) s disk m) ∙ h.demands;
       stage = g.full h.stage;
       phase = g.live h.phase h.stage;
     }
@@ -374,7 +374,7 @@ executed protected c s disk (m ∷ ms) h some =
 
 -- ---- the law
 
-opening_held : (settings : Settings) (n : ℕ) (c : Chap) → settings.access.chap ≡ Some c → Held c (opening settings n).session
+opening_held : (settings : Settings) (n : ℕ) (c : Chap) → settings.extras.chap ≡ Some c → Held c (opening settings n).session
 opening_held settings n c d = record { demands = d; stage = λ f. absurd (cc f); phase = λ f. absurd (cc f) }
 
 unpassed : (protected : Bool) (settings : Settings) (n : ℕ) (disk : Disk) (ms : List Message) (c : Chap) → Responded protected c (opening settings n) disk ms
@@ -382,7 +382,7 @@ unpassed : (protected : Bool) (settings : Settings) (n : ℕ) (disk : Disk) (ms 
 unpassed protected settings n disk ms c (inl was) = absurd (cc was)
 unpassed protected settings n disk ms c (inr h) = h
 
-pub full_if_answered : (protected : Bool) (settings : Settings) (n : ℕ) (disk : Disk) (ms : List Message) (c : Chap) → settings.access.chap ≡ Some c
+pub full_if_answered : (protected : Bool) (settings : Settings) (n : ℕ) (disk : Disk) (ms : List Message) (c : Chap) → settings.extras.chap ≡ Some c
     → (answers protected (opening settings n) disk ms).machine.session.stage ≡ stages.Full
     → HasResponded protected (opening settings n) disk c (answers protected (opening settings n) disk ms).machine.session.initiator_name ms
 full_if_answered protected settings n disk ms c d e =
@@ -390,7 +390,7 @@ full_if_answered protected settings n disk ms c d e =
     unpassed protected settings n disk ms c
     (passed protected c (opening settings n) disk ms h ((all_held protected c (opening settings n) disk ms h).stage e))
 
-pub executed_if_answered : (protected : Bool) (settings : Settings) (n : ℕ) (disk : Disk) (ms : List Message) (c : Chap) → settings.access.chap ≡ Some c
+pub executed_if_answered : (protected : Bool) (settings : Settings) (n : ℕ) (disk : Disk) (ms : List Message) (c : Chap) → settings.extras.chap ≡ Some c
     → ((answers protected (opening settings n) disk ms).executed ≡ [] → ⊥)
     → HasResponded protected (opening settings n) disk c (answers protected (opening settings n) disk ms).machine.session.initiator_name ms
 executed_if_answered protected settings n disk ms c d some =

@@ -15,7 +15,7 @@ use Rattle.iscsi_stream.specs.Stream.{Message}
 use Rattle.iscsi_login.specs.Stage.{is_closed_phase}
 use Rattle.iscsi_login.specs.declared.phase.Phase.{Phase}
 use Rattle.iscsi_login.specs.declared.phase.Phase.TheVariants as phases
-use Rattle.iscsi_target_session.specs.Configured.{Access, Settings, is_allowed, is_listed}
+use Rattle.iscsi_target_session.specs.Configured.{Extras, Settings, is_allowed, is_listed}
 use Rattle.iscsi_target_session.specs.Session.{Session, Reply}
 use Rattle.iscsi_target_session.specs.declared.status.Status.{Status}
 use Rattle.iscsi_target_session.specs.LoginText.{text_refusals, name_in, value_for}
@@ -31,7 +31,7 @@ use Rattle.iscsi_target.proofs.KeepingLemmas.{IsLater, step_settings, step_stays
 
 -- a session that took a text is that of an initiator that may log in, and full feature phase has one
 record Admitted (s : Session) : Type 0 where
-  listed : s.has_text ≡ true → is_allowed s.settings.access s.initiator_name ≡ true
+  listed : s.has_text ≡ true → is_allowed s.settings.extras s.initiator_name ≡ true
   full : s.phase ≡ phases.Full → s.has_text ≡ true
 
 -- it stays so, and a text that was taken stays taken
@@ -47,8 +47,8 @@ unmoved s n settings text name was = record {
   settings = settings;
   text = λ e. text ∙ e;
   admitted = λ a. record {
-    listed = λ e. ap (λ (p : Settings). is_allowed p.access n.initiator_name) settings
-        ∙ ap (λ (x : List ℕ). is_allowed s.settings.access x) name
+    listed = λ e. ap (λ (p : Settings). is_allowed p.extras n.initiator_name) settings
+        ∙ ap (λ (x : List ℕ). is_allowed s.settings.extras x) name
         ∙ a.listed (sym text ∙ e);
     full = λ e. text ∙ a.full (was e);
   };
@@ -68,17 +68,17 @@ unnot true e = refl
 unnot false e = absurd (cc e)
 
 -- the first text settles the name, and is refused where that may not log in
-listed_for : (taken : Bool) (access : Access) (before name : List ℕ) → (not taken && not (is_allowed access name)) ≡ false
-    → (taken ≡ true → is_allowed access before ≡ true) → is_allowed access (if taken then before else name) ≡ true
-listed_for true access before name row was = was refl
-listed_for false access before name row was = unnot (is_allowed access name) row
+listed_for : (taken : Bool) (extras : Extras) (before name : List ℕ) → (not taken && not (is_allowed extras name)) ≡ false
+    → (taken ≡ true → is_allowed extras before ≡ true) → is_allowed extras (if taken then before else name) ≡ true
+listed_for true extras before name row was = was refl
+listed_for false extras before name row was = unnot (is_allowed extras name) row
 
 answered_admits : (s : Session) (r : Request) (pairs : Pairs) → first_of (text_refusals s pairs) ≡ None → Admits s (text_answered s r pairs).session
 answered_admits s r pairs none = record {
   settings = refl;
   text = λ e. refl;
   admitted = λ a. record {
-    listed = λ e. listed_for s.has_text s.settings.access s.initiator_name (name_in (value_for (codes "InitiatorName") pairs))
+    listed = λ e. listed_for s.has_text s.settings.extras s.initiator_name (name_in (value_for (codes "InitiatorName") pairs))
         (all_false (text_refusals s pairs) none).1.1.1.1.1.1.1.1.0 a.listed;
     full = λ e. refl;
   };
@@ -211,18 +211,18 @@ executed_text protected s disk (m ∷ ms) a some =
 opening_admitted : (settings : Settings) (n : ℕ) → Admitted (opening settings n).session
 opening_admitted settings n = record { listed = λ e. absurd (cc e); full = λ e. absurd (cc e) }
 
-named : (protected : Bool) (settings : Settings) (names : List (List ℕ)) (n : ℕ) (disk : Disk) (ms : List Message) → settings.access.names ≡ Some names
+named : (protected : Bool) (settings : Settings) (names : List (List ℕ)) (n : ℕ) (disk : Disk) (ms : List Message) → settings.extras.names ≡ Some names
     → (answers protected (opening settings n) disk ms).machine.session.has_text ≡ true
     → is_among names (answers protected (opening settings n) disk ms).machine.session.initiator_name ≡ true
 named protected settings names n disk ms listed text =
     let r : Stepped = answers protected (opening settings n) disk ms in
     let x : Admits (opening settings n).session r.machine.session = all_admit protected (opening settings n) disk ms in
     subst (λ (o : Option (List (List ℕ))). is_listed o r.machine.session.initiator_name ≡ true) listed
-    (subst (λ (p : Settings). is_allowed p.access r.machine.session.initiator_name ≡ true) x.settings
+    (subst (λ (p : Settings). is_allowed p.extras r.machine.session.initiator_name ≡ true) x.settings
     ((x.admitted (opening_admitted settings n)).listed text))
 
 pub full_allowed : (protected : Bool) (settings : Settings) (names : List (List ℕ)) (n : ℕ) (disk : Disk) (ms : List Message)
-    → settings.access.names ≡ Some names
+    → settings.extras.names ≡ Some names
     → (answers protected (opening settings n) disk ms).machine.session.phase ≡ phases.Full
     → is_among names (answers protected (opening settings n) disk ms).machine.session.initiator_name ≡ true
 full_allowed protected settings names n disk ms listed full =
@@ -230,7 +230,7 @@ full_allowed protected settings names n disk ms listed full =
     (((all_admit protected (opening settings n) disk ms).admitted (opening_admitted settings n)).full full)
 
 pub executed_allowed : (protected : Bool) (settings : Settings) (names : List (List ℕ)) (n : ℕ) (disk : Disk) (ms : List Message)
-    → settings.access.names ≡ Some names
+    → settings.extras.names ≡ Some names
     → ((answers protected (opening settings n) disk ms).executed ≡ [] → ⊥)
     → is_among names (answers protected (opening settings n) disk ms).machine.session.initiator_name ≡ true
 executed_allowed protected settings names n disk ms listed some =
@@ -246,7 +246,7 @@ unfolding disk_after
 untouched_by protected executed disk now none e = e ∙ ap (λ (l : List Execution). disk_after protected (map supplied l) disk) none
 
 pub others_touch_nothing : (protected : Bool) (settings : Settings) (names : List (List ℕ)) (n : ℕ) (disk : Disk) (ms : List Message)
-    → settings.access.names ≡ Some names
+    → settings.extras.names ≡ Some names
     → is_among names (answers protected (opening settings n) disk ms).machine.session.initiator_name ≡ false
     → ((answers protected (opening settings n) disk ms).executed ≡ []) × ((answers protected (opening settings n) disk ms).disk ≡ disk)
 others_touch_nothing protected settings names n disk ms listed other =

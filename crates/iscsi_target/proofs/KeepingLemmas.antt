@@ -3,12 +3,11 @@ use Rattle.std.proofs.Common.{◌≡◌, ◌∙◌, ℕ, zero, suc, ◌+◌, Lis
 use Rattle.std.specs.Prelude.{nat_lt, nat_le, not, ◌==◌, ◌||◌, if◌then◌else◌}
 use Rattle.scsi_disk.specs.Disk.{Disk}
 use Rattle.iscsi_text.specs.Text.{Pairs}
-use Rattle.iscsi_text.specs.Canonical.{canonical_text}
 use Rattle.iscsi_text.specs.Reading.{text_in}
 use Rattle.iscsi_pdu.specs.declared.head.nop_out.NopOut.{NopOut as Ping}
 use Rattle.iscsi_pdu.specs.declared.head.text_request.TextRequest.{TextRequest as TextPdu}
 use Rattle.iscsi_pdu.specs.declared.head.logout_request.LogoutRequest.{LogoutRequest as Logout}
-use Rattle.iscsi_target_session.specs.TextRequests.{text_request, text_reply_to, reply_pairs}
+use Rattle.iscsi_target_session.specs.TextRequests.{text_request, text_reply_to, reply_text}
 use Rattle.iscsi_target_session.specs.Requests.{nop_out, logout_request}
 use Rattle.iscsi_pdu.specs.declared.head.Head.{Head}
 use Rattle.iscsi_pdu.specs.declared.head.Head.TheVariants.{LoginRequest, NopOut, TaskRequest, TextRequest, LogoutRequest, ScsiCommand, DataOut}
@@ -132,7 +131,7 @@ reply_keeps s disk r k = record {
 
 text_reply_keeps : (s : Session) (waiting : ℕ) (m : Message) (h : TextPdu) (pairs : Option Pairs) → KeptSession s (text_reply_to s waiting m h pairs).session
 text_reply_keeps s waiting m h None = ends s
-text_reply_keeps s waiting m h (Some pairs) = by_cases (nat_lt s.held.initiator_max_recv (length (canonical_text (reply_pairs s.settings.name pairs))))
+text_reply_keeps s waiting m h (Some pairs) = by_cases (nat_lt s.held.initiator_max_recv (length (reply_text s.settings pairs)))
     (λ e. rw e (ends s)) (λ e. rw e (counts s))
 
 text_keeps : (s : Session) (waiting : ℕ) (m : Message) (h : TextPdu) (bytes : List ℕ) → KeptSession s (text_request s waiting m h bytes).session

@@ -1,21 +1,17 @@
 -- Worked logins.
 use Rattle.std.specs.Prelude.{◌≡◌, true, false, [], ◌∷◌, ◌++◌, take, drop, replicate, Some, None, codes, refl, List, ℕ}
-use Rattle.std.specs.Fmt.{digits}
-use Rattle.scsi_cdb.specs.Layout.{put_bit, put_number, put_bytes, put_raw}
 use Rattle.scsi_cdb.specs.declared.cdb.Cdb.TheVariants as cdbs
-use Rattle.scsi_disk.specs.Disk.{cut, joined, overlaid, zero_blocks}
-use Rattle.iscsi_pdu.specs.Meaning.{header, whole}
 use Rattle.iscsi_pdu.specs.declared.head.Head.TheVariants as heads
-use Rattle.iscsi_text.specs.Key.{kind_of}
-use Rattle.iscsi_stream.specs.Segment.{Bytes, segment_of, segment_bytes}
+use Rattle.iscsi_stream.specs.Segment.{Bytes}
 use Rattle.iscsi_stream.specs.Stream.{Message}
 use Rattle.iscsi_pdu.specs.declared.head.login_request.LoginRequest.{LoginRequest}
 use Rattle.iscsi_stream.specs.Canonical.{canon}
 use Rattle.iscsi_login.specs.declared.phase.Phase.TheVariants as phases
-use Rattle.iscsi_target.specs.Machine.{answers, done_in_turn}
+use Rattle.iscsi_target.specs.Machine.{answers}
 use Rattle.iscsi_target.specs.Sessions.{LoginIsAnswered, LoginLeads}
 use Rattle.iscsi_target.specs.Worked.{hex, entry, login, first, second, segment, says, command, orders, initiator_name, target_name, first_text, second_text}
-use Rattle.iscsi_target.specs.Worked.{fresh, blank, logged_in, Row}
+use Rattle.iscsi_target.specs.Worked.{fresh, told, blank, logged_in, Row}
+use Rattle.iscsi_target.proofs.Computing.{answers_on_literals}
 
 -- The first request of a login is answered, with the tag of the portal group.
 pub first_request_is_answered : Row fresh
@@ -27,12 +23,12 @@ pub first_request_is_answered : Row fresh
     ((hex (codes "23810000 00000027 40000001 00000000 00000000 00000000 00000001 00000001 00000008 00000000 00000000 00000000"))
     ++ entry (codes "AuthMethod=None") ++ entry (codes "TargetPortalGroupTag=1") ++ 0 ∷ [])
     None
-unfolding answers done_in_turn digits header whole put_bit put_number put_bytes put_raw kind_of cut joined overlaid zero_blocks segment_of segment_bytes
+unfolding answers_on_literals
 first_request_is_answered = (refl, refl, refl)
 
 -- The second request ends the login, with the session's number and what the target takes.
 pub login_in_two_requests : LoginIsAnswered
-unfolding answers done_in_turn digits header whole put_bit put_number put_bytes put_raw kind_of cut joined overlaid zero_blocks segment_of segment_bytes
+unfolding answers_on_literals
 login_in_two_requests = (refl, refl, refl)
 
 -- A first text has the initiator's name.
@@ -44,7 +40,7 @@ pub no_initiator_name : Row fresh
     ++ 0 ∷ [])
     (hex (codes "23000000 00000000 40000001 00000000 00000000 00000000 00000000 00000001 00000008 02070000 00000000 00000000"))
     None
-unfolding answers done_in_turn digits header whole put_bit put_number put_bytes put_raw kind_of cut joined overlaid zero_blocks segment_of segment_bytes
+unfolding answers_on_literals
 no_initiator_name = (refl, refl, refl)
 
 -- It names this target.
@@ -56,7 +52,7 @@ pub another_target : Row fresh
     ++ 0 ∷ [])
     (hex (codes "23000000 00000000 40000001 00000000 00000000 00000000 00000000 00000001 00000008 02030000 00000000 00000000"))
     None
-unfolding answers done_in_turn digits header whole put_bit put_number put_bytes put_raw kind_of cut joined overlaid zero_blocks segment_of segment_bytes
+unfolding answers_on_literals
 another_target = (refl, refl, refl)
 
 -- Authentication can't be demanded.
@@ -68,7 +64,7 @@ pub chap_alone : Row fresh
     ++ 0 ∷ 0 ∷ [])
     (hex (codes "23000000 00000000 40000001 00000000 00000000 00000000 00000000 00000001 00000008 02010000 00000000 00000000"))
     None
-unfolding answers done_in_turn digits header whole put_bit put_number put_bytes put_raw kind_of cut joined overlaid zero_blocks segment_of segment_bytes
+unfolding answers_on_literals
 chap_alone = (refl, refl, refl)
 
 -- There is no session to join.
@@ -80,7 +76,7 @@ pub session_to_join : Row fresh
     ++ 0 ∷ 0 ∷ [])
     (hex (codes "23000000 00000000 40000001 00000000 00000000 00000000 00000000 00000001 00000008 020a0000 00000000 00000000"))
     None
-unfolding answers done_in_turn digits header whole put_bit put_number put_bytes put_raw kind_of cut joined overlaid zero_blocks segment_of segment_bytes
+unfolding answers_on_literals
 session_to_join = (refl, refl, refl)
 
 -- The target speaks version 0 alone.
@@ -92,7 +88,7 @@ pub version_above_0 : Row fresh
     ++ 0 ∷ 0 ∷ [])
     (hex (codes "23000000 00000000 40000001 00000000 00000000 00000000 00000000 00000001 00000008 02050000 00000000 00000000"))
     None
-unfolding answers done_in_turn digits header whole put_bit put_number put_bytes put_raw kind_of cut joined overlaid zero_blocks segment_of segment_bytes
+unfolding answers_on_literals
 version_above_0 = (refl, refl, refl)
 
 -- A session is normal, or for discovery.
@@ -104,7 +100,7 @@ pub unknown_session_type : Row fresh
     ++ 0 ∷ 0 ∷ 0 ∷ [])
     (hex (codes "23000000 00000000 40000001 00000000 00000000 00000000 00000000 00000001 00000008 02090000 00000000 00000000"))
     None
-unfolding answers done_in_turn digits header whole put_bit put_number put_bytes put_raw kind_of cut joined overlaid zero_blocks segment_of segment_bytes
+unfolding answers_on_literals
 unknown_session_type = (refl, refl, refl)
 
 -- A text that goes on can't move at once.
@@ -116,7 +112,7 @@ pub continued_and_moving : Row fresh
     ++ 0 ∷ 0 ∷ [])
     (hex (codes "23000000 00000000 40000001 00000000 00000000 00000000 00000000 00000001 00000008 02000000 00000000 00000000"))
     None
-unfolding answers done_in_turn digits header whole put_bit put_number put_bytes put_raw kind_of cut joined overlaid zero_blocks segment_of segment_bytes
+unfolding answers_on_literals
 continued_and_moving = (refl, refl, refl)
 
 -- A segment of 511 bytes can't be declared.
@@ -134,7 +130,7 @@ pub bad_segment_length : Row fresh
     ++ (entry (codes "AuthMethod=None") ++ entry (codes "TargetPortalGroupTag=1") ++ 0 ∷ [])
     ++ (hex (codes "23040000 00000000 40000001 00000000 00000000 00000000 00000000 00000001 00000008 02000000 00000000 00000000")))
     None
-unfolding answers done_in_turn digits header whole put_bit put_number put_bytes put_raw kind_of cut joined overlaid zero_blocks segment_of segment_bytes
+unfolding answers_on_literals
 bad_segment_length = (refl, refl, refl)
 
 -- A text in three segments: the first two answers are empty.
@@ -155,7 +151,7 @@ pub text_in_three_segments : Row fresh
     ++ (hex (codes "23810000 00000027 40000001 00000000 00000000 00000000 00000003 00000001 00000008 00000000 00000000 00000000"))
     ++ entry (codes "AuthMethod=None") ++ entry (codes "TargetPortalGroupTag=1") ++ 0 ∷ [])
     None
-unfolding answers done_in_turn digits header whole put_bit put_number put_bytes put_raw kind_of cut joined overlaid zero_blocks segment_of segment_bytes
+unfolding answers_on_literals
 text_in_three_segments = (refl, refl, refl)
 
 -- A Login Request in full feature phase is rejected, with its canonical header.
@@ -167,7 +163,7 @@ pub login_in_full_phase : Row logged_in
     (hex (codes "3f800400 00000030 00000000 00000000 ffffffff 00000000 00000003 00000001 00000008 00000000 00000000 00000000")
     ++ hex (codes "43870000 00000014 40000001 00000000 00000000 00000000 00000001 00000003 00000000 00000000 00000000 00000000"))
     (Some 1)
-unfolding answers done_in_turn digits header whole put_bit put_number put_bytes put_raw kind_of cut joined overlaid zero_blocks segment_of segment_bytes
+unfolding answers_on_literals
 login_in_full_phase = (refl, refl, refl)
 
 -- So it is where its number is spelled in hex.
@@ -179,7 +175,7 @@ pub login_in_full_phase_by_hex : Row logged_in
     (hex (codes "3f800400 00000030 00000000 00000000 ffffffff 00000000 00000003 00000001 00000008 00000000 00000000 00000000")
     ++ hex (codes "43870000 00000014 40000001 00000000 00000000 00000000 00000001 00000003 00000000 00000000 00000000 00000000"))
     (Some 1)
-unfolding answers done_in_turn digits header whole put_bit put_number put_bytes put_raw kind_of cut joined overlaid zero_blocks segment_of segment_bytes
+unfolding answers_on_literals
 login_in_full_phase_by_hex = (refl, refl, refl)
 
 -- A discovery session tells the target's name.
@@ -213,8 +209,42 @@ pub discovery_names_the_target : Row fresh
     ++ (hex (codes "24800000 00000024 00000000 00000000 00000001 ffffffff 00000003 00000002 00000009 00000000 00000000 00000000"))
     ++ target_name)
     None
-unfolding answers done_in_turn digits header whole put_bit put_number put_bytes put_raw kind_of cut joined overlaid zero_blocks segment_of segment_bytes
+unfolding answers_on_literals
 discovery_names_the_target = (refl, refl, refl)
+
+-- Where a portal is told, a discovery session tells its address behind the name, and answers keys by value.
+pub discovery_tells_the_portal : Row told
+    (says first (initiator_name ++ entry (codes "SessionType=Discovery"))
+    ∷ says second (entry (codes "MaxBurstLength=1024"))
+    ∷ (let m : Message = record {
+      head = heads.TextRequest (record {
+        immediate = false;
+        is_final = true;
+        continues = false;
+        lun = None;
+        initiator_task_tag = 1;
+        target_transfer_tag = 0xffff_ffff;
+        cmd_sn = 1;
+        exp_stat_sn = 3;
+      });
+      segment = Bytes (entry (codes "SendTargets=All"));
+    } in m)
+    ∷ [])
+    ((hex (codes "43810000 0000003d 40000001 00000000 00000000 00000000 00000001 00000000 00000000 00000000 00000000 00000000"))
+    ++ (initiator_name ++ entry (codes "SessionType=Discovery"))
+    ++ (0 ∷ 0 ∷ 0 ∷ [])
+    ++ (hex (codes "43870000 00000014 40000001 00000000 00000000 00000000 00000001 00000002 00000000 00000000 00000000 00000000"))
+    ++ entry (codes "MaxBurstLength=1024")
+    ++ (hex (codes "04800000 00000010 00000000 00000000 00000001 ffffffff 00000001 00000003 00000000 00000000 00000000 00000000"))
+    ++ entry (codes "SendTargets=All"))
+    ((hex (codes "23810000 00000000 40000001 00000000 00000000 00000000 00000001 00000001 00000008 00000000 00000000 00000000"))
+    ++ (hex (codes "23870000 00000032 40000001 00000001 00000000 00000000 00000002 00000001 00000008 00000000 00000000 00000000"))
+    ++ entry (codes "MaxBurstLength=1024") ++ entry (codes "MaxRecvDataSegmentLength=8192") ++ (0 ∷ 0 ∷ [])
+    ++ (hex (codes "24800000 00000043 00000000 00000000 00000001 ffffffff 00000003 00000002 00000009 00000000 00000000 00000000"))
+    ++ target_name ++ entry (codes "TargetAddress=192.0.2.7:3260,1") ++ 0 ∷ [])
+    None
+unfolding answers_on_literals
+discovery_tells_the_portal = (refl, refl, refl)
 
 -- A discovery session takes no command.
 pub command_in_discovery : Row fresh
@@ -234,7 +264,7 @@ pub command_in_discovery : Row fresh
     ++ (hex (codes "3f800400 00000030 00000000 00000000 ffffffff 00000000 00000003 00000001 00000008 00000000 00000000 00000000")
     ++ hex (codes "01810000 00000000 00000000 00000000 00000001 00000000 00000001 00000003 00000000 00000000 00000000 00000000")))
     (Some 1)
-unfolding answers done_in_turn digits header whole put_bit put_number put_bytes put_raw kind_of cut joined overlaid zero_blocks segment_of segment_bytes
+unfolding answers_on_literals
 command_in_discovery = (refl, refl, refl)
 
 -- CmdSN counts round; a request whose CmdSN was taken is dropped.
@@ -262,12 +292,12 @@ pub cmd_sn_counts_round : Row fresh
     ++ (hex (codes "21800000 00000000 00000000 00000000 00000001 00000000 00000003 00000000 00000007 00000000 00000000 00000000"))
     ++ (hex (codes "21800000 00000000 00000000 00000000 00000002 00000000 00000004 00000001 00000008 00000000 00000000 00000000")))
     None
-unfolding answers done_in_turn digits header whole put_bit put_number put_bytes put_raw kind_of cut joined overlaid zero_blocks segment_of segment_bytes
+unfolding answers_on_literals
 cmd_sn_counts_round = (refl, refl, refl)
 
 -- The two requests lead to the session that the other rows begin in.
 pub login_leads : LoginLeads
-unfolding answers done_in_turn digits header whole put_bit put_number put_bytes put_raw kind_of cut joined overlaid zero_blocks segment_of segment_bytes
+unfolding answers_on_literals
 login_leads = refl
 
 -- A text has at most 16,384 bytes; the answers before are empty.
@@ -277,7 +307,7 @@ pub text_at_the_limit : Row (record fresh { session = record fresh.session { beg
     ++ 0x41 ∷ 0 ∷ 0 ∷ 0 ∷ [])
     (hex (codes "23000000 00000000 40000001 00000000 00000000 00000000 00000001 00000001 00000008 00000000 00000000 00000000"))
     None
-unfolding answers done_in_turn digits header whole put_bit put_number put_bytes put_raw kind_of cut joined overlaid zero_blocks segment_of segment_bytes
+unfolding answers_on_literals
 text_at_the_limit = (refl, refl, refl)
 
 -- One byte more is refused.
@@ -287,7 +317,7 @@ pub text_past_the_limit : Row (record fresh { session = record fresh.session { b
     ++ 0x41 ∷ 0 ∷ 0 ∷ 0 ∷ [])
     (hex (codes "23000000 00000000 40000001 00000000 00000000 00000000 00000000 00000001 00000008 03020000 00000000 00000000"))
     None
-unfolding answers done_in_turn digits header whole put_bit put_number put_bytes put_raw kind_of cut joined overlaid zero_blocks segment_of segment_bytes
+unfolding answers_on_literals
 text_past_the_limit = (refl, refl, refl)
 
 -- ---- the order of refusals
@@ -300,52 +330,52 @@ Refused h text class detail =
     ++ class ∷ detail ∷ replicate 10 0
 
 pub version_before_session : Refused (record first { version_min = 1; tsih = 5 }) first_text 0x02 0x05
-unfolding answers done_in_turn digits header whole put_bit put_number put_bytes put_raw kind_of segment_of segment_bytes
+unfolding answers_on_literals
 version_before_session = refl
 
 pub session_before_move : Refused (record first { tsih = 5; next_stage = Some 0 }) first_text 0x02 0x0a
-unfolding answers done_in_turn digits header whole put_bit put_number put_bytes put_raw kind_of segment_of segment_bytes
+unfolding answers_on_literals
 session_before_move = refl
 
 pub no_move_to_itself : Refused (record first { next_stage = Some 0 }) first_text 0x02 0x00
-unfolding answers done_in_turn digits header whole put_bit put_number put_bytes put_raw kind_of segment_of segment_bytes
+unfolding answers_on_literals
 no_move_to_itself = refl
 
 pub no_move_to_2 : Refused (record first { next_stage = Some 2 }) first_text 0x02 0x00
-unfolding answers done_in_turn digits header whole put_bit put_number put_bytes put_raw kind_of segment_of segment_bytes
+unfolding answers_on_literals
 no_move_to_2 = refl
 
 pub text_at_fault_before_names : Refused first (codes "AuthMethod=CHAP") 0x02 0x00
-unfolding answers done_in_turn digits header whole put_bit put_number put_bytes put_raw kind_of segment_of segment_bytes
+unfolding answers_on_literals
 text_at_fault_before_names = refl
 
 pub name_before_type : Refused first (entry (codes "SessionType=Other")) 0x02 0x07
-unfolding answers done_in_turn digits header whole put_bit put_number put_bytes put_raw kind_of segment_of segment_bytes
+unfolding answers_on_literals
 name_before_type = refl
 
 pub empty_name_is_none : Refused first (entry (codes "InitiatorName=") ++ target_name) 0x02 0x07
-unfolding answers done_in_turn digits header whole put_bit put_number put_bytes put_raw kind_of segment_of segment_bytes
+unfolding answers_on_literals
 empty_name_is_none = refl
 
 pub type_before_target : Refused first (initiator_name ++ entry (codes "SessionType=Other")) 0x02 0x09
-unfolding answers done_in_turn digits header whole put_bit put_number put_bytes put_raw kind_of segment_of segment_bytes
+unfolding answers_on_literals
 type_before_target = refl
 
 pub no_target_name : Refused first (initiator_name ++ entry (codes "AuthMethod=CHAP")) 0x02 0x07
-unfolding answers done_in_turn digits header whole put_bit put_number put_bytes put_raw kind_of segment_of segment_bytes
+unfolding answers_on_literals
 no_target_name = refl
 
 pub empty_target_name_is_another : Refused first (initiator_name ++ entry (codes "TargetName=")) 0x02 0x03
-unfolding answers done_in_turn digits header whole put_bit put_number put_bytes put_raw kind_of segment_of segment_bytes
+unfolding answers_on_literals
 empty_target_name_is_another = refl
 
 pub target_before_authentication : Refused first (initiator_name ++ entry (codes "TargetName=x") ++ entry (codes "AuthMethod=CHAP")) 0x02 0x03
-unfolding answers done_in_turn digits header whole put_bit put_number put_bytes put_raw kind_of segment_of segment_bytes
+unfolding answers_on_literals
 target_before_authentication = refl
 
 pub authentication_before_length : Refused first (initiator_name ++ target_name ++ entry (codes "AuthMethod=CHAP")
     ++ entry (codes "MaxRecvDataSegmentLength=511")) 0x02 0x01
-unfolding answers done_in_turn digits header whole put_bit put_number put_bytes put_raw kind_of segment_of segment_bytes
+unfolding answers_on_literals
 authentication_before_length = refl
 
 -- the second request of a login is refused with this class and detail
@@ -356,16 +386,16 @@ RefusedLater h text class detail =
     ++ class ∷ detail ∷ replicate 10 0
 
 pub key_given_again : RefusedLater second (entry (codes "AuthMethod=None") ++ entry (codes "MaxRecvDataSegmentLength=511")) 0x02 0x00
-unfolding answers done_in_turn digits header whole put_bit put_number put_bytes put_raw kind_of segment_of segment_bytes
+unfolding answers_on_literals
 key_given_again = refl
 
 pub no_move_back : RefusedLater (record second { next_stage = Some 0 }) second_text 0x02 0x00
-unfolding answers done_in_turn digits header whole put_bit put_number put_bytes put_raw kind_of segment_of segment_bytes
+unfolding answers_on_literals
 no_move_back = refl
 
 -- An unknown key may be given again; a request that does not move holds the stage.
 pub unknown_key_again : (answers false fresh blank
     (says (login false false 0 None 0) (first_text ++ entry (codes "X=1")) ∷ says first (entry (codes "X=2")) ∷ says second [] ∷ [])).machine.session.phase
     ≡ phases.Full
-unfolding answers done_in_turn digits header whole put_bit put_number put_bytes put_raw kind_of segment_of segment_bytes
+unfolding answers_on_literals
 unknown_key_again = refl

@@ -1,14 +1,10 @@
 -- A login text with very many keys.
 use Rattle.std.specs.Prelude.{false, ◌≡◌, ℕ, zero, suc, ◌+◌, ◌/◌, ◌%◌, List, [], ◌∷◌, ◌++◌, None, codes, refl}
 use Rattle.std.specs.Fmt.{digits}
-use Rattle.scsi_cdb.specs.Layout.{put_bit, put_number, put_bytes, put_raw}
-use Rattle.scsi_disk.specs.Disk.{cut, joined, overlaid, zero_blocks}
-use Rattle.iscsi_pdu.specs.Meaning.{header, whole}
-use Rattle.iscsi_text.specs.Key.{kind_of}
-use Rattle.iscsi_stream.specs.Segment.{segment_of, segment_bytes}
 use Rattle.iscsi_stream.specs.Canonical.{canon}
-use Rattle.iscsi_target.specs.Machine.{answers, done_in_turn}
+use Rattle.iscsi_target.specs.Machine.{answers}
 use Rattle.iscsi_target.specs.Worked.{hex, entry, first, says, first_text, fresh, blank}
+use Rattle.iscsi_target.proofs.Computing.{answers_on_literals}
 
 -- the digits of a number below 1000
 abbrev three : ℕ → List ℕ
@@ -23,5 +19,5 @@ keys (suc n) = keys n ++ entry (codes "K" ++ three n ++ codes "=1")
 pub too_many_keys : (canon (answers false fresh blank (says first (first_text ++ keys 500) ∷ [])).answers
     ≡ hex (codes "23000000 00000000 40000001 00000000 00000000 00000000 00000000 00000001 00000008 03020000 00000000 00000000"))
     × ((answers false fresh blank (says first (first_text ++ keys 500) ∷ [])).rule ≡ None)
-unfolding answers done_in_turn digits header whole put_bit put_number put_bytes put_raw kind_of cut joined overlaid zero_blocks segment_of segment_bytes
+unfolding answers_on_literals
 too_many_keys = (refl, refl)

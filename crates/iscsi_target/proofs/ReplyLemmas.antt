@@ -4,7 +4,6 @@ use Rattle.std.proofs.Common.{unwrap_or}
 use Rattle.std.specs.Prelude.{◌==◌, nat_lt, nat_le, ◌||◌, ◌&&◌, if◌then◌else◌}
 use Rattle.std.specs.Option.{IfSome}
 use Rattle.iscsi_text.specs.Text.{Pairs}
-use Rattle.iscsi_text.specs.Canonical.{canonical_text}
 use Rattle.iscsi_text.specs.Reading.{text_in}
 use Rattle.iscsi_pdu.specs.declared.head.Head.{Head}
 use Rattle.iscsi_pdu.specs.declared.head.Head.TheVariants.{LoginRequest, NopOut, TaskRequest, TextRequest, LogoutRequest}
@@ -27,11 +26,11 @@ use Rattle.iscsi_pdu.specs.Fields.{reserved_tag}
 use Rattle.iscsi_target_session.specs.Rejecting.{reject, reject_and_close}
 use Rattle.iscsi_pdu.specs.Rules.{kind_not_due}
 use Rattle.iscsi_target_session.specs.declared.status.Status.{Status}
-use Rattle.iscsi_target_session.specs.LoginText.{text_refusals, answer_pairs, declared_length, is_operational, is_bad_length, value_for, session_for}
+use Rattle.iscsi_target_session.specs.LoginText.{text_refusals, answer_pairs, declared_length, is_operational, is_bad_length, value_for, negotiated_as}
 use Rattle.iscsi_target_session.specs.Login.{login_step, login_in, login_request, refuse_or, refuse, numbered, entered, segment_taken, whole_text}
 use Rattle.iscsi_target_session.specs.Login.{answered_by, allowed_move, rest_of, exchange_pairs, text_ending, request_refusals, gather}
 use Rattle.iscsi_access.specs.declared.verdict.Progress.{Progress}
-use Rattle.iscsi_target_session.specs.TextRequests.{text_request, text_reply_to, reply_pairs}
+use Rattle.iscsi_target_session.specs.TextRequests.{text_request, text_reply_to, reply_text}
 use Rattle.iscsi_target_session.specs.Requests.{nop_out, task_request, logout_request}
 use Rattle.iscsi_login.specs.Stage.{is_closed_phase}
 use Rattle.scsi_disk.specs.Disk.{Disk}
@@ -173,7 +172,7 @@ logout_reply s waiting m h = by_cases (nat_le h.reason 1)
 text_reply_in : (s : Session) (waiting : ℕ) (m : Message) (h : TextPdu) (pairs : Option Pairs) → IsReply s (text_reply_to s waiting m h pairs)
 text_reply_in s waiting m h None = reject_and_close_reply s waiting _ m
 text_reply_in s waiting m h (Some pairs) =
-    by_cases (nat_lt s.held.initiator_max_recv (length (canonical_text (reply_pairs s.settings.name pairs)))) (λ e. rw e (reject_and_close_reply s waiting _ m))
+    by_cases (nat_lt s.held.initiator_max_recv (length (reply_text s.settings pairs))) (λ e. rw e (reject_and_close_reply s waiting _ m))
     (λ e. rw e (record {
       stat_sn = (refl, refl);
       ranges = refl;
@@ -233,7 +232,7 @@ answered_reply s p r pairs answer e = record {
   data_ins = refl;
   settings = refl;
   live = λ e. (refl, refl);
-  held = λ q h. holds (session_for s pairs) s.settings.preferences (declared_length s) pairs s.held q (declares_well pairs e) (declared_in s q) h;
+  held = λ q h. holds (negotiated_as s pairs) s.settings.preferences (declared_length s) pairs s.held q (declares_well pairs e) (declared_in s q) h;
   limit = limit_after s;
 }
 

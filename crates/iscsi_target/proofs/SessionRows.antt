@@ -1,17 +1,14 @@
 -- Worked requests in full feature phase.
 use Rattle.std.specs.Prelude.{◌≡◌, true, false, [], ◌∷◌, ◌++◌, replicate, Some, None, codes, refl}
-use Rattle.std.specs.Fmt.{digits}
-use Rattle.scsi_cdb.specs.Layout.{put_bit, put_number, put_bytes, put_raw}
 use Rattle.scsi_cdb.specs.declared.cdb.Cdb.TheVariants as cdbs
-use Rattle.scsi_disk.specs.Disk.{cut, joined, overlaid, zero_blocks, blocks_from}
-use Rattle.iscsi_pdu.specs.Meaning.{header, whole}
+use Rattle.scsi_disk.specs.Disk.{blocks_from}
 use Rattle.iscsi_pdu.specs.declared.head.Head.TheVariants as heads
-use Rattle.iscsi_text.specs.Key.{kind_of}
-use Rattle.iscsi_stream.specs.Segment.{Bytes, segment_of, segment_bytes}
+use Rattle.iscsi_stream.specs.Segment.{Bytes}
 use Rattle.iscsi_stream.specs.Stream.{Message}
-use Rattle.iscsi_target.specs.Machine.{answers, done_in_turn}
+use Rattle.iscsi_target.specs.Machine.{answers}
 use Rattle.iscsi_target.specs.Sessions.{WriteIsAnswered}
 use Rattle.iscsi_target.specs.Worked.{hex, fill, ping, command, orders, sends, volunteers, blank, logged_in, Row, entry, agreed, fresh}
+use Rattle.iscsi_target.proofs.Computing.{answers_on_literals}
 
 -- A ping comes back with its bytes.
 pub ping_comes_back : Row logged_in
@@ -20,12 +17,12 @@ pub ping_comes_back : Row logged_in
     ((hex (codes "40800000 00000003 00000000 00000000 00000001 ffffffff 00000001 00000003 00000000 00000000 00000000 00000000 61626300")))
     (hex (codes "20800000 00000003 00000000 00000000 00000001 ffffffff 00000003 00000001 00000008 00000000 00000000 00000000 61626300"))
     None
-unfolding answers done_in_turn digits header whole put_bit put_number put_bytes put_raw kind_of cut joined overlaid zero_blocks segment_of segment_bytes
+unfolding answers_on_literals
 ping_comes_back = (refl, refl, refl)
 
 -- A write of eight blocks: one comes with the command, the others as R2Ts ask for them.
 pub write_in_bursts : WriteIsAnswered
-unfolding answers done_in_turn digits header whole put_bit put_number put_bytes put_raw kind_of cut joined overlaid zero_blocks segment_of segment_bytes
+unfolding answers_on_literals
 write_in_bursts = (refl, refl, refl)
 
 -- It leaves its eight blocks, and no other changes.
@@ -38,7 +35,7 @@ pub write_leaves_its_blocks : blocks_from (answers false logged_in blank
     ∷ sends 3 0 3584 (fill 8)
     ∷ [])).disk 0 9
     ≡ fill 1 ++ fill 2 ++ fill 3 ++ fill 4 ++ fill 5 ++ fill 6 ++ fill 7 ++ fill 8 ++ fill 0
-unfolding answers done_in_turn digits header whole put_bit put_number put_bytes put_raw kind_of cut joined overlaid zero_blocks segment_of segment_bytes
+unfolding answers_on_literals
 write_leaves_its_blocks = refl
 
 -- Before the last Data-Out no block changes.
@@ -50,7 +47,7 @@ pub write_waits_for_all : blocks_from (answers false logged_in blank
     ∷ sends 2 0 2560 (fill 6 ++ fill 7)
     ∷ [])).disk 0 9
     ≡ fill 0 ++ fill 0 ++ fill 0 ++ fill 0 ++ fill 0 ++ fill 0 ++ fill 0 ++ fill 0 ++ fill 0
-unfolding answers done_in_turn digits header whole put_bit put_number put_bytes put_raw kind_of cut joined overlaid zero_blocks segment_of segment_bytes
+unfolding answers_on_literals
 write_waits_for_all = refl
 
 -- Two blocks at the last one aren't there.
@@ -61,7 +58,7 @@ pub read_past_the_end : Row logged_in
     ((hex (codes "21820002 00000014 00000000 00000000 00000001 00000000 00000003 00000002 00000009 00000000 00000000 00000400"))
     ++ (hex (codes "0012 70000500 0000000a 00000000 21000000 0000")))
     None
-unfolding answers done_in_turn digits header whole put_bit put_number put_bytes put_raw kind_of cut joined overlaid zero_blocks segment_of segment_bytes
+unfolding answers_on_literals
 read_past_the_end = (refl, refl, refl)
 
 -- The last block is there.
@@ -73,7 +70,7 @@ pub read_the_last_block : Row logged_in
     ++ fill 0
     ++ (hex (codes "21800000 00000000 00000000 00000000 00000001 00000000 00000003 00000002 00000009 00000001 00000000 00000000")))
     None
-unfolding answers done_in_turn digits header whole put_bit put_number put_bytes put_raw kind_of cut joined overlaid zero_blocks segment_of segment_bytes
+unfolding answers_on_literals
 read_the_last_block = (refl, refl, refl)
 
 -- No block at the end is no block too many.
@@ -83,7 +80,7 @@ pub read_no_block_at_the_end : Row logged_in
     (hex (codes "01c10000 00000000 00000000 00000000 00000001 00000000 00000001 00000003 28000000 08000000 00000000 00000000"))
     (hex (codes "21800000 00000000 00000000 00000000 00000001 00000000 00000003 00000002 00000009 00000000 00000000 00000000"))
     None
-unfolding answers done_in_turn digits header whole put_bit put_number put_bytes put_raw kind_of cut joined overlaid zero_blocks segment_of segment_bytes
+unfolding answers_on_literals
 read_no_block_at_the_end = (refl, refl, refl)
 
 -- One block there is.
@@ -94,7 +91,7 @@ pub read_one_block_at_the_end : Row logged_in
     ((hex (codes "21820002 00000014 00000000 00000000 00000001 00000000 00000003 00000002 00000009 00000000 00000000 00000200"))
     ++ (hex (codes "0012 70000500 0000000a 00000000 21000000 0000")))
     None
-unfolding answers done_in_turn digits header whole put_bit put_number put_bytes put_raw kind_of cut joined overlaid zero_blocks segment_of segment_bytes
+unfolding answers_on_literals
 read_one_block_at_the_end = (refl, refl, refl)
 
 -- A command has at most 8,192 blocks.
@@ -105,7 +102,7 @@ pub read_too_many_blocks : Row logged_in
     ((hex (codes "21820002 00000014 00000000 00000000 00000001 00000000 00000003 00000002 00000009 00000000 00000000 00000200"))
     ++ (hex (codes "0012 70000500 0000000a 00000000 24000000 0000")))
     None
-unfolding answers done_in_turn digits header whole put_bit put_number put_bytes put_raw kind_of cut joined overlaid zero_blocks segment_of segment_bytes
+unfolding answers_on_literals
 read_too_many_blocks = (refl, refl, refl)
 
 -- A block number of 64 bits doesn't count round.
@@ -122,7 +119,7 @@ pub read_at_the_last_number : Row logged_in
     ((hex (codes "21820002 00000014 00000000 00000000 00000001 00000000 00000003 00000002 00000009 00000000 00000000 00000200"))
     ++ (hex (codes "0012 70000500 0000000a 00000000 21000000 0000")))
     None
-unfolding answers done_in_turn digits header whole put_bit put_number put_bytes put_raw kind_of cut joined overlaid zero_blocks segment_of segment_bytes
+unfolding answers_on_literals
 read_at_the_last_number = (refl, refl, refl)
 
 -- Three blocks with bursts of two: each run ends with the F bit.
@@ -136,7 +133,7 @@ pub read_in_runs : Row logged_in
     ++ fill 0
     ++ (hex (codes "21800000 00000000 00000000 00000000 00000001 00000000 00000003 00000002 00000009 00000002 00000000 00000000")))
     None
-unfolding answers done_in_turn digits header whole put_bit put_number put_bytes put_raw kind_of cut joined overlaid zero_blocks segment_of segment_bytes
+unfolding answers_on_literals
 read_in_runs = (refl, refl, refl)
 
 -- INQUIRY data are cut at the allocation length.
@@ -148,7 +145,7 @@ pub inquiry_is_cut : Row logged_in
     ++ (hex (codes "00000612 1f000000"))
     ++ (hex (codes "21820000 00000000 00000000 00000000 00000001 00000000 00000003 00000002 00000009 00000001 00000000 0000001f")))
     None
-unfolding answers done_in_turn digits header whole put_bit put_number put_bytes put_raw kind_of cut joined overlaid zero_blocks segment_of segment_bytes
+unfolding answers_on_literals
 inquiry_is_cut = (refl, refl, refl)
 
 -- There is no page b0.
@@ -159,7 +156,7 @@ pub page_that_is_not_there : Row logged_in
     ((hex (codes "21820002 00000014 00000000 00000000 00000001 00000000 00000003 00000002 00000009 00000000 00000000 000000ff"))
     ++ (hex (codes "0012 70000500 0000000a 00000000 24000000 0000")))
     None
-unfolding answers done_in_turn digits header whole put_bit put_number put_bytes put_raw kind_of cut joined overlaid zero_blocks segment_of segment_bytes
+unfolding answers_on_literals
 page_that_is_not_there = (refl, refl, refl)
 
 -- The report of units has unit 0.
@@ -171,7 +168,7 @@ pub report_of_units : Row logged_in
     ++ (hex (codes "00000008 00000000 00000000 00000000"))
     ++ (hex (codes "21800000 00000000 00000000 00000000 00000001 00000000 00000003 00000002 00000009 00000001 00000000 00000000")))
     None
-unfolding answers done_in_turn digits header whole put_bit put_number put_bytes put_raw kind_of cut joined overlaid zero_blocks segment_of segment_bytes
+unfolding answers_on_literals
 report_of_units = (refl, refl, refl)
 
 -- There is no well-known unit.
@@ -183,7 +180,7 @@ pub report_of_well_known_units : Row logged_in
     ++ (hex (codes "00000000 00000000"))
     ++ (hex (codes "21820000 00000000 00000000 00000000 00000001 00000000 00000003 00000002 00000009 00000001 00000000 00000008")))
     None
-unfolding answers done_in_turn digits header whole put_bit put_number put_bytes put_raw kind_of cut joined overlaid zero_blocks segment_of segment_bytes
+unfolding answers_on_literals
 report_of_well_known_units = (refl, refl, refl)
 
 -- Code 34 is unknown.
@@ -194,7 +191,7 @@ pub unknown_command : Row logged_in
     ((hex (codes "21800002 00000014 00000000 00000000 00000001 00000000 00000003 00000002 00000009 00000000 00000000 00000000"))
     ++ (hex (codes "0012 70000500 0000000a 00000000 20000000 0000")))
     None
-unfolding answers done_in_turn digits header whole put_bit put_number put_bytes put_raw kind_of cut joined overlaid zero_blocks segment_of segment_bytes
+unfolding answers_on_literals
 unknown_command = (refl, refl, refl)
 
 -- So it is at a unit that isn't there.
@@ -205,7 +202,7 @@ pub unknown_command_at_another_unit : Row logged_in
     ((hex (codes "21800002 00000014 00000000 00000000 00000001 00000000 00000003 00000002 00000009 00000000 00000000 00000000"))
     ++ (hex (codes "0012 70000500 0000000a 00000000 20000000 0000")))
     None
-unfolding answers done_in_turn digits header whole put_bit put_number put_bytes put_raw kind_of cut joined overlaid zero_blocks segment_of segment_bytes
+unfolding answers_on_literals
 unknown_command_at_another_unit = (refl, refl, refl)
 
 -- A Data-Out with another DataSN is rejected.
@@ -222,7 +219,7 @@ pub data_sn_out_of_order : Row logged_in
     ++ (hex (codes "3f800400 00000030 00000000 00000000 ffffffff 00000000 00000003 00000002 00000008 00000000 00000000 00000000"))
     ++ (hex (codes "05800000 00000400 00000000 00000000 00000001 00000000 00000000 00000003 00000000 00000001 00000200 00000000")))
     (Some 3)
-unfolding answers done_in_turn digits header whole put_bit put_number put_bytes put_raw kind_of cut joined overlaid zero_blocks segment_of segment_bytes
+unfolding answers_on_literals
 data_sn_out_of_order = (refl, refl, refl)
 
 -- So is one that goes past its burst.
@@ -239,7 +236,7 @@ pub data_past_the_burst : Row logged_in
     ++ (hex (codes "3f800400 00000030 00000000 00000000 ffffffff 00000000 00000003 00000002 00000008 00000000 00000000 00000000"))
     ++ (hex (codes "05800000 00000404 00000000 00000000 00000001 00000000 00000000 00000003 00000000 00000000 00000200 00000000")))
     (Some 3)
-unfolding answers done_in_turn digits header whole put_bit put_number put_bytes put_raw kind_of cut joined overlaid zero_blocks segment_of segment_bytes
+unfolding answers_on_literals
 data_past_the_burst = (refl, refl, refl)
 
 -- While a write is open there is no room for a ping; the write goes on.
@@ -260,7 +257,7 @@ pub ping_while_a_write_is_open : Row logged_in
     ++ (hex (codes "40800000 00000003 00000000 00000000 00000002 ffffffff 00000001 00000003 00000000 00000000 00000000 00000000"))
     ++ (hex (codes "31800000 00000000 00000000 00000000 00000001 00000001 00000004 00000002 00000008 00000001 00000600 00000400")))
     None
-unfolding answers done_in_turn digits header whole put_bit put_number put_bytes put_raw kind_of cut joined overlaid zero_blocks segment_of segment_bytes
+unfolding answers_on_literals
 ping_while_a_write_is_open = (refl, refl, refl)
 
 -- Data that come unasked end a sequence of their own.
@@ -287,7 +284,7 @@ pub unsolicited_data : Row logged_in
     ++ (hex (codes "31800000 00000000 00000000 00000000 00000001 00000002 00000003 00000002 00000008 00000002 00000c00 00000400"))
     ++ (hex (codes "21800000 00000000 00000000 00000000 00000001 00000000 00000003 00000002 00000009 00000000 00000000 00000000")))
     None
-unfolding answers done_in_turn digits header whole put_bit put_number put_bytes put_raw kind_of cut joined overlaid zero_blocks segment_of segment_bytes
+unfolding answers_on_literals
 unsolicited_data = (refl, refl, refl)
 
 -- Where the first burst is there, no more may be announced.
@@ -300,7 +297,7 @@ pub first_burst_and_more : Row logged_in
     ((hex (codes "3f800400 00000030 00000000 00000000 ffffffff 00000000 00000003 00000002 00000009 00000000 00000000 00000000"))
     ++ (hex (codes "01210000 00000400 00000000 00000000 00000001 00001000 00000001 00000003 2a000000 00000000 08000000 00000000")))
     (Some 3)
-unfolding answers done_in_turn digits header whole put_bit put_number put_bytes put_raw kind_of cut joined overlaid zero_blocks segment_of segment_bytes
+unfolding answers_on_literals
 first_burst_and_more = (refl, refl, refl)
 
 -- Data of a write that was refused are dropped.
@@ -314,7 +311,7 @@ pub data_of_a_refused_write : Row logged_in
     ((hex (codes "21820002 00000014 00000000 00000000 00000001 00000000 00000003 00000002 00000009 00000000 00000000 00000400"))
     ++ (hex (codes "0012 70000500 0000000a 00000000 21000000 0000")))
     None
-unfolding answers done_in_turn digits header whole put_bit put_number put_bytes put_raw kind_of cut joined overlaid zero_blocks segment_of segment_bytes
+unfolding answers_on_literals
 data_of_a_refused_write = (refl, refl, refl)
 
 -- No task management function is supported.
@@ -337,7 +334,7 @@ pub task_management : Row logged_in
     (hex (codes "42810000 00000000 00000000 00000000 00000001 00000009 00000001 00000003 00000000 00000000 00000000 00000000"))
     (hex (codes "22800500 00000000 00000000 00000000 00000001 00000000 00000003 00000001 00000008 00000000 00000000 00000000"))
     None
-unfolding answers done_in_turn digits header whole put_bit put_number put_bytes put_raw kind_of cut joined overlaid zero_blocks segment_of segment_bytes
+unfolding answers_on_literals
 task_management = (refl, refl, refl)
 
 -- A logout is answered.
@@ -357,7 +354,7 @@ pub logout : Row logged_in
     (hex (codes "46800000 00000000 00000000 00000000 00000001 00000000 00000001 00000003 00000000 00000000 00000000 00000000"))
     (hex (codes "26800000 00000000 00000000 00000000 00000001 00000000 00000003 00000001 00000008 00000000 00000000 00000000"))
     None
-unfolding answers done_in_turn digits header whole put_bit put_number put_bytes put_raw kind_of cut joined overlaid zero_blocks segment_of segment_bytes
+unfolding answers_on_literals
 logout = (refl, refl, refl)
 
 -- One for recovery is rejected.
@@ -378,7 +375,7 @@ pub logout_for_recovery : Row logged_in
     ((hex (codes "3f800400 00000030 00000000 00000000 ffffffff 00000000 00000003 00000001 00000008 00000000 00000000 00000000"))
     ++ (hex (codes "46820000 00000000 00000000 00000000 00000001 00000000 00000001 00000003 00000000 00000000 00000000 00000000")))
     (Some 5)
-unfolding answers done_in_turn digits header whole put_bit put_number put_bytes put_raw kind_of cut joined overlaid zero_blocks segment_of segment_bytes
+unfolding answers_on_literals
 logout_for_recovery = (refl, refl, refl)
 
 -- A Text Request has to be whole.
@@ -401,14 +398,14 @@ pub text_that_goes_on : Row logged_in
     ((hex (codes "3f800400 00000030 00000000 00000000 ffffffff 00000000 00000003 00000002 00000009 00000000 00000000 00000000"))
     ++ (hex (codes "04000000 00000000 00000000 00000000 00000001 ffffffff 00000001 00000003 00000000 00000000 00000000 00000000")))
     (Some 4)
-unfolding answers done_in_turn digits header whole put_bit put_number put_bytes put_raw kind_of cut joined overlaid zero_blocks segment_of segment_bytes
+unfolding answers_on_literals
 text_that_goes_on = (refl, refl, refl)
 
 -- Before full feature phase no other PDU is due: the session is closed, and nothing is written.
 pub ping_before_login : Row fresh (ping 1 ∷ [])
     (hex (codes "40800000 00000003 00000000 00000000 00000001 ffffffff 00000001 00000003 00000000 00000000 00000000 00000000 61626300"))
     [] (Some 1)
-unfolding answers done_in_turn digits header whole put_bit put_number put_bytes put_raw kind_of cut joined overlaid zero_blocks segment_of segment_bytes
+unfolding answers_on_literals
 ping_before_login = (refl, refl, refl)
 
 -- A segment longer than the target declared is rejected.
@@ -418,7 +415,7 @@ pub segment_past_what_was_declared : Row (record logged_in { session = record lo
     (hex (codes "3f800400 00000030 00000000 00000000 ffffffff 00000000 00000003 00000001 00000008 00000000 00000000 00000000")
     ++ hex (codes "40800000 00000003 00000000 00000000 00000001 ffffffff 00000001 00000003 00000000 00000000 00000000 00000000"))
     (Some 2)
-unfolding answers done_in_turn digits header whole put_bit put_number put_bytes put_raw kind_of cut joined overlaid zero_blocks segment_of segment_bytes
+unfolding answers_on_literals
 segment_past_what_was_declared = (refl, refl, refl)
 
 -- One longer than the framer takes closes the session, and nothing is written.
@@ -427,7 +424,7 @@ pub segment_past_the_limit : Row logged_in (sends 0 0 0 (replicate 8193 0) ∷ p
     ++ replicate 8196 0
     ++ hex (codes "40800000 00000003 00000000 00000000 00000001 ffffffff 00000001 00000003 00000000 00000000 00000000 00000000 61626300"))
     [] None
-unfolding answers done_in_turn digits header whole put_bit put_number put_bytes put_raw kind_of cut joined overlaid zero_blocks segment_of segment_bytes
+unfolding answers_on_literals
 segment_past_the_limit = (refl, refl, refl)
 
 -- Data for no write are dropped, and a ping without a tag has no answer; the session goes on.
@@ -437,7 +434,7 @@ pub dropped_in_silence : Row logged_in (volunteers 0 (codes "ab") ∷ ping 0xfff
     ++ hex (codes "40800000 00000003 00000000 00000000 00000001 ffffffff 00000001 00000003 00000000 00000000 00000000 00000000 61626300"))
     (hex (codes "20800000 00000003 00000000 00000000 00000001 ffffffff 00000003 00000001 00000008 00000000 00000000 00000000 61626300"))
     None
-unfolding answers done_in_turn digits header whole put_bit put_number put_bytes put_raw kind_of cut joined overlaid zero_blocks segment_of segment_bytes
+unfolding answers_on_literals
 dropped_in_silence = (refl, refl, refl)
 
 -- A text gets the target's name once, `Reject` for a known key and `NotUnderstood` for another.
@@ -460,7 +457,7 @@ pub text_of_four_keys : Row logged_in
     (hex (codes "24800000 0000004a 00000000 00000000 00000001 ffffffff 00000003 00000002 00000009 00000000 00000000 00000000")
     ++ entry (codes "MaxBurstLength=Reject") ++ entry (codes "TargetName=iqn.2026-01.example:disk") ++ entry (codes "X=NotUnderstood") ++ 0 ∷ 0 ∷ [])
     None
-unfolding answers done_in_turn digits header whole put_bit put_number put_bytes put_raw kind_of cut joined overlaid zero_blocks segment_of segment_bytes
+unfolding answers_on_literals
 text_of_four_keys = (refl, refl, refl)
 
 -- A closed session answers nothing.
@@ -480,5 +477,5 @@ pub nothing_after_logout : Row logged_in
     ++ hex (codes "40800000 00000003 00000000 00000000 00000001 ffffffff 00000001 00000003 00000000 00000000 00000000 00000000 61626300"))
     (hex (codes "26800000 00000000 00000000 00000000 00000001 00000000 00000003 00000001 00000008 00000000 00000000 00000000"))
     None
-unfolding answers done_in_turn digits header whole put_bit put_number put_bytes put_raw kind_of cut joined overlaid zero_blocks segment_of segment_bytes
+unfolding answers_on_literals
 nothing_after_logout = (refl, refl, refl)

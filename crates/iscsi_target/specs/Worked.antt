@@ -15,7 +15,7 @@ use Rattle.iscsi_login.specs.declared.stage.Stage.TheVariants as stages
 use Rattle.iscsi_login.specs.declared.preferences.Answered.TheVariants as answered
 use Rattle.iscsi_login.specs.Held.{Held}
 use Rattle.iscsi_login.specs.Negotiation.{standard}
-use Rattle.iscsi_target_session.specs.Configured.{Settings, open_to_all}
+use Rattle.iscsi_target_session.specs.Configured.{Settings, no_extras}
 use Rattle.iscsi_access.specs.declared.verdict.Progress.TheVariants as progress
 use Rattle.iscsi_target.specs.State.{Machine, opening}
 use Rattle.iscsi_target.specs.Machine.{answers}
@@ -178,12 +178,17 @@ settings = record {
   group = 1;
   tsih = 1;
   preferences = standard;
-  access = open_to_all;
+  extras = no_extras;
 }
 
 -- before the first request
 abbrev pub fresh : Machine
 fresh = opening settings 1
+
+-- the same, where initiators are told a portal
+abbrev pub told : Machine
+told = opening
+    (record settings { extras = record no_extras { portal = Some (codes "192.0.2.7:3260") } }) 1
 
 -- 2,048 blocks of 00
 abbrev pub blank : Disk

@@ -121,14 +121,14 @@ pub fn held_stays()
 pub fn allowed_only()
     ensures full { (protected : Bool) (settings : Settings)
         (names : List (List ℕ)) (n : ℕ) (disk : Disk)
-        (ms : List Message) → settings.access.names ≡ Some names
+        (ms : List Message) → settings.extras.names ≡ Some names
         → (answers protected (opening settings n) disk ms).machine.session.phase ≡ Full
         → is_among names (answers protected (opening settings n) disk
         ms).machine.session.initiator_name
         ≡ true }
     ensures executed { (protected : Bool) (settings : Settings)
         (names : List (List ℕ)) (n : ℕ) (disk : Disk)
-        (ms : List Message) → settings.access.names ≡ Some names
+        (ms : List Message) → settings.extras.names ≡ Some names
         → (answers protected (opening settings n) disk ms).executed ≢ []
         → is_among names (answers protected (opening settings n) disk
         ms).machine.session.initiator_name
@@ -136,7 +136,7 @@ pub fn allowed_only()
     // A login that is refused leaves no name in the session: an empty one.
     ensures others { (protected : Bool) (settings : Settings)
         (names : List (List ℕ)) (n : ℕ) (disk : Disk)
-        (ms : List Message) → settings.access.names ≡ Some names
+        (ms : List Message) → settings.extras.names ≡ Some names
         → let r = answers protected (opening settings n) disk ms in
         is_among names r.machine.session.initiator_name ≡ false
         → (r.executed ≡ []) × (r.disk ≡ disk) }
@@ -148,13 +148,13 @@ pub fn allowed_only()
 /// section 12.1.3; RFC 1994, section 4.1). So no other message leads there, forged, repeated or cut.
 pub fn full_if_answered()
     ensures answered { (protected : Bool) (settings : Settings) (n : ℕ) (disk : Disk)
-        (ms : List Message) (c : Chap) → settings.access.chap ≡ Some c
+        (ms : List Message) (c : Chap) → settings.extras.chap ≡ Some c
         → let r = answers protected (opening settings n) disk ms in
         r.machine.session.stage ≡ stages.Full
         → HasResponded protected (opening settings n) disk c r.machine.session.initiator_name ms }
     // So has a session in which any order was executed: before, no block is read or written.
     ensures executed { (protected : Bool) (settings : Settings) (n : ℕ) (disk : Disk)
-        (ms : List Message) (c : Chap) → settings.access.chap ≡ Some c
+        (ms : List Message) (c : Chap) → settings.extras.chap ≡ Some c
         → let r = answers protected (opening settings n) disk ms in r.executed ≢ []
         → HasResponded protected (opening settings n) disk c r.machine.session.initiator_name ms }
 {}

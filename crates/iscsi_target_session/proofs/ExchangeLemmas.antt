@@ -17,7 +17,7 @@ use Rattle.iscsi_target_session.specs.Login.{refuse, refuse_or, text_answered, r
 use Rattle.iscsi_target_session.proofs.CaseLemmas.{by_cases}
 
 -- where CHAP is not demanded, nothing of it is looked at
-pub open_text : (s : Session) (r : Request) (pairs : Pairs) → s.settings.access.chap ≡ None
+pub open_text : (s : Session) (r : Request) (pairs : Pairs) → s.settings.extras.chap ≡ None
     → whole_text s r (Some pairs) ≡ refuse_or (first_of (text_refusals s pairs)) s r (text_answered s r pairs)
 open_text s r pairs none = ap (λ (o : Option Chap). text_by o s r pairs) none
 
@@ -46,8 +46,8 @@ IsReason s why = (why ≡ initiator_error)
 -- A whole text is refused, or it is answered as where CHAP is not demanded, or with what is said of the exchange.
 pub record Comes (P : Reply → Type 0) (s : Session) (r : Request) (text : Option Pairs) : Type 0 where
   pub refused : (why : Status) → IsReason s why → P (refuse s r why)
-  pub plain : (pairs : Pairs) → text ≡ Some pairs → s.settings.access.chap ≡ None → first_of (text_refusals s pairs) ≡ None → P (text_answered s r pairs)
-  pub exchange : (c : Chap) (p : Progress) (said : Said) (pairs : Pairs) → text ≡ Some pairs → s.settings.access.chap ≡ Some c
+  pub plain : (pairs : Pairs) → text ≡ Some pairs → s.settings.extras.chap ≡ None → first_of (text_refusals s pairs) ≡ None → P (text_answered s r pairs)
+  pub exchange : (c : Chap) (p : Progress) (said : Said) (pairs : Pairs) → text ≡ Some pairs → s.settings.extras.chap ≡ Some c
       → first_of (text_refusals s (rest_of pairs)) ≡ None → verdict_for c s pairs ≡ Goes p said
       → nat_lt 8192 (length (canonical_text (exchange_pairs c said s (rest_of pairs)))) ≡ false
       → P (exchange_answered c said (record s { progress = p }) (allowed_move p r) (rest_of pairs))
@@ -68,9 +68,9 @@ followed P c s r pairs rest (Goes p said) f g = by_cases (nat_lt 8192 (length (c
 
 pub text_cases : (P : Reply → Type 0) (s : Session) (r : Request) (text : Option Pairs) → Comes P s r text → P (whole_text s r text)
 text_cases P s r None h = h.refused initiator_error (inl refl)
-text_cases P s r (Some pairs) h = by s.settings.access.chap refl
+text_cases P s r (Some pairs) h = by s.settings.extras.chap refl
   where
-    by : (o : Option Chap) → s.settings.access.chap ≡ o → P (text_by o s r pairs)
+    by : (o : Option Chap) → s.settings.extras.chap ≡ o → P (text_by o s r pairs)
     by None e = or_refused P s r (first_of (text_refusals s pairs)) (text_answered s r pairs) (λ w is. h.refused w (inr (inr (inr (pairs, is)))))
         (λ none. h.plain pairs refl e none)
     by (Some c) e = or_refused P s r (first_of (text_refusals s (rest_of pairs))) (by_verdict c (verdict_for c s pairs) s r (rest_of pairs))

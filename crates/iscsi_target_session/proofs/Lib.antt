@@ -8,3 +8,5 @@ pub mod ExchangeLemmas
 pub mod TextReplyLemmas
 pub mod TextReplyInvariant
 pub mod KindLemmas
+pub mod PortalLemmas
+pub mod PortalSizeLaw

@@ -229,7 +229,7 @@ text_by (Some c) s r pairs = exchange_text c s r pairs
 -- The gathered bytes are a whole text, or not (section 6.1).
 abbrev pub whole_text : Session → LoginRequest → Option Pairs → Reply
 whole_text s r None = refuse s r initiator_error
-whole_text s r (Some pairs) = text_by s.settings.access.chap s r pairs
+whole_text s r (Some pairs) = text_by s.settings.extras.chap s r pairs
 
 -- ---- a request
 

@@ -1,6 +1,6 @@
 -- What a login text declares, why it is refused, and what answers it (RFC 7143, sections 6.3,
 -- 11.13.5 and 13).
-use Rattle.std.specs.Prelude.{ℕ, Bool, true, false, not, ◌&&◌, ◌||◌, nat_lt, if◌then◌else◌, List, [], ◌∷◌, ◌++◌, length, Option, Some, None, is_none, unwrap_or, codes}
+use Rattle.std.specs.Prelude.{ℕ, Bool, true, false, not, ◌&&◌, ◌||◌, nat_lt, if◌then◌else◌, List, [], ◌∷◌, ◌++◌, length, Option, Some, None, is_none, is_some, unwrap_or, codes}
 use Rattle.std.specs.Str.{bytes_eq}
 use Rattle.iscsi_text.specs.Key.{number_keys, boolean_keys, items_keys, plain_keys, target_address}
 use Rattle.iscsi_text.specs.Value.{Typed}
@@ -127,6 +127,12 @@ session_in pairs = session_named (value_for (codes "SessionType") pairs)
 abbrev pub session_for : Session → Pairs → SessionType
 session_for s pairs = if s.has_text then s.session_type else unwrap_or (session_in pairs) sessions.Normal
 
+-- The type of session whose keys are negotiated. Where a portal is told, each key has a value in a
+-- discovery session too, since initiators refuse `Irrelevant` there (section 6.2; own rule).
+abbrev pub negotiated_as : Session → Pairs → SessionType
+negotiated_as s pairs =
+    if is_some s.settings.extras.portal then sessions.Normal else session_for s pairs
+
 -- The session is for all that an initiator asks of a target (section 13.21).
 abbrev pub is_normal : SessionType → Bool
 is_normal sessions.Normal = true
@@ -180,13 +186,13 @@ declared_length s =
 -- The answer to a text (section 6.2).
 abbrev pub answer_pairs : Session → Pairs → Pairs
 answer_pairs s pairs =
-    answer (session_for s pairs) s.settings.preferences (declared_tag s pairs) (declared_length s)
+    answer (negotiated_as s pairs) s.settings.preferences (declared_tag s pairs) (declared_length s)
     pairs
 
 -- What the target holds after a text and its answer (section 6.2).
 abbrev pub held_after : Session → Pairs → Held
 held_after s pairs =
-    target_holds (session_for s pairs) s.settings.preferences (declared_length s) pairs s.held
+    target_holds (negotiated_as s pairs) s.settings.preferences (declared_length s) pairs s.held
 
 -- The reasons to refuse a text, in their order (section 11.13.5; the order is own rule). First, a
 -- key is repeated. Next, the first text has no initiator's name, or has another type of session.
@@ -213,7 +219,7 @@ text_refusals s pairs =
     ∷ (nat_lt 8192 (length (canonical_text (answer_pairs s pairs))), out_of_resources)
     ∷ (
       is_first
-          && not (is_allowed s.settings.access (name_in (value_for (codes "InitiatorName") pairs))),
+          && not (is_allowed s.settings.extras (name_in (value_for (codes "InitiatorName") pairs))),
       authorization_failure,
     )
     ∷ []

@@ -5,12 +5,14 @@ use Rattle.iscsi_text.specs.Key.{is_among, kind_of}
 use Rattle.iscsi_text.specs.Value.{Typed}
 use Rattle.iscsi_text.specs.Value as values
 use Rattle.iscsi_text.specs.Text.{Pairs}
+use Rattle.iscsi_text.specs.Numeral.{canonical_number}
 use Rattle.iscsi_text.specs.Canonical.{canonical_text}
 use Rattle.iscsi_text.specs.Reading.{text_in, in_order, has_key}
 use Rattle.iscsi_pdu.specs.declared.head.text_request.TextRequest.{TextRequest}
 use Rattle.iscsi_pdu.specs.declared.head.Head.{Head}
 use Rattle.iscsi_pdu.specs.declared.head.Head.TheVariants as heads
 use Rattle.iscsi_stream.specs.Stream.{Message}
+use Rattle.iscsi_target_session.specs.Configured.{Settings}
 use Rattle.iscsi_target_session.specs.Session.{Session, Reply, send_response, max_cmd_sn_with}
 use Rattle.iscsi_pdu.specs.Fields.{reserved_tag}
 use Rattle.iscsi_target_session.specs.Rejecting.{reject_and_close}
@@ -57,6 +59,29 @@ abbrev pub reply_pairs : List ℕ → Pairs → Pairs
 reply_pairs name pairs =
     in_order (name_if (is_asked name pairs) name ++ replies (is_asked name pairs) pairs)
 
+-- The address of a portal, where it is told, and behind a comma the tag of its group (section 13.8).
+abbrev pub address_if : Option (List ℕ) → ℕ → Pairs
+address_if None group = []
+address_if (Some portal) group =
+    (codes "TargetAddress", values.Plain (portal ++ codes "," ++ canonical_number group)) ∷ []
+
+-- The address of the target's portal, where it is told (section 13.8).
+abbrev pub address_text : Settings → List ℕ
+address_text settings = canonical_text (address_if settings.extras.portal settings.group)
+
+-- The target's name and, where it is told, the address of its portal behind it (appendix C). Not by
+-- the order of keys: initiators want the name first.
+abbrev pub announced : Settings → List ℕ
+announced settings = canonical_text (name_if true settings.name) ++ address_text settings
+
+-- The text that answers a text: what is announced stands in front (appendix C; the order is own
+-- rule).
+unfoldable pub reply_text : Settings → Pairs → List ℕ
+reply_text settings pairs =
+    if is_some settings.extras.portal && is_asked settings.name pairs
+    then announced settings ++ canonical_text (in_order (replies true pairs))
+    else canonical_text (reply_pairs settings.name pairs)
+
 -- ---- the request
 
 -- The head of the answer, which is whole (section 11.11).
@@ -83,7 +108,7 @@ text_reply s waiting m h text =
 abbrev pub text_reply_to : Session → ℕ → Message → TextRequest → Option Pairs → Reply
 text_reply_to s waiting m h None = reject_and_close s waiting text_at_fault m
 text_reply_to s waiting m h (Some pairs) =
-    text_reply s waiting m h (canonical_text (reply_pairs s.settings.name pairs))
+    text_reply s waiting m h (reply_text s.settings pairs)
 
 -- A Text Request, which has to be whole (section 11.10; own rule).
 abbrev pub text_request : Session → ℕ → Message → TextRequest → List ℕ → Reply

@@ -8,12 +8,13 @@ ghost use Rattle.iscsi_target_session.specs.Configured.{Configures, is_allowed};
 use crate::initiators::{Name, copies_of, has_name};
 use iscsi_access::Chap;
 use iscsi_login::{ConfigFault, Preferences, is_name};
+use iscsi_portal::Portal;
 use std::alloc::{AllocError, Global};
 use std::marker::Model;
 
 /// What a target is configured with: its name, the tag of its portal group, the TSIH of a session
-/// that has logged in, what it prefers in a negotiation, and who may log in. It has no `Debug`, since
-/// it may hold secrets.
+/// that has logged in, what it prefers in a negotiation, who may log in, and where others reach it.
+/// It has no `Debug`, since it may hold secrets.
 #[derive(Drop)]
 pub struct Config {
     name: Vec<u8>,
@@ -24,6 +25,8 @@ pub struct Config {
     names: Option<Vec<Name>>,
     // none: CHAP is not demanded
     chap: Option<Chap>,
+    // none: discovery tells no address
+    portal: Option<Portal>,
 }
 
 impl Model for Config {
@@ -40,7 +43,11 @@ impl Model for Config {
       group = c.group;
       tsih = c.tsih;
       preferences = c.preferences;
-      access = record { names = option_map (λ v. v.items) c.names; chap = c.chap };
+      extras = record {
+        names = option_map (λ v. v.items) c.names;
+        chap = c.chap;
+        portal = c.portal;
+      };
     } };
 
     ghost invariant = { λ c. IsName c.name.items × (0 < c.tsih) × IsInRange c.preferences };
@@ -49,7 +56,8 @@ impl Model for Config {
 impl Config {
     /// A name, the tag of the portal group, a TSIH and preferences (RFC 7143, sections 4.2.7, 13.9
     /// and 11.12.6). The name has 1 to 223 bytes, each of `!` to `~` (which bytes it may have is own
-    /// rule). The TSIH is not 0, and the preferences are in range. Everybody may log in.
+    /// rule). The TSIH is not 0, and the preferences are in range. Everybody may log in, and no portal
+    /// is known.
     ///
     /// Another name is `BadName`, a TSIH of 0 or preferences out of range are `OutOfRange`, in this
     /// order; `NoMemory` comes last.
@@ -78,6 +86,7 @@ impl Config {
             preferences,
             names: None,
             chap: None,
+            portal: None,
         })
     }
 
@@ -88,7 +97,7 @@ impl Config {
     /// On want of memory the configuration is dropped.
     pub fn with_names(self, alloc: Global, names: &[&[u8]]) -> Result<Config, AllocError>
         ensures names { IfOk result (λ config. config ≡ record self {
-          access = record self.access { names = Some (map (λ name. name.now) names.now) };
+          extras = record self.extras { names = Some (map (λ name. name.now) names.now) };
         }) }
     {
         let names = copies_of(alloc, names)?;
@@ -106,7 +115,7 @@ impl Config {
     /// first request in the operational stage. CHAP is chosen wherever it is offered, also behind
     /// `None`.
     pub fn with_chap(self, chap: Chap) -> Config
-        ensures chap { result ≡ record self { access = record self.access { chap = Some chap } } }
+        ensures chap { result ≡ record self { extras = record self.extras { chap = Some chap } } }
     {
         Config {
             chap: Some(chap),
@@ -114,28 +123,57 @@ impl Config {
         }
     }
 
+    /// The same, which tells initiators to use this portal: the answer to `SendTargets` has its address
+    /// behind the target's name, with the tag of the portal group (RFC 7143, section 13.8 and appendix
+    /// C). A discovery session is then answered each key as a normal one, and no key `Irrelevant`, which
+    /// some initiators refuse (own rule).
+    pub fn with_portal(self, portal: Portal) -> Config
+        ensures portal { result ≡ record self {
+          extras = record self.extras { portal = Some portal };
+        } }
+    {
+        Config {
+            portal: Some(portal),
+            ..self
+        }
+    }
+
     // What CHAP demands, where it does.
     pub(crate) fn chap(&self) -> Option<&Chap>
-        ensures { option_map (λ chap. chap.now) result ≡ self.now.access.chap }
+        ensures { option_map (λ chap. chap.now) result ≡ self.now.extras.chap }
     {
         self.chap.as_ref()
     }
 
     // Whether CHAP is demanded.
     pub(crate) fn demands_chap(&self) -> bool
-        ensures { result ≡ is_some self.now.access.chap }
+        ensures { result ≡ is_some self.now.extras.chap }
     {
         self.chap.is_some()
     }
 
     // Whether an initiator of this name may log in.
     pub(crate) fn is_allowed(&self, name: &[u8]) -> bool
-        ensures { result ≡ is_allowed self.now.access name.now }
+        ensures { result ≡ is_allowed self.now.extras name.now }
     {
         match &self.names {
             Some(names) => has_name(names, name),
             None => true,
         }
+    }
+
+    // The portal that initiators are to use, where it is told.
+    pub(crate) fn portal(&self) -> Option<&Portal>
+        ensures { option_map (λ portal. portal.now) result ≡ self.now.extras.portal }
+    {
+        self.portal.as_ref()
+    }
+
+    // Whether initiators are told a portal.
+    pub(crate) fn has_portal(&self) -> bool
+        ensures { result ≡ is_some self.now.extras.portal }
+    {
+        self.portal.is_some()
     }
 
     // The target's name.

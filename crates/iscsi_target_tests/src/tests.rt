@@ -11,6 +11,7 @@ mod chap;
 mod configs;
 mod dialogues;
 mod exchanges;
+mod portals;
 mod queues;
 mod rows;
 

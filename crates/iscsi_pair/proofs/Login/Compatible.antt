@@ -209,7 +209,7 @@ pub first_text : (e : TargetSession) (o : Proposal) (pairs : Pairs) → e.has_te
     → (o.session ≡ sessions.Discovery) ⊎ (o.target ≡ e.settings.name) → demands_authentication e.settings.preferences (value_for (codes "AuthMethod") pairs)
     ≡ false
     → is_bad_length (value_for max_recv_key pairs) ≡ false → nat_lt 8192 (length (canonical_text (answer_pairs e pairs))) ≡ false
-    → is_allowed e.settings.access o.initiator ≡ true
+    → is_allowed e.settings.extras o.initiator ≡ true
     → first_of (text_refusals e pairs) ≡ None
 first_text e o pairs t g i s name auth len size allowed =
     let a = asks_for o.session e o pairs refl t s name in
@@ -230,7 +230,7 @@ first_text e o pairs t g i s name auth len size allowed =
                   (
                     size,
                     (
-                      on e.has_text _ (ap (λ (x : Option Typed). not (is_allowed e.settings.access (name_in x))) s.initiator ∙ ap not allowed),
+                      on e.has_text _ (ap (λ (x : Option Typed). not (is_allowed e.settings.extras (name_in x))) s.initiator ∙ ap not allowed),
                       tt,
                     ),
                   ),

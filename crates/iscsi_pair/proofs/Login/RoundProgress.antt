@@ -41,7 +41,7 @@ use Rattle.iscsi_target_session.specs.Configured as target_settings
 use Rattle.iscsi_target_session.specs.Session as target_session
 use Rattle.iscsi_target.specs.State as target
 use Rattle.scsi_disk.specs.Plan.{first_of}
-use Rattle.iscsi_target_session.specs.LoginText.{known_keys, repeats_key, seen_with, text_refusals, answer_pairs, session_for, declared_tag, declared_length}
+use Rattle.iscsi_target_session.specs.LoginText.{known_keys, repeats_key, seen_with, text_refusals, answer_pairs, negotiated_as, declared_tag, declared_length}
 use Rattle.iscsi_target_session.specs.Login as login
 use Rattle.iscsi_target_session.specs.Login.{request_refusals, is_same_stage, stage_named, stage_asked, is_move, numbered, entered, gather, text_answered}
 use Rattle.iscsi_target_session.specs.Login.{text_ending}
@@ -134,7 +134,7 @@ answer_fits c e pairs o same few =
     let range : IsInRange e.settings.preferences = subst (λ (x : target_settings.Settings). IsInRange x.preferences) (sym same) o.preferences in
     let group : e.settings.group < 2 ^ 16 = subst (λ (x : target_settings.Settings). x.group < 2 ^ 16) (sym same) o.group in
     le-ltb 8192 (length (canonical_text (answer_pairs e pairs)))
-    (answer_is_short (session_for e pairs) e.settings.preferences (declared_tag e pairs) (declared_length e) pairs range
+    (answer_is_short (negotiated_as e pairs) e.settings.preferences (declared_tag e pairs) (declared_length e) pairs range
     (some_if _ e.settings.group (2 ^ 64) (omega (arith, group))) (some_if _ e.settings.preferences.max_recv (2 ^ 64) (omega (arith, range.max_recv.1)))
     few.short few.few)
 
@@ -148,9 +148,9 @@ suited_name c e suits same = elim suits.name [
 
 -- the initiator may log in
 suited_access : (c : Opening) (e : target_session.Session) → Suits c → e.settings ≡ c.target
-    → target_settings.is_allowed e.settings.access c.initiator.proposal.initiator ≡ true
+    → target_settings.is_allowed e.settings.extras c.initiator.proposal.initiator ≡ true
 suited_access c e suits same =
-    ap (λ (x : target_settings.Settings). target_settings.is_allowed x.access c.initiator.proposal.initiator) same ∙ suits.access
+    ap (λ (x : target_settings.Settings). target_settings.is_allowed x.extras c.initiator.proposal.initiator) same ∙ suits.access
 
 demands_chap : (c : Opening) → Suits c → c.initiator.start ≡ stages.Security → c.initiator.proposal.auth ≢ auths.Chap
 demands_chap c suits started = elim suits.auth [
@@ -222,7 +222,7 @@ gathers_well t h bytes none short more =
 answers_well : (t : target_session.Session) (h : LoginRequest) (segment : Segment) (pairs : Pairs) → first_of (request_refusals t h) ≡ None
     → length (entered t h).gathered + length (segment_bytes segment) ≤ 16384 → h.continues ≡ false
     → text_ending (entered t h).gathered segment ≡ Some pairs → first_of (text_refusals (record (entered t h) { gathered = [] }) pairs) ≡ None
-    → (entered t h).settings.access.chap ≡ None
+    → (entered t h).settings.extras.chap ≡ None
     → login.login_request t h segment ≡ text_answered (record (entered t h) { gathered = [] }) h pairs
 answers_well t h segment pairs none short last read good open_ =
     let e : target_session.Session = entered t h in
@@ -353,7 +353,7 @@ takes : (c : Opening) (i : initiator.Machine) (e : target_session.Session) → I
 takes c i e o there is here =
     let range : IsInRange e.settings.preferences = subst (λ (x : target_settings.Settings). IsInRange x.preferences) (sym here) o.preferences in
     good_is_taken (offered i) (answer_pairs e (offered i))
-    (good_answer (session_for e (offered i)) e.settings.preferences range (declared_tag e (offered i)) (declared_length e)
+    (good_answer (negotiated_as e (offered i)) e.settings.preferences range (declared_tag e (offered i)) (declared_length e)
     (within_if _ e.settings.preferences range) (offered i)
     (offers_offer i.settings.start i.stage i.settings.proposal is))
 
@@ -422,7 +422,7 @@ last_turn c i t logins next r disk segment o suits a s left fits read size turn 
     answers_well t.session h segment given (not_refused c i t true a.stage s) (subst (λ (x : List ℕ). length x + length (segment_bytes segment) ≤ 16384)
     (sym same.gathered) size) refl
     (ap (λ (x : List ℕ). text_ending x segment) same.gathered ∙ read) good
-    (ap (λ (x : target_settings.Settings). x.access.chap) (same.settings ∙ a.target_settings) ∙ suits.chap) in
+    (ap (λ (x : target_settings.Settings). x.extras.chap) (same.settings ∙ a.target_settings) ∙ suits.chap) in
     let there : target_machine.step false t disk (login_message i true segment) ≡ target.on disk t.tasks (text_answered e h given) =
     login_step_is t disk h segment a.logs_in.phase fits ∙ ap (target.on disk t.tasks) q in
     let is : turn.answer ≡ answering (text_head e h) (answer_pairs e given) =

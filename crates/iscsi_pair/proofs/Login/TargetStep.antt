@@ -28,7 +28,7 @@ use Rattle.iscsi_target_session.specs.Configured.{Settings}
 use Rattle.iscsi_target_session.specs.Session.{Session, Reply}
 use Rattle.iscsi_target.specs.State.{Machine, on}
 use Rattle.scsi_disk.specs.Plan.{first_of}
-use Rattle.iscsi_target_session.specs.LoginText.{out_of_resources, text_refusals, is_operational, initiator_for, session_for, declared_tag, declared_length, answer_pairs}
+use Rattle.iscsi_target_session.specs.LoginText.{out_of_resources, text_refusals, is_operational, initiator_for, negotiated_as, declared_tag, declared_length, answer_pairs}
 use Rattle.iscsi_target_session.specs.Login.{login_request, request_refusals, refuse, refuse_or, response, login_message, numbered, entered, segment_taken}
 use Rattle.iscsi_target_session.specs.Login.{rest_of, has_passed, verdict_for, held_back, allowed_move, exchange_pairs, exchange_answered}
 use Rattle.iscsi_target_session.specs.Login.{gather, whole_text, text_ending, text_answered, text_response, stage_asked, stage_after, phase_at, tsih_at}
@@ -293,7 +293,7 @@ tsih_fits s stages.Full lt = lt
 tells : (s e : Session) (h : LoginRequest) (pairs : Pairs) → Keeps s e → SettingsFit s.settings → LogsIn s → RequestFits h
     → nat_lt 8192 (length (canonical_text (answer_pairs e pairs))) ≡ false → Tells s h pairs (text_answered (record e { gathered = [] }) h pairs)
 tells s e h pairs k fit l f short =
-    let session : SessionType = session_for e pairs in
+    let session : SessionType = negotiated_as e pairs in
     let group : Option ℕ = declared_tag e pairs in
     let most : Option ℕ = declared_length e in
     let text : (p : Settings) → Pairs = λ p. login.answer session p.preferences group most pairs in
@@ -335,7 +335,7 @@ holds_back s e c h pairs k fit l f is short =
       answer = record (text_response e (held_back h)) { stat_sn = Some e.stat_sn };
       text = exchange_pairs c Method e (rest_of pairs);
       is = refl;
-      means = said_meaning (session_for e (rest_of pairs)) e.settings.preferences fits.preferences (declared_tag e (rest_of pairs)) (declared_length e)
+      means = said_meaning (negotiated_as e (rest_of pairs)) e.settings.preferences fits.preferences (declared_tag e (rest_of pairs)) (declared_length e)
           (some_if _ e.settings.group (2 ^ 64) (omega (arith, fits.group)))
           (some_if _ e.settings.preferences.max_recv (2 ^ 64) (omega (arith, fits.preferences.max_recv.1))) pairs is;
       short = omega (arith, ltb-false 8192 (length (canonical_text (exchange_pairs c Method e (rest_of pairs)))) short);

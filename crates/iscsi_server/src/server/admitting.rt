@@ -6,7 +6,7 @@ ghost use Rattle.iscsi_server.specs.Serving.{has_all};
 
 use super::Server;
 use crate::accepting::AcceptError;
-use crate::configuration::configuration;
+use crate::configuration::{configuration, with_address};
 use crate::connection::Connection;
 use crate::numbers::next_number;
 use crate::peer::Peer;
@@ -192,6 +192,7 @@ impl<'a> Server<'a> {
         let options = self.options;
         let alloc = rt.alloc();
         let config = configuration(alloc, options.name, number, options.preferences).ok()?;
+        let config = with_address(alloc, config, options.portal).ok()?;
         match self.access.demand(alloc, rt, config) {
             Ok(config) => Some(config),
             Err(AccessFault::NoMemory) => None,

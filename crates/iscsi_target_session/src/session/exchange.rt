@@ -40,7 +40,7 @@ impl Session {
         out: &mut Vec<u8>,
     ) -> Result<Option<u8>, AllocError>
         requires fits { Fits (heads.LoginRequest request.now) }
-        ensures { (c : Chap) → self.old.settings.access.chap ≡ Some c
+        ensures { (c : Chap) → self.old.settings.extras.chap ≡ Some c
             → Attempts (exchange_text c self.old request.now text.now) result
             self.old self.new out.old.items out.new.items }
     {
@@ -68,7 +68,7 @@ impl Session {
         rest: &Text<'_>,
     ) -> Result<Verdict, AllocError>
         requires rest { rest.now ≡ rest_of text.now }
-        ensures { IfOk result (λ verdict. (c : Chap) → self.now.settings.access.chap ≡ Some c
+        ensures { IfOk result (λ verdict. (c : Chap) → self.now.settings.extras.chap ≡ Some c
             → verdict ≡ verdict_for c self.now text.now) }
     {
         if matches!(self.stage, Stage::Operational) && !has_passed(self.progress) {
@@ -114,7 +114,7 @@ impl Session {
         said: Said,
         rest: &Text<'_>,
     ) -> Result<Vec<u8>, AllocError>
-        ensures { IfOk result (λ answer. (c : Chap) → self.now.settings.access.chap ≡ Some c
+        ensures { IfOk result (λ answer. (c : Chap) → self.now.settings.extras.chap ≡ Some c
             → answer.items ≡ canonical_text (exchange_pairs c said self.now rest.now)) }
     {
         let Some(chap) = self.config.chap() else {
@@ -126,7 +126,7 @@ impl Session {
             alloc,
             rest,
             self.config.preferences(),
-            self.session_for(rest),
+            self.negotiated_as(rest),
             self.declared_tag(rest),
             self.declared_length(),
         )?;

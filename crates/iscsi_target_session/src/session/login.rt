@@ -284,7 +284,7 @@ impl Session {
             alloc,
             text,
             self.config.preferences(),
-            self.session_for(text),
+            self.negotiated_as(text),
             self.declared_tag(text),
             self.declared_length(),
         )
@@ -328,9 +328,10 @@ impl Session {
             → self.new ≡ after_text self.old request text.now }
     {
         let session_type = self.session_for(text);
+        let negotiated = self.negotiated_as(text);
         let declared = self.declared_length();
         self.held
-            .hold_offers(text, self.config.preferences(), session_type, declared);
+            .hold_offers(text, self.config.preferences(), negotiated, declared);
         self.seen_keys = seen_with(&self.seen_keys, text);
         self.has_text = true;
         self.has_operational_text = self.has_operational_text

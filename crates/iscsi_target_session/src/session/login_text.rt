@@ -11,7 +11,7 @@ ghost use Rattle.iscsi_text.specs.Reading.{has_key};
 ghost use Rattle.iscsi_login.specs.Answer.{DeclaresWell, max_recv_key};
 ghost use Rattle.scsi_disk.specs.Plan.{first_of};
 ghost use Rattle.iscsi_target_session.specs.Configured.{is_allowed};
-ghost use Rattle.iscsi_target_session.specs.LoginText.{known_keys, repeats_key, seen_with, is_name, name_in, initiator_for, value_for, is_bad_length, session_named, session_in, session_for, is_normal, names_target, demands_authentication, declared_tag, declared_length, answer_pairs, text_refusals};
+ghost use Rattle.iscsi_target_session.specs.LoginText.{known_keys, repeats_key, seen_with, is_name, name_in, initiator_for, value_for, is_bad_length, session_named, session_in, session_for, negotiated_as, is_normal, names_target, demands_authentication, declared_tag, declared_length, answer_pairs, text_refusals};
 
 use super::Session;
 use crate::status::Status;
@@ -70,7 +70,7 @@ impl Session {
 
     // Whether the first text has the name of an initiator that may not log in.
     fn has_unlisted_initiator(&self, text: &Text<'_>) -> bool
-        ensures { result ≡ (not self.now.has_text && not (is_allowed self.now.settings.access
+        ensures { result ≡ (not self.now.has_text && not (is_allowed self.now.settings.extras
             (name_in (value_for (codes "InitiatorName") text.now)))) }
     {
         !self.has_text && !self.config.is_allowed(name_of(text))
@@ -115,6 +115,17 @@ impl Session {
             self.session_type
         } else {
             session_in(text).unwrap_or(SessionType::Normal)
+        }
+    }
+
+    // The type of session whose keys are negotiated: a normal one where a portal is told.
+    pub(super) fn negotiated_as(&self, text: &Text<'_>) -> SessionType
+        ensures { result ≡ negotiated_as self.now text.now }
+    {
+        if self.config.has_portal() {
+            SessionType::Normal
+        } else {
+            self.session_for(text)
         }
     }
 

@@ -1,20 +1,23 @@
 //! The answer to a Text Request (RFC 7143, sections 11.10 and 11.11, and appendix C).
 
-ghost use Rattle.std.specs.Prelude.{◌≡◌, ◌<◌, ◌+◌, ◌++◌, true, length, drop, codes, OnOk, IfOk};
+ghost use Rattle.std.specs.Prelude.{◌≡◌, ◌<◌, ◌+◌, ◌++◌, ◌∷◌, [], true, length, drop, codes, OnOk, IfOk};
+ghost use Rattle.iscsi_text.specs.Numeral.{canonical_number};
 ghost use Rattle.iscsi_text.specs.Canonical.{canonical_text};
 ghost use Rattle.iscsi_text.specs.Value.{Plain};
 ghost use Rattle.iscsi_text.specs.Text.{IsInOrder};
 ghost use Rattle.iscsi_text.specs.Inside.{all_shown};
 ghost use Rattle.iscsi_text.specs.Reading.{placed};
-ghost use Rattle.iscsi_target_session.specs.TextRequests.{text_request, is_asked, word_for, replies, name_if, reply_pairs};
+ghost use Rattle.iscsi_target_session.specs.TextRequests.{text_request, is_asked, word_for, replies, name_if, reply_pairs, reply_text};
 ghost use Rattle.iscsi_target_session.specs.Replies.{Does};
-ghost use Rattle.iscsi_target_session.specs.Inside.{has_first, has_reply, shown_option};
+ghost use Rattle.iscsi_target_session.specs.Inside.{has_first, has_reply, shown_option, announced_text, told_text};
 
 use super::Session;
+use crate::config::Config;
 use crate::received::Received;
 use iscsi_pdu::rule::TEXT_AT_FAULT;
 use iscsi_pdu::{Head, RESERVED_TAG, TextRequest, TextResponse};
-use iscsi_text::{Pair, Text, Value, key_kind, read_text, write_pairs};
+use iscsi_portal::Portal;
+use iscsi_text::{Pair, Text, Value, key_kind, read_text, write_number, write_pairs};
 use std::alloc::{AllocError, Global};
 
 const TARGET_NAME: &[u8] = b"TargetName";
@@ -39,7 +42,7 @@ impl Session {
         let Some(text) = read_text(alloc, bytes)? else {
             return self.reject_and_close(waiting, TEXT_AT_FAULT, received, out);
         };
-        let reply = reply_text(alloc, self.config.name(), &text)?;
+        let reply = reply_text(alloc, &self.config, &text)?;
         if reply.len() > self.held.initiator_max_recv as usize {
             return self.reject_and_close(waiting, TEXT_AT_FAULT, received, out);
         }
@@ -58,8 +61,81 @@ impl Session {
     }
 }
 
-// The canonical text of the answer of the target of this name.
-fn reply_text(alloc: Global, name: &[u8], text: &Text<'_>) -> Result<Vec<u8>, AllocError>
+// The text that answers a text: what is announced stands in front.
+fn reply_text(alloc: Global, config: &Config, text: &Text<'_>) -> Result<Vec<u8>, AllocError>
+    ensures { IfOk result (λ bytes. bytes.items ≡ reply_text config.now text.now) }
+{
+    let name = config.name();
+    match config.portal() {
+        Some(portal) => told_text(alloc, name, portal, config.group(), text),
+        None => sorted_text(alloc, name, text),
+    }
+}
+
+// The same of a target with this portal.
+fn told_text(
+    alloc: Global,
+    name: &[u8],
+    portal: &Portal,
+    group: u16,
+    text: &Text<'_>,
+) -> Result<Vec<u8>, AllocError>
+    ensures { IfOk result
+        (λ bytes. bytes.items ≡ told_text name.now portal.now group text.now) }
+{
+    if is_asked(name, text) {
+        return announced_text(alloc, name, portal, group, text);
+    }
+    sorted_text(alloc, name, text)
+}
+
+// The target's name, the address of its portal, and the answers to the other keys.
+fn announced_text(
+    alloc: Global,
+    name: &[u8],
+    portal: &Portal,
+    group: u16,
+    text: &Text<'_>,
+) -> Result<Vec<u8>, AllocError>
+    ensures { IfOk result
+        (λ bytes. bytes.items ≡ announced_text name.now portal.now group text.now) }
+{
+    // Opens the invariant.
+    let _len = text.len();
+    let pairs = replies(alloc, true, text)?;
+    let address = address_of(alloc, portal, group)?;
+    let mut told = Vec::new(alloc);
+    write_name(name, &mut told)?;
+    write_address(&address, &mut told)?;
+    write_pairs(&pairs, &mut told)?;
+    Ok(told)
+}
+
+// The address of a portal, and behind a comma the tag of its group.
+fn address_of(alloc: Global, portal: &Portal, group: u16) -> Result<Vec<u8>, AllocError>
+    ensures { IfOk result (λ address. address.items
+        ≡ portal.now ++ codes "," ++ canonical_number group) }
+{
+    let mut address = portal.as_bytes().to_vec(alloc)?;
+    address.push(b',')?;
+    write_number(u64::from(group), &mut address)?;
+    Ok(address)
+}
+
+// Appends the address of a portal.
+fn write_address(address: &[u8], out: &mut Vec<u8>) -> Result<(), AllocError>
+    ensures { OnOk result (out.new.items ≡ out.old.items
+        ++ canonical_text ((codes "TargetAddress", Plain address.now) ∷ [])) }
+{
+    let pair = Pair {
+        key: b"TargetAddress",
+        value: Value::Plain(address),
+    };
+    write_pairs(&[pair], out)
+}
+
+// The canonical text of the answers of the target of this name, in the order of their keys.
+fn sorted_text(alloc: Global, name: &[u8], text: &Text<'_>) -> Result<Vec<u8>, AllocError>
     ensures { IfOk result (λ bytes. bytes.items
         ≡ canonical_text (reply_pairs name.now text.now)) }
 {

@@ -74,27 +74,31 @@ const JOBS: &[(&str, &str)] = &[
     ),
     (
         "serve --port 1 --sessions 2 --file d --at-once 3",
-        "Serve(ServeJob { storage: Image(Image { path: \"d\", origin: Found { blocks: None } }), service: AtOnce(Options { listen: 127.0.0.1, port: 1, sessions: Some(2), at_once: 3, name: [105, 113, 110, 46, 50, 48, 50, 54, 45, 48, 49, 46, 101, 120, 97, 109, 112, 108, 101, 58, 100, 105, 115, 107], limits: Limits { idle: None, login_within: Some(30) }, preferences: Preferences { initial_r2t: false, immediate_data: true, max_burst: 262144, first_burst: 65536, time2wait: 2, time2retain: 20, max_recv: 8192 }, memory: 268435456, print_port: false, log: false }), read_only: false, secrets: None })",
+        "Serve(ServeJob { storage: Image(Image { path: \"d\", origin: Found { blocks: None } }), service: AtOnce(Options { listen: 127.0.0.1, port: 1, sessions: Some(2), at_once: 3, name: [105, 113, 110, 46, 50, 48, 50, 54, 45, 48, 49, 46, 101, 120, 97, 109, 112, 108, 101, 58, 100, 105, 115, 107], portal: None, limits: Limits { idle: None, login_within: Some(30) }, preferences: Preferences { initial_r2t: false, immediate_data: true, max_burst: 262144, first_burst: 65536, time2wait: 2, time2retain: 20, max_recv: 8192 }, memory: 268435456, print_port: false, log: false }), read_only: false, secrets: None })",
     ),
     (
         "serve --port 1 --file d --at-once 3",
-        "Serve(ServeJob { storage: Image(Image { path: \"d\", origin: Found { blocks: None } }), service: AtOnce(Options { listen: 127.0.0.1, port: 1, sessions: None, at_once: 3, name: [105, 113, 110, 46, 50, 48, 50, 54, 45, 48, 49, 46, 101, 120, 97, 109, 112, 108, 101, 58, 100, 105, 115, 107], limits: Limits { idle: None, login_within: Some(30) }, preferences: Preferences { initial_r2t: false, immediate_data: true, max_burst: 262144, first_burst: 65536, time2wait: 2, time2retain: 20, max_recv: 8192 }, memory: 268435456, print_port: false, log: false }), read_only: false, secrets: None })",
+        "Serve(ServeJob { storage: Image(Image { path: \"d\", origin: Found { blocks: None } }), service: AtOnce(Options { listen: 127.0.0.1, port: 1, sessions: None, at_once: 3, name: [105, 113, 110, 46, 50, 48, 50, 54, 45, 48, 49, 46, 101, 120, 97, 109, 112, 108, 101, 58, 100, 105, 115, 107], portal: None, limits: Limits { idle: None, login_within: Some(30) }, preferences: Preferences { initial_r2t: false, immediate_data: true, max_burst: 262144, first_burst: 65536, time2wait: 2, time2retain: 20, max_recv: 8192 }, memory: 268435456, print_port: false, log: false }), read_only: false, secrets: None })",
     ),
     (
         "serve --port 1 --sessions 2 --file d --at-once 3 --name n --segment 131072 --burst 131072",
-        "Serve(ServeJob { storage: Image(Image { path: \"d\", origin: Found { blocks: None } }), service: AtOnce(Options { listen: 127.0.0.1, port: 1, sessions: Some(2), at_once: 3, name: [110], limits: Limits { idle: None, login_within: Some(30) }, preferences: Preferences { initial_r2t: false, immediate_data: true, max_burst: 131072, first_burst: 65536, time2wait: 2, time2retain: 20, max_recv: 131072 }, memory: 268435456, print_port: false, log: false }), read_only: false, secrets: None })",
+        "Serve(ServeJob { storage: Image(Image { path: \"d\", origin: Found { blocks: None } }), service: AtOnce(Options { listen: 127.0.0.1, port: 1, sessions: Some(2), at_once: 3, name: [110], portal: None, limits: Limits { idle: None, login_within: Some(30) }, preferences: Preferences { initial_r2t: false, immediate_data: true, max_burst: 131072, first_burst: 65536, time2wait: 2, time2retain: 20, max_recv: 131072 }, memory: 268435456, print_port: false, log: false }), read_only: false, secrets: None })",
     ),
     (
         "serve --port 1 --sessions 2 --file d --at-once 3 --name n --burst 512 --segment 1048576 --idle 1 --login-within 65535",
-        "Serve(ServeJob { storage: Image(Image { path: \"d\", origin: Found { blocks: None } }), service: AtOnce(Options { listen: 127.0.0.1, port: 1, sessions: Some(2), at_once: 3, name: [110], limits: Limits { idle: Some(1), login_within: Some(65535) }, preferences: Preferences { initial_r2t: false, immediate_data: true, max_burst: 512, first_burst: 512, time2wait: 2, time2retain: 20, max_recv: 1048576 }, memory: 268435456, print_port: false, log: false }), read_only: false, secrets: None })",
+        "Serve(ServeJob { storage: Image(Image { path: \"d\", origin: Found { blocks: None } }), service: AtOnce(Options { listen: 127.0.0.1, port: 1, sessions: Some(2), at_once: 3, name: [110], portal: None, limits: Limits { idle: Some(1), login_within: Some(65535) }, preferences: Preferences { initial_r2t: false, immediate_data: true, max_burst: 512, first_burst: 512, time2wait: 2, time2retain: 20, max_recv: 1048576 }, memory: 268435456, print_port: false, log: false }), read_only: false, secrets: None })",
     ),
     (
         "serve --port 1 --sessions 2 --file d --at-once 3 --name n --first-burst 262144 --no-login-limit",
-        "Serve(ServeJob { storage: Image(Image { path: \"d\", origin: Found { blocks: None } }), service: AtOnce(Options { listen: 127.0.0.1, port: 1, sessions: Some(2), at_once: 3, name: [110], limits: Limits { idle: None, login_within: None }, preferences: Preferences { initial_r2t: false, immediate_data: true, max_burst: 262144, first_burst: 262144, time2wait: 2, time2retain: 20, max_recv: 8192 }, memory: 268435456, print_port: false, log: false }), read_only: false, secrets: None })",
+        "Serve(ServeJob { storage: Image(Image { path: \"d\", origin: Found { blocks: None } }), service: AtOnce(Options { listen: 127.0.0.1, port: 1, sessions: Some(2), at_once: 3, name: [110], portal: None, limits: Limits { idle: None, login_within: None }, preferences: Preferences { initial_r2t: false, immediate_data: true, max_burst: 262144, first_burst: 262144, time2wait: 2, time2retain: 20, max_recv: 8192 }, memory: 268435456, print_port: false, log: false }), read_only: false, secrets: None })",
     ),
     (
         "serve --port 1 --sessions 2 --blocks 8 --at-once 3 --name n --memory 32768 --log",
-        "Serve(ServeJob { storage: Memory { blocks: 8 }, service: AtOnce(Options { listen: 127.0.0.1, port: 1, sessions: Some(2), at_once: 3, name: [110], limits: Limits { idle: None, login_within: Some(30) }, preferences: Preferences { initial_r2t: false, immediate_data: true, max_burst: 262144, first_burst: 65536, time2wait: 2, time2retain: 20, max_recv: 8192 }, memory: 32768, print_port: false, log: true }), read_only: false, secrets: None })",
+        "Serve(ServeJob { storage: Memory { blocks: 8 }, service: AtOnce(Options { listen: 127.0.0.1, port: 1, sessions: Some(2), at_once: 3, name: [110], portal: None, limits: Limits { idle: None, login_within: Some(30) }, preferences: Preferences { initial_r2t: false, immediate_data: true, max_burst: 262144, first_burst: 65536, time2wait: 2, time2retain: 20, max_recv: 8192 }, memory: 32768, print_port: false, log: true }), read_only: false, secrets: None })",
+    ),
+    (
+        "serve --port 1 --sessions 2 --blocks 8 --at-once 3 --name n --portal 192.0.2.7:3260",
+        "Serve(ServeJob { storage: Memory { blocks: 8 }, service: AtOnce(Options { listen: 127.0.0.1, port: 1, sessions: Some(2), at_once: 3, name: [110], portal: Some([49, 57, 50, 46, 48, 46, 50, 46, 55, 58, 51, 50, 54, 48]), limits: Limits { idle: None, login_within: Some(30) }, preferences: Preferences { initial_r2t: false, immediate_data: true, max_burst: 262144, first_burst: 65536, time2wait: 2, time2retain: 20, max_recv: 8192 }, memory: 268435456, print_port: false, log: false }), read_only: false, secrets: None })",
     ),
     (
         "serve --size 32M",
@@ -275,6 +279,10 @@ const EXPORT: &str =
     "is no export: '--nbd <SERVER>' takes HOST:PORT/EXPORT, such as 127.0.0.1:10809/disk; without \
     :PORT it is port 10809, without /EXPORT the server's default export\n\nUsage: ";
 
+const PORTAL: &str =
+    "is no portal: '--portal <ADDR:PORT>' takes 1 to 255 bytes, each from '!' to '~' but ','\n\n\
+    Usage: lanthovur serve ";
+
 const INITIATOR: &str =
     "is no name: '--initiator <IQN>' takes 1 to 223 bytes, each from '!' to '~'\n\n\
     Usage: lanthovur serve ";
@@ -305,6 +313,17 @@ const BAD_VALUES: &[(&str, &str, &str)] = &[
         "serve --blocks 1 --at-once 1 --initiator café",
         "café",
         INITIATOR,
+    ),
+    ("serve --blocks 1 --at-once 1 --portal ''", "", PORTAL),
+    (
+        "serve --blocks 1 --at-once 1 --portal 192.0.2.7:3260,1",
+        "192.0.2.7:3260,1",
+        PORTAL,
+    ),
+    (
+        "serve --blocks 1 --at-once 1 --portal café:3260",
+        "café:3260",
+        PORTAL,
     ),
     ("serve --port +1 --blocks 1 --sessions 1", "+1", PORT),
     ("serve --port '' --blocks 1 --sessions 1", "", PORT),
@@ -626,6 +645,10 @@ const REFUSED: &[(&str, &str)] = &[
     ),
     (
         "serve --port 0 --blocks 1 --sessions 1 --memory 32768",
+        "error: the following required arguments were not provided:\n  --at-once <k>\n",
+    ),
+    (
+        "serve --blocks 1 --portal 192.0.2.7:3260",
         "error: the following required arguments were not provided:\n  --at-once <k>\n",
     ),
     (

@@ -1,28 +1,23 @@
-use Rattle.std.proofs.Common.{◌≡◌, ℕ, List, ◌++◌, true, subst, sym, ap, ◌∙◌}
-use Rattle.std.specs.Prelude.{codes, IfOk}
-use Rattle.iscsi_text.specs.Value.{Plain}
-use Rattle.iscsi_text.specs.Text.{Pairs, IsInOrder}
+use Rattle.std.proofs.Common.{◌≡◌, ℕ, List, subst, sym, ap, ◌∙◌}
+use Rattle.std.specs.Prelude.{IfOk}
 use Rattle.iscsi_text.specs.Canonical.{canonical_text}
-use Rattle.iscsi_text.specs.Inside.{all_shown}
-use Rattle.iscsi_text.specs.Reading.{placed}
-use Rattle.iscsi_target_session.specs.TextRequests.{reply_pairs}
-use Rattle.iscsi_target_session.proofs.TextReplyLemmas.{order_replies, reply_named, reply_unnamed}
+use Rattle.iscsi_target_session.specs.TextRequests.{reply_pairs, reply_text}
+use Rattle.iscsi_target_session.specs.Inside.{told_text}
+use Rattle.iscsi_target_session.proofs.PortalLemmas.{with_portal, without_portal}
 use Rattle.iscsi_target_session.proofs.session.text_request.reply_text.Goals as goal
 
-pub named_text-requires : goal.named_text-requires
-named_text-requires c = subst IsInOrder (sym (ap all_shown c.deref.ensures.value ∙ c.in_ok-pairs.ensures))
-    (order_replies true c.args.text.now c.len-len.ensures.meaning.in_order)
+pub returns-in-Some : goal.returns-in-Some
+returns-in-Some c =
+    let portal : List ℕ = c.in-Some.portal.now in
+    let same : told_text c.name-name.result.now portal c.group.result c.args.text.now ≡ reply_text c.args.config.now c.args.text.now =
+    ap (λ (n : List ℕ). told_text n portal c.group.result c.args.text.now) c.name-name.ensures
+    ∙ ap (λ (g : ℕ). told_text c.args.config.now.name portal g c.args.text.now) c.group.ensures
+    ∙ sym (with_portal c.args.config.now c.args.text.now portal (sym c.in-Some.ensures)) in
+    subst (λ (x : List ℕ). IfOk c.told_text.result (λ bytes. bytes.items ≡ x)) same c.told_text.ensures
 
-pub returns-then-is_asked : goal.returns-then-is_asked
-returns-then-is_asked c =
-    let same : canonical_text (placed (codes "TargetName", Plain c.args.name.now) (all_shown c.deref.result.now))
-    ≡ canonical_text (reply_pairs c.args.name.now c.args.text.now) =
-    ap (λ (ps : Pairs). canonical_text (placed (codes "TargetName", Plain c.args.name.now) ps)) (ap all_shown c.deref.ensures.value ∙ c.in_ok-pairs.ensures)
-    ∙ ap canonical_text (reply_named c.args.name.now c.args.text.now c.len-len.ensures.meaning.in_order (sym c.is_asked.ensures ∙ c.if-is_asked.true)) in
-    subst (λ (x : List ℕ). IfOk c.named_text.result (λ bytes. bytes.items ≡ x)) same c.named_text.ensures
-
-pub returns : goal.returns
-returns c =
-    c.in_ok-write_pairs.ensures.ok ∙ ap (λ (x : List ℕ). x ++ canonical_text (all_shown c.deref-2.result.now)) c.new-out.ensures.items
-    ∙ ap canonical_text (ap all_shown c.deref-2.ensures.value ∙ c.in_ok-pairs-2.ensures
-    ∙ reply_unnamed c.args.name.now c.args.text.now c.len-len.ensures.meaning.in_order (sym c.is_asked.ensures ∙ c.if-is_asked.false))
+pub returns-in-None : goal.returns-in-None
+returns-in-None c =
+    let same : canonical_text (reply_pairs c.name-name.result.now c.args.text.now) ≡ reply_text c.args.config.now c.args.text.now =
+    ap (λ (n : List ℕ). canonical_text (reply_pairs n c.args.text.now)) c.name-name.ensures
+    ∙ sym (without_portal c.args.config.now c.args.text.now (sym c.in-None.ensures)) in
+    subst (λ (x : List ℕ). IfOk c.sorted_text.result (λ bytes. bytes.items ≡ x)) same c.sorted_text.ensures
