@@ -3,9 +3,10 @@
 //! Of what the system says of a file, the mode alone has a contract. What is left to read is that the
 //! opened file is judged, by its owner too, and that its own bytes are read.
 
-ghost use Rattle.std.specs.Prelude.{◌≡◌, ℕ, List, Ok, IfOk, bit_and};
+ghost use Rattle.std.specs.Prelude.{◌≡◌, ◌≢◌, ◌⊎◌, ℕ, List, Ok, IfErr, IfOk, bit_and};
 ghost use Rattle.std.specs.Fs.{IsFile, file_type, metadata_mode};
 ghost use Rattle.iscsi_secrets.specs.Secrets.{secrets_in};
+ghost use Rattle.iscsi_secrets.specs.declared.fault.SecretsFault.TheVariants.{Exposed, NoFile, NotOwned};
 
 use crate::fault::SecretsFault;
 use crate::secrets::{LONGEST_TEXT, Secrets};
@@ -47,6 +48,10 @@ impl Secrets {
 fn judge(about: &Metadata, user: u32) -> Result<(), SecretsFault>
     ensures regular { IfOk result (λ _. IsFile (file_type about.now)) }
     ensures alone { IfOk result (λ _. bit_and (metadata_mode about.now) 0o077 ≡ 0) }
+    ensures other { IfErr result (λ fault. fault ≡ NoFile → IsFile (file_type about.now) → ⊥) }
+    ensures exposed { IfErr result (λ fault. fault ≡ Exposed →
+        bit_and (metadata_mode about.now) 0o077 ≢ 0) }
+    ensures faults { IfErr result (λ fault. fault ≡ NoFile ⊎ fault ≡ NotOwned ⊎ fault ≡ Exposed) }
 {
     if !about.is_file() {
         return Err(SecretsFault::NoFile);

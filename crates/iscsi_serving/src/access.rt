@@ -1,8 +1,9 @@
 //! Who may log in at a service.
 
-ghost use Rattle.std.specs.Prelude.{◌≡◌, IfOk, Some, map};
+ghost use Rattle.std.specs.Prelude.{◌≡◌, ◌&&◌, IfErr, IfOk, None, Some, is_none, map};
 ghost use Rattle.std.specs.Option.{option_map};
 ghost use Rattle.iscsi_serving.specs.Access.{Demands, named};
+ghost use Rattle.iscsi_serving.specs.declared.access.AccessFault.TheVariants.{NoMemory};
 
 use iscsi_secrets::Secrets;
 use iscsi_target::Config;
@@ -38,7 +39,9 @@ pub enum AccessFault {
 
 impl Access<'_> {
     /// Whether everybody may log in.
-    pub fn is_open(&self) -> bool {
+    pub fn is_open(&self) -> bool
+        ensures { result ≡ (is_none self.now.initiators && is_none self.now.secrets) }
+    {
         self.initiators.is_none() && self.secrets.is_none()
     }
 
@@ -56,6 +59,7 @@ impl Access<'_> {
         ensures demands { IfOk result (Demands (option_map (λ secrets. secrets.now) self.now.secrets)
             (named (option_map (λ names. map (λ name. name.now) names.now)
             self.now.initiators) config)) }
+        ensures drawn { IfErr result (λ fault. self.now.secrets ≡ None → fault ≡ NoMemory) }
     {
         let config = self.named(alloc, config)?;
         match self.secrets {
