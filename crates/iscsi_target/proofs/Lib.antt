@@ -3,6 +3,7 @@ pub mod ContinuationLemmas
 pub mod FailingDiskLemmas
 pub mod ProtectedLaw
 pub mod StreamNumberLemmas
+pub mod Computing
 pub mod LoginRows
 pub mod SessionRows
 pub mod ManyKeysRow
