@@ -1,8 +1,13 @@
-//! Tests of `iscsi_access`: logins of real initiators, by example.
+//! Tests of `iscsi_chap`, `iscsi_access` and `iscsi_secrets`: responses, logins of real initiators, and
+//! files of secrets, by example.
 #![tactic(auto)]
 
 #[cfg(test)]
 mod asserts;
+#[cfg(test)]
+mod responding_uses;
+#[cfg(test)]
+mod secrets_uses;
 #[cfg(test)]
 mod tests;
 #[cfg(test)]

@@ -1,4 +1,4 @@
-//! Logins by example, and what they demand.
+//! Logins by example, and what they demand; responses and files of secrets.
 
 use iscsi_access::{Account, Chap};
 use std::alloc::Global;
@@ -7,6 +7,8 @@ use std::process::Abort;
 mod demands;
 mod logins;
 mod memory;
+mod responding;
+mod secrets;
 
 const ALICE: &[u8] = b"secretsecret12";
 
