@@ -1,8 +1,10 @@
-//! Tests of `capture_file` from outside, and what another program does with it.
+//! Tests of `capture_file` and `tcp_streams` from outside, and what another program does with them.
 #![tactic(auto)]
 
 #[cfg(test)]
 mod asserts;
+#[cfg(test)]
+mod stream_uses;
 #[cfg(test)]
 mod tests;
 #[cfg(test)]

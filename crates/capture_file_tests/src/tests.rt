@@ -5,6 +5,7 @@ mod links;
 mod memory;
 mod refused;
 mod segments;
+mod streams;
 mod walk;
 
 use std::alloc::Global;
