@@ -3,8 +3,10 @@
 mod captures;
 mod explained;
 mod failing;
+mod files;
 mod interleaved;
 mod listings;
+mod segments;
 mod streams;
 
 use crate::asserts::{same_bytes, same_text};
