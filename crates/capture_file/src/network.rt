@@ -8,7 +8,7 @@ use crate::fault::PacketFault;
 use crate::numbers::{Order, u16_at};
 
 /// An IP address, its bytes in the order of the packet.
-#[derive(Clone, Copy, Debug, PartialEq, Eq, Drop)]
+#[derive(Clone, Copy, PartialEq, Eq, Drop)]
 pub enum Address {
     /// Of IPv4.
     V4([u8; 4]),
@@ -17,7 +17,7 @@ pub enum Address {
 }
 
 /// One end of a connection.
-#[derive(Clone, Copy, Debug, PartialEq, Eq, Drop)]
+#[derive(Clone, Copy, PartialEq, Eq, Drop)]
 pub struct Endpoint {
     /// The IP address.
     pub address: Address,

@@ -6,7 +6,7 @@ ghost use Rattle.capture_file.specs.Numbers.{number};
 use byteorder::{BigEndian, ByteOrder, LittleEndian};
 
 /// Which byte of a number comes first.
-#[derive(Clone, Copy, PartialEq, Eq, Drop)]
+#[derive(Clone, Copy, Drop)]
 pub enum Order {
     /// The lowest, which some call little-endian.
     Little,

@@ -7,99 +7,82 @@ ghost use Rattle.iscsi_captures.specs.Faults.{fault_status};
 use capture_connections::ConnectionsFault;
 use iscsi_stream::StreamFault;
 use std::alloc::{AllocError, AllocFailed};
-use std::fmt::{self, Debug, Formatter, Write};
-use thiserror::Error;
+use std::error::Error;
+use std::fmt::{self, Debug, Display, Formatter, Write};
 
 /// Why a job over a capture stops. `at` is the number of file bytes before a record or block, and
 /// packets count from 1.
-#[derive(Clone, Copy, PartialEq, Eq, Error)]
+#[derive(Clone, Copy, PartialEq, Eq)]
 pub enum CapturesFault {
     /// Memory ran out, or there are more than 65,536 connections.
-    #[error("memory")]
     NoMemory,
     /// A read failed.
-    #[error("read failed")]
     Read,
     /// A write failed, or took no byte.
-    #[error("write failed")]
     Write,
     /// The file begins as no capture file that is read, or a section tells no byte order.
-    #[error("capture: unknown format at {at}")]
     Format {
         at: u64,
     },
     /// A record or block has a length that cannot be, or has a packet and is longer than 1 MiB.
-    #[error("capture: bad length at {at}")]
     Length {
         at: u64,
     },
     /// The file ends within this record or block. All before it was used.
-    #[error("capture: truncated at {at}")]
     Truncated {
         at: u64,
     },
     /// The packet is of an interface whose link type is not read.
-    #[error("capture: link type {link} at {at} (packet {packet})")]
     Link {
         link: u16,
         at: u64,
         packet: u64,
     },
     /// The packet's interface has no description.
-    #[error("capture: unknown interface at {at}")]
     Interface {
         at: u64,
     },
     /// The packet is a fragment of an IP packet with TCP.
-    #[error("capture: fragment at {at} (packet {packet})")]
     Fragment {
         at: u64,
         packet: u64,
     },
     /// Bytes of the wanted direction, or headers, were not captured.
-    #[error("capture: cut at {at} (packet {packet})")]
     Cut {
         at: u64,
         packet: u64,
     },
     /// This byte of the stream is missing. The packet is the first one that waits behind it.
-    #[error("connection {connection}: gap at {offset} (packet {packet})")]
     Gap {
         connection: usize,
         offset: u64,
         packet: u64,
     },
     /// The packet and one that waits have two values for this byte of the stream.
-    #[error("connection {connection}: conflict at {offset} (packet {packet})")]
     Conflict {
         connection: usize,
         offset: u64,
         packet: u64,
     },
     /// The stream has more than 2^63 bytes.
-    #[error("connection {connection}: stream over 9223372036854775808 bytes")]
     Long {
         connection: usize,
     },
     /// The stream leaves the profile.
-    #[error("connection {connection}: {fault}")]
     Stream {
         connection: usize,
         fault: StreamFault,
     },
     /// The last PDU of the initiator breaks this rule, to the target that answers it.
-    #[error("connection {connection}: protocol: rule {rule}")]
     Protocol {
         connection: usize,
         rule: u8,
     },
     /// The SYN of the wanted direction is missing, so where a PDU begins is not known.
-    #[error("capture: connection {connection} begins before the capture")]
     Begun {
         connection: usize,
     },
     /// The capture has no connection with this number.
-    #[error("no connection {connection}")]
     NoConnection {
         connection: usize,
     },
@@ -118,7 +101,108 @@ impl CapturesFault {
             _ => 1,
         }
     }
+
+    // The words of its text, up to a number that stands behind them.
+    fn words(&self) -> &'static str {
+        match self {
+            CapturesFault::NoMemory => "memory",
+            CapturesFault::Read => "read failed",
+            CapturesFault::Write => "write failed",
+            CapturesFault::Format { .. } => "capture: unknown format at ",
+            CapturesFault::Length { .. } => "capture: bad length at ",
+            CapturesFault::Truncated { .. } => "capture: truncated at ",
+            CapturesFault::Interface { .. } => "capture: unknown interface at ",
+            CapturesFault::Fragment { .. } => "capture: fragment at ",
+            CapturesFault::Cut { .. } => "capture: cut at ",
+            CapturesFault::Gap { .. } => "gap at ",
+            CapturesFault::Conflict { .. } => "conflict at ",
+            CapturesFault::Long { .. } => "stream over 9223372036854775808 bytes",
+            CapturesFault::Protocol { .. } => "protocol: rule ",
+            CapturesFault::NoConnection { .. } => "no connection ",
+            CapturesFault::Link { .. }
+            | CapturesFault::Stream { .. }
+            | CapturesFault::Begun { .. } => "",
+        }
+    }
+
+    // The connection that is named before the words.
+    fn connection(&self) -> Option<usize> {
+        match self {
+            CapturesFault::Gap { connection, .. }
+            | CapturesFault::Conflict { connection, .. }
+            | CapturesFault::Long { connection }
+            | CapturesFault::Protocol { connection, .. } => Some(*connection),
+            _ => None,
+        }
+    }
+
+    // The number behind the words.
+    fn number(&self) -> Option<u64> {
+        match self {
+            CapturesFault::Format { at }
+            | CapturesFault::Length { at }
+            | CapturesFault::Truncated { at }
+            | CapturesFault::Interface { at }
+            | CapturesFault::Fragment { at, .. }
+            | CapturesFault::Cut { at, .. } => Some(*at),
+            CapturesFault::Gap { offset, .. } | CapturesFault::Conflict { offset, .. } => {
+                Some(*offset)
+            }
+            CapturesFault::Protocol { rule, .. } => Some(*rule as u64),
+            CapturesFault::NoConnection { connection } => Some(*connection as u64),
+            _ => None,
+        }
+    }
+
+    // The packet that is named at the end.
+    fn packet(&self) -> Option<u64> {
+        match self {
+            CapturesFault::Fragment { packet, .. }
+            | CapturesFault::Cut { packet, .. }
+            | CapturesFault::Gap { packet, .. }
+            | CapturesFault::Conflict { packet, .. } => Some(*packet),
+            _ => None,
+        }
+    }
+
+    // Writes the connection, the words, the number and the packet, those that it has.
+    fn write_parts<W: Write>(&self, f: &mut Formatter<W>) -> fmt::Result {
+        if let Some(connection) = self.connection() {
+            write!(f, "connection {connection}: ")?;
+        }
+        f.write_str(self.words())?;
+        if let Some(number) = self.number() {
+            write!(f, "{number}")?;
+        }
+        match self.packet() {
+            Some(packet) => write!(f, " (packet {packet})"),
+            None => Ok(()),
+        }
+    }
 }
+
+// By hand, since one format for each variant is dear to prove.
+impl Display for CapturesFault {
+    fn fmt<W: Write>(&self, f: &mut Formatter<W>) -> fmt::Result {
+        match self {
+            CapturesFault::Link { link, at, packet } => {
+                write!(f, "capture: link type {link} at {at} (packet {packet})")
+            }
+            CapturesFault::Stream { connection, fault } => {
+                write!(f, "connection {connection}: {fault}")
+            }
+            CapturesFault::Begun { connection } => {
+                write!(
+                    f,
+                    "capture: connection {connection} begins before the capture"
+                )
+            }
+            _ => self.write_parts(f),
+        }
+    }
+}
+
+impl Error for CapturesFault {}
 
 impl Debug for CapturesFault {
     fn fmt<W: Write>(&self, f: &mut Formatter<W>) -> fmt::Result {

@@ -1,9 +1,12 @@
 //! Captures, by bytes that a script laid out.
 
 mod captures;
+mod explained;
 mod failing;
+mod files;
 mod interleaved;
 mod listings;
+mod segments;
 mod streams;
 
 use crate::asserts::{same_bytes, same_text};
@@ -22,11 +25,14 @@ fn digit_of(letter: u8) -> u8 {
     }
 }
 
-/// The bytes of hex text.
+/// The bytes of hex text, whose spaces are passed over.
 pub fn bytes_of(rt: &impl Abort, alloc: Global, text: &str) -> Vec<u8> {
     let mut out = Vec::with_capacity(alloc, text.len()).expect(rt, "memory");
     let mut high: Option<u8> = None;
     for letter in text.bytes() {
+        if letter == b' ' {
+            continue;
+        }
         match high.take() {
             Some(first) => {
                 let byte = first.wrapping_mul(16).wrapping_add(digit_of(letter));

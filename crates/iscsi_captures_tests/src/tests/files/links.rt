@@ -1,9 +1,9 @@
 //! One segment inside each link and network header, and what has none. The bytes were written by
 //! hand from the tables of the standards. The file is long for its rows.
 
-use super::bytes_of;
 use super::segments::{ends_4, ends_6, packet_of};
 use crate::asserts::{same, same_bytes};
+use crate::tests::bytes_of;
 use capture_file::{Endpoint, PacketFault, Segment, segment_of};
 use std::alloc::Global;
 use std::process::Abort;
@@ -129,7 +129,8 @@ fn same_segment(
     count: usize,
     row: &str,
 ) {
-    same(rt, &(segment.source, segment.destination), &ends, &row);
+    let is_between = (segment.source, segment.destination) == ends;
+    same(rt, &is_between, &true, &row);
     same(
         rt,
         &(segment.sequence, segment.acknowledged),

@@ -1,10 +1,10 @@
 //! Files of both formats: each whole, cut off at every byte, and with each byte changed. A script
 //! laid out the bytes.
 
-use super::bytes_of;
 use super::walk::{Due, End, walked};
 use crate::asserts::same;
-use crate::uses::counted;
+use crate::file_uses::counted;
+use crate::tests::bytes_of;
 use std::alloc::Global;
 use std::process::Abort;
 

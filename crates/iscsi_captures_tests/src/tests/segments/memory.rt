@@ -3,7 +3,7 @@
 
 use super::{Numbered, fed, segments_of};
 use crate::asserts::{same, same_bytes};
-use crate::uses::stream_of;
+use crate::stream_uses::stream_of;
 use std::alloc::Global;
 use std::process::Abort;
 use tcp_streams::{Direction, Segment, SegmentFault};

@@ -1,8 +1,8 @@
 //! Files that are refused, and where. A script laid out the bytes.
 
-use super::bytes_of;
 use super::walk::{End, walked};
 use crate::asserts::same;
+use crate::tests::bytes_of;
 use capture_file::CaptureFault;
 use std::alloc::Global;
 use std::process::Abort;

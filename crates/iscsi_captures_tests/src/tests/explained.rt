@@ -1,7 +1,8 @@
 //! Streams in each form. Their words are those of RFC 7143, SPC-4 and SBC-3, read by hand.
 
-use crate::asserts::{same_bytes, same_text};
-use crate::uses::explain_stream;
+use super::bytes_of;
+use crate::asserts::{same, same_bytes, same_text};
+use crate::explain_uses::explain_stream;
 use iscsi_explain::{Form, show_in_form};
 use std::alloc::Global;
 use std::process::Abort;
@@ -113,88 +114,56 @@ const NOTES: &[(&str, &str, &str)] = &[
     ),
 ];
 
-/// A stream in hex, and its objects.
-const OBJECTS: &[(&str, bool, &str)] = &[
+/// A stream in hex, a form, and its objects.
+const OBJECTS: &[(&str, Form, &str)] = &[
     (
         "40800000 00000003 0000000000000000 00000001 ffffffff 00000005 00000012 0000000000000000 \
          0000000000000000 61626300",
-        false,
+        Form::Json,
         "{\"cmdsn\":5,\"data\":3,\"expstatsn\":18,\"i\":1,\"itt\":1,\"kind\":\"NOP-Out\",\"place\":0,\
          \"ttt\":4294967295}\n",
     ),
     (
         "01c00000 00000000 0001000000000000 00000002 00001000 00000003 00000004 \
          2800000004d200000800000000000000",
-        true,
+        Form::ExplainedJson,
         "{\"attr\":0,\"cdb\":\"2800000004d200000800000000000000\",\"cmdsn\":3,\"data\":0,\"edtl\":4096,\
          \"explain\":[\"READ(10) lba=1234 blocks=8\"],\"expstatsn\":4,\"f\":1,\"i\":0,\"itt\":2,\
          \"kind\":\"SCSI-Command\",\"lun\":\"0001000000000000\",\"place\":0,\"r\":1,\"w\":0}\n",
     ),
 ];
 
-// The value of a hex digit.
-fn digit_of(letter: u8) -> u8 {
-    match letter {
-        b'0'..=b'9' => letter - b'0',
-        b'a'..=b'f' => letter - b'a' + 10,
-        _ => 0,
-    }
-}
-
-// The bytes of hex text, whose spaces are passed over.
-fn bytes_of(rt: &impl Abort, alloc: Global, text: &str) -> Vec<u8> {
-    let mut out = Vec::with_capacity(alloc, text.len()).expect(rt, "memory");
-    let mut high: Option<u8> = None;
-    for letter in text.bytes() {
-        if letter == b' ' {
-            continue;
-        }
-        match high.take() {
-            Some(first) => {
-                let byte = first.wrapping_mul(16).wrapping_add(digit_of(letter));
-                out.extend_from_slice(&[byte]).expect(rt, "memory");
-            }
-            None => high = Some(digit_of(letter)),
-        }
-    }
-    out
+// Under the line of the row's PDU stand its notes.
+fn is_noted(rt: &impl Abort, alloc: Global, name: &str, stream: &str, notes: &str) {
+    let bytes = bytes_of(rt, alloc, stream);
+    let mut source = bytes.as_slice();
+    let mut out = Vec::new(alloc);
+    explain_stream(alloc, &mut source, &mut out).expect(rt, name);
+    let text = str::from_utf8(&out).unwrap_or("");
+    let (_, under) = text.split_once('\n').expect(rt, name);
+    same(rt, &under, &notes, &name);
 }
 
 #[test]
 fn notes_stand_under_lines(rt: HostRuntime) {
     for (name, stream, notes) in NOTES {
-        let bytes = bytes_of(&rt, rt.alloc(), stream);
-        let mut source = bytes.as_slice();
-        let mut out = Vec::new(rt.alloc());
-        let result = explain_stream(rt.alloc(), &mut source, &mut out);
-        assert!(rt; result.is_ok(), "{name}");
-        let line = out
-            .iter()
-            .position(|byte| *byte == b'\n')
-            .expect(&rt, "a line");
-        same_bytes(
-            &rt,
-            out.get(line.saturating_add(1)..).unwrap_or(b"?"),
-            notes.as_bytes(),
-            name,
-        );
+        is_noted(&rt, rt.alloc(), name, stream, notes);
     }
+}
+
+// The row's PDU is written as its object.
+fn is_object(rt: &impl Abort, alloc: Global, stream: &str, form: Form, due: &str) {
+    let bytes = bytes_of(rt, alloc, stream);
+    let mut source = bytes.as_slice();
+    let mut out = Vec::new(alloc);
+    show_in_form(alloc, form, &mut source, &mut out).expect(rt, due);
+    same_bytes(rt, &out, due.as_bytes(), &due);
 }
 
 #[test]
 fn objects_have_the_fields_of_lines(rt: HostRuntime) {
-    for (stream, explained, due) in OBJECTS {
-        let form = if *explained {
-            Form::ExplainedJson
-        } else {
-            Form::Json
-        };
-        let bytes = bytes_of(&rt, rt.alloc(), stream);
-        let mut source = bytes.as_slice();
-        let mut out = Vec::new(rt.alloc());
-        let result = show_in_form(rt.alloc(), form, &mut source, &mut out);
-        assert!(rt; result.is_ok(), "{due}");
-        same_bytes(&rt, &out, due.as_bytes(), due);
+    for (stream, form, due) in OBJECTS {
+        is_object(&rt, rt.alloc(), stream, *form, due);
     }
 }
 
@@ -202,9 +171,8 @@ fn objects_have_the_fields_of_lines(rt: HostRuntime) {
 fn a_stream_that_is_cut_is_told(rt: HostRuntime) {
     let mut source: &[u8] = b"\x40\x80";
     let mut out = Vec::new(rt.alloc());
-    match explain_stream(rt.alloc(), &mut source, &mut out) {
-        Ok(()) => same_bytes(&rt, b"", b"a fault", &"cut"),
-        Err(fault) => same_text(&rt, rt.alloc(), &fault, "stream: truncated at 0", &"cut"),
-    }
+    let ended = explain_stream(rt.alloc(), &mut source, &mut out);
+    let fault = ended.err().expect(&rt, "a fault");
+    same_text(&rt, rt.alloc(), &fault, "stream: truncated at 0", &"cut");
     same_bytes(&rt, &out, b"", &"cut");
 }

@@ -1,7 +1,7 @@
 //! One packet of Ethernet, its header bytes changed, and TCP headers by rows.
 
-use super::bytes_of;
 use crate::asserts::same;
+use crate::tests::bytes_of;
 use capture_file::{Address, Endpoint, Packet, PacketFault, Segment, segment_of};
 use std::alloc::Global;
 use std::process::Abort;

@@ -1,9 +1,0 @@
-//! Tests of `tcp_streams` from outside, and what another program does with it.
-#![tactic(auto)]
-
-#[cfg(test)]
-mod asserts;
-#[cfg(test)]
-mod tests;
-#[cfg(test)]
-mod uses;
