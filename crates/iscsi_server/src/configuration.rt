@@ -40,8 +40,8 @@ pub fn with_address(
     portal: Option<&[u8]>,
 ) -> Result<Config, AllocError>
     ensures told { IfOk result
-        (λ made. made ≡ told (option_map (λ portal. portal.now) portal) config) }
-    ensures ok { OnOk result (IfSome portal (λ portal. IsPortal portal.now)) }
+        (λ made. made ≡ told (option_map (λ portal. portal.now) portal.entry) config) }
+    ensures ok { OnOk result (IfSome portal.entry (λ portal. IsPortal portal.now)) }
 {
     let Some(bytes) = portal else {
         return Ok(config);
