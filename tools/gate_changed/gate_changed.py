@@ -4,10 +4,11 @@
     tools/gate_changed/gate_changed.py [--since COMMIT] [--lanes N] [--above] [--no-tests] [--edits N] [--list] [NAME..]
 
 At the top of the repository. In N lanes (2 if not said), each crate that changed since COMMIT (HEAD if not said: what
-is not committed), or each NAME, in the order of crates.txt: its check, its tests with those of NAME_tests, and its
-must-fail edits; a crate whose must-fail/ alone changed has only the changed edits tried. First it says which crates
-have files that are not as rt fmt writes them. --above also checks, with
-tests and no edits, the crates above those. Each line has the wall seconds. The last line is 'N well, M not'.
+is not committed), or each NAME, in the order of crates.txt: its check, its tests with those of NAME_tests (or of
+the crates of tests that stand on it, where there is no such one), and its must-fail edits. A crate whose must-fail/
+alone changed has only the changed edits tried. First it says which crates have files that are not as rt fmt writes
+them. --above also checks, with tests and no edits, the crates above those. Each line has the wall seconds. The last
+line is 'N well, M not'.
 
 Each edit is tried by rt's own code over a fresh copy of the work that the check kept, so none pays for what the one
 before it broke (the gate tries a crate's edits in turn over one folder). --edits N tries at most N of a crate, spread
@@ -77,7 +78,13 @@ class Plan:
 
         made = {it.name for it in crates if it.name in words.names or touches(it, "src/", "specs/", "proofs/")}
         below = {it.name: {dep.name for dep in it.below()} for it in crates}
-        tests = {it.name for it in crates if it.name.removesuffix("_tests") in made and it.name not in made}
+        names = {it.name for it in crates}
+        # a crate without tests of its own is tested by those that stand on it and test others
+        apart = {it for it in made if f"{it}_tests" not in names}
+        tests = {
+            it.name for it in crates if it.name.endswith("_tests")
+            and (it.name.removesuffix("_tests") in made or apart & {dep.name for dep in it.deps})
+        } - made
         upper = {it.name for it in crates if words.above and made & below[it.name]} - made
         self.looked = made | tests | upper
         self.edits = {}
