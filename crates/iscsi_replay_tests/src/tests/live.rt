@@ -13,11 +13,11 @@ use std::process::Abort;
 
 /// A target that says what it says, whatever comes.
 #[derive(Drop)]
-struct Told {
-    bytes: Vec<u8>,
-    from: usize,
+pub(crate) struct Told {
+    pub(crate) bytes: Vec<u8>,
+    pub(crate) from: usize,
     // How often it still takes what is sent.
-    takes: u32,
+    pub(crate) takes: u32,
 }
 
 impl Peer for Told {
@@ -127,23 +127,41 @@ const ROWS: &[Row] = &[
         told: "",
     },
     Row {
-        name: "no unit attention as recorded, and task management",
+        name: "a unit attention that does not come, and task management",
         job: "ping 616263\n was ping 616263\ntask 01\n was done 00\nwrite 0 4 5a\n was status 02 sense 70000600\n",
         was: "",
         is: "",
         all: false,
         written: "",
-        told: "request 2: task management, passed over\nrequest 3: no unit attention, as was recorded\n",
+        told: "request 2: task management, passed over\nrequest 3: the recorded unit attention did not come; the command was done (data not compared)\n",
+    },
+    Row {
+        name: "another status in place of a unit attention",
+        job: "ping 616263\n was ping 616263\nwrite 0 4 5a\n was status 02 sense 70000600\n",
+        was: "T> 21800000 00000000 00000000 00000000 00000002",
+        is: "T> 21800008 00000000 00000000 00000000 00000002",
+        all: false,
+        written: "request 2: write 0 4 5a\n  was status 02 sense 70000600\n  now status 08\n",
+        told: "",
+    },
+    Row {
+        name: "a unit attention of a later command that does not come",
+        job: "ping 616263\n was ping 616263\nwrite 0 4 5a\n was good\nread 3 1\n was status 02 sense 70000600\n",
+        was: "",
+        is: "",
+        all: false,
+        written: "request 3: read 3 1\n  was status 02 sense 70000600\n  now good data of 512 bytes, from 0: 44444444444444444444444444444444\n",
+        told: "",
     },
 ];
 
-const ACCOUNT: Account<'static> = Account {
+pub(crate) const ACCOUNT: Account<'static> = Account {
     initiator: b"iqn.2026-01.example:host",
     target: b"iqn.2026-01.example:disk",
 };
 
-// The bytes of the target in the session, in which `was` is another text.
-fn answers(rt: &impl Abort, alloc: Global, was: &str, is: &str) -> Vec<u8> {
+/// The bytes of the target in the session, in which `was` is another text.
+pub(crate) fn answers(rt: &impl Abort, alloc: Global, was: &str, is: &str) -> Vec<u8> {
     if was.is_empty() {
         return marked(alloc, SESSION, "T> ").expect(rt, "lines of the target");
     }

@@ -1,0 +1,94 @@
+//! Memory that is refused, for `rt try --test --fail-alloc`: nothing but its want may come in place of
+//! a job, of its text or of what its replay finds.
+
+use crate::asserts::{same, same_bytes};
+use crate::tests::live::{ACCOUNT, Told, answers};
+use iscsi_job::Item;
+use iscsi_job_text::{TextFault, read_job, write_item};
+use iscsi_replay::{Ignored, Live, Plan, replay};
+use std::alloc::Global;
+use std::process::Abort;
+
+/// A job of each kind of request, with data.
+const TEXT: &str = "write 0 1 5a\n  was status 02 sense 700005\n\
+    command 1 1a0000000000 in 4\n  was good under 1 data 00ff00\n\
+    ping 616263\n  was ping 616263\n\
+    text 6100\n  was text 6200\n\
+    task 01\n  was done 00\n\
+    logout\n  was closed\n";
+
+// The job of the text, read once more where memory ran out.
+fn read_at_last(rt: &impl Abort, alloc: Global) -> Vec<Item> {
+    match read_job(alloc, &mut TEXT.as_bytes()) {
+        Ok(items) => items,
+        Err(fault) => {
+            same(rt, &matches!(fault, TextFault::NoMemory), &true, &"fault");
+            read_job(alloc, &mut TEXT.as_bytes()).expect(rt, "once more")
+        }
+    }
+}
+
+// Appends the lines of a request, once more where memory ran out.
+fn write_at_last(rt: &impl Abort, alloc: Global, item: &Item, text: &mut String) {
+    let mut lines = String::new(alloc);
+    if write_item(alloc, item, &mut lines).is_err() {
+        lines = String::new(alloc);
+        write_item(alloc, item, &mut lines).expect(rt, "once more");
+    }
+    if text.push_str(lines.as_str()).is_err() {
+        text.push_str(lines.as_str()).expect(rt, "once more");
+    }
+}
+
+#[test]
+fn refused_memory_changes_no_job(rt: HostRuntime) {
+    let mut text = String::new(rt.alloc());
+    for item in read_at_last(&rt, rt.alloc()).iter() {
+        write_at_last(&rt, rt.alloc(), item, &mut text);
+    }
+    same(&rt, &text.as_str(), &TEXT, &"text");
+}
+
+/// A job of the worked session, of which the write had another status.
+const OTHER: &str = "ping 616263\n was ping 616263\nwrite 0 4 5a\n was status 08\n";
+
+/// What its replay writes.
+const DIFFERS: &str = "request 2: write 0 4 5a\n  was status 08\n  now good\n";
+
+// Does the job again, and writes where it differs. Says whether it came to its end; if not, memory ran
+// out.
+fn redo(rt: &impl Abort, alloc: Global, items: &[Item], peer: Told, out: &mut Vec<u8>) -> bool {
+    let Ok(mut live) = Live::new(alloc, ACCOUNT, peer) else {
+        return false;
+    };
+    let plan = Plan {
+        ignored: Ignored::NONE,
+        all: false,
+        unit: None,
+    };
+    let mut errors = Vec::new(alloc);
+    match replay(alloc, items, plan, &mut live, out, &mut errors) {
+        Ok(_) => true,
+        Err(fault) => {
+            same(rt, &fault.status(), &3, &"status");
+            false
+        }
+    }
+}
+
+#[test]
+fn refused_memory_hides_no_difference(rt: HostRuntime) {
+    let items = read_job(rt.alloc(), &mut OTHER.as_bytes()).expect(&rt, "a job");
+    let peer = Told {
+        bytes: answers(&rt, rt.alloc(), "", ""),
+        from: 0,
+        takes: u32::MAX,
+    };
+    // Room for what is written, so that no memory is asked for it.
+    let mut out = vec![in rt.alloc(); 0; 4096].expect(&rt, "room");
+    out.clear();
+    let is_done = redo(&rt, rt.alloc(), &items, peer, &mut out);
+    if is_done || !out.is_empty() {
+        same_bytes(&rt, &out, DIFFERS.as_bytes(), &"lines");
+    }
+}
