@@ -5,7 +5,8 @@ use iscsi_examples::{SESSION, marked};
 use iscsi_job::{Ended, Item, Outcome};
 use iscsi_job_text::read_job;
 use iscsi_replay::{
-    Account, Ignored, Live, Lost, Peer, Plan, first_write, is_unit_attention, replay,
+    Account, Ignored, Live, Lost, Peer, Plan, ReplayFault, Tally, first_write, is_unit_attention,
+    replay,
 };
 use scsi_cdb::Residual;
 use std::alloc::Global;
@@ -155,7 +156,7 @@ const ROWS: &[Row] = &[
     },
 ];
 
-pub(crate) const ACCOUNT: Account<'static> = Account {
+const ACCOUNT: Account<'static> = Account {
     initiator: b"iqn.2026-01.example:host",
     target: b"iqn.2026-01.example:disk",
 };
@@ -169,24 +170,53 @@ pub(crate) fn answers(rt: &impl Abort, alloc: Global, was: &str, is: &str) -> Ve
     marked(alloc, dialogue.as_str(), "T> ").expect(rt, "lines of the target")
 }
 
+/// What is written and told of a job.
+#[derive(Drop)]
+pub(crate) struct Output {
+    pub(crate) written: Vec<u8>,
+    pub(crate) told: Vec<u8>,
+}
+
+/// Does a job again at a target.
+pub(crate) fn replayed(
+    alloc: Global,
+    items: &[Item],
+    peer: Told,
+    all: bool,
+    output: &mut Output,
+) -> Result<Tally, ReplayFault> {
+    let Ok(mut live) = Live::new(alloc, ACCOUNT, peer) else {
+        return Err(ReplayFault::NoMemory);
+    };
+    let plan = Plan {
+        ignored: Ignored::NONE,
+        all,
+        unit: None,
+    };
+    replay(
+        alloc,
+        items,
+        plan,
+        &mut live,
+        &mut output.written,
+        &mut output.told,
+    )
+}
+
 fn check_row(rt: &impl Abort, alloc: Global, row: &Row) {
     let peer = Told {
         bytes: answers(rt, alloc, row.was, row.is),
         from: 0,
         takes: u32::MAX,
     };
-    let mut live = Live::new(alloc, ACCOUNT, peer).expect(rt, "a session");
-    let plan = Plan {
-        ignored: Ignored::NONE,
-        all: row.all,
-        unit: None,
-    };
     let items = items_of(rt, alloc, row.job);
-    let mut written = Vec::new(alloc);
-    let mut errors = Vec::new(alloc);
-    replay(alloc, &items, plan, &mut live, &mut written, &mut errors).expect(rt, row.name);
-    same_bytes(rt, &written, row.written.as_bytes(), &row.name);
-    same_bytes(rt, &errors, row.told.as_bytes(), &row.name);
+    let mut output = Output {
+        written: Vec::new(alloc),
+        told: Vec::new(alloc),
+    };
+    replayed(alloc, &items, peer, row.all, &mut output).expect(rt, row.name);
+    same_bytes(rt, &output.written, row.written.as_bytes(), &row.name);
+    same_bytes(rt, &output.told, row.told.as_bytes(), &row.name);
 }
 
 #[test]
@@ -267,21 +297,17 @@ fn check_lost(rt: &impl Abort, alloc: Global, row: &LostRow) {
         from: 0,
         takes: row.takes,
     };
-    let mut live = Live::new(alloc, ACCOUNT, peer).expect(rt, "a session");
-    let plan = Plan {
-        ignored: Ignored::NONE,
-        all: false,
-        unit: None,
-    };
     let items = items_of(rt, alloc, JOB);
-    let mut out = Vec::new(alloc);
-    let mut errors = Vec::new(alloc);
-    let line = match replay(alloc, &items, plan, &mut live, &mut out, &mut errors) {
+    let mut output = Output {
+        written: Vec::new(alloc),
+        told: Vec::new(alloc),
+    };
+    let line = match replayed(alloc, &items, peer, false, &mut output) {
         Ok(_) => String::new(alloc),
         Err(fault) => format!(in alloc; "{fault}").expect(rt, "a line"),
     };
     same(rt, &line.as_str(), &row.due, &row.due);
-    same_bytes(rt, &out, b"", &row.due);
+    same_bytes(rt, &output.written, b"", &row.due);
 }
 
 #[test]

@@ -2,10 +2,9 @@
 //! a job, of its text or of what its replay finds.
 
 use crate::asserts::{same, same_bytes};
-use crate::tests::live::{ACCOUNT, Told, answers};
+use crate::tests::live::{Output, Told, answers, replayed};
 use iscsi_job::Item;
 use iscsi_job_text::{TextFault, read_job, write_item};
-use iscsi_replay::{Ignored, Live, Plan, replay};
 use std::alloc::Global;
 use std::process::Abort;
 
@@ -55,27 +54,6 @@ const OTHER: &str = "ping 616263\n was ping 616263\nwrite 0 4 5a\n was status 08
 /// What its replay writes.
 const DIFFERS: &str = "request 2: write 0 4 5a\n  was status 08\n  now good\n";
 
-// Does the job again, and writes where it differs. Says whether it came to its end; if not, memory ran
-// out.
-fn redo(rt: &impl Abort, alloc: Global, items: &[Item], peer: Told, out: &mut Vec<u8>) -> bool {
-    let Ok(mut live) = Live::new(alloc, ACCOUNT, peer) else {
-        return false;
-    };
-    let plan = Plan {
-        ignored: Ignored::NONE,
-        all: false,
-        unit: None,
-    };
-    let mut errors = Vec::new(alloc);
-    match replay(alloc, items, plan, &mut live, out, &mut errors) {
-        Ok(_) => true,
-        Err(fault) => {
-            same(rt, &fault.status(), &3, &"status");
-            false
-        }
-    }
-}
-
 #[test]
 fn refused_memory_hides_no_difference(rt: HostRuntime) {
     let items = read_job(rt.alloc(), &mut OTHER.as_bytes()).expect(&rt, "a job");
@@ -85,10 +63,16 @@ fn refused_memory_hides_no_difference(rt: HostRuntime) {
         takes: u32::MAX,
     };
     // Room for what is written, so that no memory is asked for it.
-    let mut out = vec![in rt.alloc(); 0; 4096].expect(&rt, "room");
-    out.clear();
-    let is_done = redo(&rt, rt.alloc(), &items, peer, &mut out);
-    if is_done || !out.is_empty() {
-        same_bytes(&rt, &out, DIFFERS.as_bytes(), &"lines");
+    let mut output = Output {
+        written: vec![in rt.alloc(); 0; 4096].expect(&rt, "room"),
+        told: Vec::new(rt.alloc()),
+    };
+    output.written.clear();
+    match replayed(rt.alloc(), &items, peer, false, &mut output) {
+        Ok(_) => same_bytes(&rt, &output.written, DIFFERS.as_bytes(), &"lines"),
+        Err(fault) => {
+            same(&rt, &fault.status(), &3, &"status");
+            same_bytes(&rt, &output.written, b"", &"lines");
+        }
     }
 }
