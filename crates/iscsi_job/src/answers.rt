@@ -21,8 +21,9 @@ pub(crate) fn take(
     head: &Head,
     bytes: &[u8],
 ) -> Result<Option<Reason>, AllocError> {
-    let Some(tag) = tag_of(head) else {
-        return Ok(reason_of(head));
+    let tag = match tag_of(head) {
+        Ok(tag) => tag,
+        Err(said) => return Ok(said),
     };
     if tag == RESERVED_TAG {
         return Ok(None);
@@ -41,47 +42,25 @@ pub(crate) fn take(
     Ok(said)
 }
 
-// The tag of the request that a PDU answers.
-fn tag_of(head: &Head) -> Option<u32> {
+// The tag of the request that a PDU answers; of one that answers none, why it has no place in a job, if
+// it has none.
+fn tag_of(head: &Head) -> Result<u32, Option<Reason>> {
     match head {
-        Head::NopIn(head) => Some(head.initiator_task_tag),
-        Head::ScsiResponse(head) => Some(head.initiator_task_tag),
-        Head::TaskResponse(head) => Some(head.initiator_task_tag),
-        Head::TextResponse(head) => Some(head.initiator_task_tag),
-        Head::DataIn(head) => Some(head.initiator_task_tag),
-        Head::LogoutResponse(head) => Some(head.initiator_task_tag),
+        Head::NopIn(head) => Ok(head.initiator_task_tag),
+        Head::ScsiResponse(head) => Ok(head.initiator_task_tag),
+        Head::TaskResponse(head) => Ok(head.initiator_task_tag),
+        Head::TextResponse(head) => Ok(head.initiator_task_tag),
+        Head::DataIn(head) => Ok(head.initiator_task_tag),
+        Head::LogoutResponse(head) => Ok(head.initiator_task_tag),
+        Head::LoginResponse(_) | Head::ReadyToTransfer(_) | Head::AsyncMessage(_) => Err(None),
+        Head::Reject(_) => Err(Some(Reason::Rejected)),
         Head::NopOut(_)
         | Head::ScsiCommand(_)
         | Head::TaskRequest(_)
         | Head::LoginRequest(_)
         | Head::TextRequest(_)
         | Head::DataOut(_)
-        | Head::LogoutRequest(_)
-        | Head::LoginResponse(_)
-        | Head::ReadyToTransfer(_)
-        | Head::AsyncMessage(_)
-        | Head::Reject(_) => None,
-    }
-}
-
-// Why a PDU that answers no request has no place in a job, if it has none.
-fn reason_of(head: &Head) -> Option<Reason> {
-    match head {
-        Head::LoginResponse(_) | Head::ReadyToTransfer(_) | Head::AsyncMessage(_) => None,
-        Head::Reject(_) => Some(Reason::Rejected),
-        Head::NopIn(_)
-        | Head::ScsiResponse(_)
-        | Head::TaskResponse(_)
-        | Head::TextResponse(_)
-        | Head::DataIn(_)
-        | Head::LogoutResponse(_) => None,
-        Head::NopOut(_)
-        | Head::ScsiCommand(_)
-        | Head::TaskRequest(_)
-        | Head::LoginRequest(_)
-        | Head::TextRequest(_)
-        | Head::DataOut(_)
-        | Head::LogoutRequest(_) => Some(Reason::Kind),
+        | Head::LogoutRequest(_) => Err(Some(Reason::Kind)),
     }
 }
 

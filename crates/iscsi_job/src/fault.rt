@@ -5,11 +5,11 @@ ghost use Rattle.iscsi_job.specs.declared.fault.JobFault.TheVariants.{NoMemory};
 
 use iscsi_stream::StreamFault;
 use std::alloc::{AllocError, AllocFailed};
-use std::fmt::{self, Display, Formatter, Write};
+use std::fmt::{self, Debug, Display, Formatter, Write};
 use thiserror::Error;
 
 /// The end that sent a stream.
-#[derive(Clone, Copy, Debug, PartialEq, Eq)]
+#[derive(Clone, Copy, PartialEq, Eq)]
 pub enum Which {
     /// Who logs in.
     Initiator,
@@ -27,45 +27,53 @@ impl Display for Which {
 }
 
 /// Why a PDU of a recording has no place in a job (own rules, but for the first four).
-#[derive(Clone, Copy, Debug, PartialEq, Eq, Error)]
+#[derive(Clone, Copy, PartialEq, Eq)]
 pub enum Reason {
     /// The first PDU is of no login, so the recording begins late.
-    #[error("no login stands first")]
     Late,
     /// The end does not send PDUs of this kind.
-    #[error("kind of the other end")]
     Kind,
     /// Data stand at another offset than the next one, or are more than was expected, or a command
     /// that sends none has some.
-    #[error("data out of order")]
     Order,
     /// The sense data are cut off.
-    #[error("sense cut off")]
     Sense,
     /// Data of both directions belong to one command.
-    #[error("both directions")]
     Bidirectional,
     /// A text goes on in a further PDU.
-    #[error("text in parts")]
     Parts,
     /// No open request has the tag, or it is of a kind that is not answered so.
-    #[error("no such request")]
     Unasked,
     /// More than 65,536 requests stand between the first one without an answer and the one that is
     /// answered.
-    #[error("over 65536 requests open")]
     Open,
     /// The target rejects a PDU.
-    #[error("rejected")]
     Rejected,
     /// Not all data of the write were recorded.
-    #[error("data missing")]
     Lacking,
+}
+
+impl Display for Reason {
+    fn fmt<W: Write>(&self, f: &mut Formatter<W>) -> fmt::Result {
+        let text = match self {
+            Reason::Late => "no login stands first",
+            Reason::Kind => "kind of the other end",
+            Reason::Order => "data out of order",
+            Reason::Sense => "sense cut off",
+            Reason::Bidirectional => "both directions",
+            Reason::Parts => "text in parts",
+            Reason::Unasked => "no such request",
+            Reason::Open => "over 65536 requests open",
+            Reason::Rejected => "rejected",
+            Reason::Lacking => "data missing",
+        };
+        f.write_str(text)
+    }
 }
 
 /// Why the job of a recording is not found, or not all of it. A place is the number of stream bytes
 /// before a PDU, and PDUs count from 1.
-#[derive(Clone, Copy, Debug, PartialEq, Eq, Error)]
+#[derive(Clone, Copy, Error)]
 pub enum JobFault {
     /// Memory ran out.
     #[error("memory")]
@@ -88,6 +96,12 @@ pub enum JobFault {
         /// Its number.
         pdu: u64,
     },
+}
+
+impl Debug for JobFault {
+    fn fmt<W: Write>(&self, f: &mut Formatter<W>) -> fmt::Result {
+        write!(f, "JobFault({self})")
+    }
 }
 
 impl JobFault {

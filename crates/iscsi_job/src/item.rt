@@ -8,7 +8,7 @@ use std::alloc::{AllocError, Global};
 use std::marker::Model;
 
 /// Which way a command's data go, by the bits R and W of its PDU (RFC 7143, section 11.3.1).
-#[derive(Clone, Copy, Debug, PartialEq, Eq)]
+#[derive(Clone, Copy, PartialEq, Eq)]
 pub enum Moves {
     /// From the target, or none at all.
     In,
@@ -17,7 +17,7 @@ pub enum Moves {
 }
 
 /// What was asked, but for the bytes that were sent with it.
-#[derive(Clone, Copy, Debug, PartialEq, Eq)]
+#[derive(Clone, Copy, PartialEq, Eq)]
 pub enum Asked {
     /// A SCSI command (RFC 7143, section 11.3).
     Command {
@@ -41,7 +41,7 @@ pub enum Asked {
 }
 
 /// How a request ended, but for the bytes that came.
-#[derive(Clone, Copy, Debug, PartialEq, Eq)]
+#[derive(Clone, Copy, PartialEq, Eq)]
 pub enum Ended {
     /// A command was answered (RFC 7143, sections 11.4 and 11.7).
     Command {
@@ -63,7 +63,7 @@ pub enum Ended {
 }
 
 /// What came of a request.
-#[derive(Clone, Copy, Debug)]
+#[derive(Clone, Copy)]
 pub struct Outcome<'a> {
     /// How it ended.
     pub ended: Ended,

@@ -66,23 +66,7 @@ impl Recording {
     /// A fault comes behind the requests of all PDUs before it.
     pub fn ask<R: Read>(&mut self, r: &mut R) -> Result<(), JobFault> {
         let mut pdus = Pdus::new(self.alloc, Which::Initiator);
-        for _ in 0..u64::MAX {
-            if !pdus.advance(r)? {
-                return Ok(());
-            }
-            let (place, number) = (pdus.framer.place(), pdus.number);
-            let Some(pdu) = pdus.framer.pdu() else {
-                continue;
-            };
-            if number == 1 && !matches!(pdu.head, Head::LoginRequest(_)) {
-                return Err(refused(Which::Initiator, Reason::Late, place, number));
-            }
-            let said = self.take_request((place, number), &pdu.head, pdu.bytes)?;
-            if let Some(reason) = said {
-                return Err(refused(Which::Initiator, reason, place, number));
-            }
-        }
-        Err(JobFault::Read(Which::Initiator))
+        self.read(&mut pdus, true, r)
     }
 
     /// Reads the target's stream to its end, and notes what came of each request. `whole` says whether
@@ -92,25 +76,39 @@ impl Recording {
     /// A fault comes behind the answers of all PDUs before it.
     pub fn answer<R: Read>(&mut self, whole: bool, r: &mut R) -> Result<(), JobFault> {
         let mut pdus = Pdus::new(self.alloc, Which::Target);
+        self.read(&mut pdus, whole, r)
+    }
+
+    // Reads a stream to its end.
+    fn read<R: Read>(&mut self, pdus: &mut Pdus, whole: bool, r: &mut R) -> Result<(), JobFault> {
         for _ in 0..u64::MAX {
             if !pdus.advance(r)? {
                 return Ok(());
             }
-            let (place, number) = (pdus.framer.place(), pdus.number);
-            let Some(pdu) = pdus.framer.pdu() else {
-                continue;
-            };
-            if number == 1 && !matches!(pdu.head, Head::LoginResponse(_)) {
-                return Err(refused(Which::Target, Reason::Late, place, number));
-            }
-            let said = self.take_answer(&pdu.head, pdu.bytes)?;
-            match said {
-                None => {}
-                Some(Reason::Unasked) if !whole => {}
-                Some(reason) => return Err(refused(Which::Target, reason, place, number)),
-            }
+            self.take(pdus, whole)?;
         }
-        Err(JobFault::Read(Which::Target))
+        Err(JobFault::Read(pdus.which))
+    }
+
+    // Takes the PDU that is ready.
+    fn take(&mut self, pdus: &Pdus, whole: bool) -> Result<(), JobFault> {
+        let (which, place, number) = (pdus.which, pdus.framer.place(), pdus.number);
+        let Some(pdu) = pdus.framer.pdu() else {
+            return Ok(());
+        };
+        let said = if number == 1 && !is_login(which, &pdu.head) {
+            Some(Reason::Late)
+        } else {
+            match which {
+                Which::Initiator => self.take_request((place, number), &pdu.head, pdu.bytes)?,
+                Which::Target => self.take_answer(&pdu.head, pdu.bytes)?,
+            }
+        };
+        match said {
+            None => Ok(()),
+            Some(Reason::Unasked) if !whole => Ok(()),
+            Some(reason) => Err(refused(which, reason, place, number)),
+        }
     }
 
     /// Ends the recording: a write of which not all data were recorded is refused, with its place, and
@@ -176,6 +174,14 @@ fn refused(which: Which, reason: Reason, place: u64, pdu: u64) -> JobFault {
         reason,
         place,
         pdu,
+    }
+}
+
+// Whether a PDU is of a login, as the first one of an end is.
+fn is_login(which: Which, head: &Head) -> bool {
+    match which {
+        Which::Initiator => matches!(head, Head::LoginRequest(_)),
+        Which::Target => matches!(head, Head::LoginResponse(_)),
     }
 }
 

@@ -12,7 +12,7 @@ use iscsi_pdu::{Head, RESERVED_TAG, ScsiCommand, TextRequest};
 use std::alloc::{AllocError, Global};
 
 /// What a PDU of the initiator says of a job.
-#[derive(Clone, Copy, Debug, PartialEq, Eq)]
+#[derive(Clone, Copy)]
 pub enum Heard {
     /// It asks this under this tag, with the bytes of its segment.
     Asks(u32, Asked),

@@ -4,46 +4,55 @@ ghost use Rattle.std.specs.Prelude.{◌≡◌};
 ghost use Rattle.iscsi_job_text.specs.declared.fault.LineFault.TheVariants as line;
 
 use std::alloc::{AllocError, AllocFailed};
+use std::fmt::{self, Debug, Display, Formatter, Write};
 use thiserror::Error;
 
 /// Why a line of a job is refused (own rules).
-#[derive(Clone, Copy, Debug, PartialEq, Eq, Error)]
+#[derive(Clone, Copy, PartialEq, Eq)]
 pub enum LineReason {
     /// Its first word is that of no request.
-    #[error("no request")]
     Request,
     /// The logical unit is neither a number below 256 nor 16 hex digits.
-    #[error("no logical unit")]
     Unit,
     /// The descriptor block is not 1 to 16 bytes of hex.
-    #[error("no descriptor block")]
     Block,
     /// A command says neither `none`, `in` nor `out`.
-    #[error("no direction")]
     Direction,
     /// A number is missing, is no decimal number or is too large.
-    #[error("no number")]
     Number,
     /// Bytes are missing, or are no hex digits in pairs.
-    #[error("no hex")]
     Hex,
     /// An outcome stands under no request, is the second one there, or is that of another kind of
     /// request.
-    #[error("outcome of no request")]
     Stray,
     /// An outcome is none that is known.
-    #[error("no outcome")]
     Outcome,
     /// More words stand there than the line takes.
-    #[error("too many words")]
     Words,
     /// The line is not UTF-8.
-    #[error("not UTF-8")]
     Utf8,
 }
 
+impl Display for LineReason {
+    fn fmt<W: Write>(&self, f: &mut Formatter<W>) -> fmt::Result {
+        let text = match self {
+            LineReason::Request => "no request",
+            LineReason::Unit => "no logical unit",
+            LineReason::Block => "no descriptor block",
+            LineReason::Direction => "no direction",
+            LineReason::Number => "no number",
+            LineReason::Hex => "no hex",
+            LineReason::Stray => "outcome of no request",
+            LineReason::Outcome => "no outcome",
+            LineReason::Words => "too many words",
+            LineReason::Utf8 => "not UTF-8",
+        };
+        f.write_str(text)
+    }
+}
+
 /// Why a text is no job.
-#[derive(Clone, Copy, Debug, PartialEq, Eq, Error)]
+#[derive(Clone, Copy, Error)]
 pub enum TextFault {
     /// Memory ran out.
     #[error("memory")]
@@ -62,6 +71,12 @@ pub enum TextFault {
         /// Why.
         reason: LineReason,
     },
+}
+
+impl Debug for TextFault {
+    fn fmt<W: Write>(&self, f: &mut Formatter<W>) -> fmt::Result {
+        write!(f, "TextFault({self})")
+    }
 }
 
 /// Why a line is not taken.

@@ -44,17 +44,23 @@ fn items_of(alloc: Global, text: &[u8]) -> Result<Vec<Item>, TextFault> {
         items: Vec::new(alloc),
         takes_outcome: false,
     };
-    let mut number: u64 = 0;
-    for line in text.split(|byte| *byte == b'\n') {
-        number = number.saturating_add(1);
-        if let Err(fault) = reading.take(line) {
-            return Err(fault.at(number));
-        }
-    }
+    reading.take_all(text)?;
     Ok(reading.items)
 }
 
 impl Reading {
+    // Takes the lines of a text.
+    fn take_all(&mut self, text: &[u8]) -> Result<(), TextFault> {
+        let mut number: u64 = 0;
+        for line in text.split(|byte| *byte == b'\n') {
+            number = number.saturating_add(1);
+            if let Err(fault) = self.take(line) {
+                return Err(fault.at(number));
+            }
+        }
+        Ok(())
+    }
+
     // Takes a line: a request, the outcome of the last one, or nothing.
     fn take(&mut self, line: &[u8]) -> Result<(), LineFault> {
         let Ok(line) = std::str::from_utf8(line) else {

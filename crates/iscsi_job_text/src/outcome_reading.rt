@@ -9,34 +9,58 @@ use std::alloc::Global;
 /// Takes what came of a request out of a line.
 pub(crate) fn take_outcome(alloc: Global, item: &mut Item, line: &str) -> Result<(), LineFault> {
     let mut words = Words::of(line);
+    take_words(alloc, item, &mut words)
+}
+
+fn take_words(alloc: Global, item: &mut Item, words: &mut Words<'_>) -> Result<(), LineFault> {
     if !words.take_if("was") {
         return Err(LineFault::Refused(LineReason::Outcome));
     }
     if !words.take_if("none") {
-        let ended = ended(alloc, item, &mut words)?;
+        let ended = ended(alloc, item, words)?;
         item.ended = Some(ended);
     }
-    words.end()?;
-    Ok(())
+    Ok(words.end()?)
 }
 
 // How a request ended. What came is kept with it.
 fn ended(alloc: Global, item: &mut Item, words: &mut Words<'_>) -> Result<Ended, LineFault> {
     match item.asked {
         Asked::Command { .. } => command_ended(alloc, item, words),
-        Asked::Ping if words.take_if("ping") => {
-            item.received = words.bytes_if_any(alloc)?;
-            Ok(Ended::Ping)
-        }
-        Asked::Text if words.take_if("text") => {
-            item.received = words.bytes_if_any(alloc)?;
-            Ok(Ended::Text)
-        }
-        Asked::Logout if words.take_if("closed") => Ok(Ended::Closed),
-        Asked::Task(_) if words.take_if("done") => Ok(Ended::Task(words.byte()?)),
-        Asked::Ping | Asked::Text | Asked::Logout | Asked::Task(_) => {
-            Err(LineFault::Refused(LineReason::Stray))
-        }
+        Asked::Ping => came(alloc, item, "ping", Ended::Ping, words),
+        Asked::Text => came(alloc, item, "text", Ended::Text, words),
+        Asked::Logout => closed(words),
+        Asked::Task(_) => task_ended(words),
+    }
+}
+
+// How a request ended that is answered with bytes, behind this word.
+fn came(
+    alloc: Global,
+    item: &mut Item,
+    word: &str,
+    ended: Ended,
+    words: &mut Words<'_>,
+) -> Result<Ended, LineFault> {
+    if !words.take_if(word) {
+        return Err(LineFault::Refused(LineReason::Stray));
+    }
+    item.received = words.bytes_if_any(alloc)?;
+    Ok(ended)
+}
+
+fn closed(words: &mut Words<'_>) -> Result<Ended, LineFault> {
+    if words.take_if("closed") {
+        Ok(Ended::Closed)
+    } else {
+        Err(LineFault::Refused(LineReason::Stray))
+    }
+}
+
+fn task_ended(words: &mut Words<'_>) -> Result<Ended, LineFault> {
+    match words.byte_behind("done")? {
+        Some(response) => Ok(Ended::Task(response)),
+        None => Err(LineFault::Refused(LineReason::Stray)),
     }
 }
 
@@ -47,13 +71,9 @@ fn command_ended(
     words: &mut Words<'_>,
 ) -> Result<Ended, LineFault> {
     let (response, status) = response_and_status(words)?;
-    if words.take_if("sense") {
-        item.sense = words.bytes(alloc)?;
-    }
+    words.bytes_behind(alloc, "sense", &mut item.sense)?;
     let residual = residual(words)?;
-    if words.take_if("data") {
-        item.received = words.bytes(alloc)?;
-    }
+    words.bytes_behind(alloc, "data", &mut item.received)?;
     Ok(Ended::Command {
         response,
         status,
@@ -63,30 +83,24 @@ fn command_ended(
 
 // A response and a status, of which one may be missing; it is 00 then.
 fn response_and_status(words: &mut Words<'_>) -> Result<(u8, u8), LineReason> {
-    let response = if words.take_if("response") {
-        Some(words.byte()?)
-    } else {
-        None
-    };
-    let status = if words.take_if("status") {
-        Some(words.byte()?)
-    } else if words.take_if("good") {
-        Some(0)
-    } else {
-        None
-    };
-    if response.is_none() && status.is_none() {
+    let response = words.byte_behind("response")?;
+    let status = words.byte_behind("status")?;
+    let is_good = status.is_none() && words.take_if("good");
+    if response.is_none() && status.is_none() && !is_good {
         return Err(LineReason::Outcome);
     }
     Ok((response.unwrap_or(0), status.unwrap_or(0)))
 }
 
 fn residual(words: &mut Words<'_>) -> Result<Residual, LineReason> {
-    if words.take_if("under") {
-        Ok(Residual::Under(words.number(u64::from(u32::MAX))? as u32))
-    } else if words.take_if("over") {
-        Ok(Residual::Over(words.number(u64::from(u32::MAX))? as u32))
+    let is_under = words.take_if("under");
+    if !is_under && !words.take_if("over") {
+        return Ok(Residual::Exact);
+    }
+    let bytes = words.number(u64::from(u32::MAX))? as u32;
+    if is_under {
+        Ok(Residual::Under(bytes))
     } else {
-        Ok(Residual::Exact)
+        Ok(Residual::Over(bytes))
     }
 }

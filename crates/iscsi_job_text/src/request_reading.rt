@@ -19,11 +19,30 @@ fn request_in(alloc: Global, words: &mut Words<'_>) -> Result<(Asked, Vec<u8>), 
     match words.take() {
         Some("command") => command(alloc, words),
         Some("write") => blocks_of_one_byte(alloc, words),
-        Some("ping") => Ok((Asked::Ping, words.bytes_if_any(alloc)?)),
-        Some("text") => Ok((Asked::Text, words.bytes_if_any(alloc)?)),
-        Some(name) => Ok((without_data(name, words)?, Vec::new(alloc))),
+        Some("ping") => with_bytes(alloc, Asked::Ping, words),
+        Some("text") => with_bytes(alloc, Asked::Text, words),
+        Some(name) => without_bytes(alloc, name, words),
         None => Err(LineFault::Refused(LineReason::Request)),
     }
+}
+
+// A request that sends the bytes behind it.
+fn with_bytes(
+    alloc: Global,
+    asked: Asked,
+    words: &mut Words<'_>,
+) -> Result<(Asked, Vec<u8>), LineFault> {
+    let sent = words.bytes_if_any(alloc)?;
+    Ok((asked, sent))
+}
+
+fn without_bytes(
+    alloc: Global,
+    name: &str,
+    words: &mut Words<'_>,
+) -> Result<(Asked, Vec<u8>), LineFault> {
+    let asked = without_data(name, words)?;
+    Ok((asked, Vec::new(alloc)))
 }
 
 // A command with its descriptor block.
@@ -44,17 +63,21 @@ fn command(alloc: Global, words: &mut Words<'_>) -> Result<(Asked, Vec<u8>), Lin
 fn moved(alloc: Global, words: &mut Words<'_>) -> Result<(Moves, u32, Vec<u8>), LineFault> {
     match words.take() {
         Some("none") => Ok((Moves::In, 0, Vec::new(alloc))),
-        Some("in") => {
-            let expected = words.number(u64::from(u32::MAX))? as u32;
-            Ok((Moves::In, expected, Vec::new(alloc)))
-        }
-        Some("out") => {
-            let sent = words.bytes_if_any(alloc)?;
-            match u32::try_from(sent.len()) {
-                Ok(expected) => Ok((Moves::Out, expected, sent)),
-                Err(_) => Err(LineFault::Refused(LineReason::Hex)),
-            }
-        }
+        Some("in") => moved_in(alloc, words),
+        Some("out") => moved_out(alloc, words),
         _ => Err(LineFault::Refused(LineReason::Direction)),
+    }
+}
+
+fn moved_in(alloc: Global, words: &mut Words<'_>) -> Result<(Moves, u32, Vec<u8>), LineFault> {
+    let expected = words.number(u64::from(u32::MAX))? as u32;
+    Ok((Moves::In, expected, Vec::new(alloc)))
+}
+
+fn moved_out(alloc: Global, words: &mut Words<'_>) -> Result<(Moves, u32, Vec<u8>), LineFault> {
+    let sent = words.bytes_if_any(alloc)?;
+    match u32::try_from(sent.len()) {
+        Ok(expected) => Ok((Moves::Out, expected, sent)),
+        Err(_) => Err(LineFault::Refused(LineReason::Hex)),
     }
 }

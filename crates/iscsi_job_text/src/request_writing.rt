@@ -7,7 +7,7 @@ use crate::fault::LineFault;
 use crate::outcome_writing::{write_hex, write_outcome};
 use crate::request_reading::request_of;
 use iscsi_job::{Asked, Item, Moves};
-use scsi_cdb::Cdb;
+use scsi_cdb::{Cdb, Transfer10, Transfer16};
 use std::alloc::{AllocError, Global};
 
 /// Appends the lines of a request and of its outcome. If memory runs out, a part of them may stand
@@ -22,94 +22,99 @@ pub fn write_item(alloc: Global, item: &Item, text: &mut String) -> Result<(), A
 /// there.
 pub fn write_request(alloc: Global, item: &Item, text: &mut String) -> Result<(), AllocError> {
     match item.asked {
-        Asked::Command { lun, cdb, .. } => match script_line(alloc, item, lun, &cdb)? {
-            Some(line) => text.push_str(line.as_str()),
-            None => write_command(alloc, item, lun, &cdb, text),
-        },
-        Asked::Ping => {
-            text.push_str("ping")?;
-            write_hex(alloc, " ", &item.sent, text)
-        }
-        Asked::Text => {
-            text.push_str("text")?;
-            write_hex(alloc, " ", &item.sent, text)
-        }
+        Asked::Command { lun, cdb, .. } => write_asked(alloc, item, lun, &cdb, text),
+        Asked::Ping => write_sent(alloc, "ping", item, text),
+        Asked::Text => write_sent(alloc, "text", item, text),
         Asked::Logout => text.push_str("logout"),
         Asked::Task(function) => write!(text, "task {function:02x}"),
     }
 }
 
-// The line of a script that means a command, if there is one.
-fn script_line(
+// Appends a word, and the bytes that are sent with it.
+fn write_sent(alloc: Global, word: &str, item: &Item, text: &mut String) -> Result<(), AllocError> {
+    text.push_str(word)?;
+    write_hex(alloc, " ", &item.sent, text)
+}
+
+// Appends the line of a command: that of a script, if one means the same.
+fn write_asked(
     alloc: Global,
     item: &Item,
     lun: u64,
     cdb: &[u8; 16],
-) -> Result<Option<String>, AllocError> {
+    text: &mut String,
+) -> Result<(), AllocError> {
+    let mut line = String::new(alloc);
+    if is_script_line(alloc, item, lun, cdb, &mut line)? {
+        text.push_str(line.as_str())
+    } else {
+        write_command(alloc, item, lun, cdb, text)
+    }
+}
+
+// Whether a line of a script means a command. It is appended to `line` then; else another one may be.
+fn is_script_line(
+    alloc: Global,
+    item: &Item,
+    lun: u64,
+    cdb: &[u8; 16],
+    line: &mut String,
+) -> Result<bool, AllocError> {
     let Some(unit) = unit_of(lun) else {
-        return Ok(None);
+        return Ok(false);
     };
-    let Some((name, first, second)) = script_of(unit, cdb) else {
-        return Ok(None);
-    };
-    let mut line = String::from_str(alloc, name)?;
-    write_number(first, &mut line)?;
-    write_number(second, &mut line)?;
+    write_script(unit, cdb, line)?;
     if let Some(byte) = item.sent.first() {
         write!(line, " {byte:02x}")?;
     }
-    let means = means(alloc, line.as_str(), item)?;
-    Ok(means.then_some(line))
+    means(alloc, line.as_str(), item)
 }
 
-// Appends a number, if there is one.
-fn write_number(number: Option<u64>, text: &mut String) -> Result<(), AllocError> {
-    match number {
-        Some(number) => write!(text, " {number}"),
-        None => Ok(()),
-    }
-}
-
-// The name and the numbers of the line of a script that might mean a command.
-fn script_of(unit: u8, cdb: &[u8; 16]) -> Option<(&'static str, Option<u64>, Option<u64>)> {
-    let unit = Some(u64::from(unit));
-    let line = match Cdb::read(cdb) {
-        Cdb::TestUnitReady { .. } => ("tur", unit, None),
+// Appends the name and the numbers of the line of a script that might mean a command; nothing if there
+// is none.
+fn write_script(unit: u8, cdb: &[u8; 16], line: &mut String) -> Result<(), AllocError> {
+    match Cdb::read(cdb) {
+        Cdb::TestUnitReady { .. } => write!(line, "tur {unit}"),
         Cdb::Inquiry {
             allocation_length,
             ..
-        } => ("inquiry", unit, Some(u64::from(allocation_length))),
-        Cdb::Capacity10 { .. } => ("capacity", None, None),
-        Cdb::Capacity16 { .. } => ("capacity16", None, None),
-        Cdb::ReportLuns { .. } => ("luns", None, None),
-        Cdb::Read10(read) => (
-            "read",
-            Some(u64::from(read.logical_block_address)),
-            Some(u64::from(read.blocks)),
+        } => write_pair(
+            "inquiry",
+            u64::from(unit),
+            u64::from(allocation_length),
+            line,
         ),
-        Cdb::Read16(read) => (
-            "read",
-            Some(read.logical_block_address),
-            Some(u64::from(read.blocks)),
-        ),
-        Cdb::Write10(write) => (
-            "write",
-            Some(u64::from(write.logical_block_address)),
-            Some(u64::from(write.blocks)),
-        ),
-        Cdb::Write16(write) => (
-            "write",
-            Some(write.logical_block_address),
-            Some(u64::from(write.blocks)),
-        ),
-        Cdb::SyncCache10(sync) => (
-            "sync",
-            Some(u64::from(sync.logical_block_address)),
-            Some(u64::from(sync.blocks)),
-        ),
-        Cdb::Unknown(_) => return None,
-    };
-    Some(line)
+        Cdb::Capacity10 { .. } => line.push_str("capacity"),
+        Cdb::Capacity16 { .. } => line.push_str("capacity16"),
+        Cdb::ReportLuns { .. } => line.push_str("luns"),
+        Cdb::Read10(read) => write_transfer10("read", read, line),
+        Cdb::Read16(read) => write_transfer16("read", read, line),
+        Cdb::Write10(write) => write_transfer10("write", write, line),
+        Cdb::Write16(write) => write_transfer16("write", write, line),
+        Cdb::SyncCache10(sync) => {
+            let first = u64::from(sync.logical_block_address);
+            write_pair("sync", first, u64::from(sync.blocks), line)
+        }
+        Cdb::Unknown(_) => Ok(()),
+    }
+}
+
+fn write_transfer10(name: &str, of: Transfer10, line: &mut String) -> Result<(), AllocError> {
+    write_pair(
+        name,
+        u64::from(of.logical_block_address),
+        u64::from(of.blocks),
+        line,
+    )
+}
+
+fn write_transfer16(name: &str, of: Transfer16, line: &mut String) -> Result<(), AllocError> {
+    write_pair(name, of.logical_block_address, u64::from(of.blocks), line)
+}
+
+// Appends a name and two numbers.
+fn write_pair(name: &str, first: u64, second: u64, line: &mut String) -> Result<(), AllocError> {
+    write!(line, "{name} {first} {second}")
 }
 
 // Whether a line means this request.
@@ -142,6 +147,11 @@ fn write_command(
         None => write!(text, "command {lun:016x}")?,
     }
     write_hex(alloc, " ", shown_block(cdb), text)?;
+    write_moved(alloc, item, text)
+}
+
+// Appends which way the data of a command go, and what is sent.
+fn write_moved(alloc: Global, item: &Item, text: &mut String) -> Result<(), AllocError> {
     match item.asked {
         Asked::Command {
             moves: Moves::In,

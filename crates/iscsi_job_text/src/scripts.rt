@@ -19,9 +19,9 @@ pub(crate) fn without_data(name: &str, words: &mut Words<'_>) -> Result<Asked, L
     match name {
         "tur" => test_unit_ready(words),
         "inquiry" => inquiry(words),
-        "capacity" => Ok(data_in(0, Cdb::Capacity10 { control: 0 }, 8)),
-        "capacity16" => Ok(data_in(0, long_capacity(), 32)),
-        "luns" => Ok(data_in(0, list_of_units(), 16)),
+        "capacity" => Ok(capacity()),
+        "capacity16" => Ok(capacity16()),
+        "luns" => Ok(luns()),
         "read" => read(words),
         "sync" => sync(words),
         "logout" => Ok(Asked::Logout),
@@ -33,6 +33,18 @@ pub(crate) fn without_data(name: &str, words: &mut Words<'_>) -> Result<Asked, L
 fn test_unit_ready(words: &mut Words<'_>) -> Result<Asked, LineReason> {
     let unit = words.number(255)? as u8;
     Ok(data_in(unit, Cdb::TestUnitReady { control: 0 }, 0))
+}
+
+fn capacity() -> Asked {
+    data_in(0, Cdb::Capacity10 { control: 0 }, 8)
+}
+
+fn capacity16() -> Asked {
+    data_in(0, long_capacity(), 32)
+}
+
+fn luns() -> Asked {
+    data_in(0, list_of_units(), 16)
 }
 
 fn inquiry(words: &mut Words<'_>) -> Result<Asked, LineReason> {
@@ -61,15 +73,19 @@ pub(crate) fn blocks_of_one_byte(
     let address = words.number(u64::MAX)?;
     let blocks = words.number(LONGEST_TRANSFER)? as u16;
     let byte = words.byte()?;
-    let sent = vec![in alloc; byte; 512 * usize::from(blocks)]?;
-    let asked = Asked::Command {
+    let asked = write_of(address, blocks);
+    Ok((asked, vec![in alloc; byte; 512 * usize::from(blocks)]?))
+}
+
+fn write_of(address: u64, blocks: u16) -> Asked {
+    Asked::Command {
         lun: 0,
         cdb: writing(address, blocks).write(),
         moves: Moves::Out,
         expected: 512 * u32::from(blocks),
-    };
-    Ok((asked, sent))
+    }
 }
+
 // A command that may return bytes.
 fn data_in(unit: u8, cdb: Cdb, expected: u32) -> Asked
     requires { Fits cdb }

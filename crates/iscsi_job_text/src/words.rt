@@ -62,6 +62,30 @@ impl<'a> Words<'a> {
         }
     }
 
+    /// Takes two hex digits, if they stand behind this word.
+    pub(crate) fn byte_behind(&mut self, word: &str) -> Result<Option<u8>, LineReason> {
+        if !self.take_if(word) {
+            return Ok(None);
+        }
+        match self.byte() {
+            Ok(byte) => Ok(Some(byte)),
+            Err(reason) => Err(reason),
+        }
+    }
+
+    /// Takes bytes in hex, if they stand behind this word.
+    pub(crate) fn bytes_behind(
+        &mut self,
+        alloc: Global,
+        word: &str,
+        out: &mut Vec<u8>,
+    ) -> Result<(), LineFault> {
+        if self.take_if(word) {
+            *out = self.bytes(alloc)?;
+        }
+        Ok(())
+    }
+
     /// Takes bytes in hex.
     pub(crate) fn bytes(&mut self, alloc: Global) -> Result<Vec<u8>, LineFault> {
         let Some(digits) = self.take() else {

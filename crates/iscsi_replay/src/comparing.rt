@@ -1,7 +1,7 @@
 //! Whether two outcomes of a request are the same.
 
 ghost use Rattle.std.specs.Prelude.{◌≡◌, ◌↔◌, true};
-ghost use Rattle.iscsi_replay.specs.Outcomes.{AreSame, compared_data, compared_end, is_unit_attention_end, sense_key, without_residual};
+ghost use Rattle.iscsi_replay.specs.Outcomes.{AreSame, compared_data, compared_end, is_good_end, is_unit_attention_end, sense_key, without_residual};
 
 use iscsi_job::{Ended, Outcome};
 use scsi_cdb::Residual;
@@ -65,6 +65,20 @@ pub fn is_unit_attention(outcome: Outcome<'_>) -> bool
             status,
             ..
         } => response == 0 && status == CHECK_CONDITION && sense_key(outcome.sense) == 6,
+        Ended::Ping | Ended::Text | Ended::Closed | Ended::Task(_) => false,
+    }
+}
+
+// Whether a command was done: its target completed it with status GOOD.
+pub(crate) fn is_good(outcome: Outcome<'_>) -> bool
+    ensures value { result ≡ is_good_end outcome.entry.ended }
+{
+    match outcome.ended {
+        Ended::Command {
+            response,
+            status,
+            ..
+        } => response == 0 && status == 0,
         Ended::Ping | Ended::Text | Ended::Closed | Ended::Task(_) => false,
     }
 }

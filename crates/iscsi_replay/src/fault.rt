@@ -6,11 +6,12 @@ ghost use Rattle.iscsi_replay.specs.declared.fault.ReplayFault.TheVariants as re
 
 use iscsi_initiator::{InitiatorFault, SubmitFault};
 use std::alloc::AllocError;
+use std::fmt::{self, Debug, Formatter, Write};
 use std::io::{self, ErrorKind};
 use thiserror::Error;
 
 /// Why a connection is lost.
-#[derive(Clone, Copy, Debug, PartialEq, Eq, Error)]
+#[derive(Clone, Copy, Debug, Error)]
 pub enum Lost {
     /// The target closed it.
     #[error("the target closed the connection")]
@@ -37,7 +38,7 @@ impl From<io::Error> for Lost {
 }
 
 /// Why a session at a live target goes no further.
-#[derive(Debug, Drop, Error)]
+#[derive(Drop, Error)]
 pub enum LiveFault {
     /// Memory ran out.
     #[error("memory")]
@@ -53,6 +54,12 @@ pub enum LiveFault {
     Refused(SubmitFault),
 }
 
+impl Debug for LiveFault {
+    fn fmt<W: Write>(&self, f: &mut Formatter<W>) -> fmt::Result {
+        write!(f, "LiveFault({self})")
+    }
+}
+
 impl From<AllocError> for LiveFault {
     ghost from_gives = { λ _ e. e ≡ live.NoMemory };
 
@@ -62,7 +69,7 @@ impl From<AllocError> for LiveFault {
 }
 
 /// Why a job is not done again to its end.
-#[derive(Debug, Drop, Error)]
+#[derive(Drop, Error)]
 pub enum ReplayFault {
     /// Memory ran out.
     #[error("memory")]
@@ -76,6 +83,12 @@ pub enum ReplayFault {
     /// The session failed at the request with this number, from 1.
     #[error("request {0}: {1}")]
     Request(u64, LiveFault),
+}
+
+impl Debug for ReplayFault {
+    fn fmt<W: Write>(&self, f: &mut Formatter<W>) -> fmt::Result {
+        write!(f, "ReplayFault({self})")
+    }
 }
 
 impl From<AllocError> for ReplayFault {

@@ -14,7 +14,7 @@ const MODE_SENSE_10: u8 = 0x5a;
 
 /// Commands whose data and residual count are left out of a comparison. Data of reads are never left
 /// out.
-#[derive(Clone, Copy, Debug, PartialEq, Eq)]
+#[derive(Clone, Copy)]
 pub struct Ignored {
     /// INQUIRY, 12.
     pub inquiry: bool,

@@ -15,7 +15,7 @@ const ISID: [u8; 6] = [0x40, 0, 0, 2, 0, 0];
 const FIRST_CMD_SN: u32 = 1;
 
 /// Who logs in, and to which target.
-#[derive(Clone, Copy, Debug, PartialEq, Eq)]
+#[derive(Clone, Copy)]
 pub struct Account<'a> {
     /// The initiator's name: 1 to 223 bytes, each of `!` to `~`.
     pub initiator: &'a [u8],

@@ -1,6 +1,6 @@
 //! A job, done again request by request.
 
-use crate::comparing::{are_same, is_unit_attention};
+use crate::comparing::{are_same, is_good, is_unit_attention};
 use crate::fault::ReplayFault;
 use crate::ignoring::Ignored;
 use crate::live::Live;
@@ -13,7 +13,7 @@ use std::alloc::{AllocError, Global};
 use std::io::Write;
 
 /// How a job is done again.
-#[derive(Clone, Copy, Debug, PartialEq, Eq)]
+#[derive(Clone, Copy)]
 pub struct Plan {
     /// The commands whose data may differ.
     pub ignored: Ignored,
@@ -24,12 +24,21 @@ pub struct Plan {
 }
 
 /// How many requests were done, and of how many the outcome differs.
-#[derive(Clone, Copy, Debug, PartialEq, Eq)]
+#[derive(Clone, Copy)]
 pub struct Tally {
     /// Requests that were done.
     pub done: u64,
     /// Of these, those with an outcome that differs from the recorded one.
     pub differ: u64,
+}
+
+// How far a job was done.
+#[derive(Clone, Copy)]
+struct Place {
+    // The number of the last request, from 1.
+    number: u64,
+    // Whether the first command that a unit attention may answer is still to come.
+    is_due: bool,
 }
 
 // A request of a job.
@@ -48,20 +57,12 @@ struct Step<'a> {
 enum Shown {
     // It was not done.
     Nothing,
+    // A unit attention came in place of its outcome.
+    Attention,
     // Nothing that differs.
     Same,
     // Another outcome than the recorded one.
     Other(Done),
-}
-
-// How the answer to the first command compares with the recorded one.
-enum Attention {
-    // Both are a unit attention, or none is.
-    Alike,
-    // The recorded one alone is a unit attention.
-    Missed,
-    // The live one alone is a unit attention.
-    Met,
 }
 
 /// Logs in, does the requests of a job one at a time, in their order, and ends the session. Lines on
@@ -69,8 +70,8 @@ enum Attention {
 ///
 /// Without `all` it stops behind the first request whose outcome differs. A unit attention in front of
 /// the first command is taken once and told: the command is done again then. If the recorded first
-/// command met one, and the live one does not, that is told, too, and is no difference. Task
-/// management is told and passed over.
+/// command met one, and the live one is done with status GOOD, that is told, too, and is no difference:
+/// of its data nothing was recorded. Task management is told and passed over.
 pub fn replay<P: Peer, W: Write, E: Write>(
     alloc: Global,
     items: &[Item],
@@ -97,21 +98,13 @@ fn redo_all<P: Peer, W: Write, E: Write>(
     errors: &mut E,
 ) -> Result<Tally, ReplayFault> {
     let mut tally = Tally { done: 0, differ: 0 };
-    let mut number: u64 = 0;
-    let mut is_due = true;
+    let mut place = Place {
+        number: 0,
+        is_due: true,
+    };
     for item in items {
-        number = number.saturating_add(1);
-        let is_first = is_due && may_meet_attention(item);
-        is_due = is_due && !is_first;
-        let step = Step {
-            number,
-            item,
-            plan,
-            is_first,
-        };
-        let shown = step.redo(alloc, live, errors)?;
-        step.tell(alloc, &shown, w)?;
-        tally.count(&shown);
+        let step = place.step(item, plan);
+        step.carry_out(alloc, live, w, errors, &mut tally)?;
         if tally.differ > 0 && !plan.all {
             break;
         }
@@ -119,11 +112,26 @@ fn redo_all<P: Peer, W: Write, E: Write>(
     Ok(tally)
 }
 
+impl Place {
+    // The next request, with its number.
+    fn step<'a>(&mut self, item: &'a Item, plan: Plan) -> Step<'a> {
+        self.number = self.number.saturating_add(1);
+        let is_first = self.is_due && may_meet_attention(item);
+        self.is_due = self.is_due && !is_first;
+        Step {
+            number: self.number,
+            item,
+            plan,
+            is_first,
+        }
+    }
+}
+
 impl Tally {
     // Counts a request.
     fn count(&mut self, shown: &Shown) {
         match shown {
-            Shown::Nothing => {}
+            Shown::Nothing | Shown::Attention => {}
             Shown::Same => self.done = self.done.saturating_add(1),
             Shown::Other(_) => {
                 self.done = self.done.saturating_add(1);
@@ -150,35 +158,44 @@ fn may_meet_attention(item: &Item) -> bool {
 }
 
 impl Step<'_> {
-    // Does the request again, and tells of a unit attention.
+    // Does the request again, counts it, and writes its lines if its outcome differs.
+    fn carry_out<P: Peer, W: Write, E: Write>(
+        &self,
+        alloc: Global,
+        live: &mut Live<P>,
+        w: &mut W,
+        errors: &mut E,
+        tally: &mut Tally,
+    ) -> Result<(), ReplayFault> {
+        let shown = self.redo(alloc, live, errors)?;
+        tally.count(&shown);
+        self.tell(alloc, &shown, w)
+    }
+
+    // Does the request again; once more behind a unit attention in front of the first command.
     fn redo<P: Peer, E: Write>(
         &self,
         alloc: Global,
         live: &mut Live<P>,
         errors: &mut E,
     ) -> Result<Shown, ReplayFault> {
-        let number = self.number;
-        let Some(done) = self.perform(alloc, live)? else {
-            let _ = writeln!(errors, "request {number}: task management, passed over");
-            return Ok(Shown::Nothing);
-        };
-        match self.attention(outcome_of(&done)) {
-            Attention::Alike => Ok(self.shown(done)),
-            Attention::Missed => {
-                let _ = writeln!(
-                    errors,
-                    "request {number}: no unit attention, as was recorded"
-                );
-                Ok(Shown::Same)
-            }
-            Attention::Met => {
-                let _ = writeln!(errors, "request {number}: unit attention, taken once");
-                match self.perform(alloc, live)? {
-                    Some(done) => Ok(self.shown(done)),
-                    None => Ok(Shown::Nothing),
-                }
-            }
+        let shown = self.attempt(alloc, live, errors, self.is_first)?;
+        match shown {
+            Shown::Attention => self.attempt(alloc, live, errors, false),
+            Shown::Nothing | Shown::Same | Shown::Other(_) => Ok(shown),
         }
+    }
+
+    // Does the request once. `takes` says whether a unit attention is taken, not compared.
+    fn attempt<P: Peer, E: Write>(
+        &self,
+        alloc: Global,
+        live: &mut Live<P>,
+        errors: &mut E,
+        takes: bool,
+    ) -> Result<Shown, ReplayFault> {
+        let done = self.perform(alloc, live)?;
+        Ok(self.judged(done, errors, takes))
     }
 
     // Does the request once; nothing of task management.
@@ -187,40 +204,72 @@ impl Step<'_> {
         alloc: Global,
         live: &mut Live<P>,
     ) -> Result<Option<Done>, ReplayFault> {
-        let Some(request) = self.item.request(alloc)? else {
+        let Some(mut request) = self.item.request(alloc)? else {
             return Ok(None);
         };
-        match live.perform(at_unit(request, self.plan.unit)) {
+        if let Some(unit) = self.plan.unit {
+            lead_to(&mut request, unit);
+        }
+        match live.perform(request) {
             Ok(done) => Ok(Some(done)),
             Err(fault) => Err(fault.at(self.number)),
         }
     }
 
-    // How a live outcome compares with the recorded one, if a unit attention may come.
-    fn attention(&self, live: Outcome<'_>) -> Attention {
-        let was = match self.item.outcome() {
-            Some(recorded) => is_unit_attention(recorded),
-            None => false,
+    // What an outcome shows, with what is told of it.
+    fn judged<E: Write>(&self, done: Option<Done>, errors: &mut E, takes: bool) -> Shown {
+        let number = self.number;
+        let Some(done) = done else {
+            let _ = writeln!(errors, "request {number}: task management, passed over");
+            return Shown::Nothing;
         };
-        match (was, is_unit_attention(live)) {
-            (true, false) if self.is_first => Attention::Missed,
-            (false, true) if self.is_first => Attention::Met,
-            _ => Attention::Alike,
+        if takes && self.is_attention(outcome_of(&done)) {
+            let _ = writeln!(errors, "request {number}: unit attention, taken once");
+            Shown::Attention
+        } else if self.is_as_recorded(outcome_of(&done), errors) {
+            Shown::Same
+        } else {
+            Shown::Other(done)
         }
     }
 
-    // Whether what came of the request is what was recorded, if anything was.
-    fn shown(&self, done: Done) -> Shown {
+    // Whether the live outcome is a unit attention, and the recorded one is none.
+    fn is_attention(&self, live: Outcome<'_>) -> bool {
+        is_unit_attention(live) && !self.has_attention()
+    }
+
+    // Whether the recorded outcome is a unit attention.
+    fn has_attention(&self) -> bool {
+        match self.item.outcome() {
+            Some(recorded) => is_unit_attention(recorded),
+            None => false,
+        }
+    }
+
+    // Whether what came of the request is what was recorded, if anything was. A command that was done
+    // in place of the recorded unit attention counts as the same, and that is told.
+    fn is_as_recorded<E: Write>(&self, live: Outcome<'_>, errors: &mut E) -> bool {
+        let Some(recorded) = self.item.outcome() else {
+            return true;
+        };
+        if self.is_first && self.has_attention() && is_good(live) {
+            let number = self.number;
+            let _ = writeln!(
+                errors,
+                "request {number}: the recorded unit attention did not come; the command was done \
+                 (data not compared)"
+            );
+            return true;
+        }
+        are_same(recorded, live, self.ignores_data())
+    }
+
+    // Whether the data of the request are left out.
+    fn ignores_data(&self) -> bool {
         let item = self.item;
-        let ignores_data = match item.asked {
+        match item.asked {
             Asked::Command { cdb, .. } => self.plan.ignored.has(cdb[0]),
             Asked::Ping | Asked::Text | Asked::Logout | Asked::Task(_) => false,
-        };
-        match item.outcome() {
-            Some(recorded) if !are_same(recorded, outcome_of(&done), ignores_data) => {
-                Shown::Other(done)
-            }
-            _ => Shown::Same,
         }
     }
 
@@ -256,16 +305,13 @@ impl Step<'_> {
     }
 }
 
-// The same request at another logical unit.
-fn at_unit(request: Request, unit: Option<u8>) -> Request {
-    let Some(unit) = unit else {
-        return request;
-    };
-    let lun = u64::from(unit) << 48;
+// Has a command go to the logical unit with this number.
+fn lead_to(request: &mut Request, unit: u8) {
+    let unit = u64::from(unit) << 48;
     match request {
-        Request::In { cdb, expected, .. } => Request::In { lun, cdb, expected },
-        Request::Out { cdb, bytes, .. } => Request::Out { lun, cdb, bytes },
-        Request::Ping { .. } | Request::Text { .. } | Request::Logout => request,
+        Request::In { lun, .. } => *lun = unit,
+        Request::Out { lun, .. } => *lun = unit,
+        Request::Ping { .. } | Request::Text { .. } | Request::Logout => {}
     }
 }
 

@@ -1,4 +1,4 @@
-//! Tests of `iscsi_replay`: jobs, done again.
+//! Tests of `iscsi_job`, `iscsi_job_text` and `iscsi_replay`: jobs of recordings, as text, and done again.
 #![tactic(auto)]
 
 #[cfg(test)]

@@ -1,3 +1,6 @@
-//! Jobs done again, by example.
+//! Jobs by example: found in recordings, as text, and done again.
 
 mod live;
+mod memory;
+mod recordings;
+mod texts;

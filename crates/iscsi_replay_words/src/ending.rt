@@ -5,6 +5,7 @@ use iscsi_captures::CapturesFault;
 use iscsi_job::{JobFault, Which};
 use iscsi_job_text::TextFault;
 use iscsi_replay::{Lost, ReplayFault};
+use std::fmt::Display;
 use std::io::{self, Write};
 
 /// Why words were not done to their end, or what was found.
@@ -58,22 +59,35 @@ impl Ending<'_> {
         match self {
             Ending::Done | Ending::Differ => Ok(()),
             Ending::Words(fault) => fault.tell(w),
-            Ending::NoMemory => writeln!(w, "memory"),
-            Ending::Write => writeln!(w, "write failed"),
-            Ending::Unread(name) => writeln!(w, "{name}: read failed"),
-            Ending::Job(name, fault) => writeln!(w, "{name}: {fault}"),
-            Ending::Capture(name, fault) => writeln!(w, "{name}: {fault}"),
-            Ending::Text(name, fault) => writeln!(w, "{name}: {fault}"),
-            Ending::Writes(number, line) => {
-                writeln!(
-                    w,
-                    "request {number}: {line}: writes, which '--writes' allows"
-                )
-            }
-            Ending::Unreached(to, lost) => writeln!(w, "{to}: not reached, {lost}"),
-            Ending::Replay(to, fault) => writeln!(w, "{to}: {fault}"),
+            Ending::NoMemory => w.write_all(b"memory\n"),
+            Ending::Write => w.write_all(b"write failed\n"),
+            Ending::Unread(name) => tell_fault(name, &"read failed", w),
+            Ending::Job(name, fault) => tell_fault(name, fault, w),
+            Ending::Capture(name, fault) => tell_fault(name, fault, w),
+            Ending::Text(name, fault) => tell_fault(name, fault, w),
+            Ending::Writes(number, line) => tell_write(*number, line.as_str(), w),
+            Ending::Unreached(to, lost) => tell_unreached(to, *lost, w),
+            Ending::Replay(to, fault) => tell_fault(to, fault, w),
         }
     }
+}
+
+// Writes what is at fault, and how.
+fn tell_fault<F: Display, E: Write>(name: &str, fault: &F, w: &mut E) -> io::Result<()> {
+    writeln!(w, "{name}: {fault}")
+}
+
+// Writes that a job writes, and by which request.
+fn tell_write<E: Write>(number: u64, line: &str, w: &mut E) -> io::Result<()> {
+    writeln!(
+        w,
+        "request {number}: {line}: writes, which '--writes' allows"
+    )
+}
+
+// Writes that a target is not reached, and why.
+fn tell_unreached<E: Write>(to: &str, lost: Lost, w: &mut E) -> io::Result<()> {
+    writeln!(w, "{to}: not reached, {lost}")
 }
 
 // The exit status of a recording without a whole job.

@@ -20,19 +20,23 @@ pub(crate) fn write_job<'a, W: Write>(
     w: &mut W,
 ) -> Ending<'a> {
     let mut recording = Recording::new(rt.alloc());
-    let mut ending = match source {
-        Source::Streams(first, second) => read_streams(rt, &mut recording, first, second),
-        Source::Capture(file, connection) => read_capture(rt, &mut recording, file, connection),
-    };
-    if let Err(fault) = recording.end() {
-        if matches!(ending, Ending::Done) {
-            ending = Ending::Job(name_of(source), fault);
-        }
-    }
+    let ending = read_session(rt, &mut recording, source);
     match write_lines(rt.alloc(), &recording, w) {
         Ok(true) => ending,
         Ok(false) => Ending::Write,
         Err(_) => Ending::NoMemory,
+    }
+}
+
+// Reads a recorded session to its end, or up to a fault.
+fn read_session<'a>(rt: &HostRuntime, recording: &mut Recording, source: Source<'a>) -> Ending<'a> {
+    let ending = match source {
+        Source::Streams(first, second) => read_streams(rt, recording, first, second),
+        Source::Capture(file, connection) => read_capture(rt, recording, file, connection),
+    };
+    match (ending, recording.end()) {
+        (Ending::Done, Err(fault)) => Ending::Job(name_of(source), fault),
+        (ending, _) => ending,
     }
 }
 

@@ -17,7 +17,7 @@ const TARGET: &str = "iqn.2026-01.example:disk";
 const INITIATOR: &str = "iqn.2026-01.example:host";
 
 /// What is done again, where and how.
-#[derive(Clone, Copy, Debug, PartialEq, Eq)]
+#[derive(Clone, Copy)]
 pub(crate) struct Replay<'a> {
     /// The file of the job.
     pub(crate) file: &'a str,
@@ -69,20 +69,28 @@ pub(crate) fn replay_of<'a, S: AsStr>(
     };
     let mut words = words.iter();
     while let Some(word) = words.next() {
-        match word.as_str() {
-            "-h" | "--help" => return Err(page(alloc, help::REPLAY)),
-            "--all" => said.plan.all = true,
-            "--writes" => said.writes = true,
-            option if takes_value(option) => {
-                let Some(value) = words.next() else {
-                    return Err(wrong(alloc, "replay", "a value is missing behind", option));
-                };
-                take_value(alloc, &mut said, option, value.as_str())?;
-            }
-            word => take_file(alloc, &mut said, word)?,
+        let word = word.as_str();
+        if !takes_value(word) {
+            take_word(alloc, &mut said, word)?;
+            continue;
+        }
+        match words.next() {
+            Some(value) => take_value(alloc, &mut said, word, value.as_str())?,
+            None => return Err(wrong(alloc, "replay", "a value is missing behind", word)),
         }
     }
     replay_in(alloc, said)
+}
+
+// Takes a word that is no option with a value.
+fn take_word<'a>(alloc: Global, said: &mut Said<'a>, word: &'a str) -> Result<(), WordsFault> {
+    match word {
+        "-h" | "--help" => return Err(page(alloc, help::REPLAY)),
+        "--all" => said.plan.all = true,
+        "--writes" => said.writes = true,
+        _ => return take_file(alloc, said, word),
+    }
+    Ok(())
 }
 
 fn takes_value(option: &str) -> bool {

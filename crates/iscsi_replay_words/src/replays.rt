@@ -78,19 +78,47 @@ fn replay_items<'a, W: Write, E: Write>(
     w: &mut W,
     errors: &mut E,
 ) -> Ending<'a> {
-    let peer = match Tcp::open(rt, asked.host, asked.port, asked.seconds) {
-        Ok(peer) => peer,
-        Err(lost) => return Ending::Unreached(asked.to, lost),
-    };
-    // The names were looked at with the words.
-    let Ok(mut live) = Live::new(rt.alloc(), asked.account, peer) else {
-        return Ending::NoMemory;
-    };
-    match replay(rt.alloc(), items, asked.plan, &mut live, w, errors) {
-        Ok(tally) => counted(rt.alloc(), asked.plan.all, tally, w),
-        Err(ReplayFault::NoMemory) => Ending::NoMemory,
-        Err(ReplayFault::Write) => Ending::Write,
-        Err(fault) => Ending::Replay(asked.to, fault),
+    match Tcp::open(rt, asked.host, asked.port, asked.seconds) {
+        Ok(peer) => replay_to(rt.alloc(), asked, items, peer, w, errors),
+        Err(lost) => Ending::Unreached(asked.to, lost),
+    }
+}
+
+// Does a job again over a connection. The names were looked at with the words.
+fn replay_to<'a, W: Write, E: Write>(
+    alloc: Global,
+    asked: Replay<'a>,
+    items: &[Item],
+    peer: Tcp,
+    w: &mut W,
+    errors: &mut E,
+) -> Ending<'a> {
+    match Live::new(alloc, asked.account, peer) {
+        Ok(mut live) => replay_over(alloc, asked, items, &mut live, w, errors),
+        Err(_) => Ending::NoMemory,
+    }
+}
+
+fn replay_over<'a, W: Write, E: Write>(
+    alloc: Global,
+    asked: Replay<'a>,
+    items: &[Item],
+    live: &mut Live<Tcp>,
+    w: &mut W,
+    errors: &mut E,
+) -> Ending<'a> {
+    match replay(alloc, items, asked.plan, live, w, errors) {
+        Ok(tally) => counted(alloc, asked.plan.all, tally, w),
+        Err(fault) => failed(asked.to, fault),
+    }
+}
+
+// How a job ends that was not done to its end.
+fn failed<'a>(to: &'a str, fault: ReplayFault) -> Ending<'a> {
+    match fault {
+        ReplayFault::NoMemory => Ending::NoMemory,
+        ReplayFault::Write => Ending::Write,
+        ReplayFault::Login(_) | ReplayFault::Request(_, _) => Ending::Replay(to, fault),
     }
 }
 

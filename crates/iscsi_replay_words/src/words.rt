@@ -1,10 +1,11 @@
 //! How words are read, and why they are refused.
 
 use std::alloc::Global;
+use std::convert::AsStr;
 use std::io::{self, Write};
 
 /// Why words are refused.
-#[derive(Debug, Drop)]
+#[derive(Drop)]
 pub(crate) enum WordsFault {
     /// Memory ran out.
     NoMemory,
@@ -55,6 +56,14 @@ pub(crate) fn page(alloc: Global, text: &str) -> WordsFault {
     match String::from_str(alloc, text) {
         Ok(text) => WordsFault::Usage(text),
         Err(_) => WordsFault::NoMemory,
+    }
+}
+
+/// The text of a word, if there is one.
+pub(crate) fn text_of<'a, S: AsStr>(word: Option<&'a S>) -> Option<&'a str> {
+    match word {
+        Some(word) => Some(word.as_str()),
+        None => None,
     }
 }
 

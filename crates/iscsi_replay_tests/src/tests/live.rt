@@ -5,7 +5,8 @@ use iscsi_examples::{SESSION, marked};
 use iscsi_job::{Ended, Item, Outcome};
 use iscsi_job_text::read_job;
 use iscsi_replay::{
-    Account, Ignored, Live, Lost, Peer, Plan, first_write, is_unit_attention, replay,
+    Account, Ignored, Live, Lost, Peer, Plan, ReplayFault, Tally, first_write, is_unit_attention,
+    replay,
 };
 use scsi_cdb::Residual;
 use std::alloc::Global;
@@ -13,11 +14,11 @@ use std::process::Abort;
 
 /// A target that says what it says, whatever comes.
 #[derive(Drop)]
-struct Told {
-    bytes: Vec<u8>,
-    from: usize,
+pub(crate) struct Told {
+    pub(crate) bytes: Vec<u8>,
+    pub(crate) from: usize,
     // How often it still takes what is sent.
-    takes: u32,
+    pub(crate) takes: u32,
 }
 
 impl Peer for Told {
@@ -127,13 +128,31 @@ const ROWS: &[Row] = &[
         told: "",
     },
     Row {
-        name: "no unit attention as recorded, and task management",
+        name: "a unit attention that does not come, and task management",
         job: "ping 616263\n was ping 616263\ntask 01\n was done 00\nwrite 0 4 5a\n was status 02 sense 70000600\n",
         was: "",
         is: "",
         all: false,
         written: "",
-        told: "request 2: task management, passed over\nrequest 3: no unit attention, as was recorded\n",
+        told: "request 2: task management, passed over\nrequest 3: the recorded unit attention did not come; the command was done (data not compared)\n",
+    },
+    Row {
+        name: "another status in place of a unit attention",
+        job: "ping 616263\n was ping 616263\nwrite 0 4 5a\n was status 02 sense 70000600\n",
+        was: "T> 21800000 00000000 00000000 00000000 00000002",
+        is: "T> 21800008 00000000 00000000 00000000 00000002",
+        all: false,
+        written: "request 2: write 0 4 5a\n  was status 02 sense 70000600\n  now status 08\n",
+        told: "",
+    },
+    Row {
+        name: "a unit attention of a later command that does not come",
+        job: "ping 616263\n was ping 616263\nwrite 0 4 5a\n was good\nread 3 1\n was status 02 sense 70000600\n",
+        was: "",
+        is: "",
+        all: false,
+        written: "request 3: read 3 1\n  was status 02 sense 70000600\n  now good data of 512 bytes, from 0: 44444444444444444444444444444444\n",
+        told: "",
     },
 ];
 
@@ -142,13 +161,46 @@ const ACCOUNT: Account<'static> = Account {
     target: b"iqn.2026-01.example:disk",
 };
 
-// The bytes of the target in the session, in which `was` is another text.
-fn answers(rt: &impl Abort, alloc: Global, was: &str, is: &str) -> Vec<u8> {
+/// The bytes of the target in the session, in which `was` is another text.
+pub(crate) fn answers(rt: &impl Abort, alloc: Global, was: &str, is: &str) -> Vec<u8> {
     if was.is_empty() {
         return marked(alloc, SESSION, "T> ").expect(rt, "lines of the target");
     }
     let dialogue = SESSION.replace(alloc, was, is).expect(rt, "a dialogue");
     marked(alloc, dialogue.as_str(), "T> ").expect(rt, "lines of the target")
+}
+
+/// What is written and told of a job.
+#[derive(Drop)]
+pub(crate) struct Output {
+    pub(crate) written: Vec<u8>,
+    pub(crate) told: Vec<u8>,
+}
+
+/// Does a job again at a target.
+pub(crate) fn replayed(
+    alloc: Global,
+    items: &[Item],
+    peer: Told,
+    all: bool,
+    output: &mut Output,
+) -> Result<Tally, ReplayFault> {
+    let Ok(mut live) = Live::new(alloc, ACCOUNT, peer) else {
+        return Err(ReplayFault::NoMemory);
+    };
+    let plan = Plan {
+        ignored: Ignored::NONE,
+        all,
+        unit: None,
+    };
+    replay(
+        alloc,
+        items,
+        plan,
+        &mut live,
+        &mut output.written,
+        &mut output.told,
+    )
 }
 
 fn check_row(rt: &impl Abort, alloc: Global, row: &Row) {
@@ -157,18 +209,14 @@ fn check_row(rt: &impl Abort, alloc: Global, row: &Row) {
         from: 0,
         takes: u32::MAX,
     };
-    let mut live = Live::new(alloc, ACCOUNT, peer).expect(rt, "a session");
-    let plan = Plan {
-        ignored: Ignored::NONE,
-        all: row.all,
-        unit: None,
-    };
     let items = items_of(rt, alloc, row.job);
-    let mut written = Vec::new(alloc);
-    let mut errors = Vec::new(alloc);
-    replay(alloc, &items, plan, &mut live, &mut written, &mut errors).expect(rt, row.name);
-    same_bytes(rt, &written, row.written.as_bytes(), &row.name);
-    same_bytes(rt, &errors, row.told.as_bytes(), &row.name);
+    let mut output = Output {
+        written: Vec::new(alloc),
+        told: Vec::new(alloc),
+    };
+    replayed(alloc, &items, peer, row.all, &mut output).expect(rt, row.name);
+    same_bytes(rt, &output.written, row.written.as_bytes(), &row.name);
+    same_bytes(rt, &output.told, row.told.as_bytes(), &row.name);
 }
 
 #[test]
@@ -249,21 +297,17 @@ fn check_lost(rt: &impl Abort, alloc: Global, row: &LostRow) {
         from: 0,
         takes: row.takes,
     };
-    let mut live = Live::new(alloc, ACCOUNT, peer).expect(rt, "a session");
-    let plan = Plan {
-        ignored: Ignored::NONE,
-        all: false,
-        unit: None,
-    };
     let items = items_of(rt, alloc, JOB);
-    let mut out = Vec::new(alloc);
-    let mut errors = Vec::new(alloc);
-    let line = match replay(alloc, &items, plan, &mut live, &mut out, &mut errors) {
+    let mut output = Output {
+        written: Vec::new(alloc),
+        told: Vec::new(alloc),
+    };
+    let line = match replayed(alloc, &items, peer, false, &mut output) {
         Ok(_) => String::new(alloc),
         Err(fault) => format!(in alloc; "{fault}").expect(rt, "a line"),
     };
     same(rt, &line.as_str(), &row.due, &row.due);
-    same_bytes(rt, &out, b"", &row.due);
+    same_bytes(rt, &output.written, b"", &row.due);
 }
 
 #[test]

@@ -2,8 +2,7 @@
 //! refused.
 
 use crate::asserts::same;
-use iscsi_examples::marked;
-use iscsi_job::Recording;
+use crate::tests::recordings::recorded;
 use iscsi_job_text::{read_job, write_item};
 use std::alloc::Global;
 use std::process::Abort;
@@ -49,22 +48,8 @@ const JOB: &str = "tur 0\n  was status 02 sense 700006000000000a0000000029000000
 
 // The text of a recorded session.
 fn text_of(rt: &impl Abort, alloc: Global, dialogue: &str) -> String {
-    let initiator = marked(alloc, dialogue, "I> ").expect(rt, "lines of the initiator");
-    let target = marked(alloc, dialogue, "T> ").expect(rt, "lines of the target");
-    let mut recording = Recording::new(alloc);
-    same(
-        rt,
-        &recording.ask(&mut initiator.as_slice()),
-        &Ok(()),
-        &"ask",
-    );
-    same(
-        rt,
-        &recording.answer(true, &mut target.as_slice()),
-        &Ok(()),
-        &"answer",
-    );
-    same(rt, &recording.end(), &Ok(()), &"end");
+    let (recording, said) = recorded(rt, alloc, dialogue);
+    said.expect(rt, "a job");
     let mut text = String::new(alloc);
     for noted in recording.noted() {
         write_item(alloc, &noted.item, &mut text).expect(rt, "lines");

@@ -104,8 +104,12 @@ const ROWS: &[Row] = &[
     },
 ];
 
-// What a recording of a dialogue has, and its first fault.
-fn recorded(rt: &impl Abort, alloc: Global, dialogue: &str) -> (Recording, Result<(), JobFault>) {
+/// What a recording of a dialogue has, and its first fault.
+pub(crate) fn recorded(
+    rt: &impl Abort,
+    alloc: Global,
+    dialogue: &str,
+) -> (Recording, Result<(), JobFault>) {
     let initiator = marked(alloc, dialogue, "I> ").expect(rt, "lines of the initiator");
     let target = marked(alloc, dialogue, "T> ").expect(rt, "lines of the target");
     let mut recording = Recording::new(alloc);
@@ -166,10 +170,10 @@ const ASKED: &[(Asked, Ended)] = &[
 #[test]
 fn a_session_of_both_ends(rt: HostRuntime) {
     let (recording, said) = recorded(&rt, rt.alloc(), SESSION);
-    same(&rt, &said, &Ok(()), &"session");
+    said.expect(&rt, "a job");
     same(&rt, &recording.noted().len(), &ASKED.len(), &"requests");
     for (noted, due) in recording.noted().iter().zip(ASKED) {
-        same(&rt, &noted.item.asked, &due.0, &noted.tag);
-        same(&rt, &noted.item.ended, &Some(due.1), &noted.tag);
+        let is_due = noted.item.asked == due.0 && noted.item.ended == Some(due.1);
+        same(&rt, &is_due, &true, &noted.tag);
     }
 }

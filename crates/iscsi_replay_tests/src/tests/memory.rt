@@ -1,7 +1,8 @@
 //! Memory that is refused, for `rt try --test --fail-alloc`: nothing but its want may come in place of
-//! a job or of its text.
+//! a job, of its text or of what its replay finds.
 
-use crate::asserts::same;
+use crate::asserts::{same, same_bytes};
+use crate::tests::live::{Output, Told, answers, replayed};
 use iscsi_job::Item;
 use iscsi_job_text::{TextFault, read_job, write_item};
 use std::alloc::Global;
@@ -20,7 +21,7 @@ fn read_at_last(rt: &impl Abort, alloc: Global) -> Vec<Item> {
     match read_job(alloc, &mut TEXT.as_bytes()) {
         Ok(items) => items,
         Err(fault) => {
-            same(rt, &fault, &TextFault::NoMemory, &"fault");
+            same(rt, &matches!(fault, TextFault::NoMemory), &true, &"fault");
             read_job(alloc, &mut TEXT.as_bytes()).expect(rt, "once more")
         }
     }
@@ -45,4 +46,33 @@ fn refused_memory_changes_no_job(rt: HostRuntime) {
         write_at_last(&rt, rt.alloc(), item, &mut text);
     }
     same(&rt, &text.as_str(), &TEXT, &"text");
+}
+
+/// A job of the worked session, of which the write had another status.
+const OTHER: &str = "ping 616263\n was ping 616263\nwrite 0 4 5a\n was status 08\n";
+
+/// What its replay writes.
+const DIFFERS: &str = "request 2: write 0 4 5a\n  was status 08\n  now good\n";
+
+#[test]
+fn refused_memory_hides_no_difference(rt: HostRuntime) {
+    let items = read_job(rt.alloc(), &mut OTHER.as_bytes()).expect(&rt, "a job");
+    let peer = Told {
+        bytes: answers(&rt, rt.alloc(), "", ""),
+        from: 0,
+        takes: u32::MAX,
+    };
+    // Room for what is written, so that no memory is asked for it.
+    let mut output = Output {
+        written: vec![in rt.alloc(); 0; 4096].expect(&rt, "room"),
+        told: Vec::new(rt.alloc()),
+    };
+    output.written.clear();
+    match replayed(rt.alloc(), &items, peer, false, &mut output) {
+        Ok(_) => same_bytes(&rt, &output.written, DIFFERS.as_bytes(), &"lines"),
+        Err(fault) => {
+            same(&rt, &fault.status(), &3, &"status");
+            same_bytes(&rt, &output.written, b"", &"lines");
+        }
+    }
 }

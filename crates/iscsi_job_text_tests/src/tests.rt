@@ -1,4 +1,0 @@
-//! Jobs as text, by example.
-
-mod memory;
-mod texts;
