@@ -4,9 +4,10 @@
     tools/replay/memory.py [PROGRAM]
 
 `job` reads each connection of the captured session (docs/session), out of the capture and out of two files. `replay` does a job
-with each kind of request again, one of which differs, at `serve`. A run in which memory is refused ends with status 3, and what
-it wrote is a beginning of what is due; or it ends as without that. The refusals are those of tools/refused_memory/refuse.c,
-which wants `gcc`. PROGRAM is crates/lanthovur/out/lanthovur if none is named. The last line says how many runs ended wrongly.
+with each kind of request again, some of which differ, at `serve`. A run in which memory is refused ends with status 3, and wrote
+the first lines of what is due, where an outcome that was not read is `was none`; or it ends as without that. The refusals are
+those of tools/refused_memory/refuse.c, which wants `gcc`. PROGRAM is crates/lanthovur/out/lanthovur if none is named. The last
+line says how many runs ended wrongly.
 """
 import os
 import re
@@ -52,6 +53,14 @@ logout
 """
 
 
+def is_front(written, due):
+    """Whether the lines are the first ones that are due, but for outcomes that were not read."""
+    lines, others = written.splitlines(), due.splitlines()
+    if len(lines) > len(others):
+        return False
+    return all(line in (other, "  was none") if other.startswith("  was ") else line == other for line, other in zip(lines, others))
+
+
 class Sweep:
     def __init__(self, program, room):
         self.program, self.room = str(program), Path(room)
@@ -62,7 +71,7 @@ class Sweep:
     def run(self, words, at):
         """The status and what was written, and whether an allocation was refused."""
         env = {**os.environ, "LD_PRELOAD": str(self.refuse), "FAIL_LOG": str(self.room / "log"), "FAIL_AT": str(at)}
-        ran = subprocess.run([self.program, *map(str, words)], env=env, capture_output=True, stdin=subprocess.DEVNULL, timeout=SECONDS)
+        ran = subprocess.run([self.program, *map(str, words)], env=env, capture_output=True, text=True, stdin=subprocess.DEVNULL, timeout=SECONDS)
         _, was_refused = (self.room / "log").read_text().split()
         return ran.returncode, ran.stdout, was_refused == "1"
 
@@ -75,9 +84,9 @@ class Sweep:
             if not was_refused:
                 break
             refused += 1
-            if (ended, written) != (status, due) and not (ended == 3 and due.startswith(written)):
+            if (ended, written) != (status, due) and not (ended == 3 and is_front(written, due)):
                 self.failed += 1
-                print(f"{title} at {at}: status {ended}, {len(written)} of {len(due)} bytes")
+                print(f"{title} at {at}: status {ended}, {len(written)} of {len(due)} characters")
         self.failed += refused == 0
         self.refused += refused
         print(f"{title}: {refused} allocations refused in turn, status {status} without", flush=True)
