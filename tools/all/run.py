@@ -70,6 +70,7 @@ SCRIPTS = [
     Script("captures, long", "captures/long.py", "a minute", 30, MEASURED),
     Script("floods", "strangers/floods.py", "a minute", 20),
     Script("replay", "replay/run.py", "minutes", 30, unproved=UNPROVED),
+    Script("replay, memory", "replay/memory.py", "minutes", 30, r"[0-9]+ allocations refused, 0 runs ended wrongly", UNPROVED),
     Script("many_sessions", "many_sessions/run.py", "minutes", 30, unproved=UNPROVED),
     Script("lasting", "lasting/run.py", "minutes", 60, unproved=UNPROVED),
     Script("nbd", "nbd/run.py", "minutes", 60, unproved=UNPROVED),
@@ -78,6 +79,7 @@ SCRIPTS = [
     # These want an idle machine.
     Script("targets", "speed/targets.py", "a quarter of an hour", 60),
     Script("growth", "speed/targets.py", "a quarter of an hour", 60, words=("--grow",)),
+    Script("replay, speed", "replay/speed.py", "minutes", 60, MEASURED),
     Script("store", "speed/store.py", "minutes", 60, MEASURED),
     Script("speed", "speed/run.py", "half an hour", 120, MEASURED),
     Script("wrong_bodies", "wrong_bodies/try", "hours", 1440, r"[0-9]+ well, 0 not"),
