@@ -171,7 +171,7 @@ ROWS = [
     Row("too many at a time", [*SERVE, "--at-once", "65"], says=b"'65' is no number of sessions: '--at-once <k>' takes a number from 1 to 64", status=2),
     Row("an address that is none", [*SERVE, "--at-once", "1", "--listen", "localhost"], says=b"'localhost' is no address: '--listen <ADDR>' takes", status=2),
     Row("a name that is none", [*SERVE, "--at-once", "1", "--name", "a b"], says=b"'a b' is no name: '--name <IQN>' takes", status=2),
-    Row("a portal with its group", [*SERVE, "--at-once", "1", "--portal", "192.0.2.7:3260,1"], says=b"'192.0.2.7:3260,1' is no portal: '--portal <ADDR:PORT>' takes", status=2),
+    Row("a portal with its group", [*SERVE, "--at-once", "1", "--portal", "192.0.2.7:3260,1"], says=b"'192.0.2.7:3260,1' is no portal: '--portal <ADDRESS>' takes", status=2),
     Row("no time", [*SERVE, "--at-once", "1", "--idle", "0"], says=b"'0' is no number of seconds: '--idle <S>' takes a number from 1 to 65535", status=2),
     Row("a short memory", [*SERVE, "--at-once", "1", "--memory", "32767"], says=b"'--memory <BYTES>' takes a number", status=2),
     Row("a memory of an image", [*IMAGE, "a", "--at-once", "1", "--memory", "32768"], says=b"cannot be used with '--file <F>'", status=2),

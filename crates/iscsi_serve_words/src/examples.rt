@@ -12,7 +12,7 @@ pub(crate) const PROGRAM: &str =
     Print the PDUs of a captured session";
 
 pub(crate) const SERVE: &str =
-    "Warning: there is no authentication. Anyone who can reach the port can read and write the disk.\n\
+    "Warning: without --chap anyone who can reach the port can read and write the disk.\n\
     A name of --initiator is what a peer says of itself: a claim, and no protection.\n\
     \n\
     A disk in memory needs a size, and so does --create. An existing image, or an export, has its own.\n\

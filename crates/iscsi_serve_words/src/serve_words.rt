@@ -76,7 +76,7 @@ const BAD_LISTEN: &str =
 const BAD_NAME: &str = "is no name: '--name <IQN>' takes 1 to 223 bytes, each from '!' to '~'";
 
 const BAD_PORTAL: &str =
-    "is no portal: '--portal <ADDR:PORT>' takes 1 to 255 bytes, each from '!' to '~' but ','";
+    "is no portal: '--portal <ADDRESS>' takes 1 to 255 bytes, each from '!' to '~' but ','";
 
 const BAD_INITIATOR: &str =
     "is no name: '--initiator <IQN>' takes 1 to 223 bytes, each from '!' to '~'";
@@ -192,7 +192,7 @@ fn with_options<'a>(alloc: Global, program: Command<'a>) -> Result<Command<'a>, 
     );
     let listen_help = "IPv4 or IPv6 address to listen on (default 127.0.0.1)";
     let name_help = "Name of the target (default iqn.2026-01.example:disk)";
-    let portal_help = "Address that initiators are to use, which discovery tells (default none)";
+    let portal_help = "ADDR:PORT that initiators are to use, which discovery tells (default none)";
     let idle_help = "End a session after S seconds without a byte, 1 to 65535 (default never)";
     let login_help = "End a connection without a login after S seconds, 1 to 65535 (default 30)";
     let memory_help = "Memory limit of a disk in memory, at least 32768 bytes (default 268435456)";
@@ -201,7 +201,7 @@ fn with_options<'a>(alloc: Global, program: Command<'a>) -> Result<Command<'a>, 
         .next_help_heading("Options that need --at-once");
     let program = with_word(program, option(alloc, "listen", "ADDR", listen_help))?;
     let program = with_word(program, option(alloc, "name", "IQN", name_help))?;
-    let program = with_word(program, option(alloc, "portal", "ADDR:PORT", portal_help))?;
+    let program = with_word(program, option(alloc, "portal", "ADDRESS", portal_help))?;
     let program = with_word(program, option(alloc, "idle", "S", idle_help))?;
     let program = with_word(program, option(alloc, "login-within", "S", login_help))?;
     let program = with_word(program, no_login_limit(alloc))?;

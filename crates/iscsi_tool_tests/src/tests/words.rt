@@ -280,7 +280,7 @@ const EXPORT: &str =
     :PORT it is port 10809, without /EXPORT the server's default export\n\nUsage: ";
 
 const PORTAL: &str =
-    "is no portal: '--portal <ADDR:PORT>' takes 1 to 255 bytes, each from '!' to '~' but ','\n\n\
+    "is no portal: '--portal <ADDRESS>' takes 1 to 255 bytes, each from '!' to '~' but ','\n\n\
     Usage: lanthovur serve ";
 
 const INITIATOR: &str =
