@@ -114,7 +114,7 @@ def run(room, job, initiator="iqn.2026-01.example:guest", seconds=300):
     image, _, _ = kernel()
     words = [
         "qemu-system-x86_64", "-cpu", "max", "-m", "512", "-nographic", "-no-reboot", "-kernel", image, "-initrd", initrd,
-        "-append", "console=ttyS0 quiet panic=-1", "-netdev", "user,id=net", "-device", "e1000,netdev=net",
+        "-append", "console=ttyS0 quiet panic=-1 no_timer_check", "-netdev", "user,id=net", "-device", "e1000,netdev=net",
     ]
     done = subprocess.run(words, stdin=subprocess.DEVNULL, stdout=subprocess.PIPE, stderr=subprocess.STDOUT, timeout=seconds)
     text = done.stdout.decode(errors="replace").replace("\r", "")

@@ -80,6 +80,32 @@ data=none
 cat /tmp/found /tmp/said
 echo "RESULT discovery $status $data"
 """
+# What Linux makes of a disk: its serial number and kind of cache, a file system, resets of unit and target, which are well done if
+# the session goes on, and a reset while something writes.
+DISK_JOB = """
+record
+node --login > /tmp/said 2>&1 && has_disk
+echo "RESULT serial $(tail -c +5 /sys/block/sda/device/vpd_pg80) $(cat /sys/class/scsi_disk/*/cache_type | tr ' ' _)"
+head -c 4194304 /dev/urandom > /tmp/file
+data=none
+mkfs.ext4 -q -F /dev/sda && mount /dev/sda /mnt && dd if=/tmp/file of=/mnt/file conv=fsync 2> /dev/null && umount /mnt \\
+    && fsck.ext4 -fn /dev/sda > /tmp/said 2>&1 && mount /dev/sda /mnt && cmp /tmp/file /mnt/file && umount /mnt && data=same
+echo "RESULT files $? $data"
+anew() { dmesg | grep -q 'detected conn error' && echo anew || echo stays; }
+dmesg -c > /dev/null
+sg_reset -d /dev/sda > /tmp/said 2>&1; unit=$?
+sg_reset -t /dev/sda > /tmp/said 2>&1; target=$?
+echo "RESULT resets $unit$target $(anew)"
+head -c 33554432 /dev/urandom > /tmp/big
+dd if=/tmp/big of=/dev/sda bs=1M oflag=direct 2> /tmp/said & writer=$!
+sg_reset -d /dev/sda > /tmp/said 2>&1; unit=$?
+wait $writer; status=$?
+data=none
+dd if=/dev/sda of=/tmp/read bs=1M count=32 iflag=direct 2> /dev/null
+cmp /tmp/big /tmp/read && data=same
+dmesg
+echo "RESULT in_write $unit$status $data"
+"""
 
 
 class Service:
@@ -126,7 +152,15 @@ def finds_the_portal(program, room):
     return seen == {"discovery": ("0", "same")} or (seen, text[-2000:])
 
 
-CASES = [logs_in_by_secret, finds_the_portal]
+def keeps_a_disk(program, room):
+    """Linux knows a disk with a serial number, has a file system on it, resets it in the same session, and loses nothing by a reset while it writes."""
+    with Service(program, "--serial", "disk-7") as service:
+        seen, text = results(room, service.port, DISK_JOB)
+    due = {"serial": ("disk-7", "write_through"), "files": ("0", "same"), "resets": ("00", "stays"), "in_write": ("00", "same")}
+    return seen == due or (seen, text[-4000:])
+
+
+CASES = [logs_in_by_secret, finds_the_portal, keeps_a_disk]
 
 
 def main():

@@ -1,15 +1,17 @@
-//! Holds tables of docs/FORMATS.md against the code: the kinds of PDU (section 3) and the text keys
-//! (section 8).
+//! Holds tables of docs/FORMATS.md against the code: the kinds of PDU (section 3), what a disk with a
+//! serial number tells of itself (section 5), and the text keys (section 8).
 #![tactic(auto)]
 
 mod field;
 mod keys;
 mod kinds;
 mod row;
+mod unit;
 
 use crate::keys::hold_keys;
 use crate::kinds::hold_kinds;
 use crate::row::between;
+use crate::unit::hold_unit;
 use std::process::ExitCode;
 use std::{fs, io};
 
@@ -18,6 +20,7 @@ use std::{fs, io};
 pub struct Counts {
     kinds: usize,
     fields: usize,
+    pages: usize,
     keys: usize,
     not_so: usize,
 }
@@ -37,6 +40,7 @@ fn main(rt: HostRuntime) -> io::Result<ExitCode> {
     let mut counts = Counts {
         kinds: 0,
         fields: 0,
+        pages: 0,
         keys: 0,
         not_so: 0,
     };
@@ -49,6 +53,8 @@ fn main(rt: HostRuntime) -> io::Result<ExitCode> {
 fn hold_page(rt: &HostRuntime, page: &str, counts: &mut Counts) -> io::Result<()> {
     let kinds = between(page, "\n## 3. The kinds of PDU\n", "\n## ").unwrap_or("");
     hold_kinds(rt, kinds, counts)?;
+    let unit = between(page, "\n### A disk that tells more of itself\n", "\n## ").unwrap_or("");
+    hold_unit(rt, unit, counts)?;
     let keys = between(page, "\n## 8. Text keys\n", "\n## ").unwrap_or("");
     hold_keys(rt, keys, counts)
 }
@@ -57,8 +63,11 @@ fn print_counts(rt: &HostRuntime, counts: Counts) -> io::Result<()> {
     let Counts {
         kinds,
         fields,
+        pages,
         keys,
         not_so,
     } = counts;
-    println!(rt; "{kinds} kinds, {fields} fields, {keys} keys: {not_so} not as in the code")
+    println!(rt;
+        "{kinds} kinds, {fields} fields, {pages} pages of a disk, {keys} keys: {not_so} not as in the code"
+    )
 }

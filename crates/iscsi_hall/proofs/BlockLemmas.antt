@@ -1,16 +1,19 @@
 -- What commands that were executed exactly leave in a block.
 use Rattle.std.proofs.Common.{◌≡◌, ℕ, zero, suc, ◌+◌, Bool, true, false, if◌then◌else◌, List, [], ◌∷◌, ◌++◌, Option, None, Some, refl, sym, ap, subst, ◌∙◌}
 use Rattle.std.proofs.Common.{take}
-use Rattle.std.specs.Prelude.{unwrap_or, nat_lt, ◌*◌, ◌-◌, length as list_length}
+use Rattle.std.specs.Prelude.{unwrap_or, nat_lt, ◌*◌, ◌-◌, ◌||◌, length as list_length}
 use Rattle.scsi_disk.specs.declared.order.Order.{Order}
 use Rattle.scsi_disk.specs.declared.order.Plan.{Plan}
 use Rattle.scsi_disk.specs.declared.order.Plan.TheVariants.{Refuse, Take, Give}
 use Rattle.scsi_disk.specs.Disk.{Disk, cut, joined, overlaid}
 use Rattle.scsi_disk.specs.Effect.{effect, disk_by, guarded, outcome_by, wanted_data}
 use Rattle.scsi_disk.proofs.GuardLemmas.{plan_stays}
-use Rattle.scsi_disk.specs.Plan.{plan_of, transfer, is_read}
+use Rattle.scsi_disk.specs.Plan.{plan_of, transfer, is_read, is_write}
+use Rattle.scsi_disk.specs.declared.order.Outcome.{Outcome}
+use Rattle.scsi_unit.proofs.TellingLemmas.{not_told}
 use Rattle.iscsi_stream.specs.Pieces.{data_of}
 use Rattle.iscsi_target.specs.State.{Execution}
+use Rattle.iscsi_target.specs.Tiles.{bytes_given}
 use Rattle.iscsi_hall.specs.Blocks.{Follows, block_by, written_by, later_or, last_written, block_left}
 
 -- ---- one command
@@ -92,11 +95,13 @@ joined_same f g h first (suc count) =
 pub read_bytes : (protected : Bool) (disk last : Disk) (past later : List Execution) (e : Execution) (length : ℕ)
     → Follows protected disk (past ++ e ∷ later) last →
     is_read e.order.cdb ≡ true → plan_of e.order disk.count ≡ Give length →
-    (effect protected e.disk e.order (data_of e.pieces)).outcome.bytes
+    bytes_given protected e
     ≡ take length (joined (block_left protected disk past) (transfer e.order.cdb).first (transfer e.order.cdb).count)
 read_bytes protected disk last past later e length f is p =
     let front : Follows protected disk past e.disk = follow_front protected disk last past e later f in
-    given_bytes (guarded protected (plan_of e.order e.disk.count)) length e.disk e.order
+    ap (λ (o : Outcome). o.bytes) (not_told e.unit e.order (effect protected e.disk e.order (data_of e.pieces)).outcome
+    (ap (λ (b : Bool). b || is_write e.order.cdb) is))
+    ∙ given_bytes (guarded protected (plan_of e.order e.disk.count)) length e.disk e.order
     (plan_stays protected (plan_of e.order e.disk.count) length (ap (λ (c : ℕ). plan_of e.order c) (follow_count protected disk e.disk past front) ∙ p))
     ∙ ap (λ (x : List ℕ). take length x) (if_true (is_read e.order.cdb) _ _ is
     ∙ joined_same e.disk.block (block_left protected disk past) (follow_block protected disk e.disk past front) (transfer e.order.cdb).first

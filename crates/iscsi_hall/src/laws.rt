@@ -6,16 +6,14 @@ ghost use Rattle.std.specs.List.{AllByRecursion};
 ghost use Rattle.scsi_disk.specs.declared.order.Order.{Order};
 ghost use Rattle.scsi_disk.specs.declared.order.Plan.TheVariants.{Give, Take};
 ghost use Rattle.scsi_disk.specs.Disk.{Disk, joined};
-ghost use Rattle.scsi_disk.specs.Effect.{effect};
 ghost use Rattle.scsi_disk.specs.Plan.{is_read, plan_of, transfer};
-ghost use Rattle.iscsi_stream.specs.Pieces.{data_of};
 ghost use Rattle.iscsi_pdu.specs.declared.head.Head.TheVariants as heads;
 ghost use Rattle.iscsi_pdu.specs.declared.head.login_request.LoginRequest.{LoginRequest};
 ghost use Rattle.iscsi_stream.specs.Stream.{Message};
 ghost use Rattle.iscsi_stream.specs.Canonical.{canon};
 ghost use Rattle.iscsi_login.specs.Negotiation.{IsInRange};
 ghost use Rattle.iscsi_target_session.specs.Configured.{Settings};
-ghost use Rattle.iscsi_target.specs.Tiles.{IsModest, IsTiled, TilesDataIn, r2t_ranges, total_of};
+ghost use Rattle.iscsi_target.specs.Tiles.{IsModest, IsTiled, TilesDataIn, bytes_given, r2t_ranges, total_of};
 ghost use Rattle.iscsi_target.specs.Machine.{step};
 ghost use Rattle.iscsi_target.specs.State.{Execution, Machine, opening};
 ghost use Rattle.iscsi_target.specs.declared.fault.TargetFault.{TargetFault};
@@ -51,7 +49,7 @@ pub fn last_write_is_read()
         → Runs protected seats store es after last → last.failures ≡ store.failures
         → executed_in es ≡ past ++ e ∷ later → is_read e.order.cdb ≡ true
         → plan_of e.order store.disk.count ≡ Give length
-        → (effect protected e.disk e.order (data_of e.pieces)).outcome.bytes
+        → bytes_given protected e
         ≡ take length (joined (block_left protected store.disk past) (transfer e.order.cdb).first
         (transfer e.order.cdb).count) }
     ensures blocks { (protected : Bool) (seats after : Seats) (store last : Store)

@@ -195,6 +195,7 @@ is_normal blocks =
       };
       suits = record { name = inr refl; auth = inr (λ e. absurd cc); access = refl; chap = refl };
       session = refl;
+      plain = refl;
     }
 
 -- the initiator starts its login

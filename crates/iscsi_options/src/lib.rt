@@ -8,5 +8,5 @@ mod options;
 pub use limits::{LAST_WRITE, LOGIN_WITHIN, Limits, sooner};
 pub use options::{
     LEAST_MEMORY, LONGEST_ASKED, LONGEST_PIECE, MEMORY, MOST_AT_ONCE, MOST_MEMORY, Options,
-    SHORTEST_ASKED,
+    SHORTEST_ASKED, UnitOptions,
 };

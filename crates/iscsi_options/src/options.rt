@@ -26,6 +26,15 @@ pub const MOST_MEMORY: u64 = 562_949_953_421_312;
 /// The most bytes that a loop of both ends writes before they are read.
 pub const LONGEST_PIECE: u32 = 4096;
 
+/// What a disk is to tell of itself, beyond the profile.
+#[derive(Clone, Copy, Debug, PartialEq, Eq)]
+pub struct UnitOptions<'a> {
+    /// Its serial number: 1 to 16 bytes of `!` to `~`.
+    pub serial: &'a [u8],
+    /// Whether it takes no write.
+    pub write_protected: bool,
+}
+
 /// What a service of several sessions at a time is asked for.
 #[derive(Clone, Copy, Debug, PartialEq, Eq)]
 pub struct Options<'a> {
@@ -42,6 +51,8 @@ pub struct Options<'a> {
     /// The address that initiators are told to use, if they are told one: 1 to 255 bytes, each of `!`
     /// to `~`, and none a comma.
     pub portal: Option<&'a [u8]>,
+    /// What the disk tells of itself, if it tells more than the profile has.
+    pub unit: Option<UnitOptions<'a>>,
     /// How long a peer may keep its seat.
     pub limits: Limits,
     /// What the target prefers in a login. `max_recv` and `max_burst` are 512 to 1048576 bytes, and

@@ -107,6 +107,8 @@ pub record AreInStep (m : initiator.Machine) (t : target.Machine) : Type 0 where
   pub held : t.session.held ≡ m.held
   pub is_held : IsHeld m.held
   pub segment : m.held.target_max_recv ≤ target_session.limit t.session.settings
+  -- its disk tells no more of itself than the profile has
+  pub plain : t.session.settings.extras.unit ≡ None
   -- the tag of the last request, and the numbers that are due
   pub tag_fits : m.initiator_task_tag ≤ 0xffff_fffe
   pub cmd_sn : t.session.exp_cmd_sn ≡ m.cmd_sn

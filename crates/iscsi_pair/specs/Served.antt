@@ -74,11 +74,13 @@ pub record SomeRunServes (c : Opening) (all : List Request) (outcomes : List Don
   pub none_out : world.to_target ≡ []
   pub none_back : world.to_initiator ≡ []
 
--- Both ends suit each other, in a normal session (section 6.3).
+-- Both ends suit each other, in a normal session (section 6.3). The target's disk tells no more of
+-- itself than the profile has.
 pub record IsNormal (c : Opening) : Type 0 where
   pub opening : IsOpening c
   pub suits : Suits c
   pub session : c.initiator.proposal.session ≡ sessions.Normal
+  pub plain : c.target.extras.unit ≡ None
 
 -- The outcomes that requests have on one local disk: that of the pair at first, with pings of as
 -- many bytes as the initiator takes.

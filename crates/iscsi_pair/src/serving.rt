@@ -37,7 +37,7 @@ pub fn serve_requests(
 ) -> Result<(Vec<Done>, MemoryStore), RunFault>
     ensures on_disk { IfOk result (λ served.
         let c = opening_of configs.0 configs.1 first_statsn store in
-        Suits c → c.initiator.proposal.session ≡ sessions.Normal
+        Suits c → c.initiator.proposal.session ≡ sessions.Normal → c.target.extras.unit ≡ None
         → AllByRecursion IsServed requests.items
         → (served.0.items ≡ disk_outcomes c requests.items)
         × (disk_of served.1 ≡ disk_after c requests.items)) }
@@ -46,7 +46,8 @@ pub fn serve_requests(
         × (requests_of events ≡ requests.items)
         × HasRun (opening_of configs.0 configs.1 first_statsn store) events served.0.items served.1) }
     ensures served { let c = opening_of configs.0 configs.1 first_statsn store in
-        Suits c → c.initiator.proposal.session ≡ sessions.Normal → CanBeServed requests.items
+        Suits c → c.initiator.proposal.session ≡ sessions.Normal → c.target.extras.unit ≡ None
+        → CanBeServed requests.items
         → IfErr result (λ fault. fault ≡ faults.NoMemory) }
 {
     let Ok(mut pair) = Pair::new(alloc, configs.0, configs.1, first_statsn, store) else {

@@ -2,7 +2,7 @@
 
 use crate::fault::{LiveFault, Lost};
 use crate::peer::Peer;
-use iscsi_initiator::{Config, Done, Initiator, InitiatorFault, Request, SubmitFault};
+use iscsi_initiator::{Config, Done, Initiator, InitiatorFault, Refused, Request, SubmitFault};
 use iscsi_login::{Auth, ConfigFault, Offers, Phase, Preferences, Session, Stage};
 use iscsi_pdu::LOGIN_SEGMENT;
 use std::alloc::Global;
@@ -90,19 +90,37 @@ impl<P: Peer> Live<P> {
     fn submit(&mut self, request: Request) -> Result<(), LiveFault> {
         let mut request = request;
         for _ in 0..u64::MAX {
-            self.out.clear();
-            match self.initiator.submit(request, &mut self.out) {
-                Ok(()) => return self.send(),
-                Err(refused) => {
-                    if refused.fault != SubmitFault::Shut {
-                        return Err(refusal(refused.fault));
-                    }
-                    request = refused.request;
-                }
+            match self.offer(request)? {
+                None => return Ok(()),
+                Some(refused) => request = refused,
             }
-            self.hear()?;
         }
         Err(LiveFault::Lost(Lost::Failed, self.place))
+    }
+
+    // Hands in a request, once. It comes back if the target takes no command, and something of the
+    // target is heard then.
+    fn offer(&mut self, request: Request) -> Result<Option<Request>, LiveFault> {
+        self.out.clear();
+        match self.initiator.submit(request, &mut self.out) {
+            Ok(()) => self.sent(),
+            Err(refused) => self.wait(refused),
+        }
+    }
+
+    // Sends a request that is taken.
+    fn sent(&mut self) -> Result<Option<Request>, LiveFault> {
+        self.send()?;
+        Ok(None)
+    }
+
+    // Hears something of the target, if it takes no command now, and gives the request back.
+    fn wait(&mut self, refused: Refused) -> Result<Option<Request>, LiveFault> {
+        if refused.fault != SubmitFault::Shut {
+            return Err(refusal(refused.fault));
+        }
+        self.hear()?;
+        Ok(Some(refused.request))
     }
 
     // Sends what there is to send.

@@ -3,7 +3,7 @@
 ghost use Rattle.std.specs.Prelude.{◌≡◌, ◌≤◌, length, IfOk};
 
 use crate::fault::Lost;
-use std::io::{Read, Write};
+use std::io::{self, Read, Write};
 use std::net::TcpStream;
 use std::time::Duration;
 
@@ -29,13 +29,17 @@ impl Tcp {
     /// and the connection is lost then.
     pub fn open(rt: &HostRuntime, host: &str, port: u16, seconds: u32) -> Result<Tcp, Lost> {
         let stream = TcpStream::connect(rt, (host, port))?;
-        // A request is not to wait for the one before it to be acknowledged.
-        stream.set_nodelay(true)?;
-        let wait = Some(Duration::from_secs(u64::from(seconds)));
-        stream.set_read_timeout(wait)?;
-        stream.set_write_timeout(wait)?;
+        prepare(&stream, seconds)?;
         Ok(Tcp { stream })
     }
+}
+
+// Sets how long a connection waits. A request is not to wait for the one before it to be acknowledged.
+fn prepare(stream: &TcpStream, seconds: u32) -> io::Result<()> {
+    stream.set_nodelay(true)?;
+    let wait = Some(Duration::from_secs(u64::from(seconds)));
+    stream.set_read_timeout(wait)?;
+    stream.set_write_timeout(wait)
 }
 
 impl Peer for Tcp {

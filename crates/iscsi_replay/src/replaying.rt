@@ -53,7 +53,7 @@ struct Step<'a> {
 }
 
 // What doing a request again showed.
-#[derive(Drop)]
+#[derive(Clone, Copy)]
 enum Shown {
     // It was not done.
     Nothing,
@@ -62,7 +62,7 @@ enum Shown {
     // Nothing that differs.
     Same,
     // Another outcome than the recorded one.
-    Other(Done),
+    Other,
 }
 
 /// Logs in, does the requests of a job one at a time, in their order, and ends the session. Lines on
@@ -71,7 +71,8 @@ enum Shown {
 /// Without `all` it stops behind the first request whose outcome differs. A unit attention in front of
 /// the first command is taken once and told: the command is done again then. If the recorded first
 /// command met one, and the live one is done with status GOOD, that is told, too, and is no difference:
-/// of its data nothing was recorded. Task management is told and passed over.
+/// of its data nothing was recorded. Neither is one that the live command meets with another sense.
+/// Task management is told and passed over.
 pub fn replay<P: Peer, W: Write, E: Write>(
     alloc: Global,
     items: &[Item],
@@ -129,11 +130,11 @@ impl Place {
 
 impl Tally {
     // Counts a request.
-    fn count(&mut self, shown: &Shown) {
+    fn count(&mut self, shown: Shown) {
         match shown {
             Shown::Nothing | Shown::Attention => {}
             Shown::Same => self.done = self.done.saturating_add(1),
-            Shown::Other(_) => {
+            Shown::Other => {
                 self.done = self.done.saturating_add(1);
                 self.differ = self.differ.saturating_add(1);
             }
@@ -167,35 +168,41 @@ impl Step<'_> {
         errors: &mut E,
         tally: &mut Tally,
     ) -> Result<(), ReplayFault> {
-        let shown = self.redo(alloc, live, errors)?;
-        tally.count(&shown);
-        self.tell(alloc, &shown, w)
+        let shown = self.redo(alloc, live, w, errors)?;
+        tally.count(shown);
+        Ok(())
     }
 
     // Does the request again; once more behind a unit attention in front of the first command.
-    fn redo<P: Peer, E: Write>(
+    fn redo<P: Peer, W: Write, E: Write>(
         &self,
         alloc: Global,
         live: &mut Live<P>,
+        w: &mut W,
         errors: &mut E,
     ) -> Result<Shown, ReplayFault> {
-        let shown = self.attempt(alloc, live, errors, self.is_first)?;
-        match shown {
-            Shown::Attention => self.attempt(alloc, live, errors, false),
-            Shown::Nothing | Shown::Same | Shown::Other(_) => Ok(shown),
+        match self.attempt(alloc, live, w, errors, self.is_first)? {
+            Shown::Attention => self.attempt(alloc, live, w, errors, false),
+            shown => Ok(shown),
         }
     }
 
     // Does the request once. `takes` says whether a unit attention is taken, not compared.
-    fn attempt<P: Peer, E: Write>(
+    fn attempt<P: Peer, W: Write, E: Write>(
         &self,
         alloc: Global,
         live: &mut Live<P>,
+        w: &mut W,
         errors: &mut E,
         takes: bool,
     ) -> Result<Shown, ReplayFault> {
-        let done = self.perform(alloc, live)?;
-        Ok(self.judged(done, errors, takes))
+        match self.perform(alloc, live)? {
+            Some(done) => self.show(alloc, outcome_of(&done), w, errors, takes),
+            None => {
+                self.tell("task management, passed over", errors);
+                Ok(Shown::Nothing)
+            }
+        }
     }
 
     // Does the request once; nothing of task management.
@@ -216,52 +223,76 @@ impl Step<'_> {
         }
     }
 
-    // What an outcome shows, with what is told of it.
-    fn judged<E: Write>(&self, done: Option<Done>, errors: &mut E, takes: bool) -> Shown {
-        let number = self.number;
-        let Some(done) = done else {
-            let _ = writeln!(errors, "request {number}: task management, passed over");
-            return Shown::Nothing;
-        };
-        if takes && self.is_attention(outcome_of(&done)) {
-            let _ = writeln!(errors, "request {number}: unit attention, taken once");
-            Shown::Attention
-        } else if self.is_as_recorded(outcome_of(&done), errors) {
+    // What an outcome shows. The lines of one that differs are written.
+    fn show<W: Write, E: Write>(
+        &self,
+        alloc: Global,
+        live: Outcome<'_>,
+        w: &mut W,
+        errors: &mut E,
+        takes: bool,
+    ) -> Result<Shown, ReplayFault> {
+        let shown = self.judged(live, errors, takes);
+        if matches!(shown, Shown::Other) {
+            self.write_lines(alloc, live, w)?;
+        }
+        Ok(shown)
+    }
+
+    // What an outcome shows, with what is told of it. If nothing was recorded, nothing differs.
+    fn judged<E: Write>(&self, live: Outcome<'_>, errors: &mut E, takes: bool) -> Shown {
+        match self.item.outcome() {
+            Some(recorded) if takes && is_unit_attention(recorded) => {
+                self.beside_attention(recorded, live, errors)
+            }
+            _ if takes && is_unit_attention(live) => {
+                self.tell("unit attention, taken once", errors);
+                Shown::Attention
+            }
+            Some(recorded) => self.compared(recorded, live),
+            None => Shown::Same,
+        }
+    }
+
+    // What an outcome shows where a unit attention was recorded in front. A command that was done in
+    // its place counts as the same, and so does a unit attention of another sense. Both are told.
+    fn beside_attention<E: Write>(
+        &self,
+        recorded: Outcome<'_>,
+        live: Outcome<'_>,
+        errors: &mut E,
+    ) -> Shown {
+        let shown = self.compared(recorded, live);
+        if matches!(shown, Shown::Same) {
+            return shown;
+        }
+        if is_good(live) {
+            self.tell(
+                "the recorded unit attention did not come; the command was done (data not compared)",
+                errors,
+            );
+            Shown::Same
+        } else if is_unit_attention(live) {
+            self.tell("unit attention, as recorded (sense differs)", errors);
             Shown::Same
         } else {
-            Shown::Other(done)
+            shown
         }
     }
 
-    // Whether the live outcome is a unit attention, and the recorded one is none.
-    fn is_attention(&self, live: Outcome<'_>) -> bool {
-        is_unit_attention(live) && !self.has_attention()
-    }
-
-    // Whether the recorded outcome is a unit attention.
-    fn has_attention(&self) -> bool {
-        match self.item.outcome() {
-            Some(recorded) => is_unit_attention(recorded),
-            None => false,
+    // What an outcome shows beside the recorded one.
+    fn compared(&self, recorded: Outcome<'_>, live: Outcome<'_>) -> Shown {
+        if are_same(recorded, live, self.ignores_data()) {
+            Shown::Same
+        } else {
+            Shown::Other
         }
     }
 
-    // Whether what came of the request is what was recorded, if anything was. A command that was done
-    // in place of the recorded unit attention counts as the same, and that is told.
-    fn is_as_recorded<E: Write>(&self, live: Outcome<'_>, errors: &mut E) -> bool {
-        let Some(recorded) = self.item.outcome() else {
-            return true;
-        };
-        if self.is_first && self.has_attention() && is_good(live) {
-            let number = self.number;
-            let _ = writeln!(
-                errors,
-                "request {number}: the recorded unit attention did not come; the command was done \
-                 (data not compared)"
-            );
-            return true;
-        }
-        are_same(recorded, live, self.ignores_data())
+    // Tells something of the request. If that fails, nothing changes.
+    fn tell<E: Write>(&self, text: &str, errors: &mut E) {
+        let number = self.number;
+        let _ = writeln!(errors, "request {number}: {text}");
     }
 
     // Whether the data of the request are left out.
@@ -273,13 +304,15 @@ impl Step<'_> {
         }
     }
 
-    // Writes the lines of the request, if its outcome differs.
-    fn tell<W: Write>(&self, alloc: Global, shown: &Shown, w: &mut W) -> Result<(), ReplayFault> {
-        let Shown::Other(done) = shown else {
-            return Ok(());
-        };
+    // Writes the lines of the request.
+    fn write_lines<W: Write>(
+        &self,
+        alloc: Global,
+        live: Outcome<'_>,
+        w: &mut W,
+    ) -> Result<(), ReplayFault> {
         let mut text = String::new(alloc);
-        self.write_difference(alloc, outcome_of(done), &mut text)?;
+        self.write_difference(alloc, live, &mut text)?;
         match write_fully(w, text.as_bytes()) {
             Ok(()) => Ok(()),
             Err(_) => Err(ReplayFault::Write),

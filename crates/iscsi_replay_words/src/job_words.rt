@@ -1,8 +1,6 @@
 //! The words of `job`.
 
-use crate::help;
-use crate::words::{WordsFault, missing, number_of, page, text_of, wrong};
-use std::alloc::Global;
+use crate::words::{Refusal, number_of, text_of};
 use std::convert::AsStr;
 
 /// Where a recorded session stands.
@@ -24,10 +22,7 @@ struct Said<'a> {
 }
 
 /// Where the session stands that the words behind `job` name.
-pub(crate) fn source_of<'a, S: AsStr>(
-    alloc: Global,
-    words: &'a [S],
-) -> Result<Source<'a>, WordsFault> {
+pub(crate) fn source_of<'a, S: AsStr>(words: &'a [S]) -> Result<Source<'a>, Refusal<'a>> {
     let mut said = Said {
         first: None,
         second: None,
@@ -36,56 +31,48 @@ pub(crate) fn source_of<'a, S: AsStr>(
     };
     let mut words = words.iter();
     while let Some(word) = words.next() {
-        let word = word.as_str();
-        match word {
+        match word.as_str() {
             "--capture" => said.capture = text_of(words.next()),
             "--connection" => said.connection = text_of(words.next()),
-            _ => take_word(alloc, &mut said, word)?,
+            word => said.take(word)?,
         }
     }
-    source_in(alloc, said)
+    said.source()
 }
 
-// Takes a word that is no option with a value.
-fn take_word<'a>(alloc: Global, said: &mut Said<'a>, word: &'a str) -> Result<(), WordsFault> {
-    if word == "-h" || word == "--help" {
-        return Err(page(alloc, help::JOB));
+impl<'a> Said<'a> {
+    // Takes a word that is no option with a value.
+    fn take(&mut self, word: &'a str) -> Result<(), Refusal<'a>> {
+        if word == "-h" || word == "--help" {
+            return Err(Refusal::Help);
+        }
+        if word.starts_with('-') || self.second.is_some() {
+            return Err(Refusal::Wrong("unexpected argument", word));
+        }
+        if self.first.is_none() {
+            self.first = Some(word);
+        } else {
+            self.second = Some(word);
+        }
+        Ok(())
     }
-    if word.starts_with('-') || said.second.is_some() {
-        return Err(wrong(alloc, "job", "unexpected argument", word));
-    }
-    if said.first.is_none() {
-        said.first = Some(word);
-    } else {
-        said.second = Some(word);
-    }
-    Ok(())
-}
 
-// The source that the words are.
-fn source_in<'a>(alloc: Global, said: Said<'a>) -> Result<Source<'a>, WordsFault> {
-    let has_capture = said.capture.is_some() || said.connection.is_some();
-    if let (Some(first), Some(second)) = (said.first, said.second) {
-        if !has_capture {
-            return Ok(Source::Streams(first, second));
+    // The source that the words are: two files, or else a capture and its connection.
+    fn source(&self) -> Result<Source<'a>, Refusal<'a>> {
+        match (self.first, self.second, self.capture, self.connection) {
+            (Some(first), Some(second), None, None) => Ok(Source::Streams(first, second)),
+            (None, _, Some(file), Some(digits)) => connection_of(file, digits),
+            _ => Err(Refusal::Missing(
+                "a session is two files, or '--capture <FILE> --connection <K>'",
+            )),
         }
     }
-    if let (Some(file), Some(digits)) = (said.capture, said.connection) {
-        if said.first.is_none() {
-            return connection_of(alloc, file, digits);
-        }
-    }
-    Err(missing(
-        alloc,
-        "job",
-        "a session is two files, or '--capture <FILE> --connection <K>'",
-    ))
 }
 
 // The connection of a capture file whose number these digits are.
-fn connection_of<'a>(alloc: Global, file: &'a str, digits: &str) -> Result<Source<'a>, WordsFault> {
+fn connection_of<'a>(file: &'a str, digits: &'a str) -> Result<Source<'a>, Refusal<'a>> {
     match number_of(digits, u32::MAX) {
         Some(number) => Ok(Source::Capture(file, number as usize)),
-        None => Err(wrong(alloc, "job", "no number of a connection:", digits)),
+        None => Err(Refusal::Wrong("no number of a connection:", digits)),
     }
 }

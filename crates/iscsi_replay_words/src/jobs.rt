@@ -2,7 +2,7 @@
 
 use crate::ending::Ending;
 use crate::job_words::Source;
-use iscsi_captures::{Captured, CapturesFault, End, Wanted};
+use iscsi_captures::{Captured, End, Wanted};
 use iscsi_job::{JobFault, Recording};
 use iscsi_job_text::write_item;
 use iscsi_stream::write_fully;
@@ -14,11 +14,7 @@ use std::io::{Read, Write};
 const GATHERED: usize = 65_536;
 
 /// Writes the job of a recorded session. All that is due before a fault is written before it.
-pub(crate) fn write_job<'a, W: Write>(
-    rt: &HostRuntime,
-    source: Source<'a>,
-    w: &mut W,
-) -> Ending<'a> {
+pub(crate) fn write_job<W: Write>(rt: &HostRuntime, source: Source<'_>, w: &mut W) -> Ending {
     let mut recording = Recording::new(rt.alloc());
     let ending = read_session(rt, &mut recording, source);
     match write_lines(rt.alloc(), &recording, w) {
@@ -29,14 +25,16 @@ pub(crate) fn write_job<'a, W: Write>(
 }
 
 // Reads a recorded session to its end, or up to a fault.
-fn read_session<'a>(rt: &HostRuntime, recording: &mut Recording, source: Source<'a>) -> Ending<'a> {
+fn read_session(rt: &HostRuntime, recording: &mut Recording, source: Source<'_>) -> Ending {
     let ending = match source {
         Source::Streams(first, second) => read_streams(rt, recording, first, second),
         Source::Capture(file, connection) => read_capture(rt, recording, file, connection),
     };
-    match (ending, recording.end()) {
-        (Ending::Done, Err(fault)) => Ending::Job(name_of(source), fault),
-        (ending, _) => ending,
+    match recording.end() {
+        Err(fault) if matches!(ending, Ending::Done) => {
+            without_job(rt.alloc(), name_of(source), &fault)
+        }
+        _ => ending,
     }
 }
 
@@ -47,35 +45,54 @@ fn name_of<'a>(source: Source<'a>) -> &'a str {
     }
 }
 
+// The ending by a recording that has no job, or not a whole one.
+fn without_job(alloc: Global, name: &str, fault: &JobFault) -> Ending {
+    let status = match fault {
+        JobFault::NoMemory => 3,
+        JobFault::Read(_) => 4,
+        JobFault::Stream(_, _) | JobFault::Refused { .. } => 1,
+    };
+    Ending::failed(alloc, status, name, fault)
+}
+
+// The ending by a file that is not read.
+fn unread(alloc: Global, name: &str) -> Ending {
+    Ending::failed(alloc, 4, name, &"read failed")
+}
+
 // Reads a session out of two files.
-fn read_streams<'a>(
-    rt: &HostRuntime,
-    recording: &mut Recording,
-    first: &'a str,
-    second: &'a str,
-) -> Ending<'a> {
+fn read_streams(rt: &HostRuntime, recording: &mut Recording, first: &str, second: &str) -> Ending {
     let Ok(mut initiator) = fs::open(rt, first) else {
-        return Ending::Unread(first);
+        return unread(rt.alloc(), first);
     };
     let Ok(mut target) = fs::open(rt, second) else {
-        return Ending::Unread(second);
+        return unread(rt.alloc(), second);
     };
-    let asked = recording.ask(&mut initiator);
-    let answered = recording.answer(asked.is_ok(), &mut target);
-    match (asked, answered) {
-        (Err(fault), _) => Ending::Job(first, fault),
-        (Ok(()), Err(fault)) => Ending::Job(second, fault),
+    match read_both(recording, &mut initiator, &mut target) {
+        (Err(fault), _) => without_job(rt.alloc(), first, &fault),
+        (Ok(()), Err(fault)) => without_job(rt.alloc(), second, &fault),
         (Ok(()), Ok(())) => Ending::Done,
     }
 }
 
+// Reads both streams, and says how reading each ended.
+fn read_both<R: Read>(
+    recording: &mut Recording,
+    initiator: &mut R,
+    target: &mut R,
+) -> (Result<(), JobFault>, Result<(), JobFault>) {
+    let asked = recording.ask(initiator);
+    let answered = recording.answer(asked.is_ok(), target);
+    (asked, answered)
+}
+
 // Reads a session out of a capture, one direction after the other.
-fn read_capture<'a>(
+fn read_capture(
     rt: &HostRuntime,
     recording: &mut Recording,
-    file: &'a str,
+    file: &str,
     connection: usize,
-) -> Ending<'a> {
+) -> Ending {
     let asked = read_direction(rt, recording, file, connection, None);
     let whole = matches!(asked, Ending::Done);
     let answered = read_direction(rt, recording, file, connection, Some(whole));
@@ -84,37 +101,45 @@ fn read_capture<'a>(
 
 // Reads the initiator's direction, or that of the target, for which it is said whether the other one
 // was read to its end.
-fn read_direction<'a>(
+fn read_direction(
     rt: &HostRuntime,
     recording: &mut Recording,
-    file: &'a str,
+    file: &str,
     connection: usize,
     whole: Option<bool>,
-) -> Ending<'a> {
+) -> Ending {
     let Ok(mut source) = fs::open(rt, file) else {
-        return Ending::Unread(file);
+        return unread(rt.alloc(), file);
     };
     let end = if whole.is_none() {
         End::Initiator
     } else {
         End::Target
     };
-    let Ok(mut captured) = Captured::new(rt.alloc(), &mut source, Wanted { connection, end }) else {
-        return Ending::NoMemory;
-    };
-    let said = match whole {
-        None => recording.ask(&mut captured),
-        Some(whole) => recording.answer(whole, &mut captured),
-    };
-    told(said, captured.fault(), file)
+    match Captured::new(rt.alloc(), &mut source, Wanted { connection, end }) {
+        Ok(mut captured) => read_captured(rt.alloc(), recording, &mut captured, file, whole),
+        Err(_) => Ending::NoMemory,
+    }
 }
 
-// How reading a direction ended. A read fails if the direction has a fault, and tells it.
-fn told<'a>(said: Result<(), JobFault>, fault: Option<CapturesFault>, file: &'a str) -> Ending<'a> {
-    match (said, fault) {
+// Reads a direction. A read fails if the direction has a fault, and that is told then.
+fn read_captured<R: Read>(
+    alloc: Global,
+    recording: &mut Recording,
+    captured: &mut Captured<'_, R>,
+    file: &str,
+    whole: Option<bool>,
+) -> Ending {
+    let said = match whole {
+        None => recording.ask(captured),
+        Some(whole) => recording.answer(whole, captured),
+    };
+    match (said, captured.fault()) {
         (Ok(()), _) => Ending::Done,
-        (Err(JobFault::Read(_)), Some(fault)) => Ending::Capture(file, fault),
-        (Err(fault), _) => Ending::Job(file, fault),
+        (Err(JobFault::Read(_)), Some(fault)) => {
+            Ending::failed(alloc, fault.status(), file, &fault)
+        }
+        (Err(fault), _) => without_job(alloc, file, &fault),
     }
 }
 

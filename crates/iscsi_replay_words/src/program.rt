@@ -1,6 +1,7 @@
 //! What the words `job` and `replay` do.
 
 use crate::ending::Ending;
+use crate::help;
 use crate::job_words::source_of;
 use crate::jobs::write_job;
 use crate::replay_words::replay_of;
@@ -34,28 +35,28 @@ pub fn run_recorded<S: AsStr, W: Write, E: Write>(
 }
 
 // Tells an ending, and returns its status.
-fn ended<E: Write>(ending: Ending<'_>, errors: &mut E) -> u8 {
+fn ended<E: Write>(ending: Ending, errors: &mut E) -> u8 {
     let _ = ending.tell(errors);
     ending.status()
 }
 
 // How the words behind `job` end.
-fn job_ending<'a, S: AsStr, W: Write>(rt: &HostRuntime, words: &'a [S], w: &mut W) -> Ending<'a> {
-    match source_of(rt.alloc(), words) {
+fn job_ending<S: AsStr, W: Write>(rt: &HostRuntime, words: &[S], w: &mut W) -> Ending {
+    match source_of(words) {
         Ok(source) => write_job(rt, source, w),
-        Err(fault) => Ending::Words(fault),
+        Err(refusal) => refusal.ending(rt.alloc(), "job", help::JOB),
     }
 }
 
 // How the words behind `replay` end.
-fn replay_ending<'a, S: AsStr, W: Write, E: Write>(
+fn replay_ending<S: AsStr, W: Write, E: Write>(
     rt: &HostRuntime,
-    words: &'a [S],
+    words: &[S],
     w: &mut W,
     errors: &mut E,
-) -> Ending<'a> {
-    match replay_of(rt.alloc(), words) {
+) -> Ending {
+    match replay_of(words) {
         Ok(asked) => run_replay(rt, asked, w, errors),
-        Err(fault) => Ending::Words(fault),
+        Err(refusal) => refusal.ending(rt.alloc(), "replay", help::REPLAY),
     }
 }

@@ -1,10 +1,8 @@
 //! The words of `replay`.
 
-use crate::help;
-use crate::words::{WordsFault, missing, number_of, page, wrong};
+use crate::words::{Refusal, number_of, text_of};
 use iscsi_login::is_name;
 use iscsi_replay::{Account, Ignored, Plan};
-use std::alloc::Global;
 use std::convert::AsStr;
 
 /// The port of a target, if none is said (RFC 7143, section 2.2).
@@ -50,11 +48,23 @@ struct Said<'a> {
 }
 
 /// What the words behind `replay` ask for.
-pub(crate) fn replay_of<'a, S: AsStr>(
-    alloc: Global,
-    words: &'a [S],
-) -> Result<Replay<'a>, WordsFault> {
-    let mut said = Said {
+pub(crate) fn replay_of<'a, S: AsStr>(words: &'a [S]) -> Result<Replay<'a>, Refusal<'a>> {
+    let mut said = nothing_said();
+    let mut words = words.iter();
+    while let Some(word) = words.next() {
+        let word = word.as_str();
+        if takes_value(word) {
+            said.take_option(word, text_of(words.next()))?;
+        } else {
+            said.take(word)?;
+        }
+    }
+    said.replay()
+}
+
+// What is asked for where no option stands.
+fn nothing_said<'a>() -> Said<'a> {
+    Said {
         file: None,
         to: None,
         name: TARGET,
@@ -66,31 +76,7 @@ pub(crate) fn replay_of<'a, S: AsStr>(
         },
         writes: false,
         seconds: SECONDS,
-    };
-    let mut words = words.iter();
-    while let Some(word) = words.next() {
-        let word = word.as_str();
-        if !takes_value(word) {
-            take_word(alloc, &mut said, word)?;
-            continue;
-        }
-        match words.next() {
-            Some(value) => take_value(alloc, &mut said, word, value.as_str())?,
-            None => return Err(wrong(alloc, "replay", "a value is missing behind", word)),
-        }
     }
-    replay_in(alloc, said)
-}
-
-// Takes a word that is no option with a value.
-fn take_word<'a>(alloc: Global, said: &mut Said<'a>, word: &'a str) -> Result<(), WordsFault> {
-    match word {
-        "-h" | "--help" => return Err(page(alloc, help::REPLAY)),
-        "--all" => said.plan.all = true,
-        "--writes" => said.writes = true,
-        _ => return take_file(alloc, said, word),
-    }
-    Ok(())
 }
 
 fn takes_value(option: &str) -> bool {
@@ -100,51 +86,87 @@ fn takes_value(option: &str) -> bool {
     )
 }
 
-// Takes the name of the job's file.
-fn take_file<'a>(alloc: Global, said: &mut Said<'a>, word: &'a str) -> Result<(), WordsFault> {
-    if said.file.is_some() || (word.starts_with('-') && word != "-") {
-        return Err(wrong(alloc, "replay", "unexpected argument", word));
+impl<'a> Said<'a> {
+    // Takes a word that is no option with a value.
+    fn take(&mut self, word: &'a str) -> Result<(), Refusal<'a>> {
+        match word {
+            "-h" | "--help" => return Err(Refusal::Help),
+            "--all" => self.plan.all = true,
+            "--writes" => self.writes = true,
+            _ => return self.take_file(word),
+        }
+        Ok(())
     }
-    said.file = Some(word);
-    Ok(())
-}
 
-// Takes an option and its value.
-fn take_value<'a>(
-    alloc: Global,
-    said: &mut Said<'a>,
-    option: &str,
-    value: &'a str,
-) -> Result<(), WordsFault> {
-    let taken = match option {
-        "--to" => {
-            said.to = Some(value);
-            true
+    // Takes the name of the job's file.
+    fn take_file(&mut self, word: &'a str) -> Result<(), Refusal<'a>> {
+        if self.file.is_some() || (word.starts_with('-') && word != "-") {
+            return Err(Refusal::Wrong("unexpected argument", word));
         }
-        "--name" => {
-            said.name = value;
-            is_name(value.as_bytes())
-        }
-        "--initiator-name" => {
-            said.initiator = value;
-            is_name(value.as_bytes())
-        }
-        "--ignore" => ignore(&mut said.plan.ignored, value),
-        "--lun" => {
-            said.plan.unit = unit_of(value);
-            said.plan.unit.is_some()
-        }
-        _ => {
-            said.seconds = number_of(value, 65_535).unwrap_or(0);
-            said.seconds > 0
-        }
-    };
-    if taken {
-        return Ok(());
+        self.file = Some(word);
+        Ok(())
     }
-    match format!(in alloc; "no value of '{option}':") {
-        Ok(text) => Err(wrong(alloc, "replay", text.as_str(), value)),
-        Err(_) => Err(WordsFault::NoMemory),
+
+    // Takes an option and its value, if one stands behind it.
+    fn take_option(&mut self, option: &'a str, value: Option<&'a str>) -> Result<(), Refusal<'a>> {
+        let Some(value) = value else {
+            return Err(Refusal::Wrong("a value is missing behind", option));
+        };
+        if self.takes(option, value) {
+            Ok(())
+        } else {
+            Err(Refusal::Value(option, value))
+        }
+    }
+
+    // Takes the value of an option, and says whether it is one.
+    fn takes(&mut self, option: &str, value: &'a str) -> bool {
+        match option {
+            "--to" => {
+                self.to = Some(value);
+                true
+            }
+            "--name" => {
+                self.name = value;
+                is_name(value.as_bytes())
+            }
+            "--initiator-name" => {
+                self.initiator = value;
+                is_name(value.as_bytes())
+            }
+            "--ignore" => ignore(&mut self.plan.ignored, value),
+            "--lun" => {
+                self.plan.unit = unit_of(value);
+                self.plan.unit.is_some()
+            }
+            _ => {
+                self.seconds = number_of(value, 65_535).unwrap_or(0);
+                self.seconds > 0
+            }
+        }
+    }
+
+    // What the words ask for, once all are read.
+    fn replay(&self) -> Result<Replay<'a>, Refusal<'a>> {
+        let (Some(file), Some(to)) = (self.file, self.to) else {
+            return Err(Refusal::Missing("'--to <ADDR:PORT>' and the file of a job are needed"));
+        };
+        let Some((host, port)) = server_of(to) else {
+            return Err(Refusal::Wrong("no address:", to));
+        };
+        Ok(Replay {
+            file,
+            to,
+            host,
+            port,
+            account: Account {
+                initiator: self.initiator.as_bytes(),
+                target: self.name.as_bytes(),
+            },
+            plan: self.plan,
+            writes: self.writes,
+            seconds: self.seconds,
+        })
     }
 }
 
@@ -159,50 +181,40 @@ fn ignore(ignored: &mut Ignored, name: &str) -> bool {
     true
 }
 
-// What the words ask for, once all are read.
-fn replay_in<'a>(alloc: Global, said: Said<'a>) -> Result<Replay<'a>, WordsFault> {
-    let (Some(file), Some(to)) = (said.file, said.to) else {
-        return Err(missing(
-            alloc,
-            "replay",
-            "'--to <ADDR:PORT>' and the file of a job are needed",
-        ));
-    };
-    let Some((host, port)) = server_of(to) else {
-        return Err(wrong(alloc, "replay", "no address:", to));
-    };
-    Ok(Replay {
-        file,
-        to,
-        host,
-        port,
-        account: Account {
-            initiator: said.initiator.as_bytes(),
-            target: said.name.as_bytes(),
-        },
-        plan: said.plan,
-        writes: said.writes,
-        seconds: said.seconds,
-    })
-}
-
 // The host and the port of a target; an IPv6 address stands in brackets.
 fn server_of(server: &str) -> Option<(&str, u16)> {
-    let (host, behind) = match server.strip_prefix('[') {
-        Some(rest) => rest.split_once(']')?,
-        None => match server.split_once(':') {
-            Some((host, _)) => (host, server.strip_prefix(host)?),
-            None => (server, ""),
-        },
+    let (host, digits) = match server.strip_prefix('[') {
+        Some(rest) => bracketed(rest)?,
+        None => parted(server),
     };
-    if host.is_empty() {
-        return None;
-    }
+    let port = port_of(digits)?;
+    (!host.is_empty()).then_some((host, port))
+}
+
+// An address before its bracket, and the digits of the port behind that, if some are to stand there.
+fn bracketed(rest: &str) -> Option<(&str, Option<&str>)> {
+    let (host, behind) = rest.split_once(']')?;
     if behind.is_empty() {
-        return Some((host, PORT));
+        return Some((host, None));
     }
-    let port = u16::try_from(number_of(behind.strip_prefix(':')?, 65_535)?).ok()?;
-    (port > 0).then_some((host, port))
+    Some((host, Some(behind.strip_prefix(':')?)))
+}
+
+// A host, and the digits of the port behind its colon, if there is one.
+fn parted(server: &str) -> (&str, Option<&str>) {
+    match server.split_once(':') {
+        Some((host, digits)) => (host, Some(digits)),
+        None => (server, None),
+    }
+}
+
+// The port that digits spell, 1 to 65535; that of a target if none are said.
+fn port_of(digits: Option<&str>) -> Option<u16> {
+    let Some(digits) = digits else {
+        return Some(PORT);
+    };
+    let port = u16::try_from(number_of(digits, 65_535)?).ok()?;
+    (port > 0).then_some(port)
 }
 
 // The number of a logical unit.

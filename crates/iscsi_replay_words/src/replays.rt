@@ -4,7 +4,7 @@ use crate::ending::Ending;
 use crate::replay_words::Replay;
 use iscsi_job::Item;
 use iscsi_job_text::{TextFault, read_job, write_request};
-use iscsi_replay::{Live, ReplayFault, Tally, Tcp, first_write, replay, writes_nothing};
+use iscsi_replay::{Live, Lost, ReplayFault, Tally, Tcp, first_write, replay, writes_nothing};
 use iscsi_stream::write_fully;
 use std::alloc::{AllocError, Global};
 use std::fs;
@@ -15,43 +15,63 @@ const SHOWN: usize = 60;
 
 /// Does a job again, and writes where outcomes differ. Nothing is sent before the whole job was
 /// read.
-pub(crate) fn run_replay<'a, W: Write, E: Write>(
+pub(crate) fn run_replay<W: Write, E: Write>(
     rt: &HostRuntime,
-    asked: Replay<'a>,
+    asked: Replay<'_>,
     w: &mut W,
     errors: &mut E,
-) -> Ending<'a> {
-    let items = match read_items(rt, asked.file) {
-        Ok(items) => items,
-        Err(ending) => return ending,
-    };
-    if !asked.writes && !writes_nothing(&items) {
-        return match first_to_write(rt.alloc(), &items) {
-            Ok((number, line)) => Ending::Writes(number, line),
-            Err(_) => Ending::NoMemory,
-        };
+) -> Ending {
+    match read_items(rt, asked.file) {
+        Ok(items) => replay_items(rt, asked, &items, w, errors),
+        Err(fault) => no_job(rt.alloc(), asked.file, &fault),
     }
-    replay_items(rt, asked, &items, w, errors)
 }
 
 // Reads the job in a file, or in standard input.
-fn read_items<'a>(rt: &HostRuntime, file: &'a str) -> Result<Vec<Item>, Ending<'a>> {
-    let read = if file == "-" {
-        read_job(rt.alloc(), &mut rt.stdin())
-    } else {
-        match fs::open(rt, file) {
-            Ok(mut source) => read_job(rt.alloc(), &mut source),
-            Err(_) => Err(TextFault::Read),
-        }
-    };
-    match read {
-        Ok(items) => Ok(items),
-        Err(fault) => Err(Ending::Text(file, fault)),
+fn read_items(rt: &HostRuntime, file: &str) -> Result<Vec<Item>, TextFault> {
+    if file == "-" {
+        return read_job(rt.alloc(), &mut rt.stdin());
+    }
+    match fs::open(rt, file) {
+        Ok(mut source) => read_job(rt.alloc(), &mut source),
+        Err(_) => Err(TextFault::Read),
     }
 }
 
-// The number of the first request that writes, from 1, and the first 60 bytes of its line.
-fn first_to_write(alloc: Global, items: &[Item]) -> Result<(u64, String), AllocError> {
+// The ending by a text that is no job.
+fn no_job(alloc: Global, file: &str, fault: &TextFault) -> Ending {
+    let status = match fault {
+        TextFault::NoMemory => 3,
+        TextFault::Read => 4,
+        TextFault::TooLong | TextFault::Line { .. } => 1,
+    };
+    Ending::failed(alloc, status, file, fault)
+}
+
+// Does a job again at the target, if it may and that is reached.
+fn replay_items<W: Write, E: Write>(
+    rt: &HostRuntime,
+    asked: Replay<'_>,
+    items: &[Item],
+    w: &mut W,
+    errors: &mut E,
+) -> Ending {
+    if !asked.writes && !writes_nothing(items) {
+        return Ending::told(1, refused_write(rt.alloc(), items));
+    }
+    match Tcp::open(rt, asked.host, asked.port, asked.seconds) {
+        Ok(peer) => replay_to(rt.alloc(), asked, items, peer, w, errors),
+        Err(lost) => Ending::told(4, unreached(rt.alloc(), asked.to, lost)),
+    }
+}
+
+// That a target is not reached, and why.
+fn unreached(alloc: Global, to: &str, lost: Lost) -> Result<String, AllocError> {
+    format!(in alloc; "{to}: not reached, {lost}\n")
+}
+
+// That a job writes, and by which request: its number, from 1, and the first 60 bytes of its line.
+fn refused_write(alloc: Global, items: &[Item]) -> Result<String, AllocError> {
     let index = first_write(items).unwrap_or(0);
     let mut line = String::new(alloc);
     if let Some(item) = items.get(index) {
@@ -59,7 +79,7 @@ fn first_to_write(alloc: Global, items: &[Item]) -> Result<(u64, String), AllocE
     }
     let shown = front_of(line.as_str());
     let number = (index as u64).saturating_add(1);
-    Ok((number, String::from_str(alloc, shown)?))
+    format!(in alloc; "request {number}: {shown}: writes, which '--writes' allows\n")
 }
 
 // The first 60 bytes of a line.
@@ -70,62 +90,50 @@ fn front_of(line: &str) -> &str {
     }
 }
 
-// Does a job again at the target, if that is reached.
-fn replay_items<'a, W: Write, E: Write>(
-    rt: &HostRuntime,
-    asked: Replay<'a>,
-    items: &[Item],
-    w: &mut W,
-    errors: &mut E,
-) -> Ending<'a> {
-    match Tcp::open(rt, asked.host, asked.port, asked.seconds) {
-        Ok(peer) => replay_to(rt.alloc(), asked, items, peer, w, errors),
-        Err(lost) => Ending::Unreached(asked.to, lost),
-    }
-}
-
 // Does a job again over a connection. The names were looked at with the words.
-fn replay_to<'a, W: Write, E: Write>(
+fn replay_to<W: Write, E: Write>(
     alloc: Global,
-    asked: Replay<'a>,
+    asked: Replay<'_>,
     items: &[Item],
     peer: Tcp,
     w: &mut W,
     errors: &mut E,
-) -> Ending<'a> {
+) -> Ending {
     match Live::new(alloc, asked.account, peer) {
         Ok(mut live) => replay_over(alloc, asked, items, &mut live, w, errors),
         Err(_) => Ending::NoMemory,
     }
 }
 
-fn replay_over<'a, W: Write, E: Write>(
+fn replay_over<W: Write, E: Write>(
     alloc: Global,
-    asked: Replay<'a>,
+    asked: Replay<'_>,
     items: &[Item],
     live: &mut Live<Tcp>,
     w: &mut W,
     errors: &mut E,
-) -> Ending<'a> {
+) -> Ending {
     match replay(alloc, items, asked.plan, live, w, errors) {
         Ok(tally) => counted(alloc, asked.plan.all, tally, w),
-        Err(fault) => failed(asked.to, fault),
+        Err(fault) => failed(alloc, asked.to, &fault),
     }
 }
 
 // How a job ends that was not done to its end.
-fn failed<'a>(to: &'a str, fault: ReplayFault) -> Ending<'a> {
+fn failed(alloc: Global, to: &str, fault: &ReplayFault) -> Ending {
     match fault {
         ReplayFault::NoMemory => Ending::NoMemory,
         ReplayFault::Write => Ending::Write,
-        ReplayFault::Login(_) | ReplayFault::Request(_, _) => Ending::Replay(to, fault),
+        ReplayFault::Login(_) | ReplayFault::Request(_, _) => {
+            Ending::failed(alloc, fault.status(), to, fault)
+        }
     }
 }
 
-// Writes the count, if one goes on behind differences.
-fn counted<'a, W: Write>(alloc: Global, all: bool, tally: Tally, w: &mut W) -> Ending<'a> {
-    let Tally { done, differ } = tally;
+// How a job ends that was done, with the count if one goes on behind differences.
+fn counted<W: Write>(alloc: Global, all: bool, tally: Tally, w: &mut W) -> Ending {
     if all {
+        let Tally { done, differ } = tally;
         let Ok(line) = format!(in alloc; "{differ} of {done} differ\n") else {
             return Ending::NoMemory;
         };
@@ -133,7 +141,7 @@ fn counted<'a, W: Write>(alloc: Global, all: bool, tally: Tally, w: &mut W) -> E
             return Ending::Write;
         }
     }
-    if differ == 0 {
+    if tally.differ == 0 {
         Ending::Done
     } else {
         Ending::Differ

@@ -1,61 +1,55 @@
 //! How words are read, and why they are refused.
 
-use std::alloc::Global;
+use crate::ending::Ending;
+use std::alloc::{AllocError, Global};
 use std::convert::AsStr;
-use std::io::{self, Write};
 
-/// Why words are refused.
-#[derive(Drop)]
-pub(crate) enum WordsFault {
-    /// Memory ran out.
-    NoMemory,
-    /// The words ask for nothing, or for help: this text.
-    Usage(String),
+/// Why words ask for nothing that is done.
+#[derive(Clone, Copy)]
+pub(crate) enum Refusal<'a> {
+    /// They ask for help.
+    Help,
+    /// Something is missing: this.
+    Missing(&'static str),
+    /// Something is wrong with a word: what, and the word.
+    Wrong(&'static str, &'a str),
+    /// An option does not take the value: the option, and the value.
+    Value(&'a str, &'a str),
 }
 
-impl WordsFault {
-    /// The exit status: 2, or 3 for memory.
-    pub(crate) fn status(&self) -> u8 {
+impl Refusal<'_> {
+    /// How the words behind this one end, which has this page of help.
+    pub(crate) fn ending(self, alloc: Global, job: &str, page: &str) -> Ending {
+        let lines = match self {
+            Refusal::Help => String::from_str(alloc, page),
+            Refusal::Missing(_) | Refusal::Wrong(_, _) | Refusal::Value(_, _) => {
+                self.usage(alloc, job)
+            }
+        };
+        Ending::told(2, lines)
+    }
+
+    // What is wrong, and where help stands.
+    fn usage(self, alloc: Global, job: &str) -> Result<String, AllocError> {
+        let mut text = String::new(alloc);
+        self.write(&mut text)?;
+        write!(
+            text,
+            "\n\nFor more information, try 'lanthovur {job} --help'.\n"
+        )?;
+        Ok(text)
+    }
+
+    // Appends what is wrong.
+    fn write(self, text: &mut String) -> Result<(), AllocError> {
         match self {
-            WordsFault::NoMemory => 3,
-            WordsFault::Usage(_) => 2,
+            Refusal::Help => Ok(()),
+            Refusal::Missing(what) => write!(text, "error: {what}"),
+            Refusal::Wrong(what, word) => write!(text, "error: {what} '{word}'"),
+            Refusal::Value(option, value) => {
+                write!(text, "error: no value of '{option}': '{value}'")
+            }
         }
-    }
-
-    /// Writes why the words are refused, or the help.
-    pub(crate) fn tell<E: Write>(&self, w: &mut E) -> io::Result<()> {
-        match self {
-            WordsFault::NoMemory => writeln!(w, "memory"),
-            WordsFault::Usage(text) => write!(w, "{text}"),
-        }
-    }
-}
-
-/// The usage error of a word: what is wrong, and where help stands.
-pub(crate) fn wrong(alloc: Global, job: &str, text: &str, word: &str) -> WordsFault {
-    match format!(in alloc;
-        "error: {text} '{word}'\n\nFor more information, try 'lanthovur {job} --help'.\n"
-    ) {
-        Ok(text) => WordsFault::Usage(text),
-        Err(_) => WordsFault::NoMemory,
-    }
-}
-
-/// The usage error of a word that is missing.
-pub(crate) fn missing(alloc: Global, job: &str, text: &str) -> WordsFault {
-    match format!(in alloc;
-        "error: {text}\n\nFor more information, try 'lanthovur {job} --help'.\n"
-    ) {
-        Ok(text) => WordsFault::Usage(text),
-        Err(_) => WordsFault::NoMemory,
-    }
-}
-
-/// The page of help, as what is told of words that ask for it.
-pub(crate) fn page(alloc: Global, text: &str) -> WordsFault {
-    match String::from_str(alloc, text) {
-        Ok(text) => WordsFault::Usage(text),
-        Err(_) => WordsFault::NoMemory,
     }
 }
 

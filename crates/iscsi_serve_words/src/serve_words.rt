@@ -5,6 +5,7 @@ ghost use Rattle.std.specs.Prelude.{◌≡◌, ◌<◌, ◌≤◌, IfOk, IfSome}
 ghost use Rattle.scsi_disk.specs.Disk.{most_blocks};
 ghost use Rattle.iscsi_login.specs.Name.{IsName};
 ghost use Rattle.iscsi_portal.specs.Portal.{IsPortal};
+ghost use Rattle.scsi_unit.specs.LogicalUnit.{IsSerial};
 ghost use Rattle.iscsi_options.specs.Options.{AreOffered, IsMemory, longest_asked};
 ghost use Rattle.iscsi_serve_words.specs.Services.{IsServeJob};
 ghost use Rattle.iscsi_serve_words.specs.Storage.{IsStorage};
@@ -20,9 +21,10 @@ use clap::{Arg, ArgMatches, Command};
 use iscsi_login::{Preferences, is_name};
 use iscsi_options::{
     LEAST_MEMORY, LOGIN_WITHIN, LONGEST_ASKED, Limits, MEMORY, MOST_AT_ONCE, MOST_MEMORY, Options,
-    SHORTEST_ASKED,
+    SHORTEST_ASKED, UnitOptions,
 };
 use iscsi_portal::is_portal;
+use scsi_unit::is_serial;
 use std::alloc::{AllocError, Global};
 use std::convert::AsStr;
 use std::net::{IpAddr, Ipv4Addr};
@@ -77,6 +79,9 @@ const BAD_NAME: &str = "is no name: '--name <IQN>' takes 1 to 223 bytes, each fr
 
 const BAD_PORTAL: &str =
     "is no portal: '--portal <ADDRESS>' takes 1 to 255 bytes, each from '!' to '~' but ','";
+
+const BAD_SERIAL: &str =
+    "is no serial number: '--serial <S>' takes 1 to 16 bytes, each from '!' to '~'";
 
 const BAD_INITIATOR: &str =
     "is no name: '--initiator <IQN>' takes 1 to 223 bytes, each from '!' to '~'";
@@ -193,6 +198,7 @@ fn with_options<'a>(alloc: Global, program: Command<'a>) -> Result<Command<'a>, 
     let listen_help = "IPv4 or IPv6 address to listen on (default 127.0.0.1)";
     let name_help = "Name of the target (default iqn.2026-01.example:disk)";
     let portal_help = "ADDR:PORT that initiators are to use, which discovery tells (default none)";
+    let serial_help = "Serial number of the disk, which then tells more of itself (default none)";
     let idle_help = "End a session after S seconds without a byte, 1 to 65535 (default never)";
     let login_help = "End a connection without a login after S seconds, 1 to 65535 (default 30)";
     let memory_help = "Memory limit of a disk in memory, at least 32768 bytes (default 268435456)";
@@ -202,6 +208,7 @@ fn with_options<'a>(alloc: Global, program: Command<'a>) -> Result<Command<'a>, 
     let program = with_word(program, option(alloc, "listen", "ADDR", listen_help))?;
     let program = with_word(program, option(alloc, "name", "IQN", name_help))?;
     let program = with_word(program, option(alloc, "portal", "ADDRESS", portal_help))?;
+    let program = with_word(program, option(alloc, "serial", "S", serial_help))?;
     let program = with_word(program, option(alloc, "idle", "S", idle_help))?;
     let program = with_word(program, option(alloc, "login-within", "S", login_help))?;
     let program = with_word(program, no_login_limit(alloc))?;
@@ -359,6 +366,7 @@ pub fn service_of<'a>(alloc: Global, asked: &ArgMatches<'a>) -> Result<ServeJob<
     };
     let (listen, name) = place_of(alloc, asked)?;
     let portal = portal_of(alloc, asked)?;
+    let unit = unit_of(alloc, asked)?;
     let limits = Limits {
         idle: seconds_of(alloc, asked, "idle", BAD_IDLE)?,
         login_within: login_within_of(alloc, asked)?,
@@ -371,6 +379,7 @@ pub fn service_of<'a>(alloc: Global, asked: &ArgMatches<'a>) -> Result<ServeJob<
         at_once,
         name,
         portal,
+        unit,
         limits,
         preferences,
         memory: memory_of(alloc, asked)?,
@@ -489,6 +498,22 @@ fn portal_of<'a>(alloc: Global, asked: &ArgMatches<'a>) -> Result<Option<&'a [u8
         return Err(refused(alloc, address, BAD_PORTAL));
     }
     Ok(Some(address.as_bytes()))
+}
+
+// What the disk tells of itself, if its serial number is said.
+fn unit_of<'a>(alloc: Global, asked: &ArgMatches<'a>) -> Result<Option<UnitOptions<'a>>, LineFault>
+    ensures serial { IfOk result (λ unit. IfSome unit (λ told. IsSerial told.serial.now)) }
+{
+    let Some(serial) = asked.get_str("serial") else {
+        return Ok(None);
+    };
+    if !is_serial(serial.as_bytes()) {
+        return Err(refused(alloc, serial, BAD_SERIAL));
+    }
+    Ok(Some(UnitOptions {
+        serial: serial.as_bytes(),
+        write_protected: asked.get_flag("read-only"),
+    }))
 }
 
 // The number of seconds, 1 to 65535, that a word has, if it stands there.

@@ -3,6 +3,7 @@ use Rattle.std.specs.Prelude.{◌≡◌, ℕ, ◌<◌, Bool, true, false, nat_le
 use Rattle.iscsi_login.specs.declared.preferences.Preferences.{Preferences}
 use Rattle.iscsi_target_session.specs.Configured.{Settings, no_extras}
 use Rattle.iscsi_hall.specs.Seats.{Hall, seat_at}
+use Rattle.iscsi_options.specs.declared.options.UnitOptions.{UnitOptions}
 
 -- The seats, how many logins were completed, and how many are to be; none: any number.
 pub record Service : Type 0 where
@@ -40,4 +41,13 @@ abbrev pub told : Option (List ℕ) → Settings → Settings
 told None settings = settings
 told (Some portal) settings = record settings {
   extras = record settings.extras { portal = Some portal };
+}
+
+-- The settings with the disk that tells more of itself, where it does (SPC-4; that it does is own rule).
+abbrev pub telling : Option UnitOptions → Settings → Settings
+telling None settings = settings
+telling (Some unit) settings = record settings {
+  extras = record settings.extras {
+    unit = Some (record { serial = unit.serial.now; write_protected = unit.write_protected });
+  };
 }

@@ -1,15 +1,18 @@
 //! What the target of a session is configured with.
 
-ghost use Rattle.std.specs.Prelude.{◌≡◌, IfOk, IfSome, OnOk};
+ghost use Rattle.std.specs.Prelude.{◌≡◌, IfNone, IfOk, IfSome, OnOk};
 ghost use Rattle.std.specs.Option.{option_map};
 ghost use Rattle.iscsi_login.specs.Name.{IsName};
 ghost use Rattle.iscsi_login.specs.Negotiation.{IsInRange};
 ghost use Rattle.iscsi_portal.specs.Portal.{IsPortal};
-ghost use Rattle.iscsi_server.specs.Serving.{settings_of, told};
+ghost use Rattle.scsi_unit.specs.LogicalUnit.{IsSerial};
+ghost use Rattle.iscsi_server.specs.Serving.{settings_of, telling, told};
 
 use iscsi_login::Preferences;
+use iscsi_options::UnitOptions;
 use iscsi_portal::Portal;
 use iscsi_target::Config;
+use scsi_unit::LogicalUnit;
 use std::alloc::{AllocError, Global};
 
 /// The tag of the target's portal group.
@@ -50,4 +53,17 @@ pub fn with_address(
         Ok(portal) => Ok(config.with_portal(portal)),
         Err(_) => Err(AllocError),
     }
+}
+
+/// The same, whose disk tells more of itself, if it does; none where its serial number is none, and the
+/// configuration is dropped then.
+pub fn with_unit(config: Config, unit: Option<UnitOptions<'_>>) -> Option<Config>
+    ensures telling { IfSome result (λ made. made ≡ telling unit.entry config) }
+    ensures none { IfNone result (IfSome unit.entry (λ told. ¬ IsSerial told.serial.now)) }
+{
+    let Some(told) = unit else {
+        return Some(config);
+    };
+    let unit = LogicalUnit::new(told.serial, told.write_protected)?;
+    Some(config.with_unit(unit))
 }

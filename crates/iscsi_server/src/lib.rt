@@ -20,7 +20,7 @@ mod tally;
 
 pub use iscsi_options::{
     LEAST_MEMORY, LOGIN_WITHIN, LONGEST_ASKED, Limits, MEMORY, MOST_AT_ONCE, MOST_MEMORY, Options,
-    SHORTEST_ASKED,
+    SHORTEST_ASKED, UnitOptions,
 };
 pub use iscsi_serving::SessionEnd;
 pub use limited::LimitedStore;

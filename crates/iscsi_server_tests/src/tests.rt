@@ -5,7 +5,7 @@
 use crate::asserts::same;
 use iscsi_examples::{PING, pdus_of};
 use iscsi_login::Preferences;
-use iscsi_server::{LimitedStore, Limits, MEMORY, Options, Server};
+use iscsi_server::{LimitedStore, Limits, MEMORY, Options, Server, UnitOptions};
 use iscsi_serving::{Access, EVERYBODY};
 use scsi_disk::{BlockStore, SparseStore, StoreFault};
 use std::alloc::Global;
@@ -88,6 +88,19 @@ const LOGOUT_FROM_DISCOVERY: &str =
 const LEFT_DISCOVERY: &str =
     "26800000 00000000 00000000 00000000 00000002 00000000 00000003 00000001 00000008 00000000 00000000 00000000";
 
+// INQUIRY of the serial number (page 80) for 255 bytes, with the number that each disk has which is given
+// none, and with DISK0001.
+const SERIAL: &str =
+    "01c10000 00000000 00000000 00000000 00000001 000000ff 00000001 00000002 12018000 ff000000 00000000 00000000";
+
+const USUAL_SERIAL: &str =
+    "25800000 0000000c 00000000 00000000 00000001 ffffffff 00000000 00000002 00000009 00000000 00000000 00000000 00800008 30303030 30303031\n\
+    21820000 00000000 00000000 00000000 00000001 00000000 00000002 00000002 00000009 00000001 00000000 000000f3";
+
+const OWN_SERIAL: &str =
+    "25800000 0000000c 00000000 00000000 00000001 ffffffff 00000000 00000002 00000009 00000000 00000000 00000000 00800008 4449534b 30303031\n\
+    21820000 00000000 00000000 00000000 00000001 00000000 00000002 00000002 00000009 00000001 00000000 000000f3";
+
 /// What clients do one after another: the client, its requests, the answers.
 type Rows<'a> = &'a [(usize, &'static str, &'static str)];
 
@@ -101,6 +114,7 @@ fn options(sessions: u16, at_once: u16, idle: u16) -> Options<'static> {
         at_once,
         name: b"iqn.2026-01.example:disk",
         portal: None,
+        unit: None,
         limits: Limits {
             idle: Some(idle),
             login_within: None,
@@ -337,6 +351,38 @@ fn a_told_portal(rt: HostRuntime) {
         ..options(1, 2, 5)
     };
     check(&rt, &rt, asked, TOLD, "a portal");
+}
+
+/// A disk that was given a serial number tells it.
+const SERIAL_IS_GIVEN: Rows<'static> = &[
+    (0, LOGIN, LOGIN_1),
+    (0, SERIAL, OWN_SERIAL),
+    (0, LOGOUT, LEFT),
+];
+
+#[test]
+fn a_serial_number(rt: HostRuntime) {
+    let asked = Options {
+        unit: Some(UnitOptions {
+            serial: b"DISK0001",
+            write_protected: false,
+        }),
+        ..options(1, 2, 5)
+    };
+    check(&rt, &rt, asked, SERIAL_IS_GIVEN, "a serial number");
+}
+
+/// Another disk tells the one that all of them have.
+const NO_SERIAL_IS_GIVEN: Rows<'static> = &[
+    (0, LOGIN, LOGIN_1),
+    (0, SERIAL, USUAL_SERIAL),
+    (0, LOGOUT, LEFT),
+];
+
+#[test]
+fn no_serial_number(rt: HostRuntime) {
+    let asked = options(1, 2, 5);
+    check(&rt, &rt, asked, NO_SERIAL_IS_GIVEN, "no serial number");
 }
 
 /// One session at a time: the second one has its turns when the first one is over.

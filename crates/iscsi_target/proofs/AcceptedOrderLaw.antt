@@ -303,7 +303,7 @@ parts_order : (device : Device) (disk : Disk) → Parts device disk (λ s m r. Q
 parts_order device disk = record {
   nothing_ = λ s m c. unchanged_queues s disk;
   shut_ = λ s m. shut_queues s disk;
-  reject_ = λ s reason m a. reply_queues s disk _;
+  beside_ = λ s m r a is. reply_queues s disk r;
   reject_and_close_ = λ s rule m. reply_queues s disk _;
   login_ = λ s m k. reply_queues s disk (login_step s.session m);
   taken_ = λ s m h w v k e f. taken_queues device s disk h (segment_bytes m.segment) w v e f;

@@ -14,7 +14,7 @@ use Rattle.iscsi_target.specs.Execution.{Device, reliable}
 use Rattle.iscsi_target.specs.Machine.{is_closed, step, step_on, answers, begun, done_in_turn, first_rule, MayAnswer}
 use Rattle.iscsi_target.proofs.TurnLemmas.{Begins, begins, Turns, turns, with_tasks}
 use Rattle.iscsi_target.proofs.StepPartLemmas.{Parts, step_parts}
-use Rattle.iscsi_target.proofs.ReplyLemmas.{login_logs, reject_reply, reject_and_close_reply, request_answered_reply}
+use Rattle.iscsi_target.proofs.ReplyLemmas.{login_logs, reject_and_close_reply, request_answered_reply}
 use Rattle.iscsi_target.proofs.NumberLaws.{closed_answers}
 
 -- ---- a broken rule closes the session
@@ -64,7 +64,7 @@ parts_close : (device : Device) (disk : Disk) → Parts device disk (λ s m r. C
 parts_close device disk = record {
   nothing_ = λ s m c. record { is = λ k e. absurd cc };
   shut_ = λ s m. record { is = λ k e. refl };
-  reject_ = λ s reason m a. reply_closes s.tasks disk _ (reject_reply s.session (waiting s.tasks) reason m).rule;
+  beside_ = λ s m r a is. reply_closes s.tasks disk r is.reply.rule;
   reject_and_close_ = λ s rule m. reply_closes s.tasks disk _ (reject_and_close_reply s.session (waiting s.tasks) rule m).rule;
   login_ = λ s m k. reply_closes s.tasks disk (login_step s.session m) (login_logs s.session m).is.rule;
   taken_ = λ s m h w v k e f. record { is = (done_closes device s.session disk _).is };

@@ -73,7 +73,7 @@ parts_do : (device : Device) (disk : Disk) → Parts device disk (λ s m r. Goes
 parts_do device disk = record {
   nothing_ = λ s m c. record { is = refl };
   shut_ = λ s m. record { is = refl };
-  reject_ = λ s reason m a. record { is = refl };
+  beside_ = λ s m r a is. record { is = refl };
   reject_and_close_ = λ s rule m. record { is = refl };
   login_ = λ s m k. record { is = refl };
   taken_ = λ s m h w v k e f. record { is = (done_does device s.session disk _).is };

@@ -35,7 +35,7 @@ use Rattle.iscsi_target.specs.declared.verdict.Verdict.{Verdict}
 use Rattle.iscsi_target.specs.declared.verdict.Verdict.TheVariants as verdicts
 use Rattle.iscsi_target.proofs.TurnLemmas.{with_tasks}
 use Rattle.iscsi_target_session.specs.Rejecting.{reject}
-use Rattle.iscsi_pdu.specs.Rules.{kind_not_due, segment_too_long, command_out_of_turn, too_many_immediate}
+use Rattle.iscsi_pdu.specs.Rules.{kind_not_due, segment_too_long, command_out_of_turn}
 use Rattle.scsi_disk.specs.Plan.{plan_of}
 use Rattle.scsi_disk.specs.declared.order.Plan.{Plan}
 use Rattle.scsi_disk.specs.declared.order.Plan.TheVariants.{Refuse, Take, Give}
@@ -54,7 +54,7 @@ use Rattle.iscsi_target.specs.State.{takes_place, joined_task}
 use Rattle.iscsi_target.specs.Transfer.{with_piece}
 use Rattle.iscsi_target.specs.Laws.{cmd_sn_of, cmd_sn_if}
 use Rattle.iscsi_target.proofs.OpenWriteLemmas.{data_of_one}
-use Rattle.iscsi_target.specs.Machine.{Dropped, Answered, Queued, broken, is_tag_of, tag_of, is_busy, is_due_kind, handled, begun, immediate, advanced}
+use Rattle.iscsi_target.specs.Machine.{beside, Dropped, Answered, Queued, broken, is_tag_of, tag_of, is_busy, is_due_kind, handled, begun, immediate, advanced}
 use Rattle.iscsi_target.specs.Machine.{admitted, in_turn, data_out, due_met, full_met, is_too_long, is_over_limit, phase_step, is_closed, step_on}
 use Rattle.iscsi_target_session.specs.Requests.{request_answered}
 use Rattle.iscsi_target_session.proofs.KindLemmas.{plain, head_of}
@@ -84,9 +84,8 @@ handles_other d s disk c hd bytes m is e = no_command d s disk m m.head (ap is_c
 
 -- ---- the order of requests
 
-pub no_room : (s : Machine) (count : ℕ) (m : Message) → is_busy s.tasks ≡ true → (immediate s count m).next
-    ≡ Answered (reject s.session (waiting s.tasks) too_many_immediate m)
-no_room s count m e = rw e refl
+pub beside_tasks : (s : Machine) (count : ℕ) (m : Message) → is_busy s.tasks ≡ true → (immediate s count m).next ≡ Answered (beside s m)
+beside_tasks s count m e = rw e refl
 
 pub room : (s : Machine) (count : ℕ) (m : Message) → is_busy s.tasks ≡ false → admitted s count m ≡ (immediate s count m).next
 room s count m e = sym (rw e refl)

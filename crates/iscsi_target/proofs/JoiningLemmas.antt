@@ -1,8 +1,9 @@
 -- Steps of a session with the pieces of each of its writes joined.
 use Rattle.std.proofs.Common.{◌≡◌, ℕ, zero, suc, ◌+◌, ◌-◌, min, List, [], ◌∷◌, ◌++◌, Bool, true, false, length, Option, Some, None, refl, sym, ap, ◌∙◌, subst}
 use Rattle.std.proofs.Common.{map}
-use Rattle.std.specs.Prelude.{◌==◌, ◌&&◌, ◌||◌, not, nat_lt, filter, if◌then◌else◌, option_map}
+use Rattle.std.specs.Prelude.{◌==◌, ◌&&◌, ◌||◌, not, nat_lt, filter, if◌then◌else◌, option_map, is_some}
 use Rattle.std.proofs.lemmas.List.{map-append, length-map}
+use Rattle.scsi_disk.specs.Effect.{Effect}
 use Rattle.scsi_disk.specs.Disk.{Disk}
 use Rattle.scsi_disk.specs.declared.order.Order.{Order}
 use Rattle.scsi_disk.specs.declared.order.Plan.{Plan}
@@ -12,6 +13,7 @@ use Rattle.iscsi_pdu.specs.declared.head.Head.{Head}
 use Rattle.iscsi_pdu.specs.declared.head.Head.TheVariants.{NopOut, ScsiCommand, TaskRequest, TextRequest, DataOut, LogoutRequest, ReadyToTransfer}
 use Rattle.iscsi_pdu.specs.declared.head.scsi_command.ScsiCommand.{ScsiCommand as Command}
 use Rattle.iscsi_pdu.specs.declared.head.data_out.DataOut.{DataOut as DataPdu}
+use Rattle.iscsi_pdu.specs.declared.head.task_request.TaskRequest.{TaskRequest as TaskPdu}
 use Rattle.iscsi_stream.specs.Segment.{segment_bytes}
 use Rattle.iscsi_stream.specs.Stream.{Message}
 use Rattle.iscsi_login.specs.declared.phase.Phase.{Phase}
@@ -34,13 +36,14 @@ use Rattle.iscsi_target.specs.Transfer.{unsolicited_end}
 use Rattle.iscsi_target.specs.State.{joined_task, joined}
 use Rattle.iscsi_target.specs.declared.due.Due.{Due}
 use Rattle.iscsi_target.specs.declared.due.Due.TheVariants.{Nothing, Unsolicited, Solicited}
-use Rattle.iscsi_target.specs.Execution.{Device, device_next, device_after, execute, command_answers, data_in_parts, reliable}
+use Rattle.iscsi_target.specs.Execution.{Device, device_next, device_after, execute, command_answers, data_in_parts, reliable, as_told}
 use Rattle.iscsi_target.specs.Command.{scsi_command, planned, proceed, order_of, opened, breaks_burst_rules, breaks_rules, send_r2t, led_by, task_of}
 use Rattle.iscsi_target.specs.Machine.{Next, Met, Dropped, Answered, Queued, plainly, accepting, broken, followed, having_accepted, begun, stays, is_busy}
 use Rattle.iscsi_target.specs.Machine.{done_in_turn, done_first, step, answers, then_stepped, step_on, phase_step, full_step, full_met, due_met, request}
 use Rattle.iscsi_target.specs.Machine.{admitted, handled, advanced, write_of, with_write, data_for, data_taken, data_out, tag_of, task_tag, is_same_tag}
+use Rattle.iscsi_target.specs.Machine.{beside as reply_beside, no_room, answered_beside, is_meant}
 use Rattle.iscsi_target.specs.Machine.{is_tag_of, is_due_kind, is_too_long, is_over_limit, is_closed}
-use Rattle.iscsi_target_session.specs.Requests.{request_answered}
+use Rattle.iscsi_target_session.specs.Requests.{nop_out, task_request, request_answered}
 use Rattle.iscsi_target.specs.Laws.{joined_execution, joined_stepped}
 use Rattle.iscsi_target_session.proofs.CaseLemmas.{by_cases}
 use Rattle.iscsi_target.proofs.TurnLemmas.{with_tasks}
@@ -111,10 +114,18 @@ abbrev executed_with : Device → Session → Disk → ℕ → Order → ℕ →
 executed_with device s disk tag order n tasks bytes = record {
   machine = record { session = counted s; tasks = tasks };
   disk = (device 0 disk order bytes).disk;
-  answers = command_answers s n tag (device 0 disk order bytes).outcome (data_in_parts s.held (device 0 disk order bytes).outcome.bytes);
+  answers =
+      let e : Effect = as_told s.settings.extras.unit order (device 0 disk order bytes) in
+      command_answers s n tag e.outcome (data_in_parts s.held e.outcome.bytes);
   rule = None;
   accepted = [];
-  executed = record { initiator_task_tag = tag; disk = disk; order = order; pieces = with_piece [] 0 bytes } ∷ [];
+  executed = record {
+    initiator_task_tag = tag;
+    disk = disk;
+    unit = s.settings.extras.unit;
+    order = order;
+    pieces = with_piece [] 0 bytes;
+  } ∷ [];
 }
 
 executed_as : (device : Device) (s : Session) (disk : Disk) (tag : ℕ) (order : Order) (ts : List Task) (x : Pieces)
@@ -448,15 +459,30 @@ admitted_same s count m =
           ∙ sym (map-append joined_task s.tasks (task_of count m ∷ [])),
     ))
 
+-- what an immediate request is answered with
+no_room_same : (s : Machine) (m : Message) → no_room (joined s) m ≡ no_room s m
+no_room_same s m = ap (λ (k : ℕ). reject s.session k too_many_immediate m) (waits_same s.tasks)
+
+meant_same : (tasks : List Task) (h : TaskPdu) → is_meant (ones tasks) h ≡ is_meant tasks h
+meant_same tasks h = λ i. if h.function == 1 then tags_same tasks (Some h.referenced_task_tag) i else busy_same tasks i
+
+answered_same : (s : Machine) (m : Message) (head : Head) → answered_beside (joined s) m head ≡ answered_beside s m head
+answered_same s m (NopOut h) = ap (λ (k : ℕ). nop_out s.session k h (segment_bytes m.segment)) (waits_same s.tasks)
+answered_same s m (TaskRequest h) = λ i. task_request s.session (waits_same s.tasks i) (meant_same s.tasks h i) h
+answered_same s m _ = no_room_same s m
+
+beside_same : (s : Machine) (m : Message) → reply_beside (joined s) m ≡ reply_beside s m
+beside_same s m = λ i. if is_some s.session.settings.extras.unit && not (tags_same s.tasks (tag_of m.head) i) then answered_same s m m.head i
+    else no_room_same s m i
+
 within_same : (s : Machine) (n : ℕ) → not (is_within n s.session.exp_cmd_sn (max_cmd_sn (joined s))) ≡ not (is_within n s.session.exp_cmd_sn (max_cmd_sn s))
 within_same s n = ap (λ (k : ℕ). not (is_within n s.session.exp_cmd_sn (max_cmd_sn_with s.session k))) (waits_same s.tasks)
 
 request_same : (s : Machine) (count : ℕ) (m : Message) (i : Bool) (n : ℕ) → SameMet (request (joined s) count m i n) (request s count m i n)
 request_same s count m true n =
-    met_if (is_busy (ones s.tasks)) (is_busy s.tasks) (plainly (Answered (reject s.session (waiting (ones s.tasks)) too_many_immediate m)))
-    (accepting m (admitted (joined s) count m))
-    (plainly (Answered (reject s.session (waiting s.tasks) too_many_immediate m))) (accepting m (admitted s count m)) (busy_same s.tasks)
-    (plain_same _ _ (ap (λ (k : ℕ). reject s.session k too_many_immediate m) (waits_same s.tasks))) (accepted_same m _ _ (admitted_same s count m))
+    met_if (is_busy (ones s.tasks)) (is_busy s.tasks) (plainly (Answered (reply_beside (joined s) m))) (accepting m (admitted (joined s) count m))
+    (plainly (Answered (reply_beside s m))) (accepting m (admitted s count m)) (busy_same s.tasks)
+    (plain_same _ _ (beside_same s m)) (accepted_same m _ _ (admitted_same s count m))
 request_same s count m false n =
     met_if (not (is_within n s.session.exp_cmd_sn (max_cmd_sn (joined s)))) (not (is_within n s.session.exp_cmd_sn (max_cmd_sn s)))
     (plainly Dropped) _ (plainly Dropped) _ (within_same s n) (plain_same Dropped Dropped tt)

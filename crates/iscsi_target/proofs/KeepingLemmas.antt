@@ -1,5 +1,5 @@
 -- A step keeps what the session is configured with, and behind the login what is held.
-use Rattle.std.proofs.Common.{◌≡◌, ◌∙◌, ℕ, zero, suc, ◌+◌, List, [], ◌∷◌, Bool, true, false, length, Option, Some, None, refl, sym, subst}
+use Rattle.std.proofs.Common.{◌≡◌, ◌⊎◌, inl, inr, ◌∙◌, ℕ, zero, suc, ◌+◌, List, [], ◌∷◌, Bool, true, false, length, Option, Some, None, refl, sym, subst}
 use Rattle.std.specs.Prelude.{nat_lt, nat_le, not, ◌==◌, ◌||◌, if◌then◌else◌}
 use Rattle.scsi_disk.specs.Disk.{Disk}
 use Rattle.iscsi_text.specs.Text.{Pairs}
@@ -118,6 +118,11 @@ counts s = record { settings = refl; stays = λ l. record { stage = refl; held =
 
 ends : (s : Session) → KeptSession s (ended (counted s))
 ends s = record { settings = refl; stays = λ l. record { stage = refl; held = refl; has_text = refl; name = refl; progress = refl; later = λ l. tt } }
+
+-- a reply that at most counts its number
+beside_keeps : (s : Session) (r : Reply) → (r.session ≡ s) ⊎ (r.session ≡ counted s) → KeptSession s r.session
+beside_keeps s r (inl e) = subst (λ (n : Session). KeptSession s n) (sym e) (same_session s)
+beside_keeps s r (inr e) = subst (λ (n : Session). KeptSession s n) (sym e) (counts s)
 
 -- what a session keeps, the target keeps
 reply_keeps : (s : Machine) (disk : Disk) (r : Reply) → KeptSession s.session r.session → Keeps s (on disk s.tasks r)
@@ -284,7 +289,7 @@ parts_keep device disk = record {
           { stage = refl; held = refl; has_text = refl; name = refl; progress = refl; later = λ l. tt };
     };
   };
-  reject_ = λ s reason m a. reply_keeps s disk _ (counts s.session);
+  beside_ = λ s m r a is. reply_keeps s disk r (beside_keeps s.session r is.session);
   reject_and_close_ = λ s rule m. reply_keeps s disk _ (ends s.session);
   login_ = λ s m k. record { is = record { settings = login_keeps s.session m.head m.segment; stays = λ l. absurd (never s k l) } };
   taken_ = λ s m h w v k e f. record { is = (done_keeps device s disk _).is };

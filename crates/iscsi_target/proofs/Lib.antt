@@ -17,6 +17,7 @@ pub mod OpenWriteLemmas
 pub mod JoiningLemmas
 pub mod AppendLemmas
 pub mod ReplyLemmas
+pub mod BesideLemmas
 pub mod DataInSequenceLemmas
 pub mod ServingLemmas
 pub mod OrderLemmas

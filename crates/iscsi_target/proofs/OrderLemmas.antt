@@ -1,7 +1,7 @@
 -- What orders give and leave.
 use Rattle.std.proofs.Common.{◌≡◌, ◌≤◌, inl, inr, ◌∙◌, ℕ, ◌*◌, List, [], Bool, true, false, min, length, Option, Some, None, IsTrue, refl, sym, ap, subst}
-use Rattle.std.proofs.Common.{arith}
-use Rattle.std.specs.Prelude.{◌||◌, ◌&&◌, if◌then◌else◌}
+use Rattle.std.proofs.Common.{arith, ◌<◌, ◌^◌, unwrap_or}
+use Rattle.std.specs.Prelude.{◌||◌, ◌&&◌, if◌then◌else◌, option_map, Result, Ok, Err, IfOk}
 use Rattle.std.proofs.lemmas.Bool.{cases_lt, false≢true}
 use Rattle.std.proofs.lemmas.List.{length-take}
 use Rattle.scsi_cdb.specs.declared.cdb.Cdb.{Cdb}
@@ -9,12 +9,16 @@ use Rattle.scsi_cdb.specs.declared.cdb.Cdb.TheVariants.{TestUnitReady, Inquiry, 
 use Rattle.scsi_cdb.specs.declared.cdb.Cdb.TheVariants.{ReportLuns, Unknown}
 use Rattle.scsi_cdb.specs.declared.sense.Sense.{Sense}
 use Rattle.scsi_disk.specs.Disk.{Disk}
-use Rattle.scsi_disk.specs.Effect.{Effect, Executes, FailsBy, guarded, wanted_data, outcome_by, disk_by}
+use Rattle.scsi_disk.specs.Effect.{Effect, Executes, FailsBy, effect, guarded, wanted_data, outcome_by, disk_by}
 use Rattle.scsi_disk.specs.Plan.{plan_of, plan_by, first_refusal, is_read, is_write, is_unknown, transfer, wanted_length, expected_length}
 use Rattle.scsi_disk.proofs.GuardLemmas.{takes_none}
 use Rattle.scsi_disk.specs.declared.order.Order.{Order}
 use Rattle.scsi_disk.specs.declared.order.Outcome.{Outcome}
+use Rattle.scsi_unit.specs.LogicalUnit.{LogicalUnit}
+use Rattle.scsi_unit.specs.Telling.{told, unit_outcome}
 use Rattle.iscsi_target.specs.declared.due.Due.{Due}
+use Rattle.iscsi_target.specs.Feed.{Store}
+use Rattle.iscsi_target.specs.Inside.{LedTo, store_of}
 use Rattle.iscsi_target.specs.Staged.{IsStaged, CountsR2ts}
 use Rattle.scsi_disk.specs.declared.order.Plan.{Plan}
 use Rattle.scsi_disk.specs.declared.order.Plan.TheVariants.{Refuse, Take, Give}
@@ -86,6 +90,12 @@ order_keeps protected fb fa disk order bytes after x no_take =
       | inr ge ↦ ap (λ (a : Effect). a.disk) (x.works (omega (arith, ge, x.rises)))
           ∙ disk_kept (guarded protected (plan_of order disk.count)) disk order bytes none
     ]
+
+-- what the unit doesn't answer
+untold : (unit : Option LogicalUnit) (order : Order) (outcome : Outcome) → ((u : LogicalUnit) → unit ≡ Some u → None ≡ unit_outcome u order)
+    → outcome ≡ told unit order outcome
+untold None order outcome none = refl
+untold (Some u) order outcome none = ap (λ (o : Option Outcome). unwrap_or o outcome) (none u refl)
 
 -- ---- no more bytes than are expected
 
@@ -180,3 +190,59 @@ pub staged_at : (order known : Order) (total : ℕ) (bytes : List ℕ) (due : Du
     → IsStaged order total bytes due 0
 staged_at order known total bytes due e w t fits asked = subst (λ (o : Order). IsStaged o total bytes due 0) (sym e)
     (record { is_write = w; total_is = t; fits = fits; counted_r2ts = asked })
+
+-- ---- what the disk tells of itself
+
+-- an order that the unit answers leaves store and disk as they are
+pub told_leads : (protected : Bool) (unit : LogicalUnit) (order : Order) (disk : Disk) (failures : ℕ) (outcome : Outcome)
+    → ((n : ℕ) → plan_of order disk.count ≡ Take n → ⊥) → Some outcome ≡ unit_outcome unit order → length outcome.bytes ≤ 96
+    → LedTo protected (Some unit) order (store_of disk failures) (store_of disk failures) outcome
+told_leads protected unit order disk failures outcome no_take is few = record {
+  given = (effect protected disk order []).outcome;
+  executes = record {
+    rises = omega arith;
+    works = λ same. (let kept = disk_kept (guarded protected (plan_of order disk.count)) disk order [] (takes_none protected (plan_of order disk.count) no_take) in
+        λ i. record { disk = sym kept i; outcome = (effect protected disk order []).outcome });
+    fails = λ lt. absurd (omega (arith, lt));
+  };
+  is = ap (λ (o : Option Outcome). unwrap_or o (effect protected disk order []).outcome) is;
+  few = omega (arith, few);
+}
+
+-- an order that it doesn't answer has the outcome that the store gives
+untold_leads : (protected : Bool) (unit : Option LogicalUnit) (order : Order) (before after : Store) (outcome : Outcome)
+    → order.expected < 2 ^ 32 → ((u : LogicalUnit) → unit ≡ Some u → None ≡ unit_outcome u order)
+    → Executes protected before.failures after.failures before.disk order [] (record { disk = after.disk; outcome = outcome })
+    → LedTo protected unit order before after outcome
+untold_leads protected unit order before after outcome fits none x = record {
+  given = outcome;
+  executes = x;
+  is = untold unit order outcome none;
+  few = omega (
+    arith,
+    fits,
+    given_most protected before.failures after.failures before.disk order [] (record { disk = after.disk; outcome = outcome }) x,
+  );
+}
+
+pub untold_ok : {E : Type 0} (protected : Bool) (unit : Option LogicalUnit) (order : Order) (before after : Store) (r : Result Outcome E)
+    → order.expected < 2 ^ 32 → ((u : LogicalUnit) → unit ≡ Some u → None ≡ unit_outcome u order)
+    → IfOk r (λ outcome. Executes protected before.failures after.failures before.disk order [] (record { disk = after.disk; outcome = outcome }))
+    → IfOk r (LedTo protected unit order before after)
+untold_ok protected unit order before after (Ok outcome) fits none x = untold_leads protected unit order before after outcome fits none x
+untold_ok protected unit order before after (Err e) fits none x = tt
+
+-- the unit of which a reference is held
+pub held_unit : {A : Type 0} (f : A → LogicalUnit) (o : Option A) (x : A) (unit : Option LogicalUnit) → o ≡ Some x → option_map f o ≡ unit → Some (f x) ≡ unit
+held_unit {A = A} f o x unit e is = ap (λ (p : Option A). option_map f p) (sym e) ∙ is
+
+-- none is held
+pub held_none : {A : Type 0} (f : A → LogicalUnit) (o : Option A) (unit : Option LogicalUnit) (u : LogicalUnit) → o ≡ None → option_map f o ≡ unit
+    → unit ≡ Some u → ⊥
+held_none {A = A} f o unit u e is some = absurd (let apart : None ≡ Some u = ap (λ (p : Option A). option_map f p) (sym e) ∙ is ∙ some in cc)
+
+-- the unit that is held doesn't answer
+pub none_said : (o : Option Outcome) (a u : LogicalUnit) (order : Order) (unit : Option LogicalUnit) → o ≡ None → o ≡ unit_outcome a order → Some a ≡ unit
+    → unit ≡ Some u → None ≡ unit_outcome u order
+none_said o a u order unit none told is some =
+    sym none ∙ told ∙ ap (λ (x : LogicalUnit). unit_outcome x order) (ap (λ (p : Option LogicalUnit). unwrap_or p a) (is ∙ some))

@@ -24,7 +24,7 @@ use Rattle.iscsi_target.specs.Write.{Write}
 use Rattle.iscsi_target.specs.declared.tasks.Task.{Task}
 use Rattle.iscsi_target.specs.declared.tasks.Task.TheVariants.{Request, Data}
 use Rattle.iscsi_target.specs.State.{Machine, Stepped, on, unchanged, waiting}
-use Rattle.iscsi_target_session.specs.Rejecting.{reject, reject_and_close}
+use Rattle.iscsi_target_session.specs.Rejecting.{reject_and_close}
 use Rattle.iscsi_target_session.specs.Login.{login_step}
 use Rattle.iscsi_target.specs.declared.due.Due.{Due}
 use Rattle.iscsi_target.specs.declared.due.Due.TheVariants.{Nothing, Unsolicited, Solicited}
@@ -234,7 +234,7 @@ parts_kept : (device : Device) (disk : Disk) → Parts device disk (λ s m r. Ke
 parts_kept device disk = record {
   nothing_ = λ s m c live k. k;
   shut_ = λ s m live k. none_kept;
-  reject_ = λ s reason m a live k. reply_kept s disk (reject s.session (waiting s.tasks) reason m) k;
+  beside_ = λ s m r a is live k. reply_kept s disk r k;
   reject_and_close_ = λ s rule m live k. reply_kept s disk (reject_and_close s.session (waiting s.tasks) rule m) k;
   login_ = λ s m e live k. reply_kept s disk (login_step s.session m) k;
   taken_ = λ s m h w v e f g live k. done_kept device s.session disk (with_write v s.tasks) live

@@ -21,7 +21,7 @@ use Rattle.iscsi_login.specs.Held.{first_burst}
 use Rattle.iscsi_login.specs.Stage.{is_closed_phase}
 use Rattle.iscsi_target_session.specs.Configured.{Settings}
 use Rattle.iscsi_target_session.specs.Session.{Session as SessionState, Reply}
-use Rattle.iscsi_target_session.specs.Rejecting.{reject_and_close, reject}
+use Rattle.iscsi_target_session.specs.Rejecting.{reject_and_close}
 use Rattle.iscsi_target_session.specs.Login.{login_step}
 use Rattle.iscsi_target_session.specs.Requests.{request_answered}
 use Rattle.iscsi_target_session.proofs.CaseLemmas.{by_cases}
@@ -320,7 +320,7 @@ parts_few : (device : Device) (disk : Disk) → Parts device disk AtPdu
 parts_few device disk = record {
   nothing_ = λ s m c. record { keeps = λ h f. f; each = λ h f. omega arith };
   shut_ = λ s m. record { keeps = λ h f. no_few; each = λ h f. omega arith };
-  reject_ = λ s reason m a. reply_at s m disk (reject s.session (waiting s.tasks) reason m);
+  beside_ = λ s m r a is. reply_at s m disk r;
   reject_and_close_ = λ s rule m. reply_at s m disk (reject_and_close s.session (waiting s.tasks) rule m);
   login_ = λ s m k. reply_at s m disk (login_step s.session m);
   taken_ = λ s m h w v k e t. turns_at s m [] (with_write v s.tasks) (done_in_turn device s.session disk (with_write v s.tasks))
@@ -464,7 +464,7 @@ parts_rise : (device : Device) (disk : Disk) → Parts device disk (λ s m r. Ri
 parts_rise device disk = record {
   nothing_ = λ s m c. record { live = λ open_ full. inl (refl, omega arith) };
   shut_ = λ s m. record { live = λ open_ full. absurd cc };
-  reject_ = λ s reason m a. reply_rises s disk (reject s.session (waiting s.tasks) reason m) (λ _. refl);
+  beside_ = λ s m r a is. reply_rises s disk r (λ open_. (is.reply.live open_).1);
   reject_and_close_ = λ s rule m. record { live = λ open_ full. absurd cc };
   login_ = λ s m k. record { live = λ open_ full. absurd (let e : phases.Login ≡ phases.Full = sym k ∙ full in cc) };
   taken_ = λ s m h w v k e t. record {

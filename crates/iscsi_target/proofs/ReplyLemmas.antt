@@ -131,8 +131,8 @@ nop_reply s waiting h bytes = by_cases (h.initiator_task_tag == reserved_tag) (�
       limit = λ l. l;
     }))
 
-pub task_reply : (s : Session) (waiting : ℕ) (h : TaskPdu) → IsReply s (task_request s waiting h)
-task_reply s waiting h = record {
+pub task_reply : (s : Session) (waiting : ℕ) (is_open : Bool) (h : TaskPdu) → IsReply s (task_request s waiting is_open h)
+task_reply s waiting is_open h = record {
   stat_sn = (refl, refl);
   ranges = refl;
   rule = λ k e. absurd cc;
@@ -330,7 +330,7 @@ login_logs s m = login_logs_in s m m.head refl
 
 pub request_answered_reply : (s : Session) (waiting : ℕ) (m : Message) (head : Head) → IsReply s (request_answered s waiting m head)
 request_answered_reply s waiting m (NopOut h) = nop_reply s waiting h (segment_bytes m.segment)
-request_answered_reply s waiting m (TaskRequest h) = task_reply s waiting h
+request_answered_reply s waiting m (TaskRequest h) = task_reply s waiting false h
 request_answered_reply s waiting m (TextRequest h) = text_reply_is s waiting m h (segment_bytes m.segment)
 request_answered_reply s waiting m (LogoutRequest h) = logout_reply s waiting m h
 request_answered_reply s waiting m _ = reject_and_close_reply s waiting kind_not_due m

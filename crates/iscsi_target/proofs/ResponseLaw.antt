@@ -16,13 +16,13 @@ use Rattle.iscsi_target_session.specs.Login.{login_step}
 use Rattle.iscsi_target_session.specs.Rejecting.{reject_and_close}
 use Rattle.iscsi_target.specs.declared.tasks.Task.{Task}
 use Rattle.iscsi_target.specs.State.{Machine, Execution, Stepped, on, waiting}
-use Rattle.iscsi_target.specs.Execution.{Device, reliable, device_after, execute, data_in_parts, data_ins, response_head, sense_segment}
+use Rattle.iscsi_target.specs.Execution.{Device, reliable, device_after, execute, data_in_parts, data_ins, response_head, sense_segment, as_told}
 use Rattle.iscsi_target.specs.Command.{order_of}
 use Rattle.iscsi_target.specs.Machine.{step, answers, begun, done_in_turn}
 use Rattle.iscsi_target.specs.Laws.{Told, told_by, told_in, told_of, due_for, response_tag, response_tags}
 use Rattle.iscsi_target.proofs.TurnLemmas.{Begins, begins, Turns, turns, with_tasks}
 use Rattle.iscsi_target.proofs.StepPartLemmas.{Parts, step_parts}
-use Rattle.iscsi_target.proofs.ReplyLemmas.{login_logs, reject_reply, reject_and_close_reply, request_answered_reply}
+use Rattle.iscsi_target.proofs.ReplyLemmas.{login_logs, reject_and_close_reply, request_answered_reply}
 use Rattle.iscsi_target.proofs.WriteTilingLaws.{still_reliable}
 
 record Tells (protected : Bool) (r : Stepped) : Type 0 where
@@ -65,12 +65,12 @@ execute_tells : (protected : Bool) (device : Device) (s : Machine) (disk : Disk)
     Tells protected (execute device s disk tag order pieces)
 unfolding segment_bytes
 execute_tells protected device s disk tag order pieces e =
-    let f : Effect = device 0 disk order (data_of pieces) in
+    let f : Effect = as_told s.session.settings.extras.unit order (device 0 disk order (data_of pieces)) in
     let given : List (List ℕ × Bool) = data_in_parts s.session.held f.outcome.bytes in
     record {
       is = ins_told s.session (waiting s.tasks) tag 0 0 given
           (message (response_head s.session (waiting s.tasks) tag f.outcome (length given)) (sense_segment f.outcome.sense) ∷ [])
-          ∙ ap (λ (d : Device). told_of tag (d 0 disk order (data_of pieces)).outcome ∷ []) e;
+          ∙ ap (λ (d : Device). told_of tag (as_told s.session.settings.extras.unit order (d 0 disk order (data_of pieces))).outcome ∷ []) e;
     }
 
 -- ---- tasks
@@ -117,7 +117,7 @@ parts_tell : (protected : Bool) (disk : Disk) → Parts (reliable protected) dis
 parts_tell protected disk = record {
   nothing_ = λ s m c. record { is = refl };
   shut_ = λ s m. record { is = refl };
-  reject_ = λ s reason m a. reply_tells protected s.tasks disk _ (reject_reply s.session (waiting s.tasks) reason m).tags;
+  beside_ = λ s m r a is. reply_tells protected s.tasks disk r is.reply.tags;
   reject_and_close_ = λ s rule m. reply_tells protected s.tasks disk _ (reject_and_close_reply s.session (waiting s.tasks) rule m).tags;
   login_ = λ s m k. reply_tells protected s.tasks disk (login_step s.session m) (login_logs s.session m).is.tags;
   taken_ = λ s m h w v k e f. record { is = (done_tells protected s.session disk _).is };

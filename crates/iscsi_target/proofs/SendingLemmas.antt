@@ -26,14 +26,14 @@ use Rattle.iscsi_pdu.specs.Serial.{next_sn}
 use Rattle.iscsi_pdu.specs.Rules.{data_out_of_order}
 use Rattle.iscsi_target.specs.State.{breaks}
 use Rattle.iscsi_target_session.specs.Login.{login_step}
-use Rattle.iscsi_target.specs.Execution.{Device, device_next, device_after, execute, data_in_parts, data_ins, response_head, sense_segment}
+use Rattle.iscsi_target.specs.Execution.{Device, device_next, device_after, execute, data_in_parts, data_ins, response_head, sense_segment, as_told}
 use Rattle.iscsi_target.specs.Command.{order_of}
 use Rattle.iscsi_target.specs.Machine.{is_closed, step_on, begun, done_in_turn, having_accepted, then_stepped}
 use Rattle.iscsi_target.specs.Tiles.{TileBytes, GivesTiles, data_in_tag, data_in_tags}
 use Rattle.iscsi_target.specs.Laws.{stat_sns, stat_sn_of, response_tag, response_tags, cmd_sns, given_number, HasCmdSn}
 use Rattle.iscsi_target.proofs.TurnLemmas.{Begins, begins, Turns, turns}
 use Rattle.iscsi_target.proofs.StepPartLemmas.{Accepts, Immediately, InTurn, Parts, step_parts}
-use Rattle.iscsi_target.proofs.ReplyLemmas.{Count, IsReply, Logs, login_logs, reject_reply, reject_and_close_reply, request_answered_reply}
+use Rattle.iscsi_target.proofs.ReplyLemmas.{Count, IsReply, Logs, login_logs, reject_and_close_reply, request_answered_reply}
 use Rattle.iscsi_target.proofs.DataInTilingLaw.{execute_tiled}
 
 -- ---- numbers one after another
@@ -93,7 +93,7 @@ abbrev pub Gives : Device → List Message → List Execution → Type 0
 Gives device answers [] = data_pieces answers ≡ []
 Gives device answers (e ∷ es) =
     (own : List Message) × (more : List Message) × (answers ≡ own ++ more)
-    × GivesTiles e (device 0 e.disk e.order (data_of e.pieces)).outcome.bytes own × Gives (device_next device) more es
+    × GivesTiles e (as_told e.unit e.order (device 0 e.disk e.order (data_of e.pieces))).outcome.bytes own × Gives (device_next device) more es
 
 none_left : {A : Type 0} (a b : List A) → a ++ b ≡ [] → a ≡ []
 none_left [] b e = refl
@@ -132,7 +132,7 @@ gives_after device x answers (e ∷ es) none g = (
   x ++ g.0,
   g.1,
   ap (λ (ms : List Message). x ++ ms) g.2 ∙ sym (append_assoc x g.0 g.1),
-  gives_behind e (device 0 e.disk e.order (data_of e.pieces)).outcome.bytes x g.0 none g.3,
+  gives_behind e (as_told e.unit e.order (device 0 e.disk e.order (data_of e.pieces))).outcome.bytes x g.0 none g.3,
   g.4,
 )
 
@@ -228,7 +228,7 @@ ins_own_tags s waits tag data_sn at (part ∷ given) more a = (refl, ins_own_tag
 execute_tells : (device : Device) (s : Machine) (disk : Disk) (tag : ℕ) (order : Order) (pieces : Pieces) →
     Tells device s.session (execute device s disk tag order pieces)
 execute_tells device s disk tag order pieces =
-    let e : Effect = device 0 disk order (data_of pieces) in
+    let e : Effect = as_told s.session.settings.extras.unit order (device 0 disk order (data_of pieces)) in
     let given : List (List ℕ × Bool) = data_in_parts s.session.held e.outcome.bytes in
     let last : Message = message (response_head s.session (waiting s.tasks) tag e.outcome (length given)) (sense_segment e.outcome.sense) in
     let all : List Message = (execute device s disk tag order pieces).answers in
@@ -377,7 +377,7 @@ parts_tell : (device : Device) (disk : Disk) → Parts device disk (StepTells de
 parts_tell device disk = record {
   nothing_ = λ s m c. none_accepted device s m (unchanged s disk) (stays_tells device s disk);
   shut_ = λ s m. none_accepted device s m (shut_down s disk) (shut_tells device s disk);
-  reject_ = λ s reason m a. plain_tells device s m disk _ (reject_reply s.session (waiting s.tasks) reason m);
+  beside_ = λ s m r a is. plain_tells device s m disk r is.reply;
   reject_and_close_ = λ s rule m. plain_tells device s m disk _ (reject_and_close_reply s.session (waiting s.tasks) rule m);
   login_ = λ s m k. login_tells device s m disk (login_step s.session m) (login_logs s.session m);
   taken_ = λ s m h w v k e f. none_accepted device s m (done_in_turn device s.session disk _) (done_tells device s.session disk _);

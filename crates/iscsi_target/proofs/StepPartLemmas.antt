@@ -15,16 +15,18 @@ use Rattle.iscsi_target.specs.Write.{Write}
 use Rattle.iscsi_target.specs.declared.tasks.Task.{Task}
 use Rattle.iscsi_target.specs.State.{Machine, Stepped, on, unchanged, shut_down, waiting, max_cmd_sn}
 use Rattle.iscsi_pdu.specs.Serial.{is_within}
-use Rattle.iscsi_target_session.specs.Rejecting.{reject, reject_and_close}
+use Rattle.iscsi_target_session.specs.Rejecting.{reject_and_close}
 use Rattle.iscsi_target.specs.State.{breaks}
-use Rattle.iscsi_pdu.specs.Rules.{kind_not_due, segment_too_long, data_out_of_order, command_out_of_turn, too_many_immediate}
+use Rattle.iscsi_pdu.specs.Rules.{kind_not_due, segment_too_long, data_out_of_order, command_out_of_turn}
 use Rattle.iscsi_target_session.specs.Login.{login_step}
 use Rattle.iscsi_target.specs.Transfer.{taken}
 use Rattle.iscsi_target.specs.Execution.{Device}
 use Rattle.iscsi_target.specs.Command.{task_of, breaks_rules}
 use Rattle.iscsi_target.specs.Machine.{Met, plainly, accepting, followed, having_accepted, step_on, phase_step, full_step, due_met, request, admitted, data_for}
 use Rattle.iscsi_target.specs.Machine.{data_taken, advanced, is_busy, is_due_kind, is_too_long, is_over_limit, is_closed, is_tag_of, tag_of, write_of}
-use Rattle.iscsi_target.specs.Machine.{with_write, done_in_turn}
+use Rattle.iscsi_target.specs.Machine.{with_write, done_in_turn, beside}
+use Rattle.iscsi_target_session.specs.Session.{Reply}
+use Rattle.iscsi_target.proofs.BesideLemmas.{IsBeside, beside_is}
 use Rattle.iscsi_login.specs.Stage.{is_closed_phase}
 use Rattle.iscsi_target.specs.Tiles.{pdu_answers, data_answers}
 use Rattle.iscsi_target.specs.Laws.{cmd_sn_of, cmd_sn_if}
@@ -39,7 +41,7 @@ pub data Accepts (s : Machine) (m : Message) : Machine → Type 0 where
 pub record Parts (device : Device) (disk : Disk) (P : Machine → Message → Stepped → Type 0) : Type 0 where
   pub nothing_ : (s : Machine) (m : Message) → (is_closed s ≡ true) ⊎ (pdu_answers s m m.head ≡ 0) → P s m (unchanged s disk)
   pub shut_ : (s : Machine) (m : Message) → P s m (shut_down s disk)
-  pub reject_ : (s : Machine) (reason : ℕ) (m : Message) → pdu_answers s m m.head ≡ 0 → P s m (on disk s.tasks (reject s.session (waiting s.tasks) reason m))
+  pub beside_ : (s : Machine) (m : Message) (r : Reply) → pdu_answers s m m.head ≡ 0 → IsBeside s.session r → P s m (on disk s.tasks r)
   pub reject_and_close_ : (s : Machine) (rule : ℕ) (m : Message) → P s m (breaks s disk rule m)
   pub login_ : (s : Machine) (m : Message) → s.session.phase ≡ Login → P s m (on disk s.tasks (login_step s.session m))
   pub taken_ : (s : Machine) (m : Message) (h : DataPdu) (w v : Write) → m.head ≡ DataOut h → write_of s.tasks h.initiator_task_tag ≡ Some w
@@ -79,7 +81,7 @@ request_parts : (device : Device) (disk : Disk) (P : Machine → Message → Ste
     → (s : Machine) (m : Message) (i : Bool) (n : ℕ) → pdu_answers s m m.head ≡ 0 → cmd_sn_of m.head ≡ cmd_sn_if i n →
     P s m (met device s disk (request s disk.count m i n))
 request_parts device disk P p s m true n a c =
-    by_cases (is_busy s.tasks) (λ e. rw e (p.reject_ s too_many_immediate m a))
+    by_cases (is_busy s.tasks) (λ e. rw e (p.beside_ s m (beside s m) a (beside_is s m)))
     (λ e. rw e (admitted_parts device disk P p s s m a (Immediately c (no_tasks s.tasks e)) refl))
 request_parts device disk P p s m false n a c =
     by_cases (is_within n s.session.exp_cmd_sn (max_cmd_sn s))

@@ -379,7 +379,7 @@ parts_ask device disk = record {
     | inr a ↦ answering (unanswered s.tasks) (pdu_answers s m m.head) (unchanged s disk) (over_asks s.tasks (unchanged s disk) refl (inr refl)) a
   ];
   shut_ = λ s m o k. closing s.tasks (pdu_answers s m m.head) (shut_down s disk) refl refl;
-  reject_ = λ s reason m a o k. answering (unanswered s.tasks) (pdu_answers s m m.head) _ (reply_asks s disk _ refl) a;
+  beside_ = λ s m r a is o k. answering (unanswered s.tasks) (pdu_answers s m m.head) _ (reply_asks s disk r is.reply.ranges) a;
   reject_and_close_ = λ s rule m o k. closing s.tasks (pdu_answers s m m.head) (breaks s disk rule m) refl refl;
   login_ = λ s m e o k. login_asks_in s m disk m.head refl;
   taken_ = λ s m h w v e f g o k. having_asks (unanswered s.tasks) (pdu_answers s m m.head) [] _ (taken_asks device s m disk h w v o k e f g);

@@ -28,7 +28,7 @@ use Rattle.iscsi_stream.specs.Pieces.{Pieces, data_of}
 use Rattle.iscsi_target_session.specs.Login.{login_step}
 use Rattle.iscsi_target.specs.declared.due.Due.TheVariants.{Nothing, Unsolicited}
 use Rattle.iscsi_target.specs.Transfer.{is_whole, received, with_piece, with_r2t}
-use Rattle.iscsi_target.specs.Execution.{Device, device_after, execute, data_in_parts, data_ins, response_head, sense_segment, reliable}
+use Rattle.iscsi_target.specs.Execution.{Device, device_after, execute, data_in_parts, data_ins, response_head, sense_segment, reliable, as_told}
 use Rattle.iscsi_target.specs.Command.{order_of, opened, breaks_burst_rules, is_bad_segment, is_bad_announcement, breaks_rules, task_of, task_by, task_planned}
 use Rattle.iscsi_target.specs.Machine.{step, answers, begun, stays, done_in_turn, having_accepted, write_of, with_write}
 use Rattle.iscsi_target.specs.Tiles.{r2t_range, r2t_ranges, IsModest, total_of, Tiles, TilesPlan, IsTiled}
@@ -82,7 +82,7 @@ ins_ranges s waits tag data_sn at (part ∷ given) more = ins_ranges s waits tag
 pub execute_ranges : (device : Device) (s : Machine) (disk : Disk) (tag : ℕ) (order : Order) (pieces : Pieces) →
     r2t_ranges (execute device s disk tag order pieces).answers ≡ []
 execute_ranges device s disk tag order pieces =
-    let e : Effect = device 0 disk order (data_of pieces) in
+    let e : Effect = as_told s.session.settings.extras.unit order (device 0 disk order (data_of pieces)) in
     let given : List (List ℕ × Bool) = data_in_parts s.session.held e.outcome.bytes in
     ins_ranges s.session (waiting s.tasks) tag 0 0 given (message (response_head s.session (waiting s.tasks) tag e.outcome (length given))
     (sense_segment e.outcome.sense) ∷ [])
@@ -326,7 +326,7 @@ parts_go : (protected : Bool) (disk : Disk) → Parts (reliable protected) disk 
 parts_go protected disk = record {
   nothing_ = λ s m c o. record { sound = o; tiled = tt; modest = tt };
   shut_ = λ s m o. record { sound = tt; tiled = tt; modest = tt };
-  reject_ = λ s reason m a o. reply_goes s disk _ refl o;
+  beside_ = λ s m r a is o. reply_goes s disk r is.reply.ranges o;
   reject_and_close_ = λ s rule m o. reply_goes s disk _ refl o;
   login_ = λ s m k o. reply_goes s disk (login_step s.session m) (login_logs s.session m).is.ranges o;
   taken_ = λ s m h w v k e f o.

@@ -10,6 +10,8 @@ use Rattle.scsi_disk.specs.Disk.{Disk}
 use Rattle.scsi_disk.specs.Effect.{Effect, effect}
 use Rattle.scsi_disk.specs.declared.order.Order.{Order}
 use Rattle.scsi_disk.specs.declared.order.Outcome.{Outcome}
+use Rattle.scsi_unit.specs.LogicalUnit.{LogicalUnit}
+use Rattle.scsi_unit.specs.Telling.{told}
 use Rattle.iscsi_pdu.specs.declared.head.Head.{Head}
 use Rattle.iscsi_pdu.specs.declared.head.Head.TheVariants as heads
 use Rattle.iscsi_stream.specs.Stream.{Message}
@@ -141,9 +143,24 @@ send_outcome s e effect = record {
   executed = e ∷ [];
 }
 
+-- What an order led to, where the disk may tell more of itself: that changes no block.
+abbrev pub as_told : Option LogicalUnit → Order → Effect → Effect
+as_told unit order after = record after { outcome = told unit order after.outcome }
+
+-- What was executed led to, over a store that doesn't fail.
+abbrev pub effect_of : Bool → Execution → Effect
+effect_of protected e =
+    as_told e.unit e.order (effect protected e.disk e.order (data_of e.pieces))
+
 -- An order of a task is executed, with the data of these pieces (section 11.4).
 abbrev pub execute : Device → Machine → Disk → ℕ → Order → Pieces → Stepped
 execute device s disk tag order pieces =
     send_outcome s
-    (record { initiator_task_tag = tag; disk = disk; order = order; pieces = pieces })
-    (device 0 disk order (data_of pieces))
+    (record {
+      initiator_task_tag = tag;
+      disk = disk;
+      unit = s.session.settings.extras.unit;
+      order = order;
+      pieces = pieces;
+    })
+    (as_told s.session.settings.extras.unit order (device 0 disk order (data_of pieces)))

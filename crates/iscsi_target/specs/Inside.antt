@@ -1,10 +1,15 @@
 -- What the parts of a session do. No reader of its contract needs these.
 --
 -- `protected` says of the store that it refuses each write.
-use Rattle.std.specs.Prelude.{Bool, ◌≡◌, ◌≢◌, ◌⊎◌, ℕ, ◌<◌, ◌≤◌, Option, Some, None, false, if◌then◌else◌, List, [], ◌++◌, length, map, insert, remove, slice_index_or, Result, IfOk, OnOk, OnErr}
+use Rattle.std.specs.Prelude.{Bool, ◌≡◌, ◌≢◌, ◌⊎◌, ℕ, ◌<◌, ◌≤◌, Option, Some, None, false, if◌then◌else◌, List, [], ◌++◌, length, map, insert, remove, slice_index_or, Result, IfOk, OnOk, OnErr, ◌^◌}
 use Rattle.std.specs.List.{AllByRecursion}
 use Rattle.iscsi_stream.specs.Canonical.{canon}
 use Rattle.scsi_disk.specs.Disk.{Disk}
+use Rattle.scsi_disk.specs.Effect.{Executes}
+use Rattle.scsi_disk.specs.declared.order.Order.{Order}
+use Rattle.scsi_disk.specs.declared.order.Outcome.{Outcome}
+use Rattle.scsi_unit.specs.LogicalUnit.{LogicalUnit}
+use Rattle.scsi_unit.specs.Telling.{told}
 use Rattle.iscsi_target.specs.Write.{Write}
 use Rattle.iscsi_target.specs.declared.tasks.Task.{Task}
 use Rattle.iscsi_target.specs.declared.tasks.Task.TheVariants.{Data}
@@ -12,11 +17,10 @@ use Rattle.iscsi_target.specs.State.{Machine, Stepped, closed, waiting}
 use Rattle.iscsi_target.specs.Queue.{behind, TakePlaces, IsPending, IsUnasked}
 use Rattle.iscsi_target.specs.State.{joined, joined_task}
 use Rattle.iscsi_target.specs.Execution.{Device, reliable}
-use Rattle.iscsi_pdu.specs.Rules.{kind_not_due, data_out_of_order, too_many_immediate}
-use Rattle.iscsi_target_session.specs.Rejecting.{reject}
+use Rattle.iscsi_pdu.specs.Rules.{kind_not_due, data_out_of_order}
 use Rattle.iscsi_stream.specs.Segment.{segment_bytes}
 use Rattle.iscsi_target.specs.Command.{breaks_rules}
-use Rattle.iscsi_target.specs.Machine.{Met, Next, Dropped, Answered, Queued, is_tag_of, tag_of, admitted, advanced, broken, data_out, RunsIn, write_of, with_write, done_first, done_in_turn, followed, full_met, is_closed, step_on, MayAnswer}
+use Rattle.iscsi_target.specs.Machine.{Met, Next, Dropped, Answered, Queued, is_tag_of, tag_of, beside, admitted, advanced, broken, data_out, RunsIn, write_of, with_write, done_first, done_in_turn, followed, full_met, is_closed, step_on, MayAnswer}
 use Rattle.iscsi_target.specs.Feed.{Connection, Store, Scene, scene}
 use Rattle.iscsi_target.specs.Laws.{cmd_sn_of}
 use Rattle.iscsi_target.specs.declared.verdict.Verdict.{Verdict}
@@ -70,8 +74,7 @@ refusal s m =
 abbrev pub comes_of : Machine → ℕ → Message → Verdict → Next
 comes_of s count m verdicts.Outside = Dropped
 comes_of s count m (verdicts.Breaks rule) = broken s rule m
-comes_of s count m verdicts.NoRoom =
-    Answered (reject s.session (waiting s.tasks) too_many_immediate m)
+comes_of s count m verdicts.Beside = Answered (beside s m)
 comes_of s count m (verdicts.Data h) = data_out s m h (segment_bytes m.segment)
 comes_of s count m verdicts.AtOnce = admitted s count m
 comes_of s count m verdicts.InTurn = admitted (advanced s) count m
@@ -133,6 +136,15 @@ pub record GivesUp (old new : Moment) : Type 0 where
   pub rises : old.store.failures ≤ new.store.failures
   pub disk_is : new.store.disk ≡ old.store.disk
   pub unwritten : new.output ≡ old.output
+
+-- An order without data led to this outcome, over a store, of a disk that may tell more of itself.
+pub record LedTo (protected : Bool) (unit : Option LogicalUnit) (order : Order) (before after : Store)
+    (outcome : Outcome) : Type 0 where
+  pub given : Outcome
+  pub executes : Executes protected before.failures after.failures before.disk order []
+      (record { disk = after.disk; outcome = given })
+  pub is : outcome ≡ told unit order given
+  pub few : length outcome.bytes < 2 ^ 32
 
 -- What was done with a task, over a store: it was handled so, or memory ran out.
 pub record Handles {E : Type 0} (protected : Bool) (step : Device → Stepped)

@@ -22,7 +22,7 @@ use Rattle.iscsi_stream.specs.Pieces.{data_of}
 use Rattle.iscsi_pdu.specs.Serial.{is_within}
 use Rattle.iscsi_target.specs.Transfer.{with_piece}
 use Rattle.iscsi_target.specs.State.{joined}
-use Rattle.iscsi_target.specs.Execution.{is_over, is_under, residual_count, sense_segment}
+use Rattle.iscsi_target.specs.Execution.{effect_of, is_over, is_under, residual_count, sense_segment}
 use Rattle.iscsi_target.specs.Command.{order_of}
 use Rattle.iscsi_target.specs.Machine.{is_closed, is_due_kind, is_too_long}
 
@@ -185,8 +185,7 @@ told_of tag outcome = record {
 
 -- What is to be told of what was executed, over a store that doesn't fail (section 11.4).
 abbrev pub due_for : Bool → Execution → Told
-due_for protected e = told_of e.initiator_task_tag
-    (effect protected e.disk e.order (data_of e.pieces)).outcome
+due_for protected e = told_of e.initiator_task_tag (effect_of protected e).outcome
 
 -- The commands that were accepted are those that were executed, in their order, and then those of
 -- the tasks that there are, unless the session is closed (section 4.2.2.1).

@@ -5,7 +5,7 @@
 -- SCSI commands in `Command`, the other requests in `Requests` and `TextRequests`.
 --
 -- `protected` says of the store that it refuses each write.
-use Rattle.std.specs.Prelude.{◌≡◌, ◌≤◌, ℕ, zero, suc, Bool, true, false, not, ◌==◌, ◌||◌, nat_lt, if◌then◌else◌, List, [], ◌∷◌, ◌++◌, length, Option, Some, None}
+use Rattle.std.specs.Prelude.{◌≡◌, ◌≤◌, ℕ, zero, suc, Bool, true, false, not, ◌==◌, ◌||◌, ◌&&◌, is_some, nat_lt, if◌then◌else◌, List, [], ◌∷◌, ◌++◌, length, Option, Some, None}
 use Rattle.std.specs.List.{list_any}
 use Rattle.scsi_disk.specs.Disk.{Disk}
 use Rattle.scsi_disk.specs.Effect.{Executes}
@@ -13,6 +13,7 @@ use Rattle.iscsi_pdu.specs.Fields.{reserved_tag}
 use Rattle.iscsi_pdu.specs.Serial.{next_sn, is_within}
 use Rattle.iscsi_pdu.specs.Rules.{kind_not_due, segment_too_long, data_out_of_order, command_out_of_turn, too_many_immediate}
 use Rattle.iscsi_pdu.specs.declared.head.data_out.DataOut.{DataOut}
+use Rattle.iscsi_pdu.specs.declared.head.task_request.TaskRequest.{TaskRequest}
 use Rattle.iscsi_pdu.specs.declared.head.Head.{Head}
 use Rattle.iscsi_pdu.specs.declared.head.Head.TheVariants as heads
 use Rattle.iscsi_stream.specs.Pieces.{data_of}
@@ -33,7 +34,7 @@ use Rattle.iscsi_target_session.specs.LoginText.{is_normal}
 use Rattle.iscsi_target_session.specs.Login.{login_step}
 use Rattle.iscsi_target.specs.Transfer.{taken}
 use Rattle.iscsi_target.specs.Execution.{Device, reliable, device_next, device_after}
-use Rattle.iscsi_target_session.specs.Requests.{request_answered}
+use Rattle.iscsi_target_session.specs.Requests.{nop_out, task_request, request_answered}
 use Rattle.iscsi_target.specs.Command.{scsi_command, proceed, task_of, breaks_rules}
 
 -- ---- requests
@@ -122,16 +123,16 @@ pub data Next : Type 0 where
   Answered : Reply → Next
   Queued : Session → List Task → Next
 
--- What comes of a PDU, and the request that was accepted, if it is one.
+-- What comes of a PDU, and the request that was accepted as a task, if it is one.
 pub record Met : Type 0 where
   pub accepted : List Message
   pub next : Next
 
--- It is no request that is accepted.
+-- No request is accepted as a task.
 abbrev pub plainly : Next → Met
 plainly next = record { accepted = []; next = next }
 
--- The request is accepted (section 4.2.2.1).
+-- The request is accepted as a task (section 4.2.2.1).
 abbrev pub accepting : Message → Next → Met
 accepting m next = record { accepted = m ∷ []; next = next }
 
@@ -211,12 +212,40 @@ admitted s count m =
     then broken s data_out_of_order m
     else Queued s.session (s.tasks ++ task_of count m ∷ [])
 
--- An immediate request takes no CmdSN; while there is a task there is no room for it (section
--- 4.2.2.1; how much room there is, is own rule).
+-- ---- an immediate request
+
+-- A task that the task management function means is open: the one with that tag, or any (section
+-- 11.5.1).
+abbrev pub is_meant : List Task → TaskRequest → Bool
+is_meant tasks h =
+    if h.function == 1 then is_tag_of tasks (Some h.referenced_task_tag) else is_busy tasks
+
+-- There is no room for it (section 4.2.2.1).
+abbrev pub no_room : Machine → Message → Reply
+no_room s m = reject s.session (waiting s.tasks) too_many_immediate m
+
+-- There is room for a ping and for task management alone (section 4.2.2.1).
+abbrev pub answered_beside : Machine → Message → Head → Reply
+answered_beside s m (heads.NopOut h) =
+    nop_out s.session (waiting s.tasks) h (segment_bytes m.segment)
+answered_beside s m (heads.TaskRequest h) =
+    task_request s.session (waiting s.tasks) (is_meant s.tasks h) h
+answered_beside s m _ = no_room s m
+
+-- There is room beside the tasks where the disk tells more than the profile has, for a tag that is no
+-- task's (section 4.2.2.1; how much room there is, is own rule).
+abbrev pub has_room : Machine → Head → Bool
+has_room s head =
+    is_some s.session.settings.extras.unit && not (is_tag_of s.tasks (tag_of head))
+
+-- An immediate request while there is a task is answered beside it, or rejected (section 4.2.2.1).
+abbrev pub beside : Machine → Message → Reply
+beside s m = if has_room s m.head then answered_beside s m m.head else no_room s m
+
+-- An immediate request takes no CmdSN; while there is a task it becomes none (section 4.2.2.1).
 abbrev pub immediate : Machine → ℕ → Message → Met
 immediate s count m =
-    if is_busy s.tasks
-    then plainly (Answered (reject s.session (waiting s.tasks) too_many_immediate m))
+    if is_busy s.tasks then plainly (Answered (beside s m))
     else accepting m (admitted s count m)
 
 -- The CmdSN that was due is taken (section 4.2.2.1).

@@ -3,6 +3,7 @@
 use Rattle.std.specs.Prelude.{ℕ, Bool, true, not, List, [], length, map, filter, Option, None, if◌then◌else◌}
 use Rattle.scsi_disk.specs.Disk.{Disk}
 use Rattle.scsi_disk.specs.declared.order.Order.{Order}
+use Rattle.scsi_unit.specs.LogicalUnit.{LogicalUnit}
 use Rattle.iscsi_stream.specs.Pieces.{Pieces}
 use Rattle.iscsi_stream.specs.Stream.{Message}
 use Rattle.iscsi_login.specs.Stage.{is_closed_phase}
@@ -56,10 +57,12 @@ joined s = record s { tasks = map joined_task s.tasks }
 
 -- ---- what a message does
 
--- An order that was executed: its tag, the disk before it, and the pieces of its data.
+-- An order that was executed: its tag, the disk before it and what that tells of itself, and the pieces
+-- of its data.
 pub record Execution : Type 0 where
   pub initiator_task_tag : ℕ
   pub disk : Disk
+  pub unit : Option LogicalUnit
   pub order : Order
   pub pieces : Pieces
 

@@ -4,7 +4,6 @@
 use Rattle.std.specs.Prelude.{◌≡◌, ℕ, ◌+◌, ◌≤◌, Bool, true, if◌then◌else◌, List, [], ◌∷◌, ◌++◌, length, Option, Some, None, is_some}
 use Rattle.std.specs.List.{flat_map, AllByRecursion}
 use Rattle.scsi_disk.specs.Disk.{Disk}
-use Rattle.scsi_disk.specs.Effect.{effect}
 use Rattle.scsi_disk.specs.Plan.{plan_of}
 use Rattle.scsi_disk.specs.declared.order.Plan.{Plan}
 use Rattle.scsi_disk.specs.declared.order.Plan.TheVariants.{Take}
@@ -18,6 +17,7 @@ use Rattle.iscsi_target.specs.Write.{Write}
 use Rattle.iscsi_target.specs.declared.tasks.Task.{Task}
 use Rattle.iscsi_target.specs.declared.tasks.Task.TheVariants.{Data}
 use Rattle.iscsi_target.specs.State.{Machine, Execution, Stepped}
+use Rattle.iscsi_target.specs.Execution.{effect_of}
 use Rattle.iscsi_stream.specs.Pieces.{Pieces, data_of, TilesFrom, data_pieces}
 use Rattle.iscsi_target.specs.declared.due.Due.{Due}
 use Rattle.iscsi_target.specs.declared.due.Due.TheVariants.{Solicited}
@@ -46,7 +46,7 @@ data_in_tags ms = flat_map (λ m. data_in_tag m.head) ms
 
 -- The bytes that a command gave (section 11.7).
 abbrev pub bytes_given : Bool → Execution → List ℕ
-bytes_given protected e = (effect protected e.disk e.order (data_of e.pieces)).outcome.bytes
+bytes_given protected e = (effect_of protected e).outcome.bytes
 
 -- These answers have the Data-In of what was executed: they have its tag, and tile these bytes
 -- (section 11.7).

@@ -9,11 +9,11 @@ pub enum Verdict {
     Outside,
     /// It broke this rule.
     Breaks(u8),
-    /// An immediate request for which there is no room.
-    NoRoom,
+    /// An immediate request beside tasks.
+    Beside,
     /// A Data-Out.
     Data(DataOut),
-    /// An immediate request for which there is room.
+    /// An immediate request where there is no task.
     AtOnce,
     /// A request with the CmdSN that is due.
     InTurn,

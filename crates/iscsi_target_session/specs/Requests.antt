@@ -1,6 +1,6 @@
 -- Requests with one answer: pings, task management and logouts (RFC 7143, sections 11.5, 11.6,
 -- 11.14, 11.15, 11.18 and 11.19). Their answers depend on how many commands wait.
-use Rattle.std.specs.Prelude.{ℕ, ◌==◌, nat_le, if◌then◌else◌, List, [], take, None}
+use Rattle.std.specs.Prelude.{ℕ, Bool, true, false, not, ◌==◌, ◌||◌, ◌&&◌, nat_le, if◌then◌else◌, List, [], take, None, is_some}
 use Rattle.iscsi_pdu.specs.declared.head.nop_out.NopOut.{NopOut}
 use Rattle.iscsi_pdu.specs.declared.head.task_request.TaskRequest.{TaskRequest}
 use Rattle.iscsi_pdu.specs.declared.head.logout_request.LogoutRequest.{LogoutRequest}
@@ -33,19 +33,41 @@ nop_out s waiting h bytes =
     if h.initiator_task_tag == reserved_tag then nothing s
     else send_response s (nop_in_head s waiting h) (take s.held.initiator_max_recv bytes)
 
--- The head of the answer that a function isn't supported (section 11.6.1).
-abbrev pub task_response_head : Session → ℕ → TaskRequest → Head
-task_response_head s waiting h = heads.TaskResponse (record {
-  response = 5;
+-- A function that ends every task of a task set, of a unit or of the target (section 11.5.1).
+abbrev pub ends_all : ℕ → Bool
+ends_all function = function == 2 || (function == 4 || (function == 5 || function == 6))
+
+-- A function that means a unit which isn't there (section 11.5.1): this target has unit 0 alone.
+abbrev pub is_elsewhere : TaskRequest → Bool
+is_elsewhere h = not (h.lun == 0) && (nat_le 1 h.function && nat_le h.function 5)
+
+-- The response to a function, while a task that it means is open or none is (section 11.6.1). Where
+-- the disk tells what the profile has, no function is supported. Else one is done where nothing is
+-- left to end, as a target that executes each command at once and in order never takes one away (own
+-- rule).
+abbrev pub task_response : Bool → Bool → TaskRequest → ℕ
+task_response false is_open h = 5
+task_response true is_open h =
+    if is_elsewhere h then 2
+    else if is_open then 5
+    else if h.function == 1 then 1
+    else if ends_all h.function then 0
+    else 5
+
+-- The head of the answer to a task management request (section 11.6).
+abbrev pub task_response_head : Session → ℕ → Bool → TaskRequest → Head
+task_response_head s waiting is_open h = heads.TaskResponse (record {
+  response = task_response (is_some s.settings.extras.unit) is_open h;
   initiator_task_tag = h.initiator_task_tag;
   stat_sn = s.stat_sn;
   exp_cmd_sn = s.exp_cmd_sn;
   max_cmd_sn = max_cmd_sn_with s waiting;
 })
 
--- No task management function is supported (section 11.5; own rule).
-abbrev pub task_request : Session → ℕ → TaskRequest → Reply
-task_request s waiting h = send_response s (task_response_head s waiting h) []
+-- A task management request, while a task that it means is open or none is (section 11.5).
+abbrev pub task_request : Session → ℕ → Bool → TaskRequest → Reply
+task_request s waiting is_open h =
+    send_response s (task_response_head s waiting is_open h) []
 
 -- The head of the answer that session or connection is closed (section 11.15).
 abbrev pub logout_head : Session → ℕ → LogoutRequest → Head
@@ -79,11 +101,11 @@ logout_request s waiting m h = logout_answered s waiting h (canonical_header m)
 
 -- ---- any of them
 
--- The answer to a request that is no command, by its kind, while n commands wait (section
--- 4.2.4).
+-- The answer to a request that is no command, by its kind, while n commands wait (section 4.2.4).
+-- What came before it was done.
 abbrev pub request_answered : Session → ℕ → Message → Head → Reply
 request_answered s waiting m (heads.NopOut h) = nop_out s waiting h (segment_bytes m.segment)
-request_answered s waiting m (heads.TaskRequest h) = task_request s waiting h
+request_answered s waiting m (heads.TaskRequest h) = task_request s waiting false h
 request_answered s waiting m (heads.TextRequest h) =
     text_request s waiting m h (segment_bytes m.segment)
 request_answered s waiting m (heads.LogoutRequest h) = logout_request s waiting m h

@@ -9,11 +9,13 @@ use crate::initiators::{Name, copies_of, has_name};
 use iscsi_access::Chap;
 use iscsi_login::{ConfigFault, Preferences, is_name};
 use iscsi_portal::Portal;
+use scsi_unit::LogicalUnit;
 use std::alloc::{AllocError, Global};
 use std::marker::Model;
 
 /// What a target is configured with: its name, the tag of its portal group, the TSIH of a session
-/// that has logged in, what it prefers in a negotiation, who may log in, and where others reach it.
+/// that has logged in, what it prefers in a negotiation, who may log in, where others reach it, and what its disk tells of
+/// itself.
 /// It has no `Debug`, since it may hold secrets.
 #[derive(Drop)]
 pub struct Config {
@@ -27,6 +29,8 @@ pub struct Config {
     chap: Option<Chap>,
     // none: discovery tells no address
     portal: Option<Portal>,
+    // none: the disk tells what the profile has
+    unit: Option<LogicalUnit>,
 }
 
 impl Model for Config {
@@ -47,6 +51,7 @@ impl Model for Config {
         names = option_map (λ v. v.items) c.names;
         chap = c.chap;
         portal = c.portal;
+        unit = c.unit;
       };
     } };
 
@@ -87,6 +92,7 @@ impl Config {
             names: None,
             chap: None,
             portal: None,
+            unit: None,
         })
     }
 
@@ -136,6 +142,26 @@ impl Config {
             portal: Some(portal),
             ..self
         }
+    }
+
+    /// The same, whose disk tells more of itself: its own serial number and name, the limits of a
+    /// transfer, and its modes (SPC-4 and SBC-3). Which block a command reads or writes is as before.
+    /// Such a target answers a ping and task management beside its tasks, too (RFC 7143, section
+    /// 4.2.2.1; that both come together is own rule).
+    pub fn with_unit(self, unit: LogicalUnit) -> Config
+        ensures unit { result ≡ record self { extras = record self.extras { unit = Some unit } } }
+    {
+        Config {
+            unit: Some(unit),
+            ..self
+        }
+    }
+
+    // What the disk tells of itself, where it tells more than the profile has.
+    pub(crate) fn unit(&self) -> Option<&LogicalUnit>
+        ensures { option_map (λ unit. unit.now) result ≡ self.now.extras.unit }
+    {
+        self.unit.as_ref()
     }
 
     // What CHAP demands, where it does.

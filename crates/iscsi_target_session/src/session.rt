@@ -1,7 +1,8 @@
 //! A session between two PDUs: its login, its numbers, what is held, and its answers to requests that
 //! are no commands.
 
-ghost use Rattle.std.specs.Prelude.{◌≡◌, ◌<◌, ◌^◌, length};
+ghost use Rattle.std.specs.Prelude.{◌≡◌, ◌<◌, ◌^◌, length, is_some};
+ghost use Rattle.std.specs.Option.{option_map};
 ghost use Rattle.iscsi_pdu.specs.Meaning.{Fits};
 ghost use Rattle.iscsi_login.specs.Stage.{is_closed_phase};
 ghost use Rattle.iscsi_target_session.specs.Session.{opening_session, max_cmd_sn_with, send_response, counted, ended};
@@ -22,6 +23,7 @@ use iscsi_login::{Params, Phase, Stage};
 use iscsi_pdu::rule::PROTOCOL_ERROR;
 use iscsi_pdu::{Head, Reject};
 use iscsi_stream::{canonical_head, write_pdu};
+use scsi_unit::LogicalUnit;
 use std::alloc::{AllocError, Global};
 use std::marker::Model;
 
@@ -103,6 +105,20 @@ impl Session {
         ensures { result.now ≡ self.now.held }
     {
         &self.held
+    }
+
+    /// What the disk tells of itself, where it tells more than the profile has.
+    pub fn unit(&self) -> Option<&LogicalUnit>
+        ensures { option_map (λ unit. unit.now) result ≡ self.now.settings.extras.unit }
+    {
+        self.config.unit()
+    }
+
+    /// Whether the disk tells more of itself than the profile has.
+    pub fn has_unit(&self) -> bool
+        ensures { result ≡ is_some self.now.settings.extras.unit }
+    {
+        self.config.unit().is_some()
     }
 
     /// What the session is doing.

@@ -14,6 +14,7 @@ mod exchanges;
 mod portals;
 mod queues;
 mod rows;
+mod units;
 
 const NAME: &[u8] = b"iqn.2026-01.example:disk";
 

@@ -1,5 +1,5 @@
 -- What an order answers and leaves. Status and sense are those of SPC-4; residuals are own rules.
-use Rattle.std.specs.Prelude.{◌≡◌, ◌⊎◌, ℕ, ◌-◌, ◌<◌, ◌≤◌, nat_lt, IsTrue, Bool, true, false, if◌then◌else◌, List, [], length as size, length, take, Some, None, unwrap_or}
+use Rattle.std.specs.Prelude.{◌≡◌, ◌⊎◌, ℕ, ◌-◌, ◌<◌, ◌≤◌, nat_lt, IsTrue, Bool, true, false, if◌then◌else◌, min, List, [], length as size, length, take, Some, None, unwrap_or}
 use Rattle.scsi_cdb.specs.declared.sense.Sense.{Sense}
 use Rattle.scsi_cdb.specs.declared.sense.Sense.TheVariants.{ReadError, WriteError, WriteProtected}
 use Rattle.scsi_cdb.specs.declared.residual.Residual.{Residual}
@@ -28,6 +28,11 @@ good order wanted bytes = record {
   bytes = bytes;
   residual = residual_of wanted (expected_length order);
 }
+
+-- GOOD, for a command that gives these data of its own, cut at what the initiator expects
+abbrev pub given : Order → List ℕ → Outcome
+given order bytes =
+    good order (size bytes) (take (min (size bytes) (expected_length order)) bytes)
 
 -- CHECK CONDITION: no data, so that all that was expected is missing
 abbrev pub check : Order → Sense → Outcome

@@ -1,10 +1,10 @@
 //! What an order does to a store, and its answer.
 
-ghost use Rattle.std.specs.Prelude.{◌≡◌, ◌+◌, ◌*◌, ◌/◌, ◌<◌, ◌≤◌, length as size, take as front, OnOk, OnErr, IfOk, IsOk, IsErr, IsErrOf, IsTrue};
+ghost use Rattle.std.specs.Prelude.{◌≡◌, ◌+◌, ◌*◌, ◌/◌, ◌<◌, ◌≤◌, ◌^◌, length as size, take as front, OnOk, OnErr, IfOk, IsOk, IsErr, IsErrOf, IsTrue};
 ghost use Rattle.scsi_disk.specs.Disk.{Tells, IsOldOrNew, blocks_from, written};
 ghost use Rattle.scsi_disk.specs.Lasting.{Adds, Lasts, Within};
 ghost use Rattle.scsi_disk.specs.Plan.{transfer, is_read, parameter_data, wanted_length, plan_of};
-ghost use Rattle.scsi_disk.specs.Effect.{Effect, IsSupplied, IsSuppliedBy, Executes, effect, residual_of, good, check, HasOtherData, wanted_data, disk_by, outcome_by};
+ghost use Rattle.scsi_disk.specs.Effect.{Effect, IsSupplied, IsSuppliedBy, Executes, effect, residual_of, good, given, check, HasOtherData, wanted_data, disk_by, outcome_by};
 
 use crate::order::{Order, Outcome, Plan};
 use crate::planning::{
@@ -33,27 +33,43 @@ fn residual(wanted: u32, expected: u32) -> Residual
     }
 }
 
-/// GOOD, for a command that has `n` bytes.
-pub(crate) fn good(order: &Order, wanted: u32, bytes: Vec<u8>) -> Outcome
-    ensures { result ≡ good order.now wanted bytes.items }
-{
-    Outcome {
-        status: GOOD,
-        sense: None,
-        bytes: Bytes::from_vec(bytes),
-        residual: residual(wanted, expected_length(order)),
+impl Outcome {
+    /// GOOD, for a command that has `wanted` bytes for its initiator, of which these go to it. How
+    /// they differ from what the initiator expects is the residual (own rule).
+    pub fn good(order: &Order, wanted: u32, bytes: Vec<u8>) -> Outcome
+        ensures { result ≡ good order.now wanted bytes.items }
+    {
+        Outcome {
+            status: GOOD,
+            sense: None,
+            bytes: Bytes::from_vec(bytes),
+            residual: residual(wanted, expected_length(order)),
+        }
     }
-}
 
-/// CHECK CONDITION: no data, so that all that was expected is missing.
-pub(crate) fn check(alloc: Global, order: &Order, sense: Sense) -> Outcome
-    ensures { result ≡ check order.now sense }
-{
-    Outcome {
-        status: CHECK_CONDITION,
-        sense: Some(sense),
-        bytes: Bytes::from_vec(Vec::new(alloc)),
-        residual: residual(0, expected_length(order)),
+    /// GOOD, for a command that gives data of its own and no blocks: they are cut at what the
+    /// initiator expects. The only error is that memory ran out.
+    pub fn given(alloc: Global, order: &Order, bytes: &[u8]) -> Result<Outcome, AllocError>
+        requires { size bytes.now < 2 ^ 32 }
+        ensures given { IfOk result (λ outcome. outcome ≡ given order.now bytes.now) }
+        ensures few { IfOk result (λ outcome. size outcome.bytes ≤ size bytes.now) }
+    {
+        let wanted = bytes.len() as u32;
+        let length = wanted.min(expected_length(order)) as usize;
+        let given = Vec::from_slice(alloc, &bytes[..length])?;
+        Ok(Outcome::good(order, wanted, given))
+    }
+
+    /// CHECK CONDITION for this reason: no data, so that all that was expected is missing.
+    pub fn check_condition(alloc: Global, order: &Order, sense: Sense) -> Outcome
+        ensures { result ≡ check order.now sense }
+    {
+        Outcome {
+            status: CHECK_CONDITION,
+            sense: Some(sense),
+            bytes: Bytes::from_vec(Vec::new(alloc)),
+            residual: residual(0, expected_length(order)),
+        }
     }
 }
 
@@ -110,13 +126,13 @@ fn give<S: BlockStore>(
     let wanted = wanted_length(order, blocks);
     if is_read(&order.cdb) {
         let bytes = read_front(alloc, store, transfer_of(&order.cdb).first, length)?;
-        return Ok(good(order, wanted, bytes));
+        return Ok(Outcome::good(order, wanted, bytes));
     }
     let bytes = match parameter_data(order, blocks) {
         Some(data) => Vec::from_slice(alloc, &data.as_slice()[..length as usize])?,
         None => Vec::new(alloc),
     };
-    Ok(good(order, wanted, bytes))
+    Ok(Outcome::good(order, wanted, bytes))
 }
 
 /// Writes the data of an order that is planned to take `n` bytes.
@@ -147,7 +163,7 @@ fn take<S: BlockStore>(
         (S.untold store.old) (S.untold store.new) result }
 {
     store.write(transfer_of(&order.cdb).first, bytes)?;
-    Ok(good(order, length, Vec::new(alloc)))
+    Ok(Outcome::good(order, length, Vec::new(alloc)))
 }
 
 /// What a command answers, where its store answered so.
@@ -166,7 +182,7 @@ fn settled(
     match answer {
         Ok(outcome) => Ok(outcome),
         Err(StoreFault::NoMemory) => Err(AllocError),
-        Err(StoreFault::Device) => Ok(check(alloc, order, sense)),
+        Err(StoreFault::Device) => Ok(Outcome::check_condition(alloc, order, sense)),
     }
 }
 
@@ -240,10 +256,10 @@ pub fn execute_planned<S: BlockStore>(
     ensures err_failures { OnErr result (S.failures store.new ≡ S.failures store.old) }
 {
     match planned {
-        Plan::Refuse(sense) => Ok(check(alloc, order, sense)),
+        Plan::Refuse(sense) => Ok(Outcome::check_condition(alloc, order, sense)),
         Plan::Take(length) => {
             if store.is_protected() {
-                return Ok(check(alloc, order, Sense::WriteProtected));
+                return Ok(Outcome::check_condition(alloc, order, Sense::WriteProtected));
             }
             let answer = take(alloc, order, bytes, length, store);
             settled(alloc, order, answer, Sense::WriteError)

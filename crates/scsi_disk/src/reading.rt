@@ -6,7 +6,6 @@ ghost use Rattle.scsi_disk.specs.Effect.{good, check};
 ghost use Rattle.scsi_disk.specs.Reading.{whole_blocks};
 ghost use Rattle.scsi_cdb.specs.declared.sense.Sense.TheVariants.{ReadError};
 
-use crate::execution::{check, good};
 use crate::order::{Order, Outcome, Plan};
 use crate::planning::{is_read, transfer_of, wanted_length};
 use crate::store::StoreFault;
@@ -43,7 +42,7 @@ pub fn read_outcome(alloc: Global, order: &Order, blocks: u64) -> Outcome
     requires { (length : ℕ) × (plan_of order.now blocks ≡ Plan.Give length) }
     ensures { result ≡ good order.now (wanted_length order.now blocks) [] }
 {
-    good(order, wanted_length(order, blocks), Vec::new(alloc))
+    Outcome::good(order, wanted_length(order, blocks), Vec::new(alloc))
 }
 
 /// The outcome of a READ whose blocks could not be read for this fault: CHECK CONDITION with
@@ -55,6 +54,6 @@ pub fn failed_read(alloc: Global, order: &Order, fault: StoreFault) -> Result<Ou
 {
     match fault {
         StoreFault::NoMemory => Err(AllocError),
-        StoreFault::Device => Ok(check(alloc, order, Sense::ReadError)),
+        StoreFault::Device => Ok(Outcome::check_condition(alloc, order, Sense::ReadError)),
     }
 }

@@ -90,7 +90,7 @@ one_round c i t there here r o p =
         here = after here turn.answer.head;
         stays = subst (λ (ms : List Message). Stays c (between s.machine now.machine disk []) ms (so_far next (after here turn.answer.head) none_asked))
             agreed.silent on;
-        met = meet.met agreed;
+        met = meet.met o.plain agreed;
       })
       | inr asks ↦ inr (record {
         initiator = s.machine;

@@ -209,6 +209,7 @@ standard_normal blocks = record {
   };
   suits = record { name = inr refl; auth = inl refl; access = refl; chap = refl };
   session = refl;
+  plain = refl;
 }
   where
     ranges : IsInRange standard

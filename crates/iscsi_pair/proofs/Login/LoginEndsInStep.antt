@@ -74,7 +74,7 @@ pub record HasMet (c : Opening) (i : initiator.Machine) (t : target.Machine) : T
 
 -- one round
 pub record Meets (c : Opening) (i : initiator.Machine) (t : target.Stepped) (s : Stepped) (disk : Disk) (next : Logins) : Type 0 where
-  pub met : Agreed s t.machine → HasMet c s.machine t.machine
+  pub met : c.target.extras.unit ≡ None → Agreed s t.machine → HasMet c s.machine t.machine
   pub goes_on : Asks_on c s t.machine next → Numbered c s.machine t.machine
   pub disk_is : t.disk ≡ disk
 
@@ -238,7 +238,7 @@ steady c i t e u g held n o a b begun tells none k most fit session = record {
 meets_by : (c : Opening) (i : initiator.Machine) (t : target.Stepped) (s : Stepped) (disk : Disk) (next : Logins) → IsOpening c → Steady c s.machine t.machine
     → (s.machine.stage ≡ stages.Full → (s.machine.phase ≡ phases.Full) × (t.machine.session.has_text ≡ true)) → t.disk ≡ disk → Meets c i t s disk next
 meets_by c i t s disk next o y full same = record {
-  met = λ agreed. record {
+  met = λ plain agreed. record {
     in_step = record {
       initiator_phase = (full agreed.stage).0;
       target_phase = agreed.target_phase;
@@ -249,6 +249,7 @@ meets_by c i t s disk next o y full same = record {
       held = agreed.held;
       is_held = subst IsHeld agreed.held (y.fit.held (subst (λ (x : target_settings.Settings). IsInRange x.preferences) (sym y.target_settings) o.preferences));
       segment = subst (λ (x : Held). x.target_max_recv ≤ target_session.limit t.machine.session.settings) agreed.held y.fit.limit;
+      plain = ap (λ (x : target_settings.Settings). x.extras.unit) y.target_settings ∙ plain;
       tag_fits = (let z = y.tag in omega (arith, z));
       cmd_sn = y.exp_cmd_sn ∙ sym y.cmd_sn;
       cmd_sn_fits = subst (λ (x : ℕ). x < 2 ^ 32) (sym y.cmd_sn) o.cmd_sn;

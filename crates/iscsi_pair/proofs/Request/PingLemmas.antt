@@ -154,7 +154,7 @@ local_ping m t disk bytes a e =
         done_is = refl;
         silent = refl;
         disk_is = refl;
-        at_rest = inl (in_step_again begun_ t m.window a.held a.is_held a.segment tag fits told_, refl);
+        at_rest = inl (in_step_again begun_ t m.window a.held a.is_held a.segment a.plain tag fits told_, refl);
       };
     } in
     let written : ArePlain m.held.target_max_recv (ping_message m bytes ∷ []) =

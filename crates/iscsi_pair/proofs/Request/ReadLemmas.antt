@@ -57,6 +57,7 @@ use Rattle.iscsi_initiator.specs.Submitted.{Submitted, accepted, command, or_acc
 use Rattle.iscsi_initiator.specs.Progress.{Reading}
 use Rattle.iscsi_initiator.specs.Steps.{quiet}
 use Rattle.iscsi_initiator.specs.Machine.{step}
+use Rattle.iscsi_target.proofs.CommandLemmas.{plain_executed, plainly}
 use Rattle.iscsi_pair.specs.LocalDisk.{AreInStep, Exchange, reading_order, reported_sense, window_of_eight, local_command}
 use Rattle.iscsi_pair.proofs.Wire.WindowLemmas.{IsNear, near_next, near_now, tag_after, tells_eight}
 use Rattle.iscsi_pair.proofs.Wire.WrittenPdus.{command_readable, data_in_readable, outcome_readable}
@@ -483,7 +484,7 @@ few_expected m lun cdb expected full e =
 
 -- A command or a ping was answered: both ends are in step again.
 pub in_step_again : (m : initiator.Machine) (t : target.Machine) (window : Window) → t.session.held ≡ m.held → IsHeld m.held
-    → m.held.target_max_recv ≤ target_session.limit t.session.settings → m.initiator_task_tag ≤ 0xffff_fffe → m.cmd_sn < 2 ^ 32
+    → m.held.target_max_recv ≤ target_session.limit t.session.settings → t.session.settings.extras.unit ≡ None → m.initiator_task_tag ≤ 0xffff_fffe → m.cmd_sn < 2 ^ 32
     → told_window window (ready t m.cmd_sn) ≡ window_of_eight m.cmd_sn
     → AreInStep (record m {
       phase = phases.Full;
@@ -493,7 +494,7 @@ pub in_step_again : (m : initiator.Machine) (t : target.Machine) (window : Windo
           None;
       done = None;
     }) (counted_on (ready t m.cmd_sn))
-in_step_again m t window held is_held segment tag cmd_sn told_ = record {
+in_step_again m t window held is_held segment plain tag cmd_sn told_ = record {
   initiator_phase = refl;
   target_phase = refl;
   session = refl;
@@ -503,6 +504,7 @@ in_step_again m t window held is_held segment tag cmd_sn told_ = record {
   held = held;
   is_held = is_held;
   segment = segment;
+  plain = plain;
   tag_fits = tag;
   cmd_sn = refl;
   cmd_sn_fits = cmd_sn;
@@ -546,13 +548,15 @@ local_read m t disk lun cdb expected on_ size are a e =
           Some (opens.In r0);
     } in
     let executed : target.Stepped = having_accepted (read_command m lun cdb expected ∷ [])
-    (execute (reliable false) t' disk (next_tag m.initiator_task_tag) order
+    (plainly (reliable false) t' disk (next_tag m.initiator_task_tag) order
     []) in
     let r : answers false t disk (submitted m request).output ≡ executed =
     ap (λ (s : Submitted). answers false t disk s.output) sent
     ∙ then_nothing (step_on (reliable false) t disk (read_command m lun cdb expected))
     ∙ ap (λ (x : target.Machine). step_on (reliable false) x disk (read_command m lun cdb expected)) is_t
-    ∙ read_taken m t disk lun cdb expected a.cmd_sn_fits in
+    ∙ read_taken m t disk lun cdb expected a.cmd_sn_fits
+    ∙ ap (having_accepted (read_command m lun cdb expected ∷ []))
+    (plain_executed (reliable false) t' disk (next_tag m.initiator_task_tag) order [] a.plain) in
     let tag : next_tag m.initiator_task_tag ≤ 0xffff_fffe = tag_after m.initiator_task_tag a.tag_fits in
     let room : length after.outcome.bytes ≤ expected = outcome_few (plan_of order disk.count) disk order expected
     (λ n. gives_few (first_refusal order disk.count) order disk.count n) in
@@ -576,7 +580,7 @@ local_read m t disk lun cdb expected on_ size are a e =
         done_is = refl;
         silent = refl;
         disk_is = refl;
-        at_rest = inl (in_step_again begun_ t h.told a.held a.is_held a.segment tag fits told_, refl);
+        at_rest = inl (in_step_again begun_ t h.told a.held a.is_held a.segment a.plain tag fits told_, refl);
       };
     } in
     let written : ArePlain m.held.target_max_recv (read_command m lun cdb expected ∷ []) =

@@ -62,6 +62,7 @@ use Rattle.iscsi_initiator.specs.declared.request.Request.TheVariants as request
 use Rattle.iscsi_initiator.specs.Machine.{step, taken}
 use Rattle.iscsi_stream.proofs.ChunkLemmas.{joined, joined_chunks}
 use Rattle.iscsi_target.proofs.OpenWriteLemmas.{data_of_one}
+use Rattle.iscsi_target.proofs.CommandLemmas.{plain_executed, plainly}
 use Rattle.iscsi_pair.specs.LocalDisk.{AreInStep, Exchange, reported_sense, writing_order, local_command}
 use Rattle.iscsi_pair.proofs.Wire.WindowLemmas.{IsNear, last_with, near_next, tells_fewer, tells_eight, tag_after}
 use Rattle.iscsi_pair.proofs.Login.RoundAgrees.{some_then}
@@ -367,6 +368,7 @@ record Throughout (m : initiator.Machine) (t : target.Machine) (cmd_sn : ℕ) (b
   held : t.session.held ≡ m.held
   is_held : IsHeld m.held
   segment : t.session.held.target_max_recv ≤ target_session.limit t.session.settings
+  plain : t.session.settings.extras.unit ≡ None
   stat_sn : m.exp_stat_sn ≡ Some t.session.stat_sn
   tag_fits : m.initiator_task_tag ≤ 0xffff_fffe
   cmd_sn_is : cmd_sn ≡ m.cmd_sn
@@ -406,11 +408,11 @@ record IsAnswered (held : Held) (r : Stepped) : Type 0 where
 
 -- the response to a command is read as it was written
 executed_written : (m : initiator.Machine) (t : target.Machine) (cmd_sn : ℕ) (bytes : List ℕ) (order : Order) (disk : Disk) (tag : ℕ) (pieces_ : Pieces)
-    → Throughout m t cmd_sn bytes order disk → tag ≡ m.initiator_task_tag → IsAnswered m.held (execute (reliable false) (ready t cmd_sn) disk tag order pieces_)
+    → Throughout m t cmd_sn bytes order disk → tag ≡ m.initiator_task_tag → IsAnswered m.held (plainly (reliable false) (ready t cmd_sn) disk tag order pieces_)
 executed_written m t cmd_sn bytes order disk tag pieces_ a same = record {
   live = refl;
   rule = refl;
-  answered = subst (λ (k : Held). ArePlain k.initiator_max_recv (execute (reliable false) (ready t cmd_sn) disk tag order pieces_).answers) a.held
+  answered = subst (λ (k : Held). ArePlain k.initiator_max_recv (plainly (reliable false) (ready t cmd_sn) disk tag order pieces_).answers) a.held
       (command_written (ready t cmd_sn) tag (effect false disk order (data_of pieces_)).outcome (subst IsHeld (sym a.held) a.is_held)
       (omega (arith, same, a.tag_fits)) (omega (arith, a.cmd_sn_is, a.cmd_sn_fits)) a.stat_sn_fits
       (omega (arith, ap (λ (x : List ℕ). length x) a.none_given)) (outcome_fits disk order (data_of pieces_) a.expected));
@@ -421,7 +423,7 @@ response_ends : (most : ℕ) → 1 ≤ most → (m : initiator.Machine) (t : tar
     (tag : ℕ) (pieces_ : Pieces)
     → Throughout m t cmd_sn bytes order disk → IsNear cmd_sn window → Awaits open_ [] → tag ≡ m.initiator_task_tag
     → effect false disk order (data_of pieces_) ≡ effect false disk order bytes
-    → Ends most m.held (waiting m open_ window) (execute (reliable false) (ready t cmd_sn) disk tag order pieces_)
+    → Ends most m.held (waiting m open_ window) (plainly (reliable false) (ready t cmd_sn) disk tag order pieces_)
     (local_command (effect false disk order bytes))
 response_ends most le m t cmd_sn open_ window bytes order disk tag pieces_ a near d same data_ =
     let after : Effect = effect false disk order bytes in
@@ -433,19 +435,19 @@ response_ends most le m t cmd_sn open_ window bytes order disk tag pieces_ a nea
     let one : step (waiting m open_ window) response ≡ quiet ended_ =
     outcome_received m s open_ [] window after.outcome.status after.outcome.sense after.outcome.bytes after.outcome.residual 0 d a.stat_sn
     (omega (arith, a.is_held.initiator_max_recv.0)) in
-    let is : (execute (reliable false) s disk tag order pieces_).answers ≡ response ∷ [] =
+    let is : (plainly (reliable false) s disk tag order pieces_).answers ≡ response ∷ [] =
     ap (λ (x : Effect). command_answers s.session (target.waiting s.tasks) tag x.outcome (data_in_parts s.session.held x.outcome.bytes)) data_
     ∙ ap (λ (x : List ℕ). command_answers s.session (target.waiting s.tasks) tag after.outcome (data_in_parts s.session.held x)) a.none_given
     ∙ ap (λ (x : ℕ). command_answers s.session (target.waiting s.tasks) x after.outcome []) same in
-    let disk_is : (execute (reliable false) s disk tag order pieces_).disk ≡ after.disk = ap (λ (x : Effect). x.disk) data_ in
+    let disk_is : (plainly (reliable false) s disk tag order pieces_).disk ≡ after.disk = ap (λ (x : Effect). x.disk) data_ in
     let again : AreInStep (taken (finished m (ready t m.cmd_sn) window after.outcome [])) (counted_on (ready t m.cmd_sn)) =
-    in_step_again m t window a.held a.is_held (subst (λ (h : Held). h.target_max_recv ≤ target_session.limit t.session.settings) a.held a.segment) a.tag_fits
+    in_step_again m t window a.held a.is_held (subst (λ (h : Held). h.target_max_recv ≤ target_session.limit t.session.settings) a.held a.segment) a.plain a.tag_fits
     a.cmd_sn_fits
     (tells_eight m.cmd_sn window a.cmd_sn_fits (subst (λ (x : ℕ). IsNear x window) a.cmd_sn_is near)) in
     record {
       last = last;
       leads = subst (λ (ms : List Message). LeadsWithin most m.held (between (waiting m open_ window) (counted_on s)
-          (execute (reliable false) s disk tag order pieces_).disk ms)
+          (plainly (reliable false) s disk tag order pieces_).disk ms)
           last)
           (sym is)
           (subst (λ (x : Disk). LeadsWithin most m.held (between (waiting m open_ window) (counted_on s) x (response ∷ [])) last) (sym disk_is)
@@ -482,10 +484,11 @@ GoesOn most c v w window =
 
 -- where all came the command is executed
 whole_is : (m : initiator.Machine) (t : target.Machine) (cmd_sn : ℕ) (v : Writing) (w : Write) (order : Order) (disk : Disk) → InHand m v w order
-    → is_whole w ≡ true
-    → proceed (reliable false) (ready t cmd_sn) disk w ≡ execute (reliable false) (ready t cmd_sn) disk w.initiator_task_tag order w.pieces
-whole_is m t cmd_sn v w order disk i whole = rw whole (ap (λ (x : Order). execute (reliable false) (ready t cmd_sn) disk w.initiator_task_tag
-    x w.pieces) i.order_is)
+    → is_whole w ≡ true → t.session.settings.extras.unit ≡ None
+    → proceed (reliable false) (ready t cmd_sn) disk w ≡ plainly (reliable false) (ready t cmd_sn) disk w.initiator_task_tag order w.pieces
+whole_is m t cmd_sn v w order disk i whole plain =
+    rw whole (ap (λ (x : Order). execute (reliable false) (ready t cmd_sn) disk w.initiator_task_tag x w.pieces) i.order_is)
+    ∙ plain_executed (reliable false) (ready t cmd_sn) disk w.initiator_task_tag order w.pieces plain
 
 -- else the target asks for more
 part_is : (m : initiator.Machine) (t : target.Machine) (cmd_sn : ℕ) (v : Writing) (w : Write) (order : Order) (disk : Disk) → InHand m v w order
@@ -498,7 +501,7 @@ proceed_written : (m : initiator.Machine) (t : target.Machine) (cmd_sn : ℕ) (v
     → Throughout m t cmd_sn v.bytes order disk → InHand m v w order
     → (whole : Bool) → is_whole w ≡ whole → IsAnswered m.held (proceed (reliable false) (ready t cmd_sn) disk w)
 proceed_written m t cmd_sn v w order disk a i true whole =
-    subst (IsAnswered m.held) (sym (whole_is m t cmd_sn v w order disk i whole)) (executed_written m t cmd_sn v.bytes order disk w.initiator_task_tag w.pieces a
+    subst (IsAnswered m.held) (sym (whole_is m t cmd_sn v w order disk i whole a.plain)) (executed_written m t cmd_sn v.bytes order disk w.initiator_task_tag w.pieces a
     i.tag)
 proceed_written m t cmd_sn v w order disk a i false part =
     let s : target.Machine = writer t cmd_sn w in
@@ -522,7 +525,7 @@ all_came most le m t cmd_sn v w window order disk a near i whole =
     let all : v.sent ≡ length v.bytes = sym (received_is m v w order i) ∙ sym (eqb-true w.total (received w) whole) ∙ i.total in
     let bytes : data_of w.pieces ≡ v.bytes = i.came ∙ take_all v.sent v.bytes (omega (arith, all)) in
     subst (λ (r : Stepped). Ends most m.held (writing m v window) r (local_command (effect false disk order v.bytes)))
-    (sym (whole_is m t cmd_sn v w order disk i whole))
+    (sym (whole_is m t cmd_sn v w order disk i whole a.plain))
     (response_ends most le m t cmd_sn (opens.Out v) window v.bytes order disk w.initiator_task_tag w.pieces a near (λ h. refl) i.tag
     (ap (effect false disk order) bytes))
 
@@ -794,7 +797,7 @@ executed_alone : (m : initiator.Machine) (t : target.Machine) (disk : Disk) (lun
 executed_alone m t disk lun cdb bytes window a near none =
     let order : Order = writing_order lun cdb bytes in
     let n : ℕ = next_sn m.cmd_sn in
-    let r : Stepped = execute (reliable false) (ready t n) disk (next_tag m.initiator_task_tag) order [] in
+    let r : Stepped = plainly (reliable false) (ready t n) disk (next_tag m.initiator_task_tag) order [] in
     let after : Effect = effect false disk order bytes in
     let i : initiator.Machine = writing (begun_write m) (first_sent m bytes) window in
     let uns : List ℕ = initiator_writes.unsolicited m bytes in
@@ -820,8 +823,10 @@ executed_alone m t disk lun cdb bytes window a near none =
     let ends_ : Ends (length bytes + 1) m.held i r (local_command after) =
     response_ends (length bytes + 1) (omega arith) (begun_write m) t n (opens.Out (first_sent m bytes)) window bytes order disk (next_tag m.initiator_task_tag) [] a near (λ h_. refl) refl
     same in
-    subst (λ (x : Stepped). Comes m i order bytes disk (then_stepped r x)) (sym gone)
-    (subst (Comes m i order bytes disk) (sym (then_nothing r)) (well, ends_))
+    subst (λ (x : Stepped). Comes m i order bytes disk (then_stepped x (answers false x.machine x.disk (unasked_data m bytes))))
+    (sym (plain_executed (reliable false) (ready t n) disk (next_tag m.initiator_task_tag) order [] a.plain))
+    (subst (λ (x : Stepped). Comes m i order bytes disk (then_stepped r x)) (sym gone)
+    (subst (Comes m i order bytes disk) (sym (then_nothing r)) (well, ends_)))
 
 -- ---- a write whose bytes are taken
 
@@ -1023,6 +1028,7 @@ local_write m t disk lun cdb bytes on_ size are a e =
       held = a.held;
       is_held = a.is_held;
       segment = limit;
+      plain = a.plain;
       stat_sn = a.stat_sn;
       tag_fits = tag_after m.initiator_task_tag a.tag_fits;
       cmd_sn_is = refl;

@@ -225,7 +225,7 @@ login_goes c i t disk m back there here h o l =
       live = ap is_closed_phase l.asking.phase;
       fault = w.fault;
       sends = elim w.on [
-        | inl agreed ↦ full_sends c s.machine s.output now.machine there here o agreed.silent (meet.met agreed)
+        | inl agreed ↦ full_sends c s.machine s.output now.machine there here o agreed.silent (meet.met o.plain agreed)
         | inr next ↦ login_sends c s.machine s.output now.machine there here next.0.request o next.0.is next.0.asking next.1 (meet.goes_on next.0) l.whole
       ];
     } in

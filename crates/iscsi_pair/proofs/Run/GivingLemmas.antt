@@ -115,9 +115,10 @@ pub record AreOnDisk (c : Opening) (taken : List Step) (w : World) (outcomes : L
 
 pub given_on_disk : (c : Opening) (taken : List Step) (w : World) (outcomes : List Done) → IsOpening c → Gives (new_pair c) (events_of taken) w outcomes
     → ((new_pair c).initiator.machine.done ≡ None → w.initiator.machine.done ≡ None) → IsIdle w → Suits c
-    → c.initiator.proposal.session ≡ sessions.Normal → AllByRecursion IsServed (requests_among taken) → AreOnDisk c taken w outcomes
-given_on_disk c taken w outcomes o gives left idle suits normal served =
-    let n : IsNormal c = record { opening = o; suits = suits; session = normal } in
+    → c.initiator.proposal.session ≡ sessions.Normal → c.target.extras.unit ≡ None → AllByRecursion IsServed (requests_among taken)
+    → AreOnDisk c taken w outcomes
+given_on_disk c taken w outcomes o gives left idle suits normal plain served =
+    let n : IsNormal c = record { opening = o; suits = suits; session = normal; plain = plain } in
     let none : w.initiator.machine.done ≡ None = left (first_asks c o).asking.no_outcome in
     let well : keeps_no_memory w ≡ false =
     or_from (target_ran_out w.target_fault) (initiator_ran_out w.initiator_fault) (ap target_ran_out idle.0) (ap initiator_ran_out idle.1) in

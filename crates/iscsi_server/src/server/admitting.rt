@@ -6,7 +6,7 @@ ghost use Rattle.iscsi_server.specs.Serving.{has_all};
 
 use super::Server;
 use crate::accepting::AcceptError;
-use crate::configuration::{configuration, with_address};
+use crate::configuration::{configuration, with_address, with_unit};
 use crate::connection::Connection;
 use crate::numbers::next_number;
 use crate::peer::Peer;
@@ -193,6 +193,7 @@ impl<'a> Server<'a> {
         let alloc = rt.alloc();
         let config = configuration(alloc, options.name, number, options.preferences).ok()?;
         let config = with_address(alloc, config, options.portal).ok()?;
+        let config = with_unit(config, options.unit)?;
         match self.access.demand(alloc, rt, config) {
             Ok(config) => Some(config),
             Err(AccessFault::NoMemory) => None,

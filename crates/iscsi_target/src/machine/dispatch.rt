@@ -5,8 +5,8 @@ ghost use Rattle.scsi_disk.specs.Disk.{Disk};
 ghost use Rattle.iscsi_stream.specs.Segment.{segment_bytes};
 ghost use Rattle.iscsi_target.specs.State.{on, waiting};
 ghost use Rattle.iscsi_target_session.specs.Login.{login_step};
-ghost use Rattle.iscsi_target.specs.Machine.{admitted, advanced, handled, begun, full_met, is_closed, is_over_limit};
-ghost use Rattle.iscsi_target_session.specs.Requests.{request_answered};
+ghost use Rattle.iscsi_target.specs.Machine.{admitted, advanced, beside, has_room, handled, begun, full_met, is_closed, is_meant, is_over_limit};
+ghost use Rattle.iscsi_target_session.specs.Requests.{request_answered, task_request};
 ghost use Rattle.iscsi_target.specs.Laws.{cmd_sn_of};
 ghost use Rattle.iscsi_target.specs.Crash.{Crashes, command_in, command_of, commands_at, commands_by, commands_of};
 ghost use Rattle.iscsi_target.specs.Inside.{Leaves, Handles, Works, Follows, Answers, moment, store_of};
@@ -16,8 +16,8 @@ use super::Machine;
 use crate::tasks::Task;
 use crate::verdict::Verdict;
 use iscsi_login::Phase;
-use iscsi_pdu::Head;
 use iscsi_pdu::rule::TOO_MANY_IMMEDIATE;
+use iscsi_pdu::{Head, TaskRequest};
 use iscsi_target_session::Received;
 use scsi_disk::BlockStore;
 use std::alloc::AllocError;
@@ -81,13 +81,68 @@ impl Machine {
         match self.judge(received) {
             Verdict::Outside => Ok(None),
             Verdict::Breaks(rule) => self.reject_and_close(rule, received, out),
-            Verdict::NoRoom => self.reject(TOO_MANY_IMMEDIATE, received, out),
+            Verdict::Beside => self.answer_beside(received, out),
             Verdict::Data(head) => self.data_out(&head, received.pdu.bytes, received, store, out),
             Verdict::AtOnce => self.admit(received, store, out),
             Verdict::InTurn => {
                 self.advance();
                 self.admit(received, store, out)
             }
+        }
+    }
+
+    // An immediate request beside tasks: where the disk tells more than the profile has there is room
+    // for a ping and for task management.
+    fn answer_beside(
+        &mut self,
+        received: &Received<'_>,
+        out: &mut Vec<u8>,
+    ) -> Result<Option<u8>, AllocError>
+        ensures { (disk : Disk) → Leaves (on disk self.old.tasks (beside self.old received.now))
+            result self.old self.new out.old.items out.new.items }
+    {
+        if !self.has_room(&received.pdu.head) {
+            return self.reject(TOO_MANY_IMMEDIATE, received, out);
+        }
+        match &received.pdu.head {
+            Head::NopOut(_) => self.answer_request(received, out),
+            Head::TaskRequest(head) => self.manage_tasks(head, out),
+            _ => self.reject(TOO_MANY_IMMEDIATE, received, out),
+        }
+    }
+
+    // Whether there is room for a request beside the tasks.
+    fn has_room(&self, head: &Head) -> bool
+        ensures { result ≡ has_room self.now head.now }
+    {
+        self.session.has_unit() && !self.has_tag(head)
+    }
+
+    // A task management request beside tasks.
+    fn manage_tasks(
+        &mut self,
+        request: &TaskRequest,
+        out: &mut Vec<u8>,
+    ) -> Result<Option<u8>, AllocError>
+        ensures { (disk : Disk) → Leaves (on disk self.old.tasks (task_request self.old.session
+            (waiting self.old.tasks) (is_meant self.old.tasks request.now) request.now)) result
+            self.old self.new out.old.items out.new.items }
+    {
+        let is_open = self.is_meant(request);
+        let waiting = self.waiting();
+        let result = self.session.task_request(waiting, is_open, request, out);
+        self.settle();
+        result
+    }
+
+    // Whether a task that the function means is open.
+    fn is_meant(&self, request: &TaskRequest) -> bool
+        ensures { result ≡ is_meant self.now.tasks request.now }
+    {
+        if request.function == 1 {
+            self.tasks.has_tag(request.referenced_task_tag)
+        } else {
+            self.tasks.len() > 0
         }
     }
 

@@ -94,12 +94,12 @@ impl Machine {
         }
     }
 
-    // An immediate request, for which there is no room while there is a task.
+    // An immediate request, which becomes no task while there is one.
     fn judge_immediate(&self) -> Verdict
         ensures { (m : Message) → IsJudged self.now m (λ count. immediate self.now count m) result }
     {
         if self.tasks.len() > 0 {
-            Verdict::NoRoom
+            Verdict::Beside
         } else {
             Verdict::AtOnce
         }
@@ -151,7 +151,7 @@ impl Machine {
     }
 
     // Whether a task has the tag of this request.
-    fn has_tag(&self, head: &Head) -> bool
+    pub(super) fn has_tag(&self, head: &Head) -> bool
         ensures { result ≡ is_tag_of self.now.tasks (tag_of head.now) }
     {
         match tag_of(head) {

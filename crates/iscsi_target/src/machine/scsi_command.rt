@@ -9,7 +9,7 @@ ghost use Rattle.iscsi_target.specs.State.{waiting};
 ghost use Rattle.iscsi_target.specs.Execution.{data_in_parts, sequence_parts, data_in_head, data_ins, command_answers, execute};
 ghost use Rattle.iscsi_target.specs.Command.{order_of, breaks_burst_rules, scsi_command};
 ghost use Rattle.iscsi_target.specs.Crash.{Crashes};
-ghost use Rattle.iscsi_target.specs.Inside.{Handles, moment, store_of};
+ghost use Rattle.iscsi_target.specs.Inside.{Handles, LedTo, moment, store_of};
 ghost use Rattle.iscsi_target.specs.Queue.{TakePlaces};
 
 use super::Machine;
@@ -20,7 +20,7 @@ use iscsi_pdu::{DataIn, Head, RESERVED_TAG, ScsiCommand};
 use iscsi_stream::write_pdu;
 use iscsi_target_session::Received;
 use scsi_disk::{BlockStore, Order, Outcome, Plan, execute_planned, plan};
-use std::alloc::AllocError;
+use std::alloc::{AllocError, Global};
 
 impl Machine {
     // A SCSI Command that is the first task. Returns the rule that is broken, if one is.
@@ -125,10 +125,37 @@ impl Machine {
         if let Some(range) = self.blocks_to_send(&order, planned) {
             return self.execute_read(tag, &order, range, store, out);
         }
-        let outcome = execute_planned(*out.allocator(), &order, planned, &[], store)?;
+        let outcome = self.outcome_of(*out.allocator(), order, planned, store)?;
         self.send_outcome(tag, &outcome, out)?;
         self.count();
         Ok(None)
+    }
+
+    // What an order that takes no data leads to: what the disk tells of itself, where it tells more
+    // than the profile has and the order asks for it, or what the store gives.
+    fn outcome_of<S: BlockStore>(
+        &self,
+        alloc: Global,
+        order: Order,
+        planned: Plan,
+        store: &mut S,
+    ) -> Result<Outcome, AllocError>
+        requires planned { planned ≡ plan_of order (S.disk store.old).count }
+        requires gives { (n : ℕ) → plan_of order (S.disk store.old).count ≢ Plan.Take n }
+        ensures ok { IfOk result (LedTo S.protected self.now.session.settings.extras.unit order
+            (store_of (S.disk store.old) (S.failures store.old))
+            (store_of (S.disk store.new) (S.failures store.new))) }
+        ensures disk { S.disk store.new ≡ S.disk store.old }
+        ensures err_failures { OnErr result (S.failures store.new ≡ S.failures store.old) }
+        ensures crash { Crashes S.protected []
+            (S.disk store.old) (S.disk store.new) (S.kept store.old) (S.kept store.new) }
+    {
+        if let Some(unit) = self.session.unit() {
+            if let Some(told) = unit.outcome(alloc, &order)? {
+                return Ok(told);
+            }
+        }
+        execute_planned(alloc, &order, planned, &[], store)
     }
 
     // The data of an outcome, and the response.

@@ -1,7 +1,7 @@
 //! Requests with one answer: pings, task management, logouts.
 
 ghost use Rattle.std.specs.Prelude.{◌≡◌, ◌<◌, ◌^◌, length, false};
-ghost use Rattle.iscsi_target_session.specs.Requests.{nop_out, task_request, logout_request};
+ghost use Rattle.iscsi_target_session.specs.Requests.{nop_out, task_request, task_response, logout_request};
 ghost use Rattle.iscsi_target_session.specs.Requests.{request_answered};
 ghost use Rattle.iscsi_target_session.specs.Replies.{Does};
 
@@ -28,7 +28,7 @@ impl Session {
         let bytes = received.pdu.bytes;
         match &received.pdu.head {
             Head::NopOut(head) => self.nop_out(waiting, head, bytes, out),
-            Head::TaskRequest(head) => self.task_request(waiting, head, out),
+            Head::TaskRequest(head) => self.task_request(waiting, false, head, out),
             Head::TextRequest(head) => self.text_request(waiting, head, bytes, received, out),
             Head::LogoutRequest(head) => self.logout_request(waiting, head, received, out),
             Head::LoginRequest(_)
@@ -76,19 +76,21 @@ impl Session {
         self.send_response(&head, &bytes[..len], out)
     }
 
-    // No task management function is supported (RFC 7143, section 11.6.1).
-    fn task_request(
+    /// Answers a task management request, while a task that it means is open or none is (RFC 7143,
+    /// sections 11.5 and 11.6).
+    pub fn task_request(
         &mut self,
         waiting: u32,
+        is_open: bool,
         request: &TaskRequest,
         out: &mut Vec<u8>,
     ) -> Result<Option<u8>, AllocError>
-        ensures { Does (task_request self.old waiting request.now) result
+        ensures { Does (task_request self.old waiting is_open request.now) result
             self.old self.new out.old.items out.new.items }
     {
         let numbers = self.numbers(waiting);
         let head = Head::TaskResponse(TaskResponse {
-            response: 5,
+            response: task_response(self.has_unit(), is_open, request),
             initiator_task_tag: request.initiator_task_tag,
             stat_sn: numbers.stat_sn,
             exp_cmd_sn: numbers.exp_cmd_sn,
@@ -125,5 +127,26 @@ impl Session {
         self.send_response(&head, &[], out)?;
         self.close();
         Ok(None)
+    }
+}
+
+// The response to a task management function. Where the disk tells what the profile has, none is
+// supported. Else one is done where nothing is left to end: no task is ever taken away.
+fn task_response(has_unit: bool, is_open: bool, request: &TaskRequest) -> u8
+    ensures { result ≡ task_response has_unit is_open request.now }
+{
+    if !has_unit {
+        return 5;
+    }
+    if request.lun != 0 && 1 <= request.function && request.function <= 5 {
+        return 2;
+    }
+    if is_open {
+        return 5;
+    }
+    match request.function {
+        1 => 1,
+        2 | 4 | 5 | 6 => 0,
+        _ => 5,
     }
 }

@@ -74,31 +74,39 @@ const JOBS: &[(&str, &str)] = &[
     ),
     (
         "serve --port 1 --sessions 2 --file d --at-once 3",
-        "Serve(ServeJob { storage: Image(Image { path: \"d\", origin: Found { blocks: None } }), service: AtOnce(Options { listen: 127.0.0.1, port: 1, sessions: Some(2), at_once: 3, name: [105, 113, 110, 46, 50, 48, 50, 54, 45, 48, 49, 46, 101, 120, 97, 109, 112, 108, 101, 58, 100, 105, 115, 107], portal: None, limits: Limits { idle: None, login_within: Some(30) }, preferences: Preferences { initial_r2t: false, immediate_data: true, max_burst: 262144, first_burst: 65536, time2wait: 2, time2retain: 20, max_recv: 8192 }, memory: 268435456, print_port: false, log: false }), read_only: false, secrets: None })",
+        "Serve(ServeJob { storage: Image(Image { path: \"d\", origin: Found { blocks: None } }), service: AtOnce(Options { listen: 127.0.0.1, port: 1, sessions: Some(2), at_once: 3, name: [105, 113, 110, 46, 50, 48, 50, 54, 45, 48, 49, 46, 101, 120, 97, 109, 112, 108, 101, 58, 100, 105, 115, 107], portal: None, unit: None, limits: Limits { idle: None, login_within: Some(30) }, preferences: Preferences { initial_r2t: false, immediate_data: true, max_burst: 262144, first_burst: 65536, time2wait: 2, time2retain: 20, max_recv: 8192 }, memory: 268435456, print_port: false, log: false }), read_only: false, secrets: None })",
     ),
     (
         "serve --port 1 --file d --at-once 3",
-        "Serve(ServeJob { storage: Image(Image { path: \"d\", origin: Found { blocks: None } }), service: AtOnce(Options { listen: 127.0.0.1, port: 1, sessions: None, at_once: 3, name: [105, 113, 110, 46, 50, 48, 50, 54, 45, 48, 49, 46, 101, 120, 97, 109, 112, 108, 101, 58, 100, 105, 115, 107], portal: None, limits: Limits { idle: None, login_within: Some(30) }, preferences: Preferences { initial_r2t: false, immediate_data: true, max_burst: 262144, first_burst: 65536, time2wait: 2, time2retain: 20, max_recv: 8192 }, memory: 268435456, print_port: false, log: false }), read_only: false, secrets: None })",
+        "Serve(ServeJob { storage: Image(Image { path: \"d\", origin: Found { blocks: None } }), service: AtOnce(Options { listen: 127.0.0.1, port: 1, sessions: None, at_once: 3, name: [105, 113, 110, 46, 50, 48, 50, 54, 45, 48, 49, 46, 101, 120, 97, 109, 112, 108, 101, 58, 100, 105, 115, 107], portal: None, unit: None, limits: Limits { idle: None, login_within: Some(30) }, preferences: Preferences { initial_r2t: false, immediate_data: true, max_burst: 262144, first_burst: 65536, time2wait: 2, time2retain: 20, max_recv: 8192 }, memory: 268435456, print_port: false, log: false }), read_only: false, secrets: None })",
     ),
     (
         "serve --port 1 --sessions 2 --file d --at-once 3 --name n --segment 131072 --burst 131072",
-        "Serve(ServeJob { storage: Image(Image { path: \"d\", origin: Found { blocks: None } }), service: AtOnce(Options { listen: 127.0.0.1, port: 1, sessions: Some(2), at_once: 3, name: [110], portal: None, limits: Limits { idle: None, login_within: Some(30) }, preferences: Preferences { initial_r2t: false, immediate_data: true, max_burst: 131072, first_burst: 65536, time2wait: 2, time2retain: 20, max_recv: 131072 }, memory: 268435456, print_port: false, log: false }), read_only: false, secrets: None })",
+        "Serve(ServeJob { storage: Image(Image { path: \"d\", origin: Found { blocks: None } }), service: AtOnce(Options { listen: 127.0.0.1, port: 1, sessions: Some(2), at_once: 3, name: [110], portal: None, unit: None, limits: Limits { idle: None, login_within: Some(30) }, preferences: Preferences { initial_r2t: false, immediate_data: true, max_burst: 131072, first_burst: 65536, time2wait: 2, time2retain: 20, max_recv: 131072 }, memory: 268435456, print_port: false, log: false }), read_only: false, secrets: None })",
     ),
     (
         "serve --port 1 --sessions 2 --file d --at-once 3 --name n --burst 512 --segment 1048576 --idle 1 --login-within 65535",
-        "Serve(ServeJob { storage: Image(Image { path: \"d\", origin: Found { blocks: None } }), service: AtOnce(Options { listen: 127.0.0.1, port: 1, sessions: Some(2), at_once: 3, name: [110], portal: None, limits: Limits { idle: Some(1), login_within: Some(65535) }, preferences: Preferences { initial_r2t: false, immediate_data: true, max_burst: 512, first_burst: 512, time2wait: 2, time2retain: 20, max_recv: 1048576 }, memory: 268435456, print_port: false, log: false }), read_only: false, secrets: None })",
+        "Serve(ServeJob { storage: Image(Image { path: \"d\", origin: Found { blocks: None } }), service: AtOnce(Options { listen: 127.0.0.1, port: 1, sessions: Some(2), at_once: 3, name: [110], portal: None, unit: None, limits: Limits { idle: Some(1), login_within: Some(65535) }, preferences: Preferences { initial_r2t: false, immediate_data: true, max_burst: 512, first_burst: 512, time2wait: 2, time2retain: 20, max_recv: 1048576 }, memory: 268435456, print_port: false, log: false }), read_only: false, secrets: None })",
     ),
     (
         "serve --port 1 --sessions 2 --file d --at-once 3 --name n --first-burst 262144 --no-login-limit",
-        "Serve(ServeJob { storage: Image(Image { path: \"d\", origin: Found { blocks: None } }), service: AtOnce(Options { listen: 127.0.0.1, port: 1, sessions: Some(2), at_once: 3, name: [110], portal: None, limits: Limits { idle: None, login_within: None }, preferences: Preferences { initial_r2t: false, immediate_data: true, max_burst: 262144, first_burst: 262144, time2wait: 2, time2retain: 20, max_recv: 8192 }, memory: 268435456, print_port: false, log: false }), read_only: false, secrets: None })",
+        "Serve(ServeJob { storage: Image(Image { path: \"d\", origin: Found { blocks: None } }), service: AtOnce(Options { listen: 127.0.0.1, port: 1, sessions: Some(2), at_once: 3, name: [110], portal: None, unit: None, limits: Limits { idle: None, login_within: None }, preferences: Preferences { initial_r2t: false, immediate_data: true, max_burst: 262144, first_burst: 262144, time2wait: 2, time2retain: 20, max_recv: 8192 }, memory: 268435456, print_port: false, log: false }), read_only: false, secrets: None })",
     ),
     (
         "serve --port 1 --sessions 2 --blocks 8 --at-once 3 --name n --memory 32768 --log",
-        "Serve(ServeJob { storage: Memory { blocks: 8 }, service: AtOnce(Options { listen: 127.0.0.1, port: 1, sessions: Some(2), at_once: 3, name: [110], portal: None, limits: Limits { idle: None, login_within: Some(30) }, preferences: Preferences { initial_r2t: false, immediate_data: true, max_burst: 262144, first_burst: 65536, time2wait: 2, time2retain: 20, max_recv: 8192 }, memory: 32768, print_port: false, log: true }), read_only: false, secrets: None })",
+        "Serve(ServeJob { storage: Memory { blocks: 8 }, service: AtOnce(Options { listen: 127.0.0.1, port: 1, sessions: Some(2), at_once: 3, name: [110], portal: None, unit: None, limits: Limits { idle: None, login_within: Some(30) }, preferences: Preferences { initial_r2t: false, immediate_data: true, max_burst: 262144, first_burst: 65536, time2wait: 2, time2retain: 20, max_recv: 8192 }, memory: 32768, print_port: false, log: true }), read_only: false, secrets: None })",
     ),
     (
         "serve --port 1 --sessions 2 --blocks 8 --at-once 3 --name n --portal 192.0.2.7:3260",
-        "Serve(ServeJob { storage: Memory { blocks: 8 }, service: AtOnce(Options { listen: 127.0.0.1, port: 1, sessions: Some(2), at_once: 3, name: [110], portal: Some([49, 57, 50, 46, 48, 46, 50, 46, 55, 58, 51, 50, 54, 48]), limits: Limits { idle: None, login_within: Some(30) }, preferences: Preferences { initial_r2t: false, immediate_data: true, max_burst: 262144, first_burst: 65536, time2wait: 2, time2retain: 20, max_recv: 8192 }, memory: 268435456, print_port: false, log: false }), read_only: false, secrets: None })",
+        "Serve(ServeJob { storage: Memory { blocks: 8 }, service: AtOnce(Options { listen: 127.0.0.1, port: 1, sessions: Some(2), at_once: 3, name: [110], portal: Some([49, 57, 50, 46, 48, 46, 50, 46, 55, 58, 51, 50, 54, 48]), unit: None, limits: Limits { idle: None, login_within: Some(30) }, preferences: Preferences { initial_r2t: false, immediate_data: true, max_burst: 262144, first_burst: 65536, time2wait: 2, time2retain: 20, max_recv: 8192 }, memory: 268435456, print_port: false, log: false }), read_only: false, secrets: None })",
+    ),
+    (
+        "serve --port 1 --sessions 2 --blocks 8 --at-once 3 --name n --serial DISK0001",
+        "Serve(ServeJob { storage: Memory { blocks: 8 }, service: AtOnce(Options { listen: 127.0.0.1, port: 1, sessions: Some(2), at_once: 3, name: [110], portal: None, unit: Some(UnitOptions { serial: [68, 73, 83, 75, 48, 48, 48, 49], write_protected: false }), limits: Limits { idle: None, login_within: Some(30) }, preferences: Preferences { initial_r2t: false, immediate_data: true, max_burst: 262144, first_burst: 65536, time2wait: 2, time2retain: 20, max_recv: 8192 }, memory: 268435456, print_port: false, log: false }), read_only: false, secrets: None })",
+    ),
+    (
+        "serve --port 1 --sessions 2 --blocks 8 --at-once 3 --name n --read-only --serial !0123456789abc~}",
+        "Serve(ServeJob { storage: Memory { blocks: 8 }, service: AtOnce(Options { listen: 127.0.0.1, port: 1, sessions: Some(2), at_once: 3, name: [110], portal: None, unit: Some(UnitOptions { serial: [33, 48, 49, 50, 51, 52, 53, 54, 55, 56, 57, 97, 98, 99, 126, 125], write_protected: true }), limits: Limits { idle: None, login_within: Some(30) }, preferences: Preferences { initial_r2t: false, immediate_data: true, max_burst: 262144, first_burst: 65536, time2wait: 2, time2retain: 20, max_recv: 8192 }, memory: 268435456, print_port: false, log: false }), read_only: true, secrets: None })",
     ),
     (
         "serve --size 32M",
@@ -283,6 +291,10 @@ const PORTAL: &str =
     "is no portal: '--portal <ADDRESS>' takes 1 to 255 bytes, each from '!' to '~' but ','\n\n\
     Usage: lanthovur serve ";
 
+const SERIAL: &str =
+    "is no serial number: '--serial <S>' takes 1 to 16 bytes, each from '!' to '~'\n\n\
+    Usage: lanthovur serve ";
+
 const INITIATOR: &str =
     "is no name: '--initiator <IQN>' takes 1 to 223 bytes, each from '!' to '~'\n\n\
     Usage: lanthovur serve ";
@@ -325,6 +337,13 @@ const BAD_VALUES: &[(&str, &str, &str)] = &[
         "café:3260",
         PORTAL,
     ),
+    ("serve --blocks 1 --at-once 1 --serial ''", "", SERIAL),
+    (
+        "serve --blocks 1 --at-once 1 --serial 12345678901234567",
+        "12345678901234567",
+        SERIAL,
+    ),
+    ("serve --blocks 1 --at-once 1 --serial café", "café", SERIAL),
     ("serve --port +1 --blocks 1 --sessions 1", "+1", PORT),
     ("serve --port '' --blocks 1 --sessions 1", "", PORT),
     ("serve --port 0x10 --blocks 1 --sessions 1", "0x10", PORT),
@@ -650,6 +669,14 @@ const REFUSED: &[(&str, &str)] = &[
     (
         "serve --blocks 1 --portal 192.0.2.7:3260",
         "error: the following required arguments were not provided:\n  --at-once <k>\n",
+    ),
+    (
+        "serve --blocks 1 --serial DISK0001",
+        "error: the following required arguments were not provided:\n  --at-once <k>\n",
+    ),
+    (
+        "serve --blocks 1 --at-once 1 --serial a --serial b",
+        "error: the argument '--serial <S>' cannot be used multiple times\n",
     ),
     (
         "serve --port 0 --file d --sessions 1 --at-once 1 --memory 32768",

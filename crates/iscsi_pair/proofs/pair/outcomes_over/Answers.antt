@@ -14,11 +14,11 @@ returns-in-Ok-given c =
     let gives : Gives (new_pair o) (events_of c.args.steps.items) last outcomes =
     subst (λ (w : World). Gives w (events_of c.args.steps.items) last outcomes) c.in-Ok.ensures.opening c.in-Ok-given.ensures.gives in
     record {
-      on_disk = λ suits normal served.
+      on_disk = λ suits normal plain served.
           (let d : AreOnDisk o c.args.steps.items last outcomes =
           given_on_disk o c.args.steps.items last outcomes c.in-Ok.ensures.in_range gives
           (subst (λ (w : World). w.initiator.machine.done ≡ None → last.initiator.machine.done ≡ None) c.in-Ok.ensures.opening c.in-Ok-given.ensures.none_left)
-          c.in-Ok-given.ensures.idle suits normal served in
+          c.in-Ok-given.ensures.idle suits normal plain served in
           (d.outcomes_are, ap disk_of c.into_store-store.ensures.store ∙ d.disk_is));
       ran = record { world = last; gives = gives; idle = c.in-Ok-given.ensures.idle; blocks_are = c.into_store-store.ensures.store };
     }

@@ -9,7 +9,7 @@ pub returns-in-Refuse-clause-ok : goal.returns-in-Refuse-clause-ok
 returns-in-Refuse-clause-ok g c =
     let disk = g.S.BlockStore.disk c.args.store.now in
     let plan : plan_of c.args.order.now disk.count ≡ Refuse c.in-Refuse.sense = search rules in
-    turned_away g.S.BlockStore.protected _ disk c.args.order.now c.args.bytes.now c.in-Refuse.sense _ plan c.check.ensures
+    turned_away g.S.BlockStore.protected _ disk c.args.order.now c.args.bytes.now c.in-Refuse.sense _ plan c.check_condition.ensures
 
 pub returns-in-Give-clause-ok : goal.returns-in-Give-clause-ok
 returns-in-Give-clause-ok g c =

@@ -9,7 +9,7 @@ use Rattle.iscsi_target.specs.Inside.{store_of, moment, Serves}
 use Rattle.iscsi_target.proofs.OpenWriteLemmas.{data_of_one}
 use Rattle.iscsi_target.proofs.OrderLemmas.{write_gives_none}
 use Rattle.iscsi_target.proofs.ServingLemmas.{order_serves}
-use Rattle.iscsi_target.proofs.CommandLemmas.{told_write}
+use Rattle.iscsi_target.proofs.CommandLemmas.{told_write, write_told}
 use Rattle.iscsi_target.proofs.CrashLemmas.{one_done}
 use Rattle.iscsi_target.specs.Crash.{Crashes}
 use Rattle.iscsi_stream.specs.Pieces.{data_of}
@@ -34,11 +34,13 @@ returns-clause-handles g c = record {
       (g.S.BlockStore.disk c.args.store.now) w.order bytes e)
       (c.deref.ensures.value ∙ sym (data_of_one w.data.items)) c.in_ok-outcome.ensures.ok)
       c.count.ensures refl
+      (write_told c.args.self.now w.initiator_task_tag w.order c.in_ok-outcome.outcome c.args.out.now.items c.append_response.new.out.items
+      c.write.invariant.is_write
       (told_write c.args.self.now w.initiator_task_tag c.in_ok-outcome.outcome c.response_head-head.result c.args.out.now.items c.reserve.new.self.items
       c.append_response.new.out.items none
       (c.response_head-head.ensures.head c.args.self.now.session (waiting c.args.self.now.tasks) (sym c.numbers.ensures.stat_sn)
       (sym c.numbers.ensures.exp_cmd_sn) (sym c.numbers.ensures.max_cmd_sn))
-      c.in_ok-reserve.ensures.items c.in-Ok.ensures.ok));
+      c.in_ok-reserve.ensures.items c.in-Ok.ensures.ok)));
   err = search rules;
 }
 

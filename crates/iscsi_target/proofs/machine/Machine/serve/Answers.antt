@@ -1,8 +1,7 @@
 use Rattle.std.proofs.Common.{◌≡◌, ℕ, [], inl, sym, ap, ◌∙◌, refl, subst, arith}
-use Rattle.iscsi_pdu.specs.Rules.{too_many_immediate}
-use Rattle.iscsi_target_session.specs.Rejecting.{reject, reject_and_close}
+use Rattle.iscsi_target_session.specs.Rejecting.{reject_and_close}
 use Rattle.iscsi_target.specs.State.{Machine, waiting}
-use Rattle.iscsi_target.specs.Machine.{Next, admitted, advanced, data_out, full_met}
+use Rattle.iscsi_target.specs.Machine.{Next, admitted, advanced, beside, data_out, full_met}
 use Rattle.iscsi_target.specs.Crash.{Crashes, commands_by}
 use Rattle.iscsi_target.specs.Feed.{Store}
 use Rattle.iscsi_target.specs.Inside.{Follows, MayCome, moment, store_of}
@@ -27,15 +26,15 @@ returns-in-Breaks-clause-follows g c =
     (judged c.args.self.now n c.args.received.now _ c.judge.result _ c.judge.ensures c.in-Breaks.is)
     (c.reject_and_close.ensures (g.S.BlockStore.disk c.args.store.now))
 
-pub returns-in-NoRoom-clause-follows : goal.returns-in-NoRoom-clause-follows
-returns-in-NoRoom-clause-follows g c =
+pub returns-in-Beside-clause-follows : goal.returns-in-Beside-clause-follows
+returns-in-Beside-clause-follows g c =
     let n : ℕ = (g.S.BlockStore.disk c.args.store.now).count in
-    answered_follows g.S.BlockStore.protected c.reject.result (g.S.BlockStore.failures c.args.store.now) c.args.self.now
-    (reject c.args.self.now.session (waiting c.args.self.now.tasks) too_many_immediate c.args.received.now)
+    answered_follows g.S.BlockStore.protected c.answer_beside.result (g.S.BlockStore.failures c.args.store.now) c.args.self.now
+    (beside c.args.self.now c.args.received.now)
     (full_met c.args.self.now n c.args.received.now).next (g.S.BlockStore.disk c.args.store.now)
-    c.reject.new.self c.args.out.now.items c.reject.new.out.items
-    (judged c.args.self.now n c.args.received.now _ c.judge.result _ c.judge.ensures c.in-NoRoom.is)
-    (c.reject.ensures (g.S.BlockStore.disk c.args.store.now))
+    c.answer_beside.new.self c.args.out.now.items c.answer_beside.new.out.items
+    (judged c.args.self.now n c.args.received.now _ c.judge.result _ c.judge.ensures c.in-Beside.is)
+    (c.answer_beside.ensures (g.S.BlockStore.disk c.args.store.now))
 
 pub returns-in-Data-clause-follows : goal.returns-in-Data-clause-follows
 returns-in-Data-clause-follows g c =

@@ -1,0 +1,123 @@
+//! What a disk with a serial number tells of itself, in section 5 of the page.
+
+use crate::Counts;
+use crate::row::{cell, decimal, hex, quoted};
+use arrayvec::ArrayVec;
+use scsi_cdb::Cdb;
+use scsi_disk::Order;
+use scsi_unit::LogicalUnit;
+use std::alloc::Global;
+use std::io;
+
+/// The serial number that stands for S.
+const SERIAL: &[u8] = b"disk-7";
+
+/// The most bytes of a row's data.
+type Data = ArrayVec<u8, 128>;
+
+/// A command that a row is of, the place of the row's data among its cells, and how many bytes stand
+/// before those in what the command gives.
+#[derive(Clone, Copy)]
+struct Asked {
+    cdb: Cdb,
+    cell: usize,
+    header: usize,
+}
+
+/// Holds each row of a page of product data, of a mode page and of REQUEST SENSE against the code.
+pub fn hold_unit(rt: &HostRuntime, section: &str, counts: &mut Counts) -> io::Result<()> {
+    for row in section.lines() {
+        let Some(asked) = asked_by(cell(row, 1)) else {
+            continue;
+        };
+        counts.pages = counts.pages.saturating_add(1);
+        if hold_row(rt.alloc(), row, &asked).is_none() {
+            counts.note(rt, row)?;
+        }
+    }
+    Ok(())
+}
+
+// What a row is of, by its first cell.
+fn asked_by(name: &str) -> Option<Asked> {
+    if let Some(page) = name.strip_prefix("INQUIRY, page ") {
+        let cdb = Cdb::Inquiry {
+            evpd: true,
+            page: u8::try_from(hex(page)?).ok()?,
+            allocation_length: 0xffff,
+            control: 0,
+        };
+        return Some(Asked {
+            cdb,
+            cell: 3,
+            header: 0,
+        });
+    }
+    if name == "REQUEST SENSE" {
+        return Some(Asked {
+            cdb: Cdb::Unknown([0x03, 0, 0, 0, 0xff, 0, 0, 0, 0, 0, 0, 0, 0, 0, 0, 0]),
+            cell: 3,
+            header: 0,
+        });
+    }
+    let (page, _) = name.split_once(", c")?;
+    let page = u8::try_from(hex(page)?).ok()?;
+    Some(Asked {
+        cdb: Cdb::Unknown([0x1a, 0, page, 0, 0xff, 0, 0, 0, 0, 0, 0, 0, 0, 0, 0, 0]),
+        cell: 2,
+        header: 4,
+    })
+}
+
+// `Some` where the row has what the code gives.
+fn hold_row(alloc: Global, row: &str, asked: &Asked) -> Option<()> {
+    let order = Order {
+        cdb: asked.cdb,
+        lun: 0,
+        read: true,
+        write: false,
+        expected: 0xffff,
+    };
+    let unit = LogicalUnit::new(SERIAL, false)?;
+    let outcome = unit.outcome(alloc, &order).ok()??;
+    let told = outcome.bytes.as_slice().get(asked.header..)?;
+    let due = data_of(cell(row, asked.cell))?;
+    (due.as_slice() == told).then_some(())
+}
+
+// The bytes that a cell says, up to what it says of them.
+fn data_of(cell: &str) -> Option<Data> {
+    let cell = cell.split_once(": ").map_or(cell, |(data, _)| data);
+    let cell = cell.split_once("; ").map_or(cell, |(data, _)| data);
+    let mut data = Data::new();
+    for part in cell.split(", ") {
+        append_part(part, &mut data)?;
+    }
+    Some(data)
+}
+
+fn append_part(part: &str, data: &mut Data) -> Option<()> {
+    if let Some(count) = part.strip_suffix(" bytes 00") {
+        for _ in 0..decimal(count)? {
+            data.try_push(0).ok()?;
+        }
+        return Some(());
+    }
+    if let Some(more) = part.strip_prefix("the length of S") {
+        let more = more.strip_prefix(" + ").map_or(Some(0), decimal)?;
+        let length = u8::try_from(SERIAL.len()).ok()?;
+        return data
+            .try_push(length.checked_add(u8::try_from(more).ok()?)?)
+            .ok();
+    }
+    if part == "S" {
+        return data.try_extend_from_slice(SERIAL).ok();
+    }
+    if let Some(text) = part.strip_prefix("ASCII ") {
+        return data.try_extend_from_slice(quoted(text).as_bytes()).ok();
+    }
+    for byte in quoted(part).split(' ') {
+        data.try_push(u8::try_from(hex(byte)?).ok()?).ok()?;
+    }
+    Some(())
+}

@@ -1,0 +1,4 @@
+pub mod LogicalUnit
+pub mod Pages
+pub mod Modes
+pub mod Telling

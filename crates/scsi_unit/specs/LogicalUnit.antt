@@ -1,0 +1,17 @@
+-- A logical unit that tells more of itself than the profile does.
+use Rattle.std.specs.Prelude.{ℕ, ◌<◌, ◌≤◌, Bool, List, length, All}
+
+-- Its serial number, and that no block of it may be written.
+pub record LogicalUnit : Type 0 where
+  pub serial : List ℕ
+  pub write_protected : Bool
+
+-- A byte of `!` to `~` (own rule).
+abbrev pub IsInSerial : ℕ → Type 0
+IsInSerial byte = (0x21 ≤ byte) × (byte ≤ 0x7e)
+
+-- A serial number has 1 to 16 such bytes (own rule).
+pub record IsSerial (serial : List ℕ) : Type 0 where
+  pub some : 0 < length serial
+  pub few : length serial ≤ 16
+  pub each : All IsInSerial serial

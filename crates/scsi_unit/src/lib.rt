@@ -1,0 +1,11 @@
+//! What a logical unit tells of itself beyond the profile: its serial number, its limits, its modes
+//! (SPC-4 and SBC-3).
+#![tactic(auto)]
+
+mod data;
+mod modes;
+mod pages;
+mod telling;
+mod unit;
+
+pub use unit::{LONGEST_SERIAL, LogicalUnit, is_serial};

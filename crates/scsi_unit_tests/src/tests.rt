@@ -1,0 +1,5 @@
+//! Commands to a unit by rows, serial numbers, and refused memory.
+
+mod memory;
+mod rows;
+mod serials;

@@ -1,0 +1,132 @@
+#!/usr/bin/env python3
+"""Tries `serve` with the programs that other initiators are, with `--serial` and without it.
+
+    tools/initiators/run.py [PROGRAM]
+
+PROGRAM is crates/lanthovur/out/lanthovur if none is named; `./lanthovur </dev/null` builds it. All is done on 127.0.0.1. The
+programs are iscsi-inq and iscsi-test-cu (Debian: libiscsi-bin) and qemu-img (qemu-utils, qemu-block-extra); what isn't installed
+is skipped, with a word. Each group of cases of iscsi-test-cu is told with how many of its cases passed and how many were skipped.
+The last line is 'N passed, M failed, K skipped'. It takes a minute. What Linux itself does is in tools/guest.
+"""
+import os
+import re
+import shutil
+import socket
+import subprocess
+import sys
+import tempfile
+
+TOP = os.path.dirname(os.path.dirname(os.path.dirname(os.path.abspath(__file__))))
+TARGET = "iqn.2026-01.example:disk"
+MIB = 1 << 20
+
+
+class Skipped(Exception):
+    """What a case wants is not there."""
+
+
+def ran(*words, seconds=120):
+    """The status of a program, and what it says."""
+    if not shutil.which(words[0]):
+        raise Skipped(f"{words[0]} is not installed")
+    done = subprocess.run(words, stdin=subprocess.DEVNULL, stdout=subprocess.PIPE, stderr=subprocess.STDOUT, timeout=seconds)
+    return done.returncode, done.stdout.decode(errors="replace")
+
+
+class Service:
+    """`serve --at-once` over 64 MiB in memory with these words, which ends with the block."""
+
+    def __init__(self, program, *words):
+        with socket.create_server(("127.0.0.1", 0)) as other:
+            port = other.getsockname()[1]
+        self.url = f"iscsi://127.0.0.1:{port}/{TARGET}/0"
+        words = [program, "serve", "--size", "64M", "--at-once", "4", "--port", str(port), *words]
+        self.process = subprocess.Popen(words, stdin=subprocess.DEVNULL, stdout=subprocess.PIPE, stderr=subprocess.DEVNULL)
+        if self.process.stdout.readline() != b"listening\n":
+            raise OSError("the service did not start")
+
+    def __enter__(self):
+        return self
+
+    def __exit__(self, *_):
+        self.process.kill()
+        self.process.wait()
+
+
+def conformance(service, group):
+    """The cases of a group of iscsi-test-cu that failed, and how many passed, failed and said that they skip something."""
+    _, text = ran("iscsi-test-cu", "--dataloss", f"--test=ALL.{group}", service.url)
+    cases = re.findall(r"Test: (\S+) \.\.\.(.*?)(passed|FAILED)", text, re.S)
+    failed = [name for name, _, outcome in cases if outcome == "FAILED"]
+    skipped = sum("[SKIPPED]" in said for _, said, _ in cases)
+    print(f"         {group}: {len(cases) - len(failed)} passed, {len(failed)} failed, {skipped} of them skip something", flush=True)
+    return failed if cases else text
+
+
+def numbers(program, room, words):
+    """Two disks have serial numbers and names of their own."""
+    told = []
+    for serial in ("disk-7", "disk-8"):
+        with Service(program, *(["--serial", serial] if words else [])) as service:
+            told.append([ran("iscsi-inq", "-e", "1", "-c", page, service.url)[1] for page in ("128", "131")])
+    own = all("disk-7" in page for page in told[0]) and all("disk-8" in page for page in told[1])
+    return own if words else told[0] == told[1]
+
+
+def holes(program, room, words):
+    """qemu-img copies an image that is one hole of 48 MiB between its ends, and finds it the same."""
+    image = f"{room}/image"
+    with open(image, "wb") as file:
+        file.write(os.urandom(4096))
+        file.seek(64 * MIB - 4096)
+        file.write(os.urandom(4096))
+    with Service(program, *words) as service:
+        status, _ = ran("qemu-img", "convert", "-n", "-f", "raw", "-O", "raw", image, service.url)
+        same = status == 0 and ran("qemu-img", "compare", "-f", "raw", "-F", "raw", image, service.url)[0] == 0
+    return same if words else status != 0
+
+
+def inquiry(program, room, words):
+    """iscsi-test-cu Inquiry."""
+    with Service(program, *words) as service:
+        return conformance(service, "Inquiry") == ([] if words else ["BlockLimits"])
+
+
+def modes(program, room, words):
+    """iscsi-test-cu ModeSense6."""
+    with Service(program, *words) as service:
+        return conformance(service, "ModeSense6") == []
+
+
+def management(program, room, words):
+    """iscsi-test-cu iSCSITMF."""
+    with Service(program, *words) as service:
+        return conformance(service, "iSCSITMF") == ([] if words else ["AbortTaskSimpleAsync"])
+
+
+# Each is done without `--serial` first, where it is to come out as it does today.
+CASES = [numbers, holes, inquiry, modes, management]
+
+
+def outcome_of(case, program, words):
+    with tempfile.TemporaryDirectory() as room:
+        try:
+            return "passed" if case(program, room, words) else "failed", ""
+        except Skipped as why:
+            return "skipped", str(why)
+
+
+def main():
+    program = os.path.abspath(sys.argv[1] if len(sys.argv) > 1 else f"{TOP}/crates/lanthovur/out/lanthovur")
+    counts = {"passed": 0, "failed": 0, "skipped": 0}
+    for case in CASES:
+        for words in ([], ["--serial", "disk-7"]):
+            outcome, why = outcome_of(case, program, words)
+            counts[outcome] += 1
+            print(f"{outcome:8} {' '.join(words) or 'without':15} {case.__doc__} {why}", flush=True)
+    print(", ".join(f"{count} {outcome}" for outcome, count in counts.items()))
+    return 1 if counts["failed"] else 0
+
+
+if __name__ == "__main__":
+    sys.exit(main())
