@@ -8,10 +8,11 @@ import os
 import re
 import shutil
 import subprocess
+import threading
 
 PROGRAMS = ["qemu-system-x86_64", "busybox", "cpio", "modprobe", "depmod", "iscsid", "iscsiadm", "ldd"]
 # What is loaded, in this order.
-MODULES = ["e1000", "iscsi_tcp", "sd_mod", "ext4"]
+MODULES = ["e1000", "virtio_pci", "virtio_blk", "iscsi_tcp", "sd_mod", "ext4"]
 # Programs of this machine that the guest has, and those of busybox that it has not.
 COPIED = ["iscsid", "iscsiadm", "mkfs.ext4", "fsck.ext4", "fstrim", "blkdiscard", "lsblk", "sg_reset", "sg_inq", "sg_vpd"]
 INIT = """#!/bin/busybox sh
@@ -72,8 +73,8 @@ def modules(root, version):
     return files
 
 
-def make(room, job, initiator):
-    """Makes the archive of a guest that does this job, a shell script, as this initiator."""
+def make(room, job, initiator, program=None):
+    """Makes the archive of a guest that does this job, a shell script, as this initiator, and may have a program of this machine."""
     for name in PROGRAMS:
         if not shutil.which(name):
             raise Missing(f"{name} is not installed")
@@ -85,6 +86,8 @@ def make(room, job, initiator):
     for name in COPIED:
         if shutil.which(name):
             put(folder, shutil.which(name))
+    if program:
+        put(folder, program)
     listed = []
     for file in modules(root, version):
         shutil.copy(file, f"{folder}/modules.d/")
@@ -108,16 +111,36 @@ def make(room, job, initiator):
     return f"{room}/initrd"
 
 
-def run(room, job, initiator="iqn.2026-01.example:guest", seconds=300):
-    """What a guest that does this job prints. The host is 10.0.2.2 to it."""
-    initrd = make(room, job, initiator)
+def words(initrd, disk=None):
+    """The words that start a guest, which may have a disk: an image file."""
     image, _, _ = kernel()
-    words = [
+    found = [
         "qemu-system-x86_64", "-cpu", "max", "-m", "512", "-nographic", "-no-reboot", "-kernel", image, "-initrd", initrd,
         "-append", "console=ttyS0 quiet panic=-1 no_timer_check", "-netdev", "user,id=net", "-device", "e1000,netdev=net",
     ]
-    done = subprocess.run(words, stdin=subprocess.DEVNULL, stdout=subprocess.PIPE, stderr=subprocess.STDOUT, timeout=seconds)
+    return found + (["-drive", f"file={disk},format=raw,if=virtio,cache=writeback"] if disk else [])
+
+
+def run(room, job, initiator="iqn.2026-01.example:guest", seconds=300):
+    """What a guest that does this job prints. The host is 10.0.2.2 to it."""
+    run_words = words(make(room, job, initiator))
+    done = subprocess.run(run_words, stdin=subprocess.DEVNULL, stdout=subprocess.PIPE, stderr=subprocess.STDOUT, timeout=seconds)
     text = done.stdout.decode(errors="replace").replace("\r", "")
     if "GUEST BEGINS" not in text:
         raise Missing("the guest does not start: " + text[-400:])
     return text.split("GUEST BEGINS\n", 1)[1].split("GUEST ENDS", 1)[0]
+
+
+def lines(room, job, program, disk, seconds=300):
+    """The lines of a guest that has a program and a disk, as they come. It is killed where the caller stops to take them."""
+    guest_words = words(make(room, job, "iqn.2026-01.example:guest", program), disk)
+    guest = subprocess.Popen(guest_words, stdin=subprocess.DEVNULL, stdout=subprocess.PIPE, stderr=subprocess.STDOUT)
+    end = threading.Timer(seconds, guest.kill)
+    end.start()
+    try:
+        for line in guest.stdout:
+            yield line.decode(errors="replace").strip()
+    finally:
+        end.cancel()
+        guest.kill()
+        guest.wait()

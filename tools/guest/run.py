@@ -7,14 +7,16 @@ PROGRAM is crates/lanthovur/out/lanthovur if none is named; `./lanthovur </dev/n
 machine has (Debian: qemu-system-x86, busybox-static, cpio, kmod, open-iscsi) and of a kernel with its modules: that of this
 machine, or what the variables KERNEL and MODULES name, such as boot/vmlinuz-* and the folder above lib/modules of a kernel package that
 `dpkg -x` unpacked. Without one of them each case is skipped, with a word. The last line is 'N passed, M failed, K skipped'. It
-takes two minutes.
+takes four minutes.
 """
 import os
+import random
 import re
 import socket
 import subprocess
 import sys
 import tempfile
+import time
 
 sys.path.insert(0, os.path.dirname(os.path.abspath(__file__)))
 import guest  # noqa: E402
@@ -106,6 +108,54 @@ cmp /tmp/big /tmp/read && data=same
 dmesg
 echo "RESULT in_write $unit$status $data"
 """
+# What Linux makes of a disk with a write cache: it says so, and flushes for a file system.
+CACHE_JOB = """
+record
+node --login > /tmp/said 2>&1 && has_disk
+echo "RESULT cache $(cat /sys/class/scsi_disk/*/FUA) $(cat /sys/class/scsi_disk/*/cache_type | tr ' ' _)"
+head -c 4194304 /dev/urandom > /tmp/file
+data=none
+mkfs.ext4 -q -F /dev/sda && mount /dev/sda /mnt && dd if=/tmp/file of=/mnt/file conv=fsync 2> /dev/null && umount /mnt \\
+    && fsck.ext4 -fn /dev/sda > /tmp/said 2>&1 && mount /dev/sda /mnt && cmp /tmp/file /mnt/file && umount /mnt && data=same
+set -- $(cat /sys/block/sda/stat)
+[ ${16} -gt 0 ] && flushed=flushed
+echo "RESULT files $flushed $data"
+"""
+# What Linux makes of a thin disk: mkfs and fstrim discard blocks of it, by WRITE SAME, and blkdiscard all of them.
+THIN_JOB = """
+record
+node --login > /tmp/said 2>&1 && has_disk
+echo "RESULT thin $(cat /sys/class/scsi_disk/*/thin_provisioning) $(cat /sys/class/scsi_disk/*/provisioning_mode)"
+discarded() { set -- $(cat /sys/block/sda/stat); echo $((${14} / 2048)); }
+head -c 16777216 /dev/urandom > /tmp/file
+data=none
+mkfs.ext4 -q -F /dev/sda; made=$(discarded)
+mount /dev/sda /mnt && cp /tmp/file /mnt/gone && cp /tmp/file /mnt/file && sync && rm /mnt/gone && sync && fstrim /mnt && umount /mnt \\
+    && fsck.ext4 -fn /dev/sda > /tmp/said 2>&1 && mount /dev/sda /mnt && cmp /tmp/file /mnt/file && umount /mnt && data=same
+trimmed=$(($(discarded) - made))
+[ $made -ge 48 ] && made=most
+[ $trimmed -ge 32 ] && trimmed=most
+echo "RESULT trims $made$trimmed $data"
+blkdiscard /dev/sda; status=$?
+data=none
+head -c 67108864 /dev/zero > /tmp/zeros && dd if=/dev/sda of=/tmp/read bs=1M iflag=direct 2> /dev/null; cmp /tmp/zeros /tmp/read && data=zeros
+dmesg | grep -i 'sda.*error'
+echo "RESULT discards $status $data"
+"""
+# A guest that serves its own disk, and writes records of 4 KiB through it: each is flushed before it is told.
+RECORDS_JOB = """
+%s serve --file /dev/vda --at-once 2 --serial disk-7 --write-back > /tmp/service &
+for n in 1 2 3 4 5 6 7 8; do grep -q listening /tmp/service && break; sleep 1; done
+record
+node --login > /tmp/said 2>&1 && has_disk
+n=0
+while true; do
+    n=$((n + 1))
+    yes "record $n" | head -c 4096 > /tmp/block
+    dd if=/tmp/block of=/dev/sda bs=4096 seek=$n oflag=direct conv=notrunc,fsync 2> /dev/null && echo "FLUSHED $n"
+done
+"""
+RECORD = 4096
 
 
 class Service:
@@ -160,7 +210,42 @@ def keeps_a_disk(program, room):
     return seen == due or (seen, text[-4000:])
 
 
-CASES = [logs_in_by_secret, finds_the_portal, keeps_a_disk]
+def flushes(program, room):
+    """Linux knows that a disk has a write cache, and flushes it for the files of a file system."""
+    image = f"{room}/image"
+    with Service(program, "--file", image, "--create", "--serial", "disk-7", "--write-back") as service:
+        seen, text = results(room, service.port, CACHE_JOB)
+    due = {"cache": ("1", "write_back"), "files": ("flushed", "same")}
+    return seen == due or (seen, text[-4000:])
+
+
+def trims(program, room):
+    """Linux discards what mkfs and fstrim name, and all of a disk; what is left reads as it was, and the others as zeros."""
+    with Service(program, "--serial", "disk-7", "--thin") as service:
+        seen, text = results(room, service.port, THIN_JOB)
+    due = {"thin": ("1", "writesame_16"), "trims": ("mostmost", "same"), "discards": ("0", "zeros")}
+    return seen == due or (seen, text[-4000:])
+
+
+def keeps_what_was_flushed(program, room):
+    """A guest that serves its own disk with a write cache is killed while it writes; each record that it said to be flushed is on the disk."""
+    image, due, told = f"{room}/image", random.randint(10, 60), 0
+    with open(image, "wb") as file:
+        file.truncate(1 << 26)
+    job = TOOLS.replace("10.0.2.2", "127.0.0.1") % (TARGET, 3260) + RECORDS_JOB % program
+    for line in guest.lines(room, job, program, image):
+        if line.startswith("FLUSHED"):
+            told = int(line.split()[1])
+            if told == due:
+                time.sleep(random.random() / 20)
+                break
+    with open(image, "rb") as file:
+        held = file.read()
+    lost = [n for n in range(1, told + 1) if held[RECORD * n : RECORD * (n + 1)] != (b"record %d\n" % n * RECORD)[:RECORD]]
+    return told == due and not lost or (told, lost)
+
+
+CASES = [logs_in_by_secret, finds_the_portal, keeps_a_disk, flushes, trims, keeps_what_was_flushed]
 
 
 def main():

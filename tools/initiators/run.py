@@ -1,13 +1,14 @@
 #!/usr/bin/env python3
-"""Tries `serve` with the programs that other initiators are, with `--serial` and without it.
+"""Tries `serve` with the programs that other initiators are, with `--serial`, with `--thin`, and without them.
 
     tools/initiators/run.py [PROGRAM]
 
 PROGRAM is crates/lanthovur/out/lanthovur if none is named; `./lanthovur </dev/null` builds it. All is done on 127.0.0.1. The
-programs are iscsi-inq and iscsi-test-cu (Debian: libiscsi-bin) and qemu-img (qemu-utils, qemu-block-extra); what isn't installed
+programs are iscsi-inq and iscsi-test-cu (Debian: libiscsi-bin), qemu-img and qemu-io (qemu-utils, qemu-block-extra); what isn't installed
 is skipped, with a word. Each group of cases of iscsi-test-cu is told with how many of its cases passed and how many were skipped.
-The last line is 'N passed, M failed, K skipped'. It takes a minute. What Linux itself does is in tools/guest.
+The last line is 'N passed, M failed, K skipped'. It takes two minutes. What Linux itself does is in tools/guest.
 """
+import contextlib
 import os
 import re
 import shutil
@@ -15,6 +16,7 @@ import socket
 import subprocess
 import sys
 import tempfile
+import threading
 
 TOP = os.path.dirname(os.path.dirname(os.path.dirname(os.path.abspath(__file__))))
 TARGET = "iqn.2026-01.example:disk"
@@ -53,14 +55,41 @@ class Service:
         self.process.wait()
 
 
+class Counter:
+    """Stands between a service and its initiators, and counts the bytes that they send."""
+
+    def __init__(self, service):
+        self.listener = socket.create_server(("127.0.0.1", 0))
+        self.sent = 0
+        self.port = int(re.search(r":(\d+)/", service.url).group(1))
+        self.url = service.url.replace(f":{self.port}/", f":{self.listener.getsockname()[1]}/")
+        threading.Thread(target=self.listen, daemon=True).start()
+
+    def listen(self):
+        while True:
+            initiator, _ = self.listener.accept()
+            target = socket.create_connection(("127.0.0.1", self.port))
+            threading.Thread(target=self.pass_on, args=(initiator, target, True), daemon=True).start()
+            threading.Thread(target=self.pass_on, args=(target, initiator, False), daemon=True).start()
+
+    def pass_on(self, source, sink, counted):
+        # QEMU may reset a connection that it leaves
+        with contextlib.suppress(OSError):
+            while piece := source.recv(1 << 16):
+                self.sent += len(piece) if counted else 0
+                sink.sendall(piece)
+        with contextlib.suppress(OSError):
+            sink.shutdown(socket.SHUT_WR)
+
+
 def conformance(service, group):
-    """The cases of a group of iscsi-test-cu that failed, and how many passed, failed and said that they skip something."""
+    """The cases of a group of iscsi-test-cu that failed, and how many said that they skip something."""
     _, text = ran("iscsi-test-cu", "--dataloss", f"--test=ALL.{group}", service.url)
     cases = re.findall(r"Test: (\S+) \.\.\.(.*?)(passed|FAILED)", text, re.S)
     failed = [name for name, _, outcome in cases if outcome == "FAILED"]
     skipped = sum("[SKIPPED]" in said for _, said, _ in cases)
     print(f"         {group}: {len(cases) - len(failed)} passed, {len(failed)} failed, {skipped} of them skip something", flush=True)
-    return failed if cases else text
+    return failed if cases else text, skipped
 
 
 def numbers(program, room, words):
@@ -89,23 +118,60 @@ def holes(program, room, words):
 def inquiry(program, room, words):
     """iscsi-test-cu Inquiry."""
     with Service(program, *words) as service:
-        return conformance(service, "Inquiry") == ([] if words else ["BlockLimits"])
+        return conformance(service, "Inquiry")[0] == ([] if words else ["BlockLimits"])
 
 
 def modes(program, room, words):
     """iscsi-test-cu ModeSense6."""
     with Service(program, *words) as service:
-        return conformance(service, "ModeSense6") == []
+        return conformance(service, "ModeSense6")[0] == []
 
 
 def management(program, room, words):
     """iscsi-test-cu iSCSITMF."""
     with Service(program, *words) as service:
-        return conformance(service, "iSCSITMF") == ([] if words else ["AbortTaskSimpleAsync"])
+        return conformance(service, "iSCSITMF")[0] == ([] if words else ["AbortTaskSimpleAsync"])
 
 
-# Each is done without `--serial` first, where it is to come out as it does today.
-CASES = [numbers, holes, inquiry, modes, management]
+def same_blocks(group):
+    """A case of a group for WRITE SAME: without it nearly all skip something, with it fewer than half."""
+
+    def case(program, room, words):
+        with Service(program, *words) as service:
+            failed, skipped = conformance(service, group)
+        return failed == [] and (skipped < 5) == ("--thin" in words)
+
+    case.__doc__ = f"iscsi-test-cu {group}."
+    return case
+
+
+def zeros(program, room, words):
+    """qemu-io writes zeros over 32 MiB of other bytes, and sends less than 64 KiB for them; it reads zeros there, and the others around."""
+    with Service(program, *words) as service:
+        fill = ran("qemu-io", "-f", "raw", "-c", "write -P 7 0 64M", service.url)[0]
+        counter = Counter(service)
+        zero = ran("qemu-io", "-f", "raw", "-c", "write -z 8M 32M", counter.url)[0]
+        reads = ("read -P 7 0 8M", "read -P 0 8M 32M", "read -P 7 40M 24M")
+        status, text = ran("qemu-io", "-f", "raw", *(word for read in reads for word in ("-c", read)), service.url)
+    print(f"         {counter.sent} bytes for 32 MiB of zeros", flush=True)
+    same = fill == zero == status == 0 and "verification failed" not in text
+    return same and (counter.sent < 1 << 16) == ("--thin" in words)
+
+
+SERIAL = ["--serial", "disk-7"]
+THIN = [*SERIAL, "--thin"]
+# Each is done with its first words, where it is to come out as it does without what the second ones add.
+CASES = [
+    (numbers, [], SERIAL),
+    (holes, [], SERIAL),
+    (inquiry, [], SERIAL),
+    (modes, [], SERIAL),
+    (management, [], SERIAL),
+    (inquiry, SERIAL, THIN),
+    (same_blocks("WriteSame10"), SERIAL, THIN),
+    (same_blocks("WriteSame16"), SERIAL, THIN),
+    (zeros, SERIAL, THIN),
+]
 
 
 def outcome_of(case, program, words):
@@ -119,11 +185,11 @@ def outcome_of(case, program, words):
 def main():
     program = os.path.abspath(sys.argv[1] if len(sys.argv) > 1 else f"{TOP}/crates/lanthovur/out/lanthovur")
     counts = {"passed": 0, "failed": 0, "skipped": 0}
-    for case in CASES:
-        for words in ([], ["--serial", "disk-7"]):
+    for case, *both in CASES:
+        for words in both:
             outcome, why = outcome_of(case, program, words)
             counts[outcome] += 1
-            print(f"{outcome:8} {' '.join(words) or 'without':15} {case.__doc__} {why}", flush=True)
+            print(f"{outcome:8} {' '.join(words) or 'without':22} {case.__doc__} {why}", flush=True)
     print(", ".join(f"{count} {outcome}" for outcome, count in counts.items()))
     return 1 if counts["failed"] else 0
 

@@ -10,8 +10,9 @@ skipped, with a word. `serve` is killed N times (200 if not said) in the middle 
 failed, K skipped'.
 
 With --costs it measures instead, on an idle machine, in one run: commands a second and their ratio, of reads and of writes
-of 4 KiB and of 64 KiB, with 1 and with 8 outstanding, of `serve --file` and of tgt over a file that is opened to be written
-through (tgt, libiscsi-dev, cc). The last line says whether `serve` was slower anywhere.
+of 4 KiB and of 64 KiB, with 1 and with 8 outstanding (tgt, libiscsi-dev, cc). It measures `serve --file` beside tgt over a file
+that is opened to be written through, and `serve --file --write-back` beside tgt with its write cache. The last line says whether
+`serve` was slower anywhere.
 """
 import argparse
 import contextlib
@@ -569,7 +570,7 @@ CASES = [
 
 
 def costs(program, room, rounds, seconds):
-    """Commands a second over an image, beside tgt over a file that is opened to be written through."""
+    """Commands a second over an image, beside tgt over a file, each written through and with a write cache."""
     # its client and tables
     speed = module_of("speed")
     speed.DISK = BLOCK * BLOCKS
@@ -579,21 +580,27 @@ def costs(program, room, rounds, seconds):
     subprocess.run(["cc", "-O2", "-o", client, f"{TOP}/tools/speed/speed.c", "-liscsi"], check=True)
 
     class Image(speed.Lanthovur):
-        """`serve --file`."""
+        """`serve --file`, with further words."""
 
-        def __init__(self):
+        def __init__(self, name, *words):
             # noise, so that the file has no holes; likewise below
-            service = Service(program, noise(f"{room}/ours", BLOCK * BLOCKS))
+            service = Service(program, noise(f"{room}/{name}", BLOCK * BLOCKS), *words)
             self.process, self.url, self.pid = service.process, service.url, service.process.pid
 
-    class Through(speed.Tgt):
-        """tgtd, over a file that it opens with O_SYNC."""
+    class Tgt(speed.Tgt):
+        """tgtd, over a file that it opens with these flags."""
+
+        def __init__(self, name, *flags):
+            self.name, self.flags = name, flags
+            super().__init__(room, 1000)
 
         def backing(self):
-            self.disk = open(noise(f"{room}/theirs", BLOCK * BLOCKS), "rb")
-            return ["-b", self.disk.name, "--bsoflags", "sync"]
+            self.disk = open(noise(f"{room}/{self.name}", BLOCK * BLOCKS), "rb")
+            return ["-b", self.disk.name, *self.flags]
 
-    targets, lines, slower = [Image(), Through(room, 1000)], [], []
+    cache = ["--at-once", "2", "--serial", "disk-7", "--write-back"]
+    targets = [Image("ours"), Tgt("theirs", "--bsoflags", "sync"), Image("cached", *cache), Tgt("their_cache")]
+    lines, slower = [], []
     try:
         for size in (4096, 65536):
             for depth in (1, 8):
@@ -602,14 +609,18 @@ def costs(program, room, rounds, seconds):
                     for target, row in zip(targets, rows):
                         for cell, value in zip(row, speed.serve_once(client, target, size, depth, seconds)):
                             cell.values.append(value)
-                for ours, theirs in zip(*rows):
-                    name, ratio = f"{ours.name} of {size // 1024} KiB, {depth} outstanding", ours.median / theirs.median
-                    lines.append([name, ours.text(), theirs.text(), f"{ratio:.2f}"])
-                    slower += [name] if ratio < 1 else []
+                for cells in zip(*rows):
+                    name, line = f"{cells[0].name} of {size // 1024} KiB, {depth} outstanding", []
+                    for ours, theirs, words in ((*cells[:2], ""), (*cells[2:], " with --write-back")):
+                        ratio = ours.median / theirs.median
+                        line += [ours.text(), theirs.text(), f"{ratio:.2f}"]
+                        slower += [name + words] if ratio < 1 else []
+                    lines.append([name, *line])
     finally:
         for target in targets:
             target.end()
-    speed.table("Commands a second that last", ["", "`serve --file`", "tgt, `bsoflags sync`", "Ratio"], lines)
+    head = ["", "`serve --file`", "tgt, `bsoflags sync`", "Ratio", "`--write-back`", "tgt, its cache", "Ratio"]
+    speed.table("Commands a second that last, and with a write cache", head, lines)
     print(f"\nslower: {', '.join(slower) or 'none'}")
     return 1 if slower else 0
 

@@ -126,7 +126,8 @@ class Tgt:
     title = "tgt"
 
     def __init__(self, room, sessions):
-        port, control = free_port(), str(os.getpid() % 30000)
+        port = free_port()
+        control = str(port % 30000)
         portal = f"portal=127.0.0.1:{port}"
         self.process = subprocess.Popen(["/usr/sbin/tgtd", "-f", "-C", control, "--iscsi", portal], stderr=subprocess.DEVNULL)
         self.pid = self.process.pid

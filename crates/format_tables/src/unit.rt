@@ -15,13 +15,14 @@ const SERIAL: &[u8] = b"disk-7";
 /// The most bytes of a row's data.
 type Data = ArrayVec<u8, 128>;
 
-/// A command that a row is of, the place of the row's data among its cells, and how many bytes stand
-/// before those in what the command gives.
+/// A command that a row is of, the place of the row's data among its cells, how many bytes stand
+/// before those in what the command gives, and whether the row is of a thin disk.
 #[derive(Clone, Copy)]
 struct Asked {
     cdb: Cdb,
     cell: usize,
     header: usize,
+    thin: bool,
 }
 
 /// Holds each row of a page of product data, of a mode page and of REQUEST SENSE against the code.
@@ -41,6 +42,8 @@ pub fn hold_unit(rt: &HostRuntime, section: &str, counts: &mut Counts) -> io::Re
 // What a row is of, by its first cell.
 fn asked_by(name: &str) -> Option<Asked> {
     if let Some(page) = name.strip_prefix("INQUIRY, page ") {
+        let plain = page.strip_suffix(", thin");
+        let (page, thin) = (plain.unwrap_or(page), plain.is_some());
         let cdb = Cdb::Inquiry {
             evpd: true,
             page: u8::try_from(hex(page)?).ok()?,
@@ -51,6 +54,7 @@ fn asked_by(name: &str) -> Option<Asked> {
             cdb,
             cell: 3,
             header: 0,
+            thin,
         });
     }
     if name == "REQUEST SENSE" {
@@ -58,6 +62,7 @@ fn asked_by(name: &str) -> Option<Asked> {
             cdb: Cdb::Unknown([0x03, 0, 0, 0, 0xff, 0, 0, 0, 0, 0, 0, 0, 0, 0, 0, 0]),
             cell: 3,
             header: 0,
+            thin: false,
         });
     }
     let (page, _) = name.split_once(", c")?;
@@ -66,6 +71,7 @@ fn asked_by(name: &str) -> Option<Asked> {
         cdb: Cdb::Unknown([0x1a, 0, page, 0, 0xff, 0, 0, 0, 0, 0, 0, 0, 0, 0, 0, 0]),
         cell: 2,
         header: 4,
+        thin: false,
     })
 }
 
@@ -77,9 +83,11 @@ fn hold_row(alloc: Global, row: &str, asked: &Asked) -> Option<()> {
         read: true,
         write: false,
         expected: 0xffff,
+        same: false,
     };
     let unit = LogicalUnit::new(SERIAL, false)?;
-    let outcome = unit.outcome(alloc, &order).ok()??;
+    let unit = if asked.thin { unit.with_thin() } else { unit };
+    let outcome = unit.outcome(alloc, &order, 2048).ok()??;
     let told = outcome.bytes.as_slice().get(asked.header..)?;
     let due = data_of(cell(row, asked.cell))?;
     (due.as_slice() == told).then_some(())

@@ -15,6 +15,7 @@ use iscsi_server::{serve_at_once, serve_memory_at_once};
 use iscsi_service::serve;
 use iscsi_serving::{Access, ServeFault};
 use scsi_disk::{BlockStore, ReadOnly, SparseStore};
+use scsi_file::{FileStore, Medium};
 use std::convert::AsStr;
 use std::io::{self, Write};
 
@@ -126,11 +127,11 @@ fn serve_written<'a>(
     match storage {
         Storage::Memory { blocks } => ended(storage, serve_memory(rt, service, access, blocks)),
         Storage::Image(image) => match image.open(rt) {
-            Ok(mut store) => ended(storage, serve_store(rt, service, access, &mut store)),
+            Ok(store) => ended(storage, serve_medium(rt, service, access, store)),
             Err(fault) => Err(DiskFault::Image(image, fault)),
         },
         Storage::Nbd(export) => match export.open(rt) {
-            Ok(mut store) => ended(storage, serve_store(rt, service, access, &mut store)),
+            Ok(store) => ended(storage, serve_medium(rt, service, access, store)),
             Err(fault) => Err(DiskFault::Nbd(export, fault)),
         },
     }
@@ -193,6 +194,34 @@ fn serve_memory(
             serve(rt, port, &mut store, count_of(sessions), access)
         }
         Service::AtOnce(options) => serve_memory_at_once(rt, options, access, blocks),
+    }
+}
+
+// Serves a store on a medium, with a write cache if one is asked for.
+fn serve_medium<M: Medium + Drop>(
+    rt: &HostRuntime,
+    service: Service<'_>,
+    access: Access<'_>,
+    store: FileStore<M>,
+) -> Result<(), ServeFault>
+    requires service { CanServe service }
+{
+    let mut store = if has_cache(&service) {
+        store.with_write_back()
+    } else {
+        store
+    };
+    serve_store(rt, service, access, &mut store)
+}
+
+// Whether a disk with a write cache is asked for.
+fn has_cache(service: &Service<'_>) -> bool {
+    match service {
+        Service::InTurn { .. } => false,
+        Service::AtOnce(options) => match &options.unit {
+            Some(unit) => unit.write_back,
+            None => false,
+        },
     }
 }
 

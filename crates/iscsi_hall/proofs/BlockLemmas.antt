@@ -6,7 +6,7 @@ use Rattle.scsi_disk.specs.declared.order.Order.{Order}
 use Rattle.scsi_disk.specs.declared.order.Plan.{Plan}
 use Rattle.scsi_disk.specs.declared.order.Plan.TheVariants.{Refuse, Take, Give}
 use Rattle.scsi_disk.specs.Disk.{Disk, cut, joined, overlaid}
-use Rattle.scsi_disk.specs.Effect.{effect, disk_by, guarded, outcome_by, wanted_data}
+use Rattle.scsi_disk.specs.Effect.{block_data, effect, disk_by, guarded, outcome_by, wanted_data}
 use Rattle.scsi_disk.proofs.GuardLemmas.{plan_stays}
 use Rattle.scsi_disk.specs.Plan.{plan_of, transfer, is_read, is_write}
 use Rattle.scsi_disk.specs.declared.order.Outcome.{Outcome}
@@ -23,15 +23,15 @@ chosen true c x y = refl
 chosen false true x y = refl
 chosen false false x y = refl
 
-plan_block : (p : Plan) (disk : Disk) (order : Order) (bytes : List ℕ) (n : ℕ) → (disk_by p disk order bytes).block n
+pub plan_block : (p : Plan) (disk : Disk) (order : Order) (bytes : List ℕ) (n : ℕ) → (disk_by p disk order bytes).block n
     ≡ unwrap_or (block_by p order bytes n) (disk.block n)
 unfolding overlaid
 plan_block (Refuse sense) disk order bytes n = refl
 plan_block (Give length) disk order bytes n = refl
 plan_block (Take length) disk order bytes n = let first : ℕ = (transfer order.cdb).first in
-    chosen (nat_lt n first) (nat_lt (512 * (n - first)) (list_length bytes)) (cut 512 bytes (n - first)) (disk.block n)
+    chosen (nat_lt n first) (nat_lt (512 * (n - first)) (list_length (block_data order bytes))) (cut 512 (block_data order bytes) (n - first)) (disk.block n)
 
-plan_count : (p : Plan) (disk : Disk) (order : Order) (bytes : List ℕ) → (disk_by p disk order bytes).count ≡ disk.count
+pub plan_count : (p : Plan) (disk : Disk) (order : Order) (bytes : List ℕ) → (disk_by p disk order bytes).count ≡ disk.count
 plan_count (Refuse sense) disk order bytes = refl
 plan_count (Give length) disk order bytes = refl
 plan_count (Take length) disk order bytes = refl
@@ -99,7 +99,7 @@ pub read_bytes : (protected : Bool) (disk last : Disk) (past later : List Execut
     ≡ take length (joined (block_left protected disk past) (transfer e.order.cdb).first (transfer e.order.cdb).count)
 read_bytes protected disk last past later e length f is p =
     let front : Follows protected disk past e.disk = follow_front protected disk last past e later f in
-    ap (λ (o : Outcome). o.bytes) (not_told e.unit e.order (effect protected e.disk e.order (data_of e.pieces)).outcome
+    ap (λ (o : Outcome). o.bytes) (not_told e.unit e.disk.count e.order (effect protected e.disk e.order (data_of e.pieces)).outcome
     (ap (λ (b : Bool). b || is_write e.order.cdb) is))
     ∙ given_bytes (guarded protected (plan_of e.order e.disk.count)) length e.disk e.order
     (plan_stays protected (plan_of e.order e.disk.count) length (ap (λ (c : ℕ). plan_of e.order c) (follow_count protected disk e.disk past front) ∙ p))

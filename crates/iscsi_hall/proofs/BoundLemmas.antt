@@ -7,7 +7,8 @@ use Rattle.std.proofs.lemmas.Bool.{eqb-true, ltb-true}
 use Rattle.scsi_disk.specs.Disk.{Disk}
 use Rattle.scsi_disk.specs.Plan.{is_read, plan_of, transfer, wanted_length}
 use Rattle.scsi_disk.specs.declared.order.Order.{Order}
-use Rattle.scsi_disk.proofs.PlanLemmas.{IsGiven, IsTaken, given as given_by_plan, taken as taken_by_plan}
+use Rattle.scsi_disk.proofs.PlanLemmas.{IsGiven, given as given_by_plan, taken as taken_by_plan}
+use Rattle.scsi_disk.proofs.RepeatLemmas.{takes_few}
 use Rattle.scsi_disk.specs.declared.order.Plan.TheVariants as plans
 use Rattle.iscsi_stream.specs.Stream.{Message}
 use Rattle.iscsi_stream.specs.Canonical.{canon}
@@ -118,10 +119,7 @@ turn_waits protected seat old new before after result t may =
 
 pub most_taken : (order : Order) (blocks n : ℕ) → plan_of order blocks ≡ plans.Take n → n ≤ 4_194_304
 most_taken order blocks n p =
-    let t : IsTaken order blocks n = taken_by_plan order blocks n p in
-    let few = t.names.few in
-    let same = t.length in
-    omega (arith, few, same)
+    takes_few order blocks n (taken_by_plan order blocks n p)
 
 read_wants : (order : Order) (blocks : ℕ) → is_read order.cdb ≡ true → wanted_length order blocks ≡ 512 * (transfer order.cdb).count
 read_wants order blocks e = rw e refl

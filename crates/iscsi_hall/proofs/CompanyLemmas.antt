@@ -1,13 +1,14 @@
 -- One session in company: its answers, its order, and what tiles.
-use Rattle.std.proofs.Common.{Bool, ◌≡◌, ◌<◌, inl, inr, ℕ, ◌^◌, true, false, List, [], ◌∷◌, ◌++◌, refl, sym, ap, subst, ◌∙◌, append-nil, append_assoc, map}
+use Rattle.std.proofs.Common.{Bool, ◌≡◌, ◌<◌, inl, inr, ℕ, ◌^◌, true, false, List, [], ◌∷◌, ◌++◌, refl, sym, ap, subst, ◌∙◌, append-nil, append_assoc, map, Option}
 use Rattle.std.specs.List.{AllByRecursion}
 use Rattle.std.proofs.lemmas.List.{map-append}
 use Rattle.std.proofs.lemmas.Grind.{flat_map-append}
 use Rattle.scsi_disk.specs.Disk.{Disk}
+use Rattle.scsi_unit.specs.LogicalUnit.{LogicalUnit}
 use Rattle.iscsi_stream.specs.Stream.{Message}
 use Rattle.iscsi_login.specs.Negotiation.{IsInRange}
 use Rattle.iscsi_target_session.specs.Configured.{Settings}
-use Rattle.iscsi_target.specs.State.{Machine, Execution, Stepped, joined, opening}
+use Rattle.iscsi_target.specs.State.{Machine, Execution, Stepped, joined, opening, unit_of}
 use Rattle.iscsi_target.specs.Execution.{reliable}
 use Rattle.iscsi_target.specs.Machine.{answers, is_closed, step, then_stepped}
 use Rattle.iscsi_target.specs.Tiles.{TilesDataIn}
@@ -70,48 +71,60 @@ over_closed protected s disk (g ∷ gs) e =
 
 -- ---- the order
 
-end_queues : (tasks : _) (first later : Stepped) → Queues tasks first → is_closed first.machine ≡ true → later.accepted ≡ [] → later.executed ≡ [] →
-    is_closed later.machine ≡ true → Queues tasks (then_stepped first later)
-end_queues tasks first later q e a x c = record {
+-- what a session was configured with stays
+pub over_settings : (protected : Bool) (s : Machine) (disk : Disk) (gs : List Group)
+    → (answers_over protected s disk gs).machine.session.settings ≡ s.session.settings
+unfolding answers_over
+over_settings protected s disk [] = refl
+over_settings protected s disk (g ∷ gs) = over_settings protected (answers protected s g.0 g.1).machine (answers protected s g.0 g.1).disk gs
+    ∙ answers_settings protected s g.0 g.1
+
+end_queues : (unit : Option LogicalUnit) (tasks : _) (first later : Stepped) → Queues unit tasks first → is_closed first.machine ≡ true → later.accepted ≡ [] → later.executed ≡ [] →
+    is_closed later.machine ≡ true → Queues unit tasks (then_stepped first later)
+end_queues unit tasks first later q e a x c = record {
   more = q.more;
-  order = ap (λ (ms : List Message). tasks_open tasks ++ tasks_in (first.accepted ++ ms)) a
-      ∙ ap (λ (ms : List Message). tasks_open tasks ++ tasks_in ms) (append-nil first.accepted) ∙ q.order
+  order = ap (λ (ms : List Message). tasks_open unit tasks ++ tasks_in unit (first.accepted ++ ms)) a
+      ∙ ap (λ (ms : List Message). tasks_open unit tasks ++ tasks_in unit ms) (append-nil first.accepted) ∙ q.order
       ∙ ap (λ (es : List Execution). tasks_done es ++ q.more) (sym (append-nil first.executed))
       ∙ ap (λ (es : List Execution). tasks_done (first.executed ++ es) ++ q.more) (sym x);
   open_ = λ f. absurd (cc (c, f));
 }
 
-open_queues : (tasks : _) (first later : Stepped) → Queues tasks first → is_closed first.machine ≡ false → Queues first.machine.tasks later →
-    Queues tasks (then_stepped first later)
-open_queues tasks first later q e p = record {
+open_queues : (unit : Option LogicalUnit) (tasks : _) (first later : Stepped) → Queues unit tasks first → is_closed first.machine ≡ false → Queues unit first.machine.tasks later →
+    Queues unit tasks (then_stepped first later)
+open_queues unit tasks first later q e p = record {
   more = p.more;
   order =
-      ap (λ (ts : List Command). tasks_open tasks ++ ts) (tasks_append first.accepted later.accepted)
-      ∙ sym (append_assoc (tasks_open tasks) (tasks_in first.accepted) (tasks_in later.accepted))
-      ∙ ap (λ (ts : List Command). ts ++ tasks_in later.accepted) q.order
-      ∙ append_assoc (tasks_done first.executed) q.more (tasks_in later.accepted)
-      ∙ ap (λ (ts : List Command). tasks_done first.executed ++ (ts ++ tasks_in later.accepted)) (q.open_ e)
+      ap (λ (ts : List Command). tasks_open unit tasks ++ ts) (tasks_append unit first.accepted later.accepted)
+      ∙ sym (append_assoc (tasks_open unit tasks) (tasks_in unit first.accepted) (tasks_in unit later.accepted))
+      ∙ ap (λ (ts : List Command). ts ++ tasks_in unit later.accepted) q.order
+      ∙ append_assoc (tasks_done first.executed) q.more (tasks_in unit later.accepted)
+      ∙ ap (λ (ts : List Command). tasks_done first.executed ++ (ts ++ tasks_in unit later.accepted)) (q.open_ e)
       ∙ ap (λ (ts : List Command). tasks_done first.executed ++ ts) p.order
       ∙ sym (append_assoc (tasks_done first.executed) (tasks_done later.executed) p.more)
       ∙ ap (λ (ts : List Command). ts ++ p.more) (sym (map-append task_of first.executed later.executed));
   open_ = p.open_;
 }
 
-over_queue : (protected : Bool) (s : Machine) (disk : Disk) (gs : List Group) → Queues s.tasks (answers_over protected s disk gs)
+over_queue : (protected : Bool) (s : Machine) (disk : Disk) (gs : List Group) → Queues (unit_of s.session) s.tasks (answers_over protected s disk gs)
 unfolding answers_over
-over_queue protected s disk [] = record { more = tasks_open s.tasks; order = append-nil (tasks_open s.tasks); open_ = λ f. refl }
+over_queue protected s disk [] = record { more = tasks_open (unit_of s.session) s.tasks; order = append-nil (tasks_open (unit_of s.session) s.tasks); open_ = λ f. refl }
 over_queue protected s disk (g ∷ gs) =
     let first : Stepped = answers protected s g.0 g.1 in
-    let q : Queues s.tasks first = answers_queue protected s g.0 g.1 in
+    let q : Queues (unit_of s.session) s.tasks first = answers_queue protected s g.0 g.1 in
     by_cases (is_closed first.machine)
     (λ e. let c = over_closed protected first.machine first.disk gs e in
-    end_queues s.tasks first (answers_over protected first.machine first.disk gs) q e c.0 c.1 c.2)
-    (λ e. open_queues s.tasks first (answers_over protected first.machine first.disk gs) q e (over_queue protected first.machine first.disk gs))
+    end_queues (unit_of s.session) s.tasks first (answers_over protected first.machine first.disk gs) q e c.0 c.1 c.2)
+    (λ e. open_queues (unit_of s.session) s.tasks first (answers_over protected first.machine first.disk gs) q e
+    (subst (λ (p : Settings). Queues p.extras.unit first.machine.tasks (answers_over protected first.machine first.disk gs))
+    (answers_settings protected s g.0 g.1) (over_queue protected first.machine first.disk gs)))
 
 pub over_in_order : (protected : Bool) (settings : Settings) (n : ℕ) (disk : Disk) (gs : List Group)
     → AreInOrder (answers_over protected (opening settings n) disk gs)
 over_in_order protected settings n disk gs =
-    let q : Queues [] (answers_over protected (opening settings n) disk gs) = over_queue protected (opening settings n) disk gs in
+    let r : Stepped = answers_over protected (opening settings n) disk gs in
+    let q : Queues (unit_of r.machine.session) [] r = subst (λ (p : Settings). Queues p.extras.unit [] r)
+    (sym (over_settings protected (opening settings n) disk gs)) (over_queue protected (opening settings n) disk gs) in
     record { more = q.more; order = q.order; open_ = q.open_ }
 
 -- ---- what tiles
@@ -121,13 +134,6 @@ unfolding answers_over
 over_fit protected s disk [] f = f
 over_fit protected s disk (g ∷ gs) f = over_fit protected (answers protected s g.0 g.1).machine (answers protected s g.0 g.1).disk gs
     (answers_fit protected s g.0 g.1 f)
-
-over_settings : (protected : Bool) (s : Machine) (disk : Disk) (gs : List Group)
-    → (answers_over protected s disk gs).machine.session.settings ≡ s.session.settings
-unfolding answers_over
-over_settings protected s disk [] = refl
-over_settings protected s disk (g ∷ gs) = over_settings protected (answers protected s g.0 g.1).machine (answers protected s g.0 g.1).disk gs
-    ∙ answers_settings protected s g.0 g.1
 
 opening_fit : (protected : Bool) (settings : Settings) (n : ℕ) (disk : Disk) → IsFit (opening settings n)
 unfolding answers

@@ -8,3 +8,5 @@ pub mod ReinstatementLemmas
 pub mod CompanyNumberLemmas
 pub mod OwnOrderLemmas
 pub mod BoundLemmas
+pub mod FlushLemmas
+pub mod WrittenLemmas

@@ -15,7 +15,7 @@ use Rattle.iscsi_hall.specs.Turns.{seat_of}
 use Rattle.iscsi_hall.specs.Company.{Group, IsCalm, answers_over, groups_in}
 use Rattle.iscsi_hall.specs.OwnOrder.{Placed, placed_by, placed_in, executed_for}
 use Rattle.iscsi_hall.proofs.RunLemmas.{own_session}
-use Rattle.iscsi_hall.proofs.CompanyLemmas.{closed_quiet, over_in_order, over_joined}
+use Rattle.iscsi_hall.proofs.CompanyLemmas.{closed_quiet, over_in_order, over_joined, over_settings}
 
 -- ---- the list
 
@@ -127,7 +127,7 @@ pub own_accepted : (protected : Bool) (seats after : Seats) (store last : Store)
     → Runs protected seats store es after last →
     seats seat ≡ Some (opening settings n) → Stays seat es → AllByRecursion IsCalm (events_of seat es) → (disk : Disk)
     → (more : List Command)
-    × (tasks_in (answers_over protected (opening settings n) disk (groups_in (events_of seat es))).accepted ≡ tasks_done (executed_for seat (placed_in es))
+    × (tasks_in settings.extras.unit (answers_over protected (opening settings n) disk (groups_in (events_of seat es))).accepted ≡ tasks_done (executed_for seat (placed_in es))
     ++ more)
 own_accepted protected seats after store last es seat n settings r has stays calm disk =
     let gs : List Group = groups_in (events_of seat es) in
@@ -135,5 +135,8 @@ own_accepted protected seats after store last es seat n settings r has stays cal
     let order : AreInOrder run = over_in_order protected settings n disk gs in
     let same : tasks_done run.executed ≡ tasks_done (executed_for seat (placed_in es)) =
     sym (tasks_whole run.executed) ∙ ap tasks_done (sym (own_executed protected seats after store last es seat (opening settings n) r has stays calm disk))
-    ∙ tasks_whole (executed_for seat (placed_in es)) in
-    (order.more, order.order ∙ ap (λ (ts : List Command). ts ++ order.more) same)
+    ∙ tasks_whole (executed_for seat (placed_in es)) in (
+      order.more,
+      ap (λ (p : Settings). tasks_in p.extras.unit run.accepted) (sym (over_settings protected (opening settings n) disk gs)) ∙ order.order
+          ∙ ap (λ (ts : List Command). ts ++ order.more) same,
+    )

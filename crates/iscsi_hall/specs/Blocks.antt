@@ -7,7 +7,7 @@ use Rattle.scsi_disk.specs.declared.order.Order.{Order}
 use Rattle.scsi_disk.specs.declared.order.Plan.{Plan}
 use Rattle.scsi_disk.specs.declared.order.Plan.TheVariants.{Take}
 use Rattle.scsi_disk.specs.Disk.{Disk, cut}
-use Rattle.scsi_disk.specs.Effect.{effect, guarded}
+use Rattle.scsi_disk.specs.Effect.{block_data, effect, guarded}
 use Rattle.scsi_disk.specs.Plan.{plan_of, transfer}
 use Rattle.iscsi_stream.specs.Pieces.{data_of}
 use Rattle.iscsi_target.specs.State.{Execution}
@@ -29,7 +29,8 @@ block_in first bytes n =
 
 -- What an order, by its plan, writes to block n; none where it doesn't.
 abbrev pub block_by : Plan → Order → List ℕ → ℕ → Option (List ℕ)
-block_by (Take length) order bytes n = block_in (transfer order.cdb).first bytes n
+block_by (Take length) order bytes n =
+    block_in (transfer order.cdb).first (block_data order bytes) n
 block_by _ order bytes n = None
 
 -- What a command writes to block n, on a disk that has `count`; none where it doesn't.

@@ -5,3 +5,4 @@ pub mod Company
 pub mod Reinstatement
 pub mod OwnOrder
 pub mod Bounds
+pub mod Flushes

@@ -7,6 +7,7 @@ use Rattle.iscsi_login.specs.declared.phase.Phase.{Phase}
 use Rattle.iscsi_target_session.specs.Configured.{Settings}
 use Rattle.iscsi_target.specs.declared.fault.TargetFault.{TargetFault}
 use Rattle.iscsi_target.specs.Machine.{is_closed}
+use Rattle.iscsi_target.specs.Asking.{NotesAsking, has_cache}
 use Rattle.iscsi_target.specs.Feed.{Connection, Store, FedNext, Finishes, opening_connection, scene}
 
 -- ---- a seat
@@ -20,6 +21,9 @@ pub record Seat : Type 0 where
   pub offered : Bool
   -- what was read and not taken
   pub unfed : List ℕ
+  -- over a disk with a write cache: a command behind which all that was written is to last may have
+  -- been executed, whose answers are not all written
+  pub asks : Bool
 
 -- A session to which nothing came, whose first StatSN is 1 (section 4.2.2.2; own rule).
 abbrev pub opening_seat : Settings → Seat
@@ -28,6 +32,7 @@ opening_seat settings = record {
   waiting = [];
   offered = false;
   unfed = [];
+  asks = false;
 }
 
 -- What the session is doing (section 6.3).
@@ -47,9 +52,13 @@ may_read s = is_idle s && length s.unfed == 0
 abbrev pub has_room : Seat → Bool
 has_room s = length s.waiting == 0 || (not s.offered && nat_lt (length s.waiting) 65536)
 
+-- What waits may have the answer to a command that asks that what was written lasts.
+abbrev pub still_asks : Seat → Bool
+still_asks s = s.asks && not (length s.waiting == 0)
+
 -- The seat where answers are gathered: the peer was not offered what waits.
 abbrev pub gathering : Seat → Seat
-gathering s = record s { offered = false }
+gathering s = record s { offered = false; asks = still_asks s }
 
 -- The next PDU may be taken: something that was read is not, the session goes on, and there is room
 -- for answers.
@@ -86,6 +95,10 @@ pub record TakesAt (protected : Bool) (old : Seat) (before : Store)
       (with_phase (phase_of new) result) (scene new.connection after new.waiting)
   pub offered : new.offered ≡ false
   pub unfed : new.unfed ≡ left_of result old.unfed
+  -- where the seat does not ask, no command asks that the call executed
+  pub asks : NotesAsking protected (scene old.connection before old.waiting) old.unfed
+      (with_phase (phase_of new) result) (scene new.connection after new.waiting)
+      (still_asks old) new.asks
 
 -- The stream ended; what waits stays.
 pub record FinishesAt (old : Seat) (result : Result (Unit {0}) TargetFault)
@@ -94,6 +107,7 @@ pub record FinishesAt (old : Seat) (result : Result (Unit {0}) TargetFault)
   pub waiting : new.waiting ≡ old.waiting
   pub offered : new.offered ≡ old.offered
   pub unfed : new.unfed ≡ old.unfed
+  pub asks : new.asks ≡ old.asks
 
 -- ---- a hall
 
@@ -133,6 +147,29 @@ expected_command_at (Some s) = s.connection.machine.session.exp_cmd_sn
 abbrev pub waiting_at : Option Seat → List ℕ
 waiting_at None = []
 waiting_at (Some s) = s.waiting
+
+-- What waits there may have the answer to a command that asks that what was written lasts.
+abbrev pub asks_at : Option Seat → Bool
+asks_at None = false
+asks_at (Some s) = still_asks s
+
+-- It is noted there that a command asks so.
+abbrev pub notes_asking : Option Seat → Bool
+notes_asking None = false
+notes_asking (Some s) = s.asks
+
+-- The disk of the session there has a write cache.
+abbrev pub has_cache_at : Option Seat → Bool
+has_cache_at None = false
+has_cache_at (Some s) = has_cache s.connection.machine
+
+-- What waits at a seat is offered to its peer only once the store is synced. It may do without where
+-- the disk has a write cache and the session goes on, unless the seat asks (SBC-3, section 4.15; that a
+-- session which is over asks, too, is own rule).
+abbrev pub must_sync : Option Seat → Bool
+must_sync None = true
+must_sync (Some s) =
+    not (has_cache s.connection.machine) || (s.asks || is_closed s.connection.machine)
 
 -- One session did so, and every other seat is as it was.
 pub record Changes (place : ℕ) (old new : Hall) (P : Seat → Seat → Type 0) : Type 0 where

@@ -10,7 +10,8 @@ use Rattle.iscsi_target.specs.declared.fault.TargetFault.{TargetFault}
 use Rattle.iscsi_target.specs.State.{Machine, Execution, Stepped, closed, joined, opening, unchanged}
 use Rattle.iscsi_target.specs.Machine.{is_closed, answers, MayAnswer, MayStop}
 use Rattle.iscsi_target.specs.Feed.{Store}
-use Rattle.iscsi_hall.specs.Seats.{Hall, Seat, seat_at, waiting_at}
+use Rattle.iscsi_target.specs.Asking.{NoneAsks}
+use Rattle.iscsi_hall.specs.Seats.{Hall, Seat, asks_at, has_cache_at, notes_asking, seat_at, waiting_at}
 
 -- ---- a turn
 
@@ -84,7 +85,7 @@ pub record IsTurn (protected : Bool) (seats : Seats) (store : Store) (t : Turn) 
 -- ---- a hall's life
 
 -- What happens in a hall: a session gets a free seat, takes a turn, has the store synced for its
--- answers, has its stream ended, or leaves.
+-- answers if these have to wait for it, has its stream ended, or leaves.
 pub data Event : Type 0 where
   Comes : ℕ → Settings → Event
   Takes : Turn → Event
@@ -199,6 +200,13 @@ pub record TakesTurn (protected : Bool) (seat : ℕ) (old : Hall) (before : Stor
   pub is_turn : IsTurn protected (machines old) before turn (machines new) after
   pub answers_are : waiting_at (seat_at new seat)
       ≡ waiting_at (seat_at old seat) ++ canon (answers_of turn)
+  -- Over a disk with a write cache: where the seat does not ask, no command asks that the turn
+  -- executed, or whose answer waited before.
+  pub asks : OnOk result (has_cache_at (seat_at old seat) ≡ true
+      → notes_asking (seat_at new seat) ≡ false
+      → (asks_at (seat_at old seat) ≡ false) × NoneAsks (executed_of turn))
+  -- The disk has a write cache if it had one.
+  pub cache : OnOk result (has_cache_at (seat_at new seat) ≡ has_cache_at (seat_at old seat))
 
 -- This happened in the hall, and no block changed.
 abbrev pub HappensIn : Event → Hall → Hall → Type 0

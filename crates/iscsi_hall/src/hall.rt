@@ -6,7 +6,7 @@ ghost use Rattle.scsi_disk.specs.Disk.{Tells};
 ghost use Rattle.scsi_disk.specs.Lasting.{Lasts, Settled, Within};
 ghost use Rattle.iscsi_target.specs.Crash.{CrashesNext};
 ghost use Rattle.iscsi_target.specs.Inside.{store_of};
-ghost use Rattle.iscsi_hall.specs.Seats.{expected_command_at, initiator_at, opening_seat, phase_of, may_read_at, may_take_at, most_read, received, with_sent, waiting_at, seat_at, with_seat, Changes, Takes, FinishesAt};
+ghost use Rattle.iscsi_hall.specs.Seats.{expected_command_at, initiator_at, opening_seat, phase_of, may_read_at, may_take_at, most_read, must_sync, received, with_sent, waiting_at, seat_at, with_seat, Changes, Takes, FinishesAt};
 ghost use Rattle.iscsi_hall.specs.Reinstatement.{takes_place_of};
 ghost use Rattle.iscsi_hall.specs.Turns.{Comes, Ends, Goes, Happens, HappensIn, SameMachines, Syncs, TakesTurn, machines};
 
@@ -238,13 +238,20 @@ impl Hall {
     /// What the seat's session has still to write, once the store is synced: so no peer is told of a
     /// write that a crash could take back. The fault is that of the sync; then what waits at any
     /// seat may tell of a write that is lost, so that all of them are to be left.
+    ///
+    /// Over a disk with a write cache the store is synced only where the seat asks for it: a command
+    /// asks whose answer waits, a SYNCHRONIZE CACHE or one with the bit FUA, or the session is over.
+    /// So a peer may be told of writes that a crash takes back, as its disk has told it, and is never
+    /// told so of a SYNCHRONIZE CACHE (SBC-3, section 4.15).
     pub fn offered<S: BlockStore>(&self, seat: usize, store: &mut S) -> Result<&[u8], StoreFault>
         ensures waiting { IfOk result
             (λ bytes. bytes.now ≡ waiting_at (seat_at self.now seat)) }
-        // A crash leaves the blocks that the answered commands led to, and no others.
-        ensures lasts { OnOk result (S.failures store.new ≡ 0
-            → Settled (S.disk store.new) (S.kept store.new)) }
-        ensures synced { OnOk result (S.synced store.new ≡ true) }
+        // A crash leaves the blocks that the answered commands led to, and no others. Over a disk with
+        // a write cache this is so where the seat asks for it.
+        ensures lasts { must_sync (seat_at self.now seat) ≡ true → OnOk result
+            (S.failures store.new ≡ 0 → Settled (S.disk store.new) (S.kept store.new)) }
+        ensures synced { must_sync (seat_at self.now seat) ≡ true
+            → OnOk result (S.synced store.new ≡ true) }
         ensures disk { S.disk store.new ≡ S.disk store.old }
         ensures crash { Within (S.kept store.old) (S.kept store.new) }
         ensures tells { Tells (S.disk store.old).tells (S.failures store.old) (S.failures store.new)
@@ -254,8 +261,20 @@ impl Hall {
             (store_of (S.disk store.old) (S.failures store.old)) (Syncs seat)
             (machines self.now) (store_of (S.disk store.new) (S.failures store.new)) }
     {
-        store.sync()?;
+        if self.must_sync(seat) {
+            store.sync()?;
+        }
         Ok(self.waiting(seat))
+    }
+
+    // Whether what waits at a seat is offered only once the store is synced.
+    fn must_sync(&self, seat: usize) -> bool
+        ensures { result ≡ must_sync (seat_at self.now seat) }
+    {
+        match self.at(seat) {
+            Some(taken) => taken.must_sync(),
+            None => true,
+        }
     }
 
     /// What waits was offered to the peer, and `n` bytes of it were written.

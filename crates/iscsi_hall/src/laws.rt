@@ -1,12 +1,14 @@
 //! Laws of every interleaving of sessions: functions that do nothing, whose contracts are the
 //! theorems.
 
-ghost use Rattle.std.specs.Prelude.{Bool, ◌≡◌, ◌<◌, ◌≤◌, ◌+◌, ◌^◌, ◌∷◌, ◌++◌, ℕ, true, List, Result, Some, length, map, take};
+ghost use Rattle.std.specs.Prelude.{Bool, ◌≡◌, ◌⊎◌, [], ◌<◌, ◌≤◌, ◌+◌, ◌^◌, ◌∷◌, ◌++◌, ℕ, false, true, List, OnOk, Option, Result, Some, length, map, take};
 ghost use Rattle.std.specs.List.{AllByRecursion};
 ghost use Rattle.scsi_disk.specs.declared.order.Order.{Order};
 ghost use Rattle.scsi_disk.specs.declared.order.Plan.TheVariants.{Give, Take};
 ghost use Rattle.scsi_disk.specs.Disk.{Disk, joined};
+ghost use Rattle.scsi_disk.specs.Lasting.{Settled, Within};
 ghost use Rattle.scsi_disk.specs.Plan.{is_read, plan_of, transfer};
+ghost use Rattle.scsi_disk.specs.Runs.{Supplied};
 ghost use Rattle.iscsi_pdu.specs.declared.head.Head.TheVariants as heads;
 ghost use Rattle.iscsi_pdu.specs.declared.head.login_request.LoginRequest.{LoginRequest};
 ghost use Rattle.iscsi_stream.specs.Stream.{Message};
@@ -17,14 +19,19 @@ ghost use Rattle.iscsi_target.specs.Tiles.{IsModest, IsTiled, TilesDataIn, bytes
 ghost use Rattle.iscsi_target.specs.Machine.{step};
 ghost use Rattle.iscsi_target.specs.State.{Execution, Machine, opening};
 ghost use Rattle.iscsi_target.specs.declared.fault.TargetFault.{TargetFault};
-ghost use Rattle.iscsi_target.specs.Feed.{Store};
+ghost use Rattle.iscsi_target.specs.Asking.{NoneAsks};
+ghost use Rattle.iscsi_target.specs.Crash.{CrashesNext, IsBehind};
+ghost use Rattle.iscsi_target.specs.Feed.{Connection, Store};
 ghost use Rattle.iscsi_target.specs.Laws.{AreInOrder, Command, CountOn, HasCmdSn, Leads, cmd_sns, joined_execution, response_tags, stat_sns, tasks_done, tasks_in};
-ghost use Rattle.iscsi_hall.specs.Seats.{Hall, may_take_at, seat_at, waiting_at};
-ghost use Rattle.iscsi_hall.specs.Turns.{Event, Runs, Seats, Session, Stays, TakesTurn, answers_of, events_of, executed_in};
+ghost use Rattle.iscsi_hall.specs.Seats.{Hall, Seat, has_cache_at, may_take_at, must_sync, seat_at, waiting_at};
+ghost use Rattle.iscsi_hall.specs.Turns.{Event, Runs, Seats, Session, Stays, TakesTurn, answers_of, events_of, executed_in, executed_of};
 ghost use Rattle.iscsi_hall.specs.Blocks.{Follows, block_left};
+ghost use Rattle.iscsi_hall.specs.Flushes.{AreNext, AreNoted, Change, IsOrdered, IsWrittenBy, IsWrittenIn, LeaveInTurn, Leaves, change, owed_behind};
 ghost use Rattle.iscsi_hall.specs.Bounds.{ExecutesFew, HoldsFew, IsNumbered};
 ghost use Rattle.iscsi_hall.specs.OwnOrder.{executed_for, placed_in};
 ghost use Rattle.iscsi_hall.specs.Company.{Group, HaveCount, IsCalm, answers_in, answers_over, groups_in, messages_in};
+
+use scsi_disk::BlockStore;
 
 /// One disk of all sessions: whatever the order of their turns, the blocks are those that all
 /// executed commands leave, one after another.
@@ -56,6 +63,46 @@ pub fn last_write_is_read()
         (es : List Event) (n : ℕ)
         → Runs protected seats store es after last → last.failures ≡ store.failures
         → last.disk.block n ≡ block_left protected store.disk (executed_in es) n }
+{}
+
+/// What lasts over a disk with a write cache. A flush that was answered left a store of which a crash
+/// leaves the blocks, and nothing else (`Hall::offered`, clause `lasts`). Whatever comes behind it, a
+/// crash then leaves of each block what it had at the flush, or what a later command leaves of it.
+pub fn flushed_lasts<S: BlockStore>()
+    ensures since { (first last : S) (cs : List (Change S)) (n : ℕ) (bytes : List ℕ)
+        → Settled (S.disk first) (S.kept first)
+        → LeaveInTurn S.protected (λ s. S.disk s) (λ s. S.kept s) first cs last
+        → S.kept last n bytes
+        → (bytes ≡ (S.disk first).block n) ⊎ IsWrittenIn S.protected (λ s. S.disk s) cs n bytes }
+    // What a command leaves of a block is what it writes there, or what the block had before it.
+    ensures behind { (protected : Bool) (disk : Disk) (orders : List Supplied) (n : ℕ)
+        (bytes : List ℕ) → IsBehind protected disk orders n bytes
+        → (bytes ≡ disk.block n) ⊎ IsOrdered protected disk.count orders n bytes }
+    // And the block had what it had at the flush, or what a command wrote that was executed since.
+    ensures had { (protected : Bool) (seats after : Seats) (store last : Store) (es : List Event)
+        (n : ℕ) → Runs protected seats store es after last
+        → (last.disk.block n ≡ store.disk.block n)
+        ⊎ IsWrittenBy protected store.disk.count (executed_in es) n (last.disk.block n) }
+    // A turn of a seat is such a change (`Hall::take`, clause `crash`), and so is a sync.
+    ensures turn { (old : Connection) (piece : List ℕ) (a b : S)
+        → CrashesNext S.protected old piece (S.disk a) (S.disk b) (S.kept a) (S.kept b)
+        → (orders : List Supplied) × AreNext old piece (S.disk a).count orders
+        × Leaves S.protected (λ s. S.disk s) (λ s. S.kept s) (change a orders b) }
+    // Over a disk with a write cache a turn notes at its seat whether a command asks whose answer waits
+    // there. Where one does, `Hall::offered` syncs the store first (`must_sync`).
+    ensures noted { (protected : Bool) (seat : ℕ) (old new : Hall) (before after : Store)
+        (result : Result ℕ TargetFault) (owed : List Execution)
+        (t : TakesTurn protected seat old before result new after)
+        → has_cache_at (seat_at old seat) ≡ true → AreNoted (seat_at old seat) owed
+        → OnOk result (AreNoted (seat_at new seat)
+        (owed_behind (seat_at old seat) owed (executed_of t.turn))) }
+    // What waits is offered without a sync only where none of those commands asks. Without a write
+    // cache it never is.
+    ensures unsynced { (seat : Option Seat) (owed : List Execution)
+        → AreNoted seat owed → must_sync seat ≡ false → NoneAsks owed }
+    ensures plain { (seat : Option Seat) → has_cache_at seat ≡ false → must_sync seat ≡ true }
+    ensures sync { (a b : S) → Within (S.kept a) (S.kept b)
+        → Leaves S.protected (λ s. S.disk s) (λ s. S.kept s) (change a [] b) }
 {}
 
 /// Each session is its own: while one session has a seat, its turns are its own machine's, each
@@ -91,7 +138,7 @@ pub fn own_order()
         (settings : Settings) → Runs protected seats store es after last
         → seats seat ≡ Some (opening settings n) → Stays seat es
         → AllByRecursion IsCalm (events_of seat es) → (disk : Disk) → (more : List Command)
-        × (tasks_in (answers_over protected (opening settings n) disk
+        × (tasks_in settings.extras.unit (answers_over protected (opening settings n) disk
         (groups_in (events_of seat es))).accepted
         ≡ tasks_done (executed_for seat (placed_in es)) ++ more) }
 {}

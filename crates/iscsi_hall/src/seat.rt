@@ -1,11 +1,11 @@
 //! The session of a seat, with what it has still to take and to write.
 
-ghost use Rattle.std.specs.Prelude.{◌≡◌, ◌≤◌, length, not, true, OnOk, OnErr};
+ghost use Rattle.std.specs.Prelude.{◌≡◌, ◌≤◌, length, not, true, OnOk, OnErr, Some};
 ghost use Rattle.iscsi_target.specs.Machine.{is_closed};
 ghost use Rattle.iscsi_target.specs.Crash.{CrashesNext};
 ghost use Rattle.iscsi_target.specs.Inside.{store_of};
 ghost use Rattle.iscsi_hall.specs.Reinstatement.{is_served, session_of, takes_over};
-ghost use Rattle.iscsi_hall.specs.Seats.{opening_seat, phase_of, is_idle, has_room, gathering, may_read, may_take, most_read, received, with_sent, TakesAt, FinishesAt};
+ghost use Rattle.iscsi_hall.specs.Seats.{opening_seat, phase_of, is_idle, has_room, gathering, may_read, may_take, most_read, must_sync, received, with_sent, TakesAt, FinishesAt};
 
 use iscsi_login::{Phase, Session};
 use iscsi_target::{Config, Target, TargetFault};
@@ -29,6 +29,7 @@ pub struct Seat {
     offered: bool,
     unfed: Vec<u8>,
     fed: usize,
+    asks: bool,
 }
 
 impl Model for Seat {
@@ -42,6 +43,7 @@ impl Model for Seat {
       waiting = drop s.sent s.output.items;
       offered = s.offered;
       unfed = drop s.fed s.unfed.items;
+      asks = s.asks;
     } };
 
     ghost invariant = { λ s. (s.sent ≤ length s.output.items) × (s.fed ≤ length s.unfed.items)
@@ -60,6 +62,7 @@ impl Seat {
             offered: false,
             unfed: Vec::new(alloc),
             fed: 0,
+            asks: false,
         }
     }
 
@@ -163,6 +166,7 @@ impl Seat {
         if self.sent == self.output.len() {
             self.output.clear();
             self.sent = 0;
+            self.asks = false;
         }
         self.offered = false;
     }
@@ -178,10 +182,12 @@ impl Seat {
             (S.disk store.new) (S.kept store.old) (S.kept store.new) }
     {
         self.gather();
-        match self
-            .target
-            .feed_next(&self.unfed[self.fed..], store, &mut self.output)
-        {
+        match self.target.feed_asking(
+            &self.unfed[self.fed..],
+            store,
+            &mut self.output,
+            &mut self.asks,
+        ) {
             Ok((taken, _)) => {
                 self.fed += taken;
                 Ok(taken)
@@ -191,6 +197,14 @@ impl Seat {
                 Err(fault)
             }
         }
+    }
+
+    /// Whether what waits is offered to the peer only once the store is synced. It may do without where
+    /// the disk has a write cache and the session goes on, unless it asks.
+    pub fn must_sync(&self) -> bool
+        ensures { result ≡ must_sync (Some self.now) }
+    {
+        !self.target.has_cache() || self.asks || !self.goes_on()
     }
 
     /// What is still to be written.

@@ -11,6 +11,7 @@ use std::alloc::{AllocError, Global};
 use std::fmt::Debug;
 use std::process::Abort;
 
+mod flushes;
 mod interleaved;
 mod places;
 mod reinstated;

@@ -33,6 +33,10 @@ pub struct UnitOptions<'a> {
     pub serial: &'a [u8],
     /// Whether it takes no write.
     pub write_protected: bool,
+    /// Whether it is thin: it takes WRITE SAME, by which initiators give blocks back.
+    pub thin: bool,
+    /// Whether it has a write cache: what was written lasts once it is flushed.
+    pub write_back: bool,
 }
 
 /// What a service of several sessions at a time is asked for.

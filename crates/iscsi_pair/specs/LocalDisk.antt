@@ -32,6 +32,7 @@ reading_order lun cdb expected = record {
   read = not (expected == 0);
   write = false;
   expected = expected;
+  same = false;
 }
 
 -- What a request that may write orders of a disk (section 11.3).
@@ -42,6 +43,7 @@ writing_order lun cdb bytes = record {
   read = false;
   write = not (length bytes == 0);
   expected = length bytes;
+  same = false;
 }
 
 -- The sense bytes, where there are any (section 11.4.7).

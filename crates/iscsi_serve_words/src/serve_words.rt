@@ -83,6 +83,12 @@ const BAD_PORTAL: &str =
 const BAD_SERIAL: &str =
     "is no serial number: '--serial <S>' takes 1 to 16 bytes, each from '!' to '~'";
 
+const CACHE_READ_ONLY: &str =
+    "'--write-back' cannot be used with '--read-only': nothing is written";
+
+const CACHE_OF_MEMORY: &str =
+    "'--write-back' cannot be used with a disk in memory: it needs '--file <F>' or '--nbd <SERVER>'";
+
 const BAD_INITIATOR: &str =
     "is no name: '--initiator <IQN>' takes 1 to 223 bytes, each from '!' to '~'";
 
@@ -209,6 +215,8 @@ fn with_options<'a>(alloc: Global, program: Command<'a>) -> Result<Command<'a>, 
     let program = with_word(program, option(alloc, "name", "IQN", name_help))?;
     let program = with_word(program, option(alloc, "portal", "ADDRESS", portal_help))?;
     let program = with_word(program, option(alloc, "serial", "S", serial_help))?;
+    let program = with_word(program, thin(alloc))?;
+    let program = with_word(program, write_back(alloc))?;
     let program = with_word(program, option(alloc, "idle", "S", idle_help))?;
     let program = with_word(program, option(alloc, "login-within", "S", login_help))?;
     let program = with_word(program, no_login_limit(alloc))?;
@@ -237,6 +245,16 @@ fn read_only<'a>(alloc: Global) -> Result<Arg<'a>, AllocError> {
     ))
 }
 
+// `--thin`, which wants `--serial`.
+fn thin<'a>(alloc: Global) -> Result<Arg<'a>, AllocError> {
+    flag(
+        alloc,
+        "thin",
+        "Take WRITE SAME, as fstrim and mkfs send it; needs --serial",
+    )
+    .requires_arg("serial")
+}
+
 // `--no-login-limit`, which wants `--at-once`.
 fn no_login_limit<'a>(alloc: Global) -> Result<Arg<'a>, AllocError> {
     flag(
@@ -245,6 +263,16 @@ fn no_login_limit<'a>(alloc: Global) -> Result<Arg<'a>, AllocError> {
         "Let a connection take any time to log in",
     )
     .requires_arg("at-once")
+}
+
+// `--write-back`, which wants `--serial`: so hosts are told that they are to flush.
+fn write_back<'a>(alloc: Global) -> Result<Arg<'a>, AllocError> {
+    flag(
+        alloc,
+        "write-back",
+        "Make writes last when a host flushes, not one by one; needs --serial",
+    )
+    .requires_arg("serial")
 }
 
 // `--print-port`, which wants `--at-once`.
@@ -513,7 +541,24 @@ fn unit_of<'a>(alloc: Global, asked: &ArgMatches<'a>) -> Result<Option<UnitOptio
     Ok(Some(UnitOptions {
         serial: serial.as_bytes(),
         write_protected: asked.get_flag("read-only"),
+        thin: asked.get_flag("thin"),
+        write_back: write_back_of(alloc, asked)?,
     }))
+}
+
+// Whether the disk has a write cache. It has none where nothing is written, or where nothing outlives
+// the program.
+fn write_back_of(alloc: Global, asked: &ArgMatches<'_>) -> Result<bool, LineFault> {
+    if !asked.get_flag("write-back") {
+        return Ok(false);
+    }
+    if asked.get_flag("read-only") {
+        return Err(refusal(alloc, CACHE_READ_ONLY));
+    }
+    if asked.get_str("file").is_none() && asked.get_str("nbd").is_none() {
+        return Err(refusal(alloc, CACHE_OF_MEMORY));
+    }
+    Ok(true)
 }
 
 // The number of seconds, 1 to 65535, that a word has, if it stands there.

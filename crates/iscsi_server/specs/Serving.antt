@@ -48,6 +48,11 @@ abbrev pub telling : Option UnitOptions → Settings → Settings
 telling None settings = settings
 telling (Some unit) settings = record settings {
   extras = record settings.extras {
-    unit = Some (record { serial = unit.serial.now; write_protected = unit.write_protected });
+    unit = Some (record {
+      serial = unit.serial.now;
+      write_protected = unit.write_protected;
+      thin = unit.thin;
+      write_back = unit.write_back;
+    });
   };
 }

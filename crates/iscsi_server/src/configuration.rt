@@ -65,5 +65,11 @@ pub fn with_unit(config: Config, unit: Option<UnitOptions<'_>>) -> Option<Config
         return Some(config);
     };
     let unit = LogicalUnit::new(told.serial, told.write_protected)?;
+    let unit = if told.thin { unit.with_thin() } else { unit };
+    let unit = if told.write_back {
+        unit.with_write_back()
+    } else {
+        unit
+    };
     Some(config.with_unit(unit))
 }

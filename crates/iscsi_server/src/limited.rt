@@ -6,8 +6,7 @@ ghost use Rattle.scsi_disk.specs.Lasting.{Adds, Within};
 ghost use Rattle.iscsi_server.specs.Limited.{disk_in, left_by};
 
 use scsi_disk::{BlockStore, SparseStore, StoreFault};
-use std::alloc::{AllocError, Global};
-use std::collections::BTreeSet;
+use std::alloc::Global;
 use std::marker::Model;
 
 /// How many blocks are kept together.
@@ -21,12 +20,16 @@ const EXTENT_BYTES: u64 = 32_768;
 ///
 /// It is a sparse store, whose blocks are kept 64 together: so a block that stands alone counts 32,768
 /// bytes. A write for which there is no room is refused as one where a device fails, and changes no
-/// block. Blocks that are kept may be written as often as one likes.
+/// block. Blocks that are kept may be written as often as one likes. Where all 64 are 00 they aren't
+/// kept, so that a write of 00 alone always has room, and may make some.
 #[derive(Drop)]
 pub struct LimitedStore {
     store: SparseStore,
     refused: u64,
-    room: Room,
+    // how many times 64 blocks may be kept
+    most: u64,
+    // whether the disk has more
+    is_short: bool,
 }
 
 impl Model for LimitedStore {
@@ -48,10 +51,12 @@ impl LimitedStore {
         ensures disk { disk_in result ≡ zeros blocks }
         ensures refused { result.refused ≡ 0 }
     {
+        let most = memory / EXTENT_BYTES;
         LimitedStore {
             store: SparseStore::new(alloc, blocks),
             refused: 0,
-            room: Room::new(alloc, blocks, memory),
+            most,
+            is_short: most < blocks.div_ceil(EXTENT_BLOCKS),
         }
     }
 }
@@ -104,7 +109,7 @@ impl BlockStore for LimitedStore {
         if self.refused == u64::MAX {
             return Err(StoreFault::NoMemory);
         }
-        if !self.room.take(lba, bytes.len() as u64 / 512)? {
+        if self.is_short && self.store.extents_with(lba, bytes) > self.most {
             self.refused += 1;
             return Err(StoreFault::Device);
         }
@@ -113,48 +118,5 @@ impl BlockStore for LimitedStore {
 
     fn sync(&mut self) -> Result<(), StoreFault> {
         Ok(())
-    }
-}
-
-// The groups of 64 blocks that are kept, and how many may be.
-#[derive(Drop)]
-struct Room {
-    kept: BTreeSet<u64>,
-    most: u64,
-    // whether the disk has more groups than may be kept
-    is_short: bool,
-}
-
-impl Room {
-    // Room for `memory` bytes of a disk of this many blocks.
-    fn new(alloc: Global, blocks: u64, memory: u64) -> Room {
-        let most = memory / EXTENT_BYTES;
-        Room {
-            kept: BTreeSet::new(alloc),
-            most,
-            is_short: most < blocks.div_ceil(EXTENT_BLOCKS),
-        }
-    }
-
-    // Takes room for these blocks, if there is enough. Says whether there is.
-    fn take(&mut self, first: u64, count: u64) -> Result<bool, AllocError> {
-        if !self.is_short || count == 0 {
-            return Ok(true);
-        }
-        let begin = first / EXTENT_BLOCKS;
-        let end = first.saturating_add(count - 1) / EXTENT_BLOCKS + 1;
-        let mut missing: u64 = 0;
-        for group in begin..end {
-            if !self.kept.contains(&group) {
-                missing = missing.saturating_add(1);
-            }
-        }
-        if self.most.saturating_sub(self.kept.len() as u64) < missing {
-            return Ok(false);
-        }
-        for group in begin..end {
-            let _ = self.kept.insert(group)?;
-        }
-        Ok(true)
     }
 }

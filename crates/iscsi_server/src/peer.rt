@@ -146,7 +146,7 @@ impl Peer {
         }
     }
 
-    // Writes what the connection takes, once the store is synced.
+    // Writes what the connection takes, once the store is synced, if the seat has to wait for that.
     fn write<S: BlockStore>(
         &mut self,
         hall: &mut Hall,

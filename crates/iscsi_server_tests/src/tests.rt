@@ -366,6 +366,8 @@ fn a_serial_number(rt: HostRuntime) {
         unit: Some(UnitOptions {
             serial: b"DISK0001",
             write_protected: false,
+            thin: false,
+            write_back: false,
         }),
         ..options(1, 2, 5)
     };
@@ -504,6 +506,12 @@ const FILLED: &[Filled] = &[
     (192, 64, 7, Ok(())),
     (0, 64, 8, Ok(())),
     (128, 1, 9, Err(StoreFault::Device)),
+    (64, 128, 0, Ok(())),
+    (0, 63, 0, Ok(())),
+    (128, 1, 9, Err(StoreFault::Device)),
+    (63, 1, 0, Ok(())),
+    (128, 1, 9, Ok(())),
+    (64, 1, 9, Err(StoreFault::Device)),
 ];
 
 // A block is of one byte alone.

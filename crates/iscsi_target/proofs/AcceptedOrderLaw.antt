@@ -1,5 +1,5 @@
 -- Commands are executed in the order in which they were accepted.
-use Rattle.std.proofs.Common.{◌≡◌, ◌⊎◌, inl, inr, ℕ, ◌+◌, List, [], ◌∷◌, ◌++◌, Bool, true, false, length, Some, None, refl, sym, ap, ◌∙◌, subst, map}
+use Rattle.std.proofs.Common.{◌≡◌, ◌⊎◌, inl, inr, ℕ, ◌+◌, List, [], ◌∷◌, ◌++◌, Bool, true, false, length, Option, Some, None, refl, sym, ap, ◌∙◌, subst, map}
 use Rattle.std.proofs.Common.{append_assoc}
 use Rattle.std.specs.Prelude.{◌==◌, nat_lt, if◌then◌else◌}
 use Rattle.std.proofs.lemmas.Bool.{eqb-true}
@@ -7,6 +7,7 @@ use Rattle.std.proofs.lemmas.List.{append-nil, map-append}
 use Rattle.std.proofs.lemmas.Grind.{flat_map-append}
 use Rattle.scsi_disk.specs.Disk.{Disk}
 use Rattle.scsi_disk.specs.Plan.{plan_of}
+use Rattle.scsi_unit.specs.LogicalUnit.{LogicalUnit}
 use Rattle.scsi_disk.specs.declared.order.Plan.{Plan}
 use Rattle.scsi_disk.specs.declared.order.Plan.TheVariants as plans
 use Rattle.iscsi_pdu.specs.declared.head.Head.{Head}
@@ -22,7 +23,7 @@ use Rattle.iscsi_target_session.specs.Session.{Session, Reply}
 use Rattle.iscsi_target.specs.Write.{Write}
 use Rattle.iscsi_target.specs.declared.tasks.Task.{Task}
 use Rattle.iscsi_target.specs.declared.tasks.Task.TheVariants.{Request, Data}
-use Rattle.iscsi_target.specs.State.{Machine, Execution, Stepped, on, unchanged, shut_down, opening}
+use Rattle.iscsi_target.specs.State.{Machine, Execution, Stepped, on, unchanged, shut_down, opening, unit_of}
 use Rattle.iscsi_pdu.specs.Rules.{data_out_of_order}
 use Rattle.iscsi_target.specs.State.{breaks}
 use Rattle.iscsi_target_session.specs.Login.{login_step}
@@ -36,16 +37,17 @@ use Rattle.iscsi_target_session.proofs.CaseLemmas.{by_cases}
 use Rattle.iscsi_target.proofs.StepPartLemmas.{Accepts, Immediately, InTurn, Parts, step_parts}
 use Rattle.iscsi_target.proofs.ReplyLemmas.{IsOver, on_ends}
 use Rattle.iscsi_target.proofs.NumberLaws.{closed_answers}
+use Rattle.iscsi_target.proofs.KeepingLemmas.{answers_settings, begun_settings, step_settings}
 
 -- from a session with these tasks
-pub record Queues (tasks : List Task) (r : Stepped) : Type 0 where
+pub record Queues (unit : Option LogicalUnit) (tasks : List Task) (r : Stepped) : Type 0 where
   pub more : List Command
-  pub order : tasks_open tasks ++ tasks_in r.accepted ≡ tasks_done r.executed ++ more
-  pub open_ : is_closed r.machine ≡ false → more ≡ tasks_open r.machine.tasks
+  pub order : tasks_open unit tasks ++ tasks_in unit r.accepted ≡ tasks_done r.executed ++ more
+  pub open_ : is_closed r.machine ≡ false → more ≡ tasks_open unit r.machine.tasks
 
-over_open : (old : List Task) (s : Machine) → IsOver s ⊎ (s.tasks ≡ old) → is_closed s ≡ false → tasks_open old ≡ tasks_open s.tasks
-over_open old s (inl over) e = absurd (apart over.closed e)
-over_open old s (inr same) e = ap tasks_open (sym same)
+over_open : (unit : Option LogicalUnit) (old : List Task) (s : Machine) → IsOver s ⊎ (s.tasks ≡ old) → is_closed s ≡ false → tasks_open unit old ≡ tasks_open unit s.tasks
+over_open unit old s (inl over) e = absurd (apart over.closed e)
+over_open unit old s (inr same) e = ap (tasks_open unit) (sym same)
 
 pub still : (old : List Task) (s : Machine) → IsOver s ⊎ (s.tasks ≡ old) → is_closed s ≡ false → s.tasks ≡ old
 still old s (inl over) e = absurd (apart over.closed e)
@@ -53,43 +55,43 @@ still old s (inr same) e = same
 
 -- ---- replies
 
-reply_queues : (s : Machine) (disk : Disk) (r : Reply) → Queues s.tasks (on disk s.tasks r)
-reply_queues s disk r = record {
-  more = tasks_open s.tasks;
-  order = append-nil (tasks_open s.tasks);
-  open_ = over_open s.tasks (on disk s.tasks r).machine (on_ends disk s.tasks r);
+reply_queues : (unit : Option LogicalUnit) (s : Machine) (disk : Disk) (r : Reply) → Queues unit s.tasks (on disk s.tasks r)
+reply_queues unit s disk r = record {
+  more = tasks_open unit s.tasks;
+  order = append-nil (tasks_open unit s.tasks);
+  open_ = over_open unit s.tasks (on disk s.tasks r).machine (on_ends disk s.tasks r);
 }
 
-unchanged_queues : (s : Machine) (disk : Disk) → Queues s.tasks (unchanged s disk)
-unchanged_queues s disk = record { more = tasks_open s.tasks; order = append-nil (tasks_open s.tasks); open_ = λ e. refl }
+unchanged_queues : (unit : Option LogicalUnit) (s : Machine) (disk : Disk) → Queues unit s.tasks (unchanged s disk)
+unchanged_queues unit s disk = record { more = tasks_open unit s.tasks; order = append-nil (tasks_open unit s.tasks); open_ = λ e. refl }
 
-shut_queues : (s : Machine) (disk : Disk) → Queues s.tasks (shut_down s disk)
-shut_queues s disk = record { more = tasks_open s.tasks; order = append-nil (tasks_open s.tasks); open_ = λ e. absurd cc }
+shut_queues : (unit : Option LogicalUnit) (s : Machine) (disk : Disk) → Queues unit s.tasks (shut_down s disk)
+shut_queues unit s disk = record { more = tasks_open unit s.tasks; order = append-nil (tasks_open unit s.tasks); open_ = λ e. absurd cc }
 
 -- ---- one after another
 
-pub tasks_append : (a b : List Message) → tasks_in (a ++ b) ≡ tasks_in a ++ tasks_in b
-tasks_append a b = flat_map-append (λ (m : Message). task_in m.head) a b
+pub tasks_append : (unit : Option LogicalUnit) (a b : List Message) → tasks_in unit (a ++ b) ≡ tasks_in unit a ++ tasks_in unit b
+tasks_append unit a b = flat_map-append (λ (m : Message). task_in unit m.head) a b
 
-closed_queues : (tasks : List Task) (first : Stepped) (disk : Disk) → Queues tasks first → is_closed first.machine ≡ true →
-    Queues tasks (then_stepped first (unchanged first.machine disk))
-closed_queues tasks first disk q e = record {
+closed_queues : (unit : Option LogicalUnit) (tasks : List Task) (first : Stepped) (disk : Disk) → Queues unit tasks first → is_closed first.machine ≡ true →
+    Queues unit tasks (then_stepped first (unchanged first.machine disk))
+closed_queues unit tasks first disk q e = record {
   more = q.more;
-  order = ap (λ (ms : List Message). tasks_open tasks ++ tasks_in ms) (append-nil first.accepted) ∙ q.order
+  order = ap (λ (ms : List Message). tasks_open unit tasks ++ tasks_in unit ms) (append-nil first.accepted) ∙ q.order
       ∙ ap (λ (es : List Execution). tasks_done es ++ q.more) (sym (append-nil first.executed));
   open_ = λ f. absurd (apart e f);
 }
 
-open_queues : (tasks : List Task) (first later : Stepped) → Queues tasks first → is_closed first.machine ≡ false → Queues first.machine.tasks later →
-    Queues tasks (then_stepped first later)
-open_queues tasks first later q e p = record {
+open_queues : (unit : Option LogicalUnit) (tasks : List Task) (first later : Stepped) → Queues unit tasks first → is_closed first.machine ≡ false → Queues unit first.machine.tasks later →
+    Queues unit tasks (then_stepped first later)
+open_queues unit tasks first later q e p = record {
   more = p.more;
   order =
-      ap (λ (ts : List Command). tasks_open tasks ++ ts) (tasks_append first.accepted later.accepted)
-      ∙ sym (append_assoc (tasks_open tasks) (tasks_in first.accepted) (tasks_in later.accepted))
-      ∙ ap (λ (ts : List Command). ts ++ tasks_in later.accepted) q.order
-      ∙ append_assoc (tasks_done first.executed) q.more (tasks_in later.accepted)
-      ∙ ap (λ (ts : List Command). tasks_done first.executed ++ (ts ++ tasks_in later.accepted)) (q.open_ e)
+      ap (λ (ts : List Command). tasks_open unit tasks ++ ts) (tasks_append unit first.accepted later.accepted)
+      ∙ sym (append_assoc (tasks_open unit tasks) (tasks_in unit first.accepted) (tasks_in unit later.accepted))
+      ∙ ap (λ (ts : List Command). ts ++ tasks_in unit later.accepted) q.order
+      ∙ append_assoc (tasks_done first.executed) q.more (tasks_in unit later.accepted)
+      ∙ ap (λ (ts : List Command). tasks_done first.executed ++ (ts ++ tasks_in unit later.accepted)) (q.open_ e)
       ∙ ap (λ (ts : List Command). tasks_done first.executed ++ ts) p.order
       ∙ sym (append_assoc (tasks_done first.executed) (tasks_done later.executed) p.more)
       ∙ ap (λ (ts : List Command). ts ++ p.more) (sym (map-append task_of first.executed later.executed));
@@ -102,22 +104,22 @@ open_queues tasks first later q e p = record {
 pub record Leads (s : Machine) (task : Task) (r : Stepped) : Type 0 where
   pub accepted : r.accepted ≡ []
   pub behind : is_closed r.machine ≡ false → stays s.tasks r ≡ false → r.machine.tasks ≡ s.tasks
-  pub queues : Queues (task ∷ s.tasks) r
+  pub queues : Queues (unit_of s.session) (task ∷ s.tasks) r
 
 abbrev command_of : Write → List Command
 command_of w = (w.initiator_task_tag, w.order) ∷ []
 
-request_leads : (s : Machine) (disk : Disk) (m : Message) (r : Reply) → task_in m.head ≡ [] → Leads s (Request m) (on disk s.tasks r)
+request_leads : (s : Machine) (disk : Disk) (m : Message) (r : Reply) → task_in (unit_of s.session) m.head ≡ [] → Leads s (Request m) (on disk s.tasks r)
 request_leads s disk m r none =
     let over = on_ends disk s.tasks r in
-    let size : tasks_open (Request m ∷ s.tasks) ≡ tasks_open s.tasks = ap (λ (ts : List Command). ts ++ tasks_open s.tasks) none in
+    let size : tasks_open (unit_of s.session) (Request m ∷ s.tasks) ≡ tasks_open (unit_of s.session) s.tasks = ap (λ (ts : List Command). ts ++ tasks_open (unit_of s.session) s.tasks) none in
     record {
       accepted = refl;
       behind = λ live stay. still s.tasks (on disk s.tasks r).machine over live;
       queues = record {
-        more = tasks_open s.tasks;
-        order = append-nil (tasks_open (Request m ∷ s.tasks)) ∙ size;
-        open_ = over_open s.tasks (on disk s.tasks r).machine over;
+        more = tasks_open (unit_of s.session) s.tasks;
+        order = append-nil (tasks_open (unit_of s.session) (Request m ∷ s.tasks)) ∙ size;
+        open_ = over_open (unit_of s.session) s.tasks (on disk s.tasks r).machine over;
       };
     }
 
@@ -125,37 +127,37 @@ refused_leads : (s : Machine) (disk : Disk) (m : Message) (rule : ℕ) → Leads
 refused_leads s disk m rule = record {
   accepted = refl;
   behind = λ live stay. absurd cc;
-  queues = record { more = tasks_open (Request m ∷ s.tasks); order = append-nil (tasks_open (Request m ∷ s.tasks)); open_ = λ e. absurd cc };
+  queues = record { more = tasks_open (unit_of s.session) (Request m ∷ s.tasks); order = append-nil (tasks_open (unit_of s.session) (Request m ∷ s.tasks)); open_ = λ e. absurd cc };
 }
 
 -- a write is its command
-write_is : (s : Machine) (disk : Disk) (task : Task) (w : Write) → Writes s disk task w → task_open task ≡ command_of w
+write_is : (s : Machine) (disk : Disk) (task : Task) (w : Write) → Writes s disk task w → task_open (unit_of s.session) task ≡ command_of w
 write_is s disk _ _ (Waits w) = refl
-write_is s disk _ _ (Opens m h total k e f) = ap task_in k
+write_is s disk _ _ (Opens m h total k e f) = ap (task_in (unit_of s.session)) k
 
-executed_leads : (s : Machine) (task : Task) (w : Write) (r : Stepped) → task_open task ≡ command_of w → r.accepted ≡ [] → r.machine.tasks ≡ s.tasks →
+executed_leads : (s : Machine) (task : Task) (w : Write) (r : Stepped) → task_open (unit_of s.session) task ≡ command_of w → r.accepted ≡ [] → r.machine.tasks ≡ s.tasks →
     tasks_done r.executed ≡ command_of w → Leads s task r
 executed_leads s task w r is none tasks done = record {
   accepted = none;
   behind = λ live stay. tasks;
   queues = record {
-    more = tasks_open s.tasks;
-    order = ap (λ (ms : List Message). tasks_open (task ∷ s.tasks) ++ tasks_in ms) none ∙ append-nil (tasks_open (task ∷ s.tasks))
-        ∙ ap (λ (ts : List Command). ts ++ tasks_open s.tasks) (is ∙ sym done);
-    open_ = λ e. ap tasks_open (sym tasks);
+    more = tasks_open (unit_of s.session) s.tasks;
+    order = ap (λ (ms : List Message). tasks_open (unit_of s.session) (task ∷ s.tasks) ++ tasks_in (unit_of s.session) ms) none ∙ append-nil (tasks_open (unit_of s.session) (task ∷ s.tasks))
+        ∙ ap (λ (ts : List Command). ts ++ tasks_open (unit_of s.session) s.tasks) (is ∙ sym done);
+    open_ = λ e. ap (tasks_open (unit_of s.session)) (sym tasks);
   };
 }
 
-waiting_leads : (s : Machine) (task : Task) (w v : Write) (r : Stepped) → task_open task ≡ command_of w → command_of v ≡ command_of w → r.accepted ≡ [] →
+waiting_leads : (s : Machine) (task : Task) (w v : Write) (r : Stepped) → task_open (unit_of s.session) task ≡ command_of w → command_of v ≡ command_of w → r.accepted ≡ [] →
     r.executed ≡ [] → r.machine.tasks ≡ Data v ∷ s.tasks → Leads s task r
 waiting_leads s task w v r is same none done tasks = record {
   accepted = none;
   behind = λ live stay. stays_on (Data v) s.tasks (ap (λ (ts : List Task). nat_lt (length s.tasks) (length ts)) (sym tasks) ∙ stay);
   queues = record {
-    more = tasks_open (task ∷ s.tasks);
-    order = ap (λ (ms : List Message). tasks_open (task ∷ s.tasks) ++ tasks_in ms) none ∙ append-nil (tasks_open (task ∷ s.tasks))
-        ∙ ap (λ (es : List Execution). tasks_done es ++ tasks_open (task ∷ s.tasks)) (sym done);
-    open_ = λ e. ap (λ (ts : List Command). ts ++ tasks_open s.tasks) (is ∙ sym same) ∙ ap tasks_open (sym tasks);
+    more = tasks_open (unit_of s.session) (task ∷ s.tasks);
+    order = ap (λ (ms : List Message). tasks_open (unit_of s.session) (task ∷ s.tasks) ++ tasks_in (unit_of s.session) ms) none ∙ append-nil (tasks_open (unit_of s.session) (task ∷ s.tasks))
+        ∙ ap (λ (es : List Execution). tasks_done es ++ tasks_open (unit_of s.session) (task ∷ s.tasks)) (sym done);
+    open_ = λ e. ap (λ (ts : List Command). ts ++ tasks_open (unit_of s.session) s.tasks) (is ∙ sym same) ∙ ap (tasks_open (unit_of s.session)) (sym tasks);
   };
 }
 
@@ -167,8 +169,8 @@ begins_lead = record {
     accepted = refl;
     behind = λ live stay. refl;
     queues = record {
-      more = tasks_open s.tasks;
-      order = append-nil (tasks_open (Request m ∷ s.tasks)) ∙ ap (λ (x : Head). task_in x ++ tasks_open s.tasks) k;
+      more = tasks_open (unit_of s.session) s.tasks;
+      order = append-nil (tasks_open (unit_of s.session) (Request m ∷ s.tasks)) ∙ ap (λ (x : Head). task_in (unit_of s.session) x ++ tasks_open (unit_of s.session) s.tasks) k;
       open_ = λ e. refl;
     };
   };
@@ -183,23 +185,24 @@ pub begun_leads : (device : Device) (s : Session) (disk : Disk) (task : Task) (m
     Leads (with_tasks s more) task (begun device (with_tasks s more) disk task)
 begun_leads device s disk task more = begins (λ device s disk task r. Leads s task r) begins_lead device (with_tasks s more) disk task
 
-abbrev Done : List Task → Stepped → Type 0
-Done tasks r = (r.accepted ≡ []) × Queues tasks r
+abbrev Done : Session → List Task → Stepped → Type 0
+Done s tasks r = (r.accepted ≡ []) × Queues (unit_of s) tasks r
 
-turns_queue : Turns (λ device s disk tasks r. Done tasks r)
+turns_queue : Turns (λ device s disk tasks r. Done s tasks r)
 turns_queue = record {
-  none_ = λ device s disk. (refl, unchanged_queues (with_tasks s []) disk);
+  none_ = λ device s disk. (refl, unchanged_queues (unit_of s) (with_tasks s []) disk);
   stop_ = λ device s disk task more why. (let l = begun_leads device s disk task more in (l.accepted, l.queues));
   then_ = λ device s disk task more b stays live u.
       (let l = begun_leads device s disk task more in
       let r : Stepped = begun device (with_tasks s more) disk task in (
         ap (λ (ms : List Message). ms ++ b.accepted) l.accepted ∙ u.0,
-        open_queues (task ∷ more) r b l.queues live (subst (λ (ts : List Task). Queues ts b) (sym (l.behind live stays)) u.1),
+        open_queues (unit_of s) (task ∷ more) r b l.queues live (subst (λ (ts : List Task). Queues (unit_of s) ts b) (sym (l.behind live stays))
+            (subst (λ (p : Settings). Queues p.extras.unit more b) (begun_settings device s disk task more) u.1)),
       ));
 }
 
-done_queues : (device : Device) (s : Session) (disk : Disk) (tasks : List Task) → Done tasks (done_in_turn device s disk tasks)
-done_queues device s disk tasks = turns (λ device s disk tasks r. Done tasks r) turns_queue device s disk tasks
+done_queues : (device : Device) (s : Session) (disk : Disk) (tasks : List Task) → Done s tasks (done_in_turn device s disk tasks)
+done_queues device s disk tasks = turns (λ device s disk tasks r. Done s tasks r) turns_queue device s disk tasks
 
 -- ---- a Data-Out
 
@@ -228,108 +231,122 @@ same_command : (w v : Write) → v.initiator_task_tag ≡ w.initiator_task_tag �
 same_command w v tag order = λ i. (tag i, order i) ∷ []
 
 -- the commands are the same with a write that took data
-written_open : (tasks : List Task) (w v : Write) → write_of tasks v.initiator_task_tag ≡ Some w → v.initiator_task_tag ≡ w.initiator_task_tag → v.order
+written_open : (unit : Option LogicalUnit) (tasks : List Task) (w v : Write) → write_of tasks v.initiator_task_tag ≡ Some w → v.initiator_task_tag ≡ w.initiator_task_tag → v.order
     ≡ w.order
-    → tasks_open (with_write v tasks) ≡ tasks_open tasks
-written_open [] w v e tag order = refl
-written_open (Request m ∷ more) w v e tag order = ap (λ (ts : List Command). task_in m.head ++ ts) (written_open more w v e tag order)
-written_open (Data x ∷ more) w v e tag order =
+    → tasks_open unit (with_write v tasks) ≡ tasks_open unit tasks
+written_open unit [] w v e tag order = refl
+written_open unit (Request m ∷ more) w v e tag order = ap (λ (ts : List Command). task_in unit m.head ++ ts) (written_open unit more w v e tag order)
+written_open unit (Data x ∷ more) w v e tag order =
     by_cases (x.initiator_task_tag == v.initiator_task_tag)
     (λ f.
     let same : x ≡ w = (let g : Some x ≡ Some w = rw f at e in cc) in
     let is : command_of v ≡ command_of x = same_command w v tag order ∙ ap command_of (sym same) in
-    rw f (ap (λ (ts : List Command). ts ++ tasks_open more) is))
-    (λ f. rw f (ap (λ (ts : List Command). command_of x ++ ts) (written_open more w v (rw f at e) tag order)))
+    rw f (ap (λ (ts : List Command). ts ++ tasks_open unit more) is))
+    (λ f. rw f (ap (λ (ts : List Command). command_of x ++ ts) (written_open unit more w v (rw f at e) tag order)))
 
 taken_queues : (device : Device) (s : Machine) (disk : Disk) (h : DataPdu) (bytes : List ℕ) (w v : Write) → write_of s.tasks h.initiator_task_tag ≡ Some w →
     taken (first_burst s.session.held) w h bytes ≡ Some v
-    → Queues s.tasks (having_accepted [] (done_in_turn device s.session disk (with_write v s.tasks)))
+    → Queues (unit_of s.session) s.tasks (having_accepted [] (done_in_turn device s.session disk (with_write v s.tasks)))
 taken_queues device s disk h bytes w v e f =
     let same = taken_same (first_burst s.session.held) w v h bytes f in
     let tag : h.initiator_task_tag ≡ v.initiator_task_tag = sym (found_tag s.tasks h.initiator_task_tag w e) ∙ sym same.0 in
-    let now = written_open s.tasks w v (subst (λ (t : ℕ). write_of s.tasks t ≡ Some w) tag e) same.0 same.1 in
+    let now = written_open (unit_of s.session) s.tasks w v (subst (λ (t : ℕ). write_of s.tasks t ≡ Some w) tag e) same.0 same.1 in
     let d = done_queues device s.session disk (with_write v s.tasks) in
     let r : Stepped = done_in_turn device s.session disk (with_write v s.tasks) in
     record {
       more = d.1.more;
-      order = append-nil (tasks_open s.tasks) ∙ sym now ∙ sym (append-nil (tasks_open (with_write v s.tasks)))
-          ∙ ap (λ (ms : List Message). tasks_open (with_write v s.tasks) ++ tasks_in ms) (sym d.0) ∙ d.1.order;
+      order = append-nil (tasks_open (unit_of s.session) s.tasks) ∙ sym now ∙ sym (append-nil (tasks_open (unit_of s.session) (with_write v s.tasks)))
+          ∙ ap (λ (ms : List Message). tasks_open (unit_of s.session) (with_write v s.tasks) ++ tasks_in (unit_of s.session) ms) (sym d.0) ∙ d.1.order;
       open_ = d.1.open_;
     }
 
 -- ---- a request
 
-planned_open : (m : Message) (h : CommandPdu) (bytes : List ℕ) (plan : Plan) → m.head ≡ ScsiCommand h → task_open (task_planned m h bytes plan) ≡ task_in m.head
-planned_open m h bytes (plans.Take total) k = sym (ap task_in k)
-planned_open m h bytes (plans.Refuse sense) k = refl
-planned_open m h bytes (plans.Give given) k = refl
+planned_open : (unit : Option LogicalUnit) (m : Message) (h : CommandPdu) (bytes : List ℕ) (plan : Plan) → m.head ≡ ScsiCommand h
+    → task_open unit (task_planned m h (order_of unit h) bytes plan) ≡ task_in unit m.head
+planned_open unit m h bytes (plans.Take total) k = sym (ap (task_in unit) k)
+planned_open unit m h bytes (plans.Refuse sense) k = refl
+planned_open unit m h bytes (plans.Give given) k = refl
 
-task_is : (count : ℕ) (m : Message) (head : Head) → m.head ≡ head → task_open (task_by count m head) ≡ task_in m.head
-task_is count m (ScsiCommand h) k = planned_open m h (segment_bytes m.segment) (plan_of (order_of h) count) k
-task_is count m head k = refl
+task_is : (unit : Option LogicalUnit) (count : ℕ) (m : Message) (head : Head) → m.head ≡ head → task_open unit (task_by unit count m head) ≡ task_in unit m.head
+task_is unit count m (ScsiCommand h) k = planned_open unit m h (segment_bytes m.segment) (plan_of (order_of unit h) count) k
+task_is unit count m head k = refl
 
-tasks_with : (tasks : List Task) (count : ℕ) (m : Message) → tasks_open (tasks ++ task_for count m ∷ []) ≡ tasks_open tasks ++ tasks_in (m ∷ [])
-tasks_with tasks count m =
-    flat_map-append task_open tasks (task_for count m ∷ [])
-    ∙ ap (λ (ts : List Command). tasks_open tasks ++ (ts ++ [])) (task_is count m m.head refl)
+tasks_with : (unit : Option LogicalUnit) (tasks : List Task) (count : ℕ) (m : Message) → tasks_open unit (tasks ++ task_for unit count m ∷ []) ≡ tasks_open unit tasks ++ tasks_in unit (m ∷ [])
+tasks_with unit tasks count m =
+    flat_map-append (task_open unit) tasks (task_for unit count m ∷ [])
+    ∙ ap (λ (ts : List Command). tasks_open unit tasks ++ (ts ++ [])) (task_is unit count m m.head refl)
+
+-- the disk tells what it told
+same_unit : (s t : Machine) (m : Message) → Accepts s m t → unit_of t.session ≡ unit_of s.session
+same_unit s _ m (Immediately c none) = refl
+same_unit s _ m (InTurn n c w is) = refl
 
 pub same_tasks : (s t : Machine) (m : Message) → Accepts s m t → t.tasks ≡ s.tasks
 same_tasks s _ m (Immediately c none) = refl
 same_tasks s _ m (InTurn n c w is) = refl
 
 admitted_queues : (device : Device) (s : Machine) (session : Session) (m : Message) (disk : Disk) →
-    Queues s.tasks (having_accepted (m ∷ []) (done_in_turn device session disk (s.tasks ++ task_for disk.count m ∷ [])))
+    Queues (unit_of session) s.tasks (having_accepted (m ∷ []) (done_in_turn device session disk (s.tasks ++ task_for (unit_of session) disk.count m ∷ [])))
 admitted_queues device s session m disk =
-    let all : List Task = s.tasks ++ task_for disk.count m ∷ [] in
+    let all : List Task = s.tasks ++ task_for (unit_of session) disk.count m ∷ [] in
     let d = done_queues device session disk all in
     let r : Stepped = done_in_turn device session disk all in
     record {
       more = d.1.more;
-      order = sym (tasks_with s.tasks disk.count m) ∙ sym (append-nil (tasks_open all)) ∙ ap (λ (ms : List Message). tasks_open all ++ tasks_in ms) (sym d.0)
+      order = sym (tasks_with (unit_of session) s.tasks disk.count m) ∙ sym (append-nil (tasks_open (unit_of session) all)) ∙ ap (λ (ms : List Message). tasks_open (unit_of session) all ++ tasks_in (unit_of session) ms) (sym d.0)
           ∙ d.1.order;
       open_ = d.1.open_;
     }
 
-refused_queues : (s t : Machine) (m : Message) (disk : Disk) (rule : ℕ) → t.tasks ≡ s.tasks → Queues s.tasks (having_accepted (m ∷ []) (breaks t disk rule m))
-refused_queues s t m disk rule e = record {
-  more = tasks_open s.tasks ++ tasks_in (m ∷ []);
+refused_queues : (unit : Option LogicalUnit) (s t : Machine) (m : Message) (disk : Disk) (rule : ℕ) → t.tasks ≡ s.tasks → Queues unit s.tasks (having_accepted (m ∷ []) (breaks t disk rule m))
+refused_queues unit s t m disk rule e = record {
+  more = tasks_open unit s.tasks ++ tasks_in unit (m ∷ []);
   order = refl;
   open_ = λ f. absurd cc;
 }
 
 -- ---- all parts
 
-parts_order : (device : Device) (disk : Disk) → Parts device disk (λ s m r. Queues s.tasks r)
+parts_order : (device : Device) (disk : Disk) → Parts device disk (λ s m r. Queues (unit_of s.session) s.tasks r)
 parts_order device disk = record {
-  nothing_ = λ s m c. unchanged_queues s disk;
-  shut_ = λ s m. shut_queues s disk;
-  beside_ = λ s m r a is. reply_queues s disk r;
-  reject_and_close_ = λ s rule m. reply_queues s disk _;
-  login_ = λ s m k. reply_queues s disk (login_step s.session m);
+  nothing_ = λ s m c. unchanged_queues (unit_of s.session) s disk;
+  shut_ = λ s m. shut_queues (unit_of s.session) s disk;
+  beside_ = λ s m r a is. reply_queues (unit_of s.session) s disk r;
+  reject_and_close_ = λ s rule m. reply_queues (unit_of s.session) s disk _;
+  login_ = λ s m k. reply_queues (unit_of s.session) s disk (login_step s.session m);
   taken_ = λ s m h w v k e f. taken_queues device s disk h (segment_bytes m.segment) w v e f;
-  refused_ = λ s t m rule a x. refused_queues s t m disk rule (same_tasks s t m x);
-  admitted_ = λ s t m a x f. subst (λ (ts : List Task). Queues s.tasks (having_accepted (m ∷ [])
-      (done_in_turn device t.session disk (ts ++ task_for disk.count m ∷ [])))) (sym (same_tasks s t m x)) (admitted_queues device s t.session m disk);
+  refused_ = λ s t m rule a x. refused_queues (unit_of s.session) s t m disk rule (same_tasks s t m x);
+  admitted_ = λ s t m a x f. subst (λ (unit : Option LogicalUnit). Queues unit s.tasks (having_accepted (m ∷ [])
+      (done_in_turn device t.session disk (t.tasks ++ task_for (unit_of t.session) disk.count m ∷ [])))) (same_unit s t m x)
+      (subst (λ (ts : List Task). Queues (unit_of t.session) s.tasks (having_accepted (m ∷ [])
+      (done_in_turn device t.session disk (ts ++ task_for (unit_of t.session) disk.count m ∷ [])))) (sym (same_tasks s t m x))
+      (admitted_queues device s t.session m disk));
 }
 
-step_order : (device : Device) (disk : Disk) (s : Machine) (m : Message) → Queues s.tasks (step_on device s disk m)
-step_order device disk s m = step_parts device disk (λ s m r. Queues s.tasks r) (parts_order device disk) s m
+step_order : (device : Device) (disk : Disk) (s : Machine) (m : Message) → Queues (unit_of s.session) s.tasks (step_on device s disk m)
+step_order device disk s m = step_parts device disk (λ s m r. Queues (unit_of s.session) s.tasks r) (parts_order device disk) s m
 
-pub answers_queue : (protected : Bool) (s : Machine) (disk : Disk) (ms : List Message) → Queues s.tasks (answers protected s disk ms)
+pub answers_queue : (protected : Bool) (s : Machine) (disk : Disk) (ms : List Message) → Queues (unit_of s.session) s.tasks (answers protected s disk ms)
 unfolding answers
-answers_queue protected s disk [] = record { more = tasks_open s.tasks; order = append-nil (tasks_open s.tasks); open_ = λ f. refl }
+answers_queue protected s disk [] = record { more = tasks_open (unit_of s.session) s.tasks; order = append-nil (tasks_open (unit_of s.session) s.tasks); open_ = λ f. refl }
 answers_queue protected s disk (m ∷ ms) =
     let first : Stepped = step protected s disk m in
-    let q : Queues s.tasks first = step_order (reliable protected) disk s m in
+    let q : Queues (unit_of s.session) s.tasks first = step_order (reliable protected) disk s m in
     by_cases (is_closed first.machine)
-    (λ e. subst (λ (r : Stepped). Queues s.tasks (then_stepped first r)) (sym (closed_answers protected first.machine first.disk ms e))
-    (closed_queues s.tasks first first.disk q e))
-    (λ e. open_queues s.tasks first (answers protected first.machine first.disk ms) q e (answers_queue protected first.machine first.disk ms))
+    (λ e. subst (λ (r : Stepped). Queues (unit_of s.session) s.tasks (then_stepped first r)) (sym (closed_answers protected first.machine first.disk ms e))
+    (closed_queues (unit_of s.session) s.tasks first first.disk q e))
+    (λ e. open_queues (unit_of s.session) s.tasks first (answers protected first.machine first.disk ms) q e
+    (subst (λ (p : Settings). Queues p.extras.unit first.machine.tasks (answers protected first.machine first.disk ms))
+    (step_settings (reliable protected) s disk m) (answers_queue protected first.machine first.disk ms)))
 
 pub opening_in_order : (protected : Bool) (settings : Settings) (n : ℕ) (disk : Disk) (ms : List Message) →
     AreInOrder (answers protected (opening settings n) disk ms)
 opening_in_order protected settings n disk ms =
-    let q : Queues [] (answers protected (opening settings n) disk ms) = answers_queue protected (opening settings n) disk ms in
+    let r : Stepped = answers protected (opening settings n) disk ms in
+    let q : Queues (unit_of r.machine.session) [] r =
+    subst (λ (p : Settings). Queues p.extras.unit [] r) (sym (answers_settings protected (opening settings n) disk ms))
+    (answers_queue protected (opening settings n) disk ms) in
     record { more = q.more; order = q.order; open_ = q.open_ }
 
 -- the tags of what was executed

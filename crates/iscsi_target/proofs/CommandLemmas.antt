@@ -5,13 +5,13 @@ use Rattle.scsi_disk.specs.Disk.{Disk}
 use Rattle.iscsi_pdu.specs.declared.head.scsi_command.ScsiCommand.{ScsiCommand}
 use Rattle.iscsi_stream.specs.Stream.{Message}
 use Rattle.iscsi_target.specs.Write.{Write}
-use Rattle.iscsi_target.specs.State.{Machine, Stepped, unchanged, waiting}
+use Rattle.iscsi_target.specs.State.{Machine, Stepped, unchanged, waiting, unit_of}
 use Rattle.iscsi_target.specs.declared.tasks.Task.TheVariants.{Data}
 use Rattle.iscsi_target.specs.State.{breaks}
 use Rattle.iscsi_pdu.specs.Rules.{data_out_of_order}
 use Rattle.iscsi_target.specs.Transfer.{received, is_whole, is_idle}
 use Rattle.iscsi_target.specs.Execution.{Device, as_told, execute, send_outcome}
-use Rattle.iscsi_target.specs.Command.{breaks_burst_rules, scsi_command, order_of, planned, proceed, send_r2t, led_by}
+use Rattle.iscsi_target.specs.Command.{breaks_burst_rules, scsi_command, order_of, order_said, planned, proceed, send_r2t, led_by}
 use Rattle.scsi_disk.specs.Plan.{plan_of, is_read, is_write}
 use Rattle.scsi_disk.specs.declared.order.Order.{Order}
 use Rattle.scsi_unit.specs.LogicalUnit.{LogicalUnit}
@@ -39,7 +39,12 @@ pub command_broken : (d : Device) (s : Machine) (disk : Disk) (m : Message) (h :
     breaks_burst_rules s.session.held h (length bytes) ≡ true
     → scsi_command d s disk m h bytes ≡ breaks s disk data_out_of_order m
 command_broken d s disk m h bytes e =
-    ap (λ (b : Bool). if b then breaks s disk data_out_of_order m else planned d s disk h bytes (plan_of (order_of h) disk.count)) e
+    ap (λ (b : Bool). if b then breaks s disk data_out_of_order m else planned d s disk h (order_of (unit_of s.session) h) bytes
+    (plan_of (order_of (unit_of s.session) h) disk.count)) e
+
+-- a disk that tells no more of itself than the profile has takes a command for what it says
+pub plain_order : (unit : Option LogicalUnit) (h : ScsiCommand) → unit ≡ None → order_of unit h ≡ order_said h
+plain_order unit h plain = ap (λ (u : Option LogicalUnit). order_of u h) plain
 
 -- an order that is executed on a disk that tells no more of itself than the profile has
 abbrev pub plainly : Device → Machine → Disk → ℕ → Order → Pieces → Stepped
@@ -60,7 +65,7 @@ plain_executed device s disk tag order pieces plain =
       unit = s.session.settings.extras.unit;
       order = order;
       pieces = pieces;
-    }) (as_told unit order (device 0 disk order (data_of pieces)))) plain
+    }) (as_told unit disk.count order (device 0 disk order (data_of pieces)))) plain
 
 pub proceeds_whole : (d : Device) (s : Machine) (disk : Disk) (w : Write) → is_whole w ≡ true → execute d s disk w.initiator_task_tag w.order w.pieces
     ≡ proceed d s disk w
@@ -124,33 +129,33 @@ told_order s tag outcome bytes count head before mid after is_bytes is_count is_
     ∙ ap (λ (x : List ℕ). before ++ x) (sym (flat_map-append canonical_bytes ins (last ∷ [])))
     ∙ ap (λ (b : List ℕ). before ++ canon (command_answers s.session (waiting s.tasks) tag outcome (data_in_parts s.session.held b))) is_bytes
 
-same_bytes : (s : Machine) (tag : ℕ) (order : Order) (outcome : Outcome) (before after : List ℕ) → (is_read order.cdb || is_write order.cdb) ≡ true
+same_bytes : (s : Machine) (tag count : ℕ) (order : Order) (outcome : Outcome) (before after : List ℕ) → (is_read order.cdb || is_write order.cdb) ≡ true
     → after ≡ before ++ canon (command_answers s.session (waiting s.tasks) tag outcome (data_in_parts s.session.held outcome.bytes))
-    → (let o : Outcome = told s.session.settings.extras.unit order outcome in
+    → (let o : Outcome = told (unit_of s.session) count order outcome in
     after ≡ before ++ canon (command_answers s.session (waiting s.tasks) tag o (data_in_parts s.session.held o.bytes)))
-same_bytes s tag order outcome before after moves is_after =
+same_bytes s tag count order outcome before after moves is_after =
     subst (λ (o : Outcome). after ≡ before ++ canon (command_answers s.session (waiting s.tasks) tag o (data_in_parts s.session.held o.bytes)))
-    (sym (not_told s.session.settings.extras.unit order outcome moves)) is_after
+    (sym (not_told (unit_of s.session) count order outcome moves)) is_after
 
 -- a READ is answered as on a disk that tells no more of itself
-pub told_read : (s : Machine) (tag : ℕ) (order : Order) (outcome : Outcome) (before after : List ℕ) → is_read order.cdb ≡ true
+pub told_read : (s : Machine) (tag count : ℕ) (order : Order) (outcome : Outcome) (before after : List ℕ) → is_read order.cdb ≡ true
     → after ≡ before ++ canon (command_answers s.session (waiting s.tasks) tag outcome (data_in_parts s.session.held outcome.bytes))
-    → (let o : Outcome = told s.session.settings.extras.unit order outcome in
+    → (let o : Outcome = told (unit_of s.session) count order outcome in
     after ≡ before ++ canon (command_answers s.session (waiting s.tasks) tag o (data_in_parts s.session.held o.bytes)))
-told_read s tag order outcome before after reads is_after =
-    same_bytes s tag order outcome before after (ap (λ (b : Bool). b || is_write order.cdb) reads) is_after
+told_read s tag count order outcome before after reads is_after =
+    same_bytes s tag count order outcome before after (ap (λ (b : Bool). b || is_write order.cdb) reads) is_after
 
 or_right : (a b : Bool) → b ≡ true → (a || b) ≡ true
 or_right true b e = refl
 or_right false b e = e
 
 -- and so is a WRITE
-pub write_told : (s : Machine) (tag : ℕ) (order : Order) (outcome : Outcome) (before after : List ℕ) → is_write order.cdb ≡ true
+pub write_told : (s : Machine) (tag count : ℕ) (order : Order) (outcome : Outcome) (before after : List ℕ) → is_write order.cdb ≡ true
     → after ≡ before ++ canon (command_answers s.session (waiting s.tasks) tag outcome (data_in_parts s.session.held outcome.bytes))
-    → (let o : Outcome = told s.session.settings.extras.unit order outcome in
+    → (let o : Outcome = told (unit_of s.session) count order outcome in
     after ≡ before ++ canon (command_answers s.session (waiting s.tasks) tag o (data_in_parts s.session.held o.bytes)))
-write_told s tag order outcome before after writes is_after =
-    same_bytes s tag order outcome before after (or_right (is_read order.cdb) (is_write order.cdb) writes) is_after
+write_told s tag count order outcome before after writes is_after =
+    same_bytes s tag count order outcome before after (or_right (is_read order.cdb) (is_write order.cdb) writes) is_after
 
 pub on_ok : {A E P Q : Type 0} (result : Result A E) → (P → Q) → OnOk result P → OnOk result Q
 on_ok (Ok x) step h = step h

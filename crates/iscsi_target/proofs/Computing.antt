@@ -1,4 +1,4 @@
--- What the answer of a worked row unfolds, to compute what a target writes.
+-- The definitions that a worked example unfolds, so that what a target writes is computed.
 use Rattle.std.specs.Prelude.{⊤}
 use Rattle.std.specs.Fmt.{digits}
 use Rattle.scsi_cdb.specs.Layout.{put_bit, put_number, put_bytes, put_raw}

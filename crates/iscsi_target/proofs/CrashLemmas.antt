@@ -1,15 +1,16 @@
 -- What a crash leaves, command by command.
-use Rattle.std.proofs.Common.{◌≡◌, ◌⊎◌, inl, inr, ℕ, ◌*◌, ◌-◌, List, [], ◌∷◌, ◌++◌, Bool, true, false, length, refl, sym, ap, ◌∙◌, subst}
+use Rattle.std.proofs.Common.{◌≡◌, ◌⊎◌, inl, inr, ℕ, ◌*◌, ◌-◌, List, [], ◌∷◌, ◌++◌, Bool, true, false, length, refl, sym, ap, ◌∙◌, subst, Option}
 use Rattle.std.specs.Prelude.{nat_lt, if◌then◌else◌}
 use Rattle.scsi_disk.specs.Disk.{Disk, cut, overlaid}
 use Rattle.scsi_disk.specs.Plan.{plan_of, transfer}
-use Rattle.scsi_disk.specs.Effect.{effect, disk_by, guarded, IsSupplied}
+use Rattle.scsi_disk.specs.Effect.{block_data, effect, disk_by, guarded, IsSupplied}
 use Rattle.scsi_disk.proofs.GuardLemmas.{takes_none}
 use Rattle.scsi_disk.specs.Lasting.{Adds}
 use Rattle.scsi_disk.specs.Runs.{Supplied}
 use Rattle.scsi_disk.specs.declared.order.Order.{Order}
 use Rattle.scsi_disk.specs.declared.order.Plan.{Plan}
 use Rattle.scsi_disk.specs.declared.order.Plan.TheVariants.{Refuse, Take, Give}
+use Rattle.scsi_unit.specs.LogicalUnit.{LogicalUnit}
 use Rattle.iscsi_target.specs.declared.tasks.Task.{Task}
 use Rattle.iscsi_target.specs.declared.tasks.Task.TheVariants.{Request, Data}
 use Rattle.iscsi_target_session.specs.Session.{Session}
@@ -24,6 +25,7 @@ use Rattle.iscsi_target.proofs.FeedInvariant.{rest_moves}
 use Rattle.iscsi_stream.specs.Pieces.{data_of}
 use Rattle.iscsi_target.proofs.JoiningLemmas.{ones}
 use Rattle.iscsi_target.proofs.OpenWriteLemmas.{data_of_one}
+use Rattle.iscsi_target.proofs.OrderLemmas.{disk_kept}
 use Rattle.iscsi_target.proofs.TurnLemmas.{with_tasks}
 
 -- nothing was done
@@ -38,11 +40,6 @@ one_done protected order bytes before after old new count supplied adds = record
   adds = λ n c h. elim (adds n c h) [ inl was ↦ inl was | inr is ↦ inr (inl (supplied, is)) ];
 }
 
-same_disk : (plan : Plan) (disk : Disk) (order : Order) (bytes : List ℕ) → ((k : ℕ) → plan ≡ Take k → ⊥) → disk_by plan disk order bytes ≡ disk
-same_disk (Refuse sense) disk order bytes gives = refl
-same_disk (Give k) disk order bytes gives = refl
-same_disk (Take k) disk order bytes gives = absurd (gives k refl)
-
 -- one that writes nothing was
 pub none_written : (protected : Bool) (order : Order) (bytes : List ℕ) (before after : Disk) (old new : ℕ → List ℕ → Type 0) → after.count ≡ before.count →
     ((k : ℕ) → plan_of order before.count ≡ Take k → ⊥) → ((n : ℕ) → old n (before.block n)) → Adds (effect protected before order bytes).disk old new →
@@ -52,7 +49,7 @@ none_written protected order bytes before after old new count gives stays adds =
   adds = λ n c h. elim (adds n c h) [
     | inl was ↦ inl was
     | inr is ↦ inl (subst (λ (x : List ℕ). old n x)
-        (sym (is ∙ ap (λ (d : Disk). d.block n) (same_disk (guarded protected (plan_of order before.count)) before order bytes
+        (sym (is ∙ ap (λ (d : Disk). d.block n) (disk_kept (guarded protected (plan_of order before.count)) before order bytes
         (takes_none protected (plan_of order before.count) gives)))) (stays n))
   ];
 }
@@ -79,7 +76,7 @@ moved_by : (plan : Plan) (before now : Disk) (order : Order) (bytes : List ℕ) 
     (c ≡ now.block n) ⊎ (c ≡ (disk_by plan before order bytes).block n)
 moved_by (Refuse sense) before now order bytes n c e = inl e
 moved_by (Give k) before now order bytes n c e = inl e
-moved_by (Take k) before now order bytes n c e = over 512 (transfer order.cdb).first n bytes now.block before.block c e
+moved_by (Take k) before now order bytes n c e = over 512 (transfer order.cdb).first n (block_data order bytes) now.block before.block c e
 
 pub moved : (protected : Bool) (orders : List Supplied) (before now : Disk) (n : ℕ) (c : List ℕ) → now.count ≡ before.count
     → IsBehind protected now orders n c →
@@ -135,31 +132,31 @@ goes_on protected all first left before now after old kept new g stays h = recor
 
 -- ---- pieces joined
 
-command_joined : (task : Task) → command_of (joined_task task) ≡ command_of task
-command_joined (Request m) = refl
-command_joined (Data w) = ap (λ (bytes : List ℕ). (w.order, bytes) ∷ []) (data_of_one (data_of w.pieces))
+command_joined : (unit : Option LogicalUnit) (task : Task) → command_of unit (joined_task task) ≡ command_of unit task
+command_joined unit (Request m) = refl
+command_joined unit (Data w) = ap (λ (bytes : List ℕ). (w.order, bytes) ∷ []) (data_of_one (data_of w.pieces))
 
-pub commands_joined : (tasks : List Task) → commands_of (ones tasks) ≡ commands_of tasks
-commands_joined [] = refl
-commands_joined (task ∷ more) = λ i. command_joined task i ++ commands_joined more i
+pub commands_joined : (unit : Option LogicalUnit) (tasks : List Task) → commands_of unit (ones tasks) ≡ commands_of unit tasks
+commands_joined unit [] = refl
+commands_joined unit (task ∷ more) = λ i. command_joined unit task i ++ commands_joined unit more i
 
-pub commands_same : (ts us : List Task) → ones ts ≡ ones us → commands_of ts ≡ commands_of us
-commands_same ts us e = sym (commands_joined ts) ∙ ap commands_of e ∙ commands_joined us
+pub commands_same : (unit : Option LogicalUnit) (ts us : List Task) → ones ts ≡ ones us → commands_of unit ts ≡ commands_of unit us
+commands_same unit ts us e = sym (commands_joined unit ts) ∙ ap (commands_of unit) e ∙ commands_joined unit us
 
 -- the first task was done
-pub task_done : (protected : Bool) (all : List Supplied) (now : Machine) (session : Session) (task : Task) (rest : List Task) (before mid after : Disk)
-    (old kept new : ℕ → List ℕ → Type 0) → now ≡ with_tasks session (task ∷ rest) → Pends protected all (commands_of now.tasks) before mid old kept →
-    ((n : ℕ) → kept n (mid.block n)) → Crashes protected (command_of task) mid after kept new → Pends protected all (commands_of rest) before after old new
-task_done protected all now session task rest before mid after old kept new is g stays h =
-    goes_on protected all (command_of task) (commands_of rest) before mid after old kept new
-    (subst (λ (m : Machine). Pends protected all (commands_of m.tasks) before mid old kept) is g) stays h
+pub task_done : (unit : Option LogicalUnit) (protected : Bool) (all : List Supplied) (now : Machine) (session : Session) (task : Task) (rest : List Task) (before mid after : Disk)
+    (old kept new : ℕ → List ℕ → Type 0) → now ≡ with_tasks session (task ∷ rest) → Pends protected all (commands_of unit now.tasks) before mid old kept →
+    ((n : ℕ) → kept n (mid.block n)) → Crashes protected (command_of unit task) mid after kept new → Pends protected all (commands_of unit rest) before after old new
+task_done unit protected all now session task rest before mid after old kept new is g stays h =
+    goes_on protected all (command_of unit task) (commands_of unit rest) before mid after old kept new
+    (subst (λ (m : Machine). Pends protected all (commands_of unit m.tasks) before mid old kept) is g) stays h
 
 -- and these are left
-pub tasks_left : (protected : Bool) (all : List Supplied) (rest left : List Task) (before after : Disk) (old new : ℕ → List ℕ → Type 0)
+pub tasks_left : (unit : Option LogicalUnit) (protected : Bool) (all : List Supplied) (rest left : List Task) (before after : Disk) (old new : ℕ → List ℕ → Type 0)
     → ones left ≡ ones rest →
-    Pends protected all (commands_of rest) before after old new → Pends protected all (commands_of left) before after old new
-tasks_left protected all rest left before after old new e g =
-    subst (λ (orders : List Supplied). Pends protected all orders before after old new) (sym (commands_same left rest e)) g
+    Pends protected all (commands_of unit rest) before after old new → Pends protected all (commands_of unit left) before after old new
+tasks_left unit protected all rest left before after old new e g =
+    subst (λ (orders : List Supplied). Pends protected all orders before after old new) (sym (commands_same unit left rest e)) g
 
 -- ---- the next PDU
 

@@ -9,7 +9,7 @@ use Rattle.iscsi_stream.specs.Segment.{segment_bytes}
 use Rattle.iscsi_stream.specs.Stream.{Message}
 use Rattle.iscsi_login.specs.Held.{Held, max_burst}
 use Rattle.iscsi_target_session.specs.Session.{Session, message}
-use Rattle.iscsi_target.specs.State.{Machine, waiting}
+use Rattle.iscsi_target.specs.State.{Machine, waiting, unit_of}
 use Rattle.iscsi_stream.specs.Pieces.{Pieces, data_of, chunks, TilesFrom, data_pieces}
 use Rattle.iscsi_target.specs.Execution.{Device, execute, marked, sequence_parts, data_in_parts, data_ins, response_head, sense_segment, as_told}
 use Rattle.iscsi_target.specs.Tiles.{Tiles, TileBytes}
@@ -62,9 +62,9 @@ data_ins_bytes s waits tag data_sn at (part ∷ given) last e = ap (λ (z : List
 pub execute_tiled : (device : Device) (s : Machine) (disk : Disk) (tag : ℕ) (order : Order) (pieces : Pieces) → 0 < max_burst s.session.held → 0
     < s.session.held.initiator_max_recv
     → TileBytes (data_pieces (execute device s disk tag order pieces).answers)
-    (as_told s.session.settings.extras.unit order (device 0 disk order (data_of pieces))).outcome.bytes
+    (as_told (unit_of s.session) disk.count order (device 0 disk order (data_of pieces))).outcome.bytes
 execute_tiled device s disk tag order pieces burst most =
-    let e : Effect = as_told s.session.settings.extras.unit order (device 0 disk order (data_of pieces)) in
+    let e : Effect = as_told (unit_of s.session) disk.count order (device 0 disk order (data_of pieces)) in
     let given : Parts = data_in_parts s.session.held e.outcome.bytes in
     let last : Message = message (response_head s.session (waiting s.tasks) tag e.outcome (length given)) (sense_segment e.outcome.sense) in
     let all : bytes_of given ≡ e.outcome.bytes = all_given s.session.held e.outcome.bytes burst most in (

@@ -5,6 +5,7 @@ use Rattle.std.proofs.lemmas.Bool.{le-ltb}
 use Rattle.scsi_disk.specs.Disk.{Disk}
 use Rattle.iscsi_text.specs.Text.{Pairs}
 use Rattle.iscsi_text.specs.Reading.{text_in}
+use Rattle.scsi_unit.specs.LogicalUnit.{LogicalUnit}
 use Rattle.iscsi_pdu.specs.Serial.{distance, is_within}
 use Rattle.iscsi_pdu.specs.declared.head.Head.{Head}
 use Rattle.iscsi_pdu.specs.declared.head.Head.TheVariants as heads
@@ -16,7 +17,7 @@ use Rattle.iscsi_stream.specs.Stream.{Message, message}
 use Rattle.iscsi_login.specs.declared.phase.Phase.{Phase}
 use Rattle.iscsi_login.specs.declared.stage.Session.{Session as SessionType}
 use Rattle.iscsi_target_session.specs.Session.{Session, limit}
-use Rattle.iscsi_target.specs.State.{Machine, Stepped, on, unchanged, shut_down, waiting, max_cmd_sn}
+use Rattle.iscsi_target.specs.State.{Machine, Stepped, on, unchanged, shut_down, waiting, max_cmd_sn, unit_of}
 use Rattle.std.proofs.Common.{inl, inr, arith}
 use Rattle.std.specs.Prelude.{Ok, Err}
 use Rattle.iscsi_login.specs.declared.phase.Phase.TheVariants.{Login, Full}
@@ -37,6 +38,7 @@ use Rattle.iscsi_target.proofs.TurnLemmas.{with_tasks}
 use Rattle.iscsi_target_session.specs.Rejecting.{reject}
 use Rattle.iscsi_pdu.specs.Rules.{kind_not_due, segment_too_long, command_out_of_turn}
 use Rattle.scsi_disk.specs.Plan.{plan_of}
+use Rattle.scsi_disk.specs.declared.order.Order.{Order}
 use Rattle.scsi_disk.specs.declared.order.Plan.{Plan}
 use Rattle.scsi_disk.specs.declared.order.Plan.TheVariants.{Refuse, Take, Give}
 use Rattle.iscsi_login.specs.Held.{Held}
@@ -142,16 +144,16 @@ due_served s count c hd bytes m is e f = sym (rw (due_of s.session.session_type 
 -- ---- a request that is the first and only task
 
 planned_alone : (d : Device) (s : Machine) (disk : Disk) (m : Message) (h : Command) (plan : Plan) → m.head ≡ ScsiCommand h →
-    breaks_burst_rules s.session.held h (length (segment_bytes m.segment)) ≡ false → plan_of (order_of h) disk.count ≡ plan
-    → begun d s disk (task_planned m h (segment_bytes m.segment) plan) ≡ handled d s disk m m.head
+    breaks_burst_rules s.session.held h (length (segment_bytes m.segment)) ≡ false → plan_of (order_of (unit_of s.session) h) disk.count ≡ plan
+    → begun d s disk (task_planned m h (order_of (unit_of s.session) h) (segment_bytes m.segment) plan) ≡ handled d s disk m m.head
 planned_alone d s disk m h (Take total) k e f =
-    sym (ap (handled d s disk m) k ∙ rw e refl ∙ ap (planned d s disk h (segment_bytes m.segment)) f)
+    sym (ap (handled d s disk m) k ∙ rw e refl ∙ ap (planned d s disk h (order_of (unit_of s.session) h) (segment_bytes m.segment)) f)
 planned_alone d s disk m h (Refuse sense) k e f = refl
 planned_alone d s disk m h (Give given) k e f = refl
 
 alone_by : (d : Device) (s : Machine) (disk : Disk) (m : Message) (head : Head) → m.head ≡ head →
-    breaks_rules s.session.held (length (segment_bytes m.segment)) head ≡ false → begun d s disk (task_by disk.count m head) ≡ handled d s disk m m.head
-alone_by d s disk m (ScsiCommand h) k e = planned_alone d s disk m h (plan_of (order_of h) disk.count) k e refl
+    breaks_rules s.session.held (length (segment_bytes m.segment)) head ≡ false → begun d s disk (task_by (unit_of s.session) disk.count m head) ≡ handled d s disk m m.head
+alone_by d s disk m (ScsiCommand h) k e = planned_alone d s disk m h (plan_of (order_of (unit_of s.session) h) disk.count) k e refl
 alone_by d s disk m head k e = refl
 
 rules_of : (held : Held) (c : Bool) (hd : Head) (bytes : List ℕ) (m : Message) (is : message c hd bytes ≡ m) (h : Command) → hd ≡ ScsiCommand h →
@@ -186,58 +188,58 @@ admitted_broken s count m e f = rw (e, f) refl
 
 pub admitted_queued : (s : Machine) (count : ℕ) (m : Message) → is_tag_of s.tasks (tag_of m.head) ≡ false →
     breaks_rules s.session.held (length (segment_bytes m.segment)) m.head ≡ false
-    → admitted s count m ≡ Queued s.session (s.tasks ++ task_of count m ∷ [])
+    → admitted s count m ≡ Queued s.session (s.tasks ++ task_of (unit_of s.session) count m ∷ [])
 admitted_queued s count m e f = rw (e, f) refl
 
 -- a request with a CmdSN takes a place of the window
-takes_planned : (m : Message) (h : Command) (bytes : List ℕ) (plan : Plan) → h.immediate ≡ false → takes_place (task_planned m h bytes plan) ≡ true
-takes_planned m h bytes (Take total) e = ap (λ (b : Bool). not b) e
-takes_planned m h bytes (Refuse sense) e = refl
-takes_planned m h bytes (Give given) e = refl
+takes_planned : (m : Message) (h : Command) (order : Order) (bytes : List ℕ) (plan : Plan) → h.immediate ≡ false → takes_place (task_planned m h order bytes plan) ≡ true
+takes_planned m h order bytes (Take total) e = ap (λ (b : Bool). not b) e
+takes_planned m h order bytes (Refuse sense) e = refl
+takes_planned m h order bytes (Give given) e = refl
 
 numbered : (b : Bool) (n : ℕ) → (cmd_sn_if b n ≡ None → ⊥) → b ≡ false
 numbered true n some = absurd (some refl)
 numbered false n some = refl
 
-takes_by : (count : ℕ) (m : Message) (head : Head) → (cmd_sn_of head ≡ None → ⊥) → takes_place (task_by count m head) ≡ true
-takes_by count m (ScsiCommand h) some = takes_planned m h (segment_bytes m.segment) (plan_of (order_of h) count) (numbered h.immediate h.cmd_sn some)
-takes_by count m head some = refl
+takes_by : (unit : Option LogicalUnit) (count : ℕ) (m : Message) (head : Head) → (cmd_sn_of head ≡ None → ⊥) → takes_place (task_by unit count m head) ≡ true
+takes_by unit count m (ScsiCommand h) some = takes_planned m h (order_of unit h) (segment_bytes m.segment) (plan_of (order_of unit h) count) (numbered h.immediate h.cmd_sn some)
+takes_by unit count m head some = refl
 
-pub takes_as : (count : ℕ) (m : Message) → cmd_sn_of m.head ≢ None → takes_place (task_of count m) ≡ true
-takes_as count m some = takes_by count m m.head some
+pub takes_as : (unit : Option LogicalUnit) (count : ℕ) (m : Message) → cmd_sn_of m.head ≢ None → takes_place (task_of unit count m) ≡ true
+takes_as unit count m some = takes_by unit count m m.head some
 
 -- its bytes stand as one piece
-joined_planned : (m : Message) (h : Command) (bytes : List ℕ) (plan : Plan) → joined_task (task_planned m h bytes plan) ≡ task_planned m h bytes plan
-joined_planned m h bytes (Take total) = ap (λ (p : Pieces). Data (record (opened h total bytes) { pieces = p })) (joined_piece bytes)
+joined_planned : (m : Message) (h : Command) (order : Order) (bytes : List ℕ) (plan : Plan) → joined_task (task_planned m h order bytes plan) ≡ task_planned m h order bytes plan
+joined_planned m h order bytes (Take total) = ap (λ (p : Pieces). Data (record (opened h order total bytes) { pieces = p })) (joined_piece bytes)
   where
     joined_piece : (bytes : List ℕ) → with_piece [] 0 (data_of (with_piece [] 0 bytes)) ≡ with_piece [] 0 bytes
     joined_piece bytes = ap (with_piece [] 0) (data_of_one bytes)
-joined_planned m h bytes (Refuse sense) = refl
-joined_planned m h bytes (Give given) = refl
+joined_planned m h order bytes (Refuse sense) = refl
+joined_planned m h order bytes (Give given) = refl
 
-joined_by : (count : ℕ) (m : Message) (head : Head) → joined_task (task_by count m head) ≡ task_by count m head
-joined_by count m (ScsiCommand h) = joined_planned m h (segment_bytes m.segment) (plan_of (order_of h) count)
-joined_by count m head = refl
+joined_by : (unit : Option LogicalUnit) (count : ℕ) (m : Message) (head : Head) → joined_task (task_by unit count m head) ≡ task_by unit count m head
+joined_by unit count m (ScsiCommand h) = joined_planned m h (order_of unit h) (segment_bytes m.segment) (plan_of (order_of unit h) count)
+joined_by unit count m head = refl
 
-pub joined_as : (count : ℕ) (m : Message) → joined_task (task_of count m) ≡ task_of count m
-joined_as count m = joined_by count m m.head
+pub joined_as : (unit : Option LogicalUnit) (count : ℕ) (m : Message) → joined_task (task_of unit count m) ≡ task_of unit count m
+joined_as unit count m = joined_by unit count m m.head
 
 -- a write that has to wait has no more bytes than it takes
-pub waits_fit : (held : Held) (count total : ℕ) (c : Bool) (hd : Head) (bytes : List ℕ) (m : Message) (is : message c hd bytes ≡ m) (h : Command) → hd
+pub waits_fit : (unit : Option LogicalUnit) (held : Held) (count total : ℕ) (c : Bool) (hd : Head) (bytes : List ℕ) (m : Message) (is : message c hd bytes ≡ m) (h : Command) → hd
     ≡ ScsiCommand h
-    → breaks_rules held (length (segment_bytes m.segment)) m.head ≡ false → plan_of (order_of h) count ≡ Take total → length bytes ≤ total
-waits_fit held count total c hd bytes m is h e f plan = immediate_fits count h held total bytes (rules_of held c hd bytes m is h e f) plan
+    → breaks_rules held (length (segment_bytes m.segment)) m.head ≡ false → plan_of (order_of unit h) count ≡ Take total → length bytes ≤ total
+waits_fit unit held count total c hd bytes m is h e f plan = immediate_fits unit count h held total bytes (rules_of held c hd bytes m is h e f) plan
 
-pub waits_as : (count total : ℕ) (c : Bool) (hd : Head) (bytes : List ℕ) (m : Message) (is : message c hd bytes ≡ m) (h : Command) → hd ≡ ScsiCommand h →
-    plan_of (order_of h) count ≡ Take total
-    → Data (opened h total bytes) ≡ task_of count m
-waits_as count total c hd bytes m is h e plan =
-    sym (ap (task_by count m) (head_of c hd bytes m is ∙ e) ∙ ap (λ (b : List ℕ). task_planned m h b (plan_of (order_of h) count))
-    (plain c hd bytes m is (ap is_last e)) ∙ ap (task_planned m h bytes) plan)
+pub waits_as : (unit : Option LogicalUnit) (count total : ℕ) (c : Bool) (hd : Head) (bytes : List ℕ) (m : Message) (is : message c hd bytes ≡ m) (h : Command) → hd ≡ ScsiCommand h →
+    plan_of (order_of unit h) count ≡ Take total
+    → Data (opened h (order_of unit h) total bytes) ≡ task_of unit count m
+waits_as unit count total c hd bytes m is h e plan =
+    sym (ap (task_by unit count m) (head_of c hd bytes m is ∙ e) ∙ ap (λ (b : List ℕ). task_planned m h (order_of unit h) b (plan_of (order_of unit h) count))
+    (plain c hd bytes m is (ap is_last e)) ∙ ap (task_planned m h (order_of unit h) bytes) plan)
 
 -- where there is no other task, a request is handled where it lies
 pub alone : (d : Device) (s : Machine) (disk : Disk) (m : Message) → breaks_rules s.session.held (length (segment_bytes m.segment)) m.head ≡ false →
-    begun d s disk (task_of disk.count m) ≡ handled d s disk m m.head
+    begun d s disk (task_of (unit_of s.session) disk.count m) ≡ handled d s disk m m.head
 alone d s disk m e = alone_by d s disk m m.head refl e
 
 over_text : (s : Machine) (t : Option Pairs) (bytes : List ℕ) → length bytes ≤ limit s.session.settings → is_over_limit s (text_or_bytes t bytes) ≡ false
@@ -283,7 +285,7 @@ pub not_refused : (s : Machine) (m : Message) → is_tag_of s.tasks (tag_of m.he
     breaks_rules s.session.held (length (segment_bytes m.segment)) m.head ≡ false → refusal s m ≡ None
 not_refused s m e f = rw (e, f) refl
 
-pub admitted_none : (s : Machine) (count : ℕ) (m : Message) → refusal s m ≡ None → admitted s count m ≡ Queued s.session (s.tasks ++ task_of count m ∷ [])
+pub admitted_none : (s : Machine) (count : ℕ) (m : Message) → refusal s m ≡ None → admitted s count m ≡ Queued s.session (s.tasks ++ task_of (unit_of s.session) count m ∷ [])
 admitted_none s count m e = admitted_queued s count m (untagged s m e) (keeps_rules s m e)
 
 pub admitted_some : (s : Machine) (count : ℕ) (m : Message) (rule : ℕ) → refusal s m ≡ Some rule → admitted s count m ≡ broken s rule m
@@ -321,7 +323,7 @@ due_judged s c hd bytes m is v x e j =
 
 -- a request that may be accepted isn't dropped
 not_dropped : (s : Machine) (count : ℕ) (m : Message) (rule : Option ℕ) → refusal s m ≡ rule → admitted s count m ≡ Dropped → ⊥
-not_dropped s count m None e d = let apart : Queued s.session (s.tasks ++ task_of count m ∷ []) ≡ Dropped = sym (admitted_none s count m e) ∙ d in cc
+not_dropped s count m None e d = let apart : Queued s.session (s.tasks ++ task_of (unit_of s.session) count m ∷ []) ≡ Dropped = sym (admitted_none s count m e) ∙ d in cc
 not_dropped s count m (Some rule) e d = let apart : broken s rule m ≡ Dropped = sym (admitted_some s count m rule e) ∙ d in cc
 
 turn_follows : {E : Type 0} (protected : Bool) (result : Result (Option ℕ) E) (next : Next) (s : Machine) (before : Store) (output : List ℕ) (new : Moment) →
@@ -346,10 +348,10 @@ in_its_turn protected result s count m before output new h =
 pub admitted_follows : {E : Type 0} (protected : Bool) (result : Result (Option ℕ) E) (s : Machine) (count : ℕ) (m : Message) (before : Store)
     (output : List ℕ) (new : Machine)
     (after : Store) (written : List ℕ) → refusal s m ≡ None
-    → Works protected result (moment (with_tasks s.session (s.tasks ++ task_of count m ∷ [])) before output) (moment new after written)
+    → Works protected result (moment (with_tasks s.session (s.tasks ++ task_of (unit_of s.session) count m ∷ [])) before output) (moment new after written)
     → Follows protected (admitted s count m) result (moment s before output) (moment new after written)
 admitted_follows protected result s count m before output new after written kept h =
-    works_follow protected result (admitted s count m) s.session (s.tasks ++ task_of count m ∷ []) s before output new after written
+    works_follow protected result (admitted s count m) s.session (s.tasks ++ task_of (unit_of s.session) count m ∷ []) s before output new after written
     (admitted_none s count m kept) h
 
 -- ---- a Data-Out
@@ -416,28 +418,28 @@ full_answers protected (Err e) s m before output new after written live within i
 
 -- ---- the commands that are there
 
-pub command_is_in : (c : Bool) (hd : Head) (bytes : List ℕ) (m : Message) (is : message c hd bytes ≡ m) (h : Command) → hd ≡ ScsiCommand h →
-    (order_of h, bytes) ∷ [] ≡ command_in m.head (segment_bytes m.segment)
-command_is_in c hd bytes m is h e =
-    sym (ap (λ (x : Head). command_in x (segment_bytes m.segment)) (head_of c hd bytes m is ∙ e)
-    ∙ ap (λ (b : List ℕ). (order_of h, b) ∷ []) (plain c hd bytes m is (ap is_last e)))
+pub command_is_in : (unit : Option LogicalUnit) (c : Bool) (hd : Head) (bytes : List ℕ) (m : Message) (is : message c hd bytes ≡ m) (h : Command) → hd ≡ ScsiCommand h →
+    (order_of unit h, bytes) ∷ [] ≡ command_in unit m.head (segment_bytes m.segment)
+command_is_in unit c hd bytes m is h e =
+    sym (ap (λ (x : Head). command_in unit x (segment_bytes m.segment)) (head_of c hd bytes m is ∙ e)
+    ∙ ap (λ (b : List ℕ). (order_of unit h, b) ∷ []) (plain c hd bytes m is (ap is_last e)))
 
-planned_command : (m : Message) (h : Command) (bytes : List ℕ) (plan : Plan) → m.head ≡ ScsiCommand h → segment_bytes m.segment ≡ bytes →
-    command_of (task_planned m h bytes plan) ≡ (order_of h, bytes) ∷ []
-planned_command m h bytes (Take total) e f = ap (λ (b : List ℕ). (order_of h, b) ∷ []) (data_of_one bytes)
-planned_command m h bytes (Refuse sense) e f =
-    ap (λ (x : Head). command_in x (segment_bytes m.segment)) e ∙ ap (λ (b : List ℕ). (order_of h, b) ∷ []) f
-planned_command m h bytes (Give given) e f =
-    ap (λ (x : Head). command_in x (segment_bytes m.segment)) e ∙ ap (λ (b : List ℕ). (order_of h, b) ∷ []) f
+planned_command : (unit : Option LogicalUnit) (m : Message) (h : Command) (bytes : List ℕ) (plan : Plan) → m.head ≡ ScsiCommand h → segment_bytes m.segment ≡ bytes →
+    command_of unit (task_planned m h (order_of unit h) bytes plan) ≡ (order_of unit h, bytes) ∷ []
+planned_command unit m h bytes (Take total) e f = ap (λ (b : List ℕ). (order_of unit h, b) ∷ []) (data_of_one bytes)
+planned_command unit m h bytes (Refuse sense) e f =
+    ap (λ (x : Head). command_in unit x (segment_bytes m.segment)) e ∙ ap (λ (b : List ℕ). (order_of unit h, b) ∷ []) f
+planned_command unit m h bytes (Give given) e f =
+    ap (λ (x : Head). command_in unit x (segment_bytes m.segment)) e ∙ ap (λ (b : List ℕ). (order_of unit h, b) ∷ []) f
 
-task_command_by : (count : ℕ) (m : Message) (head : Head) → m.head ≡ head → command_of (task_by count m head) ≡ command_in head (segment_bytes m.segment)
-task_command_by count m (heads.ScsiCommand h) e = planned_command m h (segment_bytes m.segment) (plan_of (order_of h) count) e refl
-task_command_by count m head e = ap (λ (x : Head). command_in x (segment_bytes m.segment)) e
+task_command_by : (unit : Option LogicalUnit) (count : ℕ) (m : Message) (head : Head) → m.head ≡ head → command_of unit (task_by unit count m head) ≡ command_in unit head (segment_bytes m.segment)
+task_command_by unit count m (heads.ScsiCommand h) e = planned_command unit m h (segment_bytes m.segment) (plan_of (order_of unit h) count) e refl
+task_command_by unit count m head e = ap (λ (x : Head). command_in unit x (segment_bytes m.segment)) e
 
-pub task_command : (count : ℕ) (m : Message) → command_of (task_of count m) ≡ command_in m.head (segment_bytes m.segment)
-task_command count m = task_command_by count m m.head refl
+pub task_command : (unit : Option LogicalUnit) (count : ℕ) (m : Message) → command_of unit (task_of unit count m) ≡ command_in unit m.head (segment_bytes m.segment)
+task_command unit count m = task_command_by unit count m m.head refl
 
-pub commands_alone : (count : ℕ) (m : Message) (tasks : List Task) → tasks ≡ [] →
-    commands_of (tasks ++ task_of count m ∷ []) ≡ command_in m.head (segment_bytes m.segment)
-commands_alone count m tasks none = ap (λ (ts : List Task). commands_of (ts ++ task_of count m ∷ [])) none
-    ∙ append-nil (command_of (task_of count m)) ∙ task_command count m
+pub commands_alone : (unit : Option LogicalUnit) (count : ℕ) (m : Message) (tasks : List Task) → tasks ≡ [] →
+    commands_of unit (tasks ++ task_of unit count m ∷ []) ≡ command_in unit m.head (segment_bytes m.segment)
+commands_alone unit count m tasks none = ap (λ (ts : List Task). commands_of unit (ts ++ task_of unit count m ∷ [])) none
+    ∙ append-nil (command_of unit (task_of unit count m)) ∙ task_command unit count m

@@ -62,7 +62,7 @@ pub record FedAs (protected : Bool) (old : Scene) (piece rest : List ℕ) (new :
   pub few : length fed.messages ≤ most
   pub full : ready ≡ true → length fed.messages ≡ most
 
-pub fed_none : (protected : Bool) (old : Connection) (before : Store) (output piece : List ℕ) → is_ready old.framing ≡ false → is_closed old.machine ≡ false →
+unfoldable pub fed_none : (protected : Bool) (old : Connection) (before : Store) (output piece : List ℕ) → is_ready old.framing ≡ false → is_closed old.machine ≡ false →
     GoesUpTo protected (scene old before output) piece piece (scene old before output)
 unfolding MayAnswer answers
 fed_none protected old before output piece unready live = record {
@@ -85,7 +85,7 @@ fed_none protected old before output piece unready live = record {
 
 -- ---- bytes that complete no PDU
 
-pub fed_bytes : (protected : Bool) (old : Connection) (before : Store) (output piece rest after_rest : List ℕ) (now : Connection) (after : Store)
+unfoldable pub fed_bytes : (protected : Bool) (old : Connection) (before : Store) (output piece rest after_rest : List ℕ) (now : Connection) (after : Store)
     (written : List ℕ) (n : ℕ)
     (framing : Framing)
     → (g : GoesUpTo protected (scene old before output) piece rest (scene now after written)) → Takes now.framing rest n framing → is_ready framing ≡ false
@@ -127,7 +127,7 @@ same_step d a b disk m e = sym (step_joined d a disk m) ∙ ap (λ (s : Machine)
 abbrev last_of : Device → Machine → Disk → Message → Stepped
 last_of d s disk m = then_stepped (step_on d s disk m) (unchanged (step_on d s disk m).machine (step_on d s disk m).disk)
 
-may_last : (protected : Bool) (d : Device) (s : Machine) (disk : Disk) (m : Message) (before after : ℕ)
+pub may_last : (protected : Bool) (d : Device) (s : Machine) (disk : Disk) (m : Message) (before after : ℕ)
     → RunsIn protected d before (step_on d s disk m).executed after
     → MayAnswer protected s disk before (m ∷ []) (last_of d s disk m) after
 unfolding MayAnswer
@@ -140,18 +140,18 @@ may_last protected d s disk m before after runs = (
   refl,
 )
 
-answers_last : (protected : Bool) (s : Machine) (disk : Disk) (m : Message) → answers protected s disk (m ∷ []) ≡ last_of (reliable protected) s disk m
+pub answers_last : (protected : Bool) (s : Machine) (disk : Disk) (m : Message) → answers protected s disk (m ∷ []) ≡ last_of (reliable protected) s disk m
 unfolding answers
 answers_last protected s disk m = refl
 
-rule_last : (a b : Option ℕ) → a ≡ None → first_rule a (first_rule b None) ≡ b
+pub rule_last : (a b : Option ℕ) → a ≡ None → first_rule a (first_rule b None) ≡ b
 rule_last a None e = rw e refl
 rule_last a (Some rule) e = rw e refl
 
-settings_as : (a b : Machine) → joined a ≡ joined b → a.session.settings ≡ b.session.settings
+pub settings_as : (a b : Machine) → joined a ≡ joined b → a.session.settings ≡ b.session.settings
 settings_as a b e = ap (λ (s : Machine). s.session.settings) e
 
-pub fed_pdu : (protected : Bool) (old : Connection) (before : Store) (output piece rest after_rest : List ℕ) (now : Connection) (mid : Store)
+unfoldable pub fed_pdu : (protected : Bool) (old : Connection) (before : Store) (output piece rest after_rest : List ℕ) (now : Connection) (mid : Store)
     (written : List ℕ) (n : ℕ)
     (framing : Framing) (broken : Option ℕ) (new : Connection) (after : Store) (more : List ℕ)
     → (g : GoesUpTo protected (scene old before output) piece rest (scene now mid written)) → Takes now.framing rest n framing →
@@ -258,7 +258,7 @@ count_of piece rest = length piece - length rest
 count_is : (piece front rest : List ℕ) → piece ≡ front ++ rest → length piece - length rest ≡ length front
 count_is piece front rest e = omega (arith, ap length e, length-append front rest)
 
-front_is : (piece front rest : List ℕ) → piece ≡ front ++ rest → take (length piece - length rest) piece ≡ front
+pub front_is : (piece front rest : List ℕ) → piece ≡ front ++ rest → take (length piece - length rest) piece ≡ front
 front_is piece front rest e = ap (λ (n : ℕ). take n piece) (count_is piece front rest e) ∙ ap (take (length front)) e ∙ take_at front rest (length front) refl
 
 rest_is : (piece front rest : List ℕ) → piece ≡ front ++ rest → drop (length piece - length rest) piece ≡ rest
@@ -273,7 +273,7 @@ rest_is piece front rest e =
     cancel (x ∷ a) b c e = cancel a b c (ap (drop 1) e)
 
 -- what stands of the PDUs that were answered
-leaves_to : (protected : Bool) (old : Connection) (before : Store) (output piece rest : List ℕ) (now : Connection) (after : Store) (written : List ℕ)
+pub leaves_to : (protected : Bool) (old : Connection) (before : Store) (output piece rest : List ℕ) (now : Connection) (after : Store) (written : List ℕ)
     (result : Result Phase TargetFault) (new : Machine)
     → (f : FedUpTo protected (scene old before output) piece rest (scene now after written))
     → (result ≡ Err faults.NoMemory → IsShut f.stepped.machine new × AsksForMemory now.framing (drop (count_of piece rest) piece))
@@ -314,7 +314,7 @@ feeds_to protected old before output piece rest now after written result new f s
 shut_as : (a b : Machine) → joined a ≡ joined b → closed a ≡ closed b
 shut_as a b e = ap closed e
 
-closed_as : (a b : Machine) → joined a ≡ joined b → is_closed a ≡ is_closed b
+pub closed_as : (a b : Machine) → joined a ≡ joined b → is_closed a ≡ is_closed b
 closed_as a b e = ap is_closed e
 
 live_stepped : (protected : Bool) (old : Connection) (before : Store) (output piece rest : List ℕ) (now : Connection) (after : Store) (written : List ℕ) →
@@ -614,7 +614,7 @@ ends_failed protected old before output piece rest now mid written fault new aft
 
 -- ---- one PDU
 
-front_taken : (v w : Framing) (piece : List ℕ) (n : ℕ) → Takes v piece n w → Takes v (take n piece) n w
+pub front_taken : (v w : Framing) (piece : List ℕ) (n : ℕ) → Takes v piece n w → Takes v (take n piece) n w
 front_taken v w piece n t =
     let size : length (take n piece) ≡ n = omega (arith, length-take n piece, t.bound) in
     record {
@@ -625,7 +625,7 @@ front_taken v w piece n t =
       stops = λ lt. absurd (omega (arith, size, lt));
     }
 
-feeds_one : (protected : Bool) (old : Connection) (before : Store) (output piece : List ℕ) (n : ℕ) (phase : Phase) (new : Connection)
+unfoldable pub feeds_one : (protected : Bool) (old : Connection) (before : Store) (output piece : List ℕ) (n : ℕ) (phase : Phase) (new : Connection)
     (after : Store) (written : List ℕ)
     → n ≤ length piece → (0 < length piece → 0 < n)
     → (f : FedUpTo protected (scene old before output) (take n piece) [] (scene new after written))

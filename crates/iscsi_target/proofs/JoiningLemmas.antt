@@ -23,7 +23,7 @@ use Rattle.iscsi_target_session.specs.Session.{Session, Reply, message, counted,
 use Rattle.iscsi_target.specs.Write.{Write}
 use Rattle.iscsi_target.specs.declared.tasks.Task.{Task}
 use Rattle.iscsi_target.specs.declared.tasks.Task.TheVariants.{Request, Data}
-use Rattle.iscsi_target.specs.State.{Machine, Execution, Stepped, on, unchanged, waiting, takes_place, max_cmd_sn}
+use Rattle.iscsi_target.specs.State.{Machine, Execution, Stepped, on, unchanged, waiting, takes_place, max_cmd_sn, unit_of}
 use Rattle.iscsi_login.specs.Stage.{is_closed_phase}
 use Rattle.iscsi_stream.specs.Pieces.{Pieces, data_of}
 use Rattle.iscsi_pdu.specs.Serial.{is_within}
@@ -115,7 +115,7 @@ executed_with device s disk tag order n tasks bytes = record {
   machine = record { session = counted s; tasks = tasks };
   disk = (device 0 disk order bytes).disk;
   answers =
-      let e : Effect = as_told s.settings.extras.unit order (device 0 disk order bytes) in
+      let e : Effect = as_told (unit_of s) disk.count order (device 0 disk order bytes) in
       command_answers s n tag e.outcome (data_in_parts s.held e.outcome.bytes);
   rule = None;
   accepted = [];
@@ -191,17 +191,17 @@ proceed_same device s disk v ts us x y c e =
     proceed_by device s disk v ts us x y (v.total == length (data_of x)) (v.total == length (data_of y))
     (is_idle v.due) c e (ap (λ (bytes : List ℕ). v.total == length bytes) e)
 
-planned_same : (device : Device) (s : Session) (disk : Disk) (ts us : List Task) (h : Command) (bytes : List ℕ) (plan : Plan) → Beside ts us
-    → Same (planned device (with_tasks s ts) disk h bytes plan) (planned device (with_tasks s us) disk h bytes plan)
-planned_same device s disk ts us h bytes (Take total) c = let w : Write = opened h total bytes in proceed_same device s disk w ts us w.pieces w.pieces c refl
-planned_same device s disk ts us h bytes (Refuse sense) c = execute_same device s disk h.initiator_task_tag (order_of h) ts us [] [] c refl
-planned_same device s disk ts us h bytes (Give n) c = execute_same device s disk h.initiator_task_tag (order_of h) ts us [] [] c refl
+planned_same : (device : Device) (s : Session) (disk : Disk) (ts us : List Task) (h : Command) (order : Order) (bytes : List ℕ) (plan : Plan) → Beside ts us
+    → Same (planned device (with_tasks s ts) disk h order bytes plan) (planned device (with_tasks s us) disk h order bytes plan)
+planned_same device s disk ts us h order bytes (Take total) c = let w : Write = opened h order total bytes in proceed_same device s disk w ts us w.pieces w.pieces c refl
+planned_same device s disk ts us h order bytes (Refuse sense) c = execute_same device s disk h.initiator_task_tag order ts us [] [] c refl
+planned_same device s disk ts us h order bytes (Give n) c = execute_same device s disk h.initiator_task_tag order ts us [] [] c refl
 
 command_same : (device : Device) (s : Session) (disk : Disk) (ts us : List Task) (m : Message) (h : Command) (bytes : List ℕ) → Beside ts us
     → Same (scsi_command device (with_tasks s ts) disk m h bytes) (scsi_command device (with_tasks s us) disk m h bytes)
 command_same device s disk ts us m h bytes c =
     by_cases (breaks_burst_rules s.held h (length bytes)) (λ e. rw e (reply_same disk (λ n. reject_and_close s n data_out_of_order m) ts us c))
-    (λ e. rw e (planned_same device s disk ts us h bytes (plan_of (order_of h) disk.count) c))
+    (λ e. rw e (planned_same device s disk ts us h (order_of (unit_of s) h) bytes (plan_of (order_of (unit_of s) h) disk.count) c))
 
 handled_same : (device : Device) (s : Session) (disk : Disk) (ts us : List Task) (m : Message) (head : Head) → Beside ts us
     → Same (handled device (with_tasks s ts) disk m head) (handled device (with_tasks s us) disk m head)
@@ -452,11 +452,11 @@ admitted_same s count m =
     next_if (is_tag_of (ones s.tasks) (tag_of m.head)) (is_tag_of s.tasks (tag_of m.head))
     (broken (joined s) kind_not_due m) _ (broken s kind_not_due m) _ (tags_same s.tasks (tag_of m.head)) (broken_same s kind_not_due m)
     (next_if (breaks_rules s.session.held (length (segment_bytes m.segment)) m.head) (breaks_rules s.session.held (length (segment_bytes m.segment)) m.head)
-    (broken (joined s) data_out_of_order m) (Queued s.session (ones s.tasks ++ task_of count m ∷ [])) (broken s data_out_of_order m)
-    (Queued s.session (s.tasks ++ task_of count m ∷ [])) refl (broken_same s data_out_of_order m) (
+    (broken (joined s) data_out_of_order m) (Queued s.session (ones s.tasks ++ task_of (unit_of s.session) count m ∷ [])) (broken s data_out_of_order m)
+    (Queued s.session (s.tasks ++ task_of (unit_of s.session) count m ∷ [])) refl (broken_same s data_out_of_order m) (
       refl,
-      map-append joined_task (ones s.tasks) (task_of count m ∷ []) ∙ ap (λ (ts : List Task). ts ++ ones (task_of count m ∷ [])) (joined_twice s.tasks)
-          ∙ sym (map-append joined_task s.tasks (task_of count m ∷ [])),
+      map-append joined_task (ones s.tasks) (task_of (unit_of s.session) count m ∷ []) ∙ ap (λ (ts : List Task). ts ++ ones (task_of (unit_of s.session) count m ∷ [])) (joined_twice s.tasks)
+          ∙ sym (map-append joined_task s.tasks (task_of (unit_of s.session) count m ∷ [])),
     ))
 
 -- what an immediate request is answered with

@@ -25,14 +25,14 @@ use Rattle.iscsi_pdu.specs.Fields.{reserved_tag}
 use Rattle.iscsi_target_session.specs.declared.status.Status.{Status}
 use Rattle.iscsi_target_session.specs.Login.{login_in, login_request, refuse_or, segment_taken, whole_text, text_ending, gather, numbered}
 use Rattle.iscsi_target_session.specs.Login.{entered, request_refusals}
-use Rattle.iscsi_target.specs.Execution.{Device, device_after}
+use Rattle.iscsi_target.specs.Execution.{Device, device_after, reliable}
 use Rattle.iscsi_target.specs.Command.{breaks_rules}
 use Rattle.iscsi_target.specs.Write.{Write}
 use Rattle.iscsi_target.specs.Transfer.{taken}
 use Rattle.iscsi_login.specs.Held.{first_burst}
 use Rattle.iscsi_pdu.specs.Serial.{is_within}
 use Rattle.iscsi_pdu.specs.declared.head.data_out.DataOut.{DataOut as DataPdu}
-use Rattle.iscsi_target.specs.Machine.{Next, Queued, MayStop, step_on, begun, stays, is_closed, is_busy, done_in_turn, done_first, then_stepped}
+use Rattle.iscsi_target.specs.Machine.{Next, Queued, MayStop, step, step_on, answers, begun, stays, is_closed, is_busy, done_in_turn, done_first, then_stepped}
 use Rattle.iscsi_target.specs.Machine.{having_accepted, data_taken, data_for, write_of, is_tag_of, tag_of, admitted, advanced, request, due_met, is_due_kind}
 use Rattle.iscsi_target.specs.Machine.{is_too_long, full_met}
 use Rattle.iscsi_target_session.specs.Requests.{request_answered}
@@ -361,6 +361,14 @@ done_settings device s disk tasks = (done_keeps device (with_tasks s tasks) disk
 
 pub step_settings : (device : Device) (s : Machine) (disk : Disk) (m : Message) → (step_on device s disk m).machine.session.settings ≡ s.session.settings
 step_settings device s disk m = (step_keeps device s disk m).settings
+
+-- also after any messages
+pub answers_settings : (protected : Bool) (s : Machine) (disk : Disk) (ms : List Message) → (answers protected s disk ms).machine.session.settings
+    ≡ s.session.settings
+unfolding answers
+answers_settings protected s disk [] = refl
+answers_settings protected s disk (m ∷ ms) =
+    answers_settings protected (step protected s disk m).machine (step protected s disk m).disk ms ∙ step_settings (reliable protected) s disk m
 
 pub step_stays : (device : Device) (s : Machine) (disk : Disk) (m : Message) → IsLater s.session.phase → Stays s (step_on device s disk m).machine
 step_stays device s disk m = (step_keeps device s disk m).stays

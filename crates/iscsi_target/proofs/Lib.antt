@@ -16,6 +16,8 @@ pub mod DiskFoldLemmas
 pub mod OpenWriteLemmas
 pub mod JoiningLemmas
 pub mod AppendLemmas
+pub mod AskingLemmas
+pub mod NotingLemmas
 pub mod ReplyLemmas
 pub mod BesideLemmas
 pub mod DataInSequenceLemmas

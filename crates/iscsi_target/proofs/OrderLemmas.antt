@@ -1,5 +1,5 @@
 -- What orders give and leave.
-use Rattle.std.proofs.Common.{◌≡◌, ◌≤◌, inl, inr, ◌∙◌, ℕ, ◌*◌, List, [], Bool, true, false, min, length, Option, Some, None, IsTrue, refl, sym, ap, subst}
+use Rattle.std.proofs.Common.{◌≡◌, ◌≤◌, inl, inr, ◌∙◌, ℕ, List, [], Bool, true, false, min, length, Option, Some, None, IsTrue, refl, sym, ap, subst}
 use Rattle.std.proofs.Common.{arith, ◌<◌, ◌^◌, unwrap_or}
 use Rattle.std.specs.Prelude.{◌||◌, ◌&&◌, if◌then◌else◌, option_map, Result, Ok, Err, IfOk}
 use Rattle.std.proofs.lemmas.Bool.{cases_lt, false≢true}
@@ -10,7 +10,7 @@ use Rattle.scsi_cdb.specs.declared.cdb.Cdb.TheVariants.{ReportLuns, Unknown}
 use Rattle.scsi_cdb.specs.declared.sense.Sense.{Sense}
 use Rattle.scsi_disk.specs.Disk.{Disk}
 use Rattle.scsi_disk.specs.Effect.{Effect, Executes, FailsBy, effect, guarded, wanted_data, outcome_by, disk_by}
-use Rattle.scsi_disk.specs.Plan.{plan_of, plan_by, first_refusal, is_read, is_write, is_unknown, transfer, wanted_length, expected_length}
+use Rattle.scsi_disk.specs.Plan.{plan_of, plan_by, first_refusal, is_read, is_write, is_unknown, taken_length, wanted_length, expected_length}
 use Rattle.scsi_disk.proofs.GuardLemmas.{takes_none}
 use Rattle.scsi_disk.specs.declared.order.Order.{Order}
 use Rattle.scsi_disk.specs.declared.order.Outcome.{Outcome}
@@ -69,7 +69,7 @@ write_gives_none protected fb fa disk order bytes after x e =
 
 -- ---- an order that takes no bytes
 
-disk_kept : (plan : Plan) (disk : Disk) (order : Order) (bytes : List ℕ) → ((n : ℕ) → plan ≡ Take n → ⊥) → disk_by plan disk order bytes ≡ disk
+pub disk_kept : (plan : Plan) (disk : Disk) (order : Order) (bytes : List ℕ) → ((n : ℕ) → plan ≡ Take n → ⊥) → disk_by plan disk order bytes ≡ disk
 disk_kept (Refuse sense) disk order bytes no_take = refl
 disk_kept (Take n) disk order bytes no_take = absurd (no_take n refl)
 disk_kept (Give n) disk order bytes no_take = refl
@@ -92,10 +92,10 @@ order_keeps protected fb fa disk order bytes after x no_take =
     ]
 
 -- what the unit doesn't answer
-untold : (unit : Option LogicalUnit) (order : Order) (outcome : Outcome) → ((u : LogicalUnit) → unit ≡ Some u → None ≡ unit_outcome u order)
-    → outcome ≡ told unit order outcome
-untold None order outcome none = refl
-untold (Some u) order outcome none = ap (λ (o : Option Outcome). unwrap_or o outcome) (none u refl)
+untold : (unit : Option LogicalUnit) (count : ℕ) (order : Order) (outcome : Outcome) → ((u : LogicalUnit) → unit ≡ Some u → None ≡ unit_outcome u count order)
+    → outcome ≡ told unit count order outcome
+untold None count order outcome none = refl
+untold (Some u) count order outcome none = ap (λ (o : Option Outcome). unwrap_or o outcome) (none u refl)
 
 -- ---- no more bytes than are expected
 
@@ -136,11 +136,11 @@ limit_by false n disk order = omega (arith, expected_most order)
 
 limit : (r : Option Sense) (disk : Disk) (order : Order) → given (plan_by r order disk.count) ≤ order.expected
 limit (Some sense) disk order = omega arith
-limit None disk order = limit_by (is_write order.cdb) (512 * (transfer order.cdb).count) disk order
+limit None disk order = limit_by (is_write order.cdb) (taken_length order) disk order
 
 given_most_by : (r : Option Sense) (disk : Disk) (order : Order) → length (outcome_by (plan_by r order disk.count) disk order).bytes ≤ order.expected
 given_most_by (Some sense) disk order = omega arith
-given_most_by None disk order = given_by (is_write order.cdb) (512 * (transfer order.cdb).count) disk order
+given_most_by None disk order = given_by (is_write order.cdb) (taken_length order) disk order
 
 guarded_given : (protected : Bool) (plan : Plan) (n : ℕ) → given plan ≤ n → given (guarded protected plan) ≤ n
 guarded_given true (Refuse sense) n e = e
@@ -175,18 +175,18 @@ given_most protected fb fa disk order bytes after x =
 -- ---- what a plan to take bytes says
 
 pub takes_is : (r : Option Sense) (order : Order) (n count : ℕ) → plan_by r order count ≡ Take n → (is_write order.cdb ≡ true)
-    × (n ≡ 512 * (transfer order.cdb).count)
+    × (n ≡ taken_length order)
 takes_is (Some sense) order n count e = absurd cc
 takes_is None order n count e = takes_by (is_write order.cdb) order n count refl e
   where
     takes_by : (w : Bool) (order : Order) (n count : ℕ) → is_write order.cdb ≡ w →
-        (if w then Take (512 * (transfer order.cdb).count) else Give (min (wanted_length order count) (expected_length order))) ≡ Take n
-        → (is_write order.cdb ≡ true) × (n ≡ 512 * (transfer order.cdb).count)
+        (if w then Take (taken_length order) else Give (min (wanted_length order count) (expected_length order))) ≡ Take n
+        → (is_write order.cdb ≡ true) × (n ≡ taken_length order)
     takes_by true order n count is e = (is, cc)
     takes_by false order n count is e = absurd cc
 
 pub staged_at : (order known : Order) (total : ℕ) (bytes : List ℕ) (due : Due) → order ≡ known → is_write known.cdb ≡ true → total
-    ≡ 512 * (transfer known.cdb).count → length bytes ≤ total → CountsR2ts total (length bytes) 0 due
+    ≡ taken_length known → length bytes ≤ total → CountsR2ts total (length bytes) 0 due
     → IsStaged order total bytes due 0
 staged_at order known total bytes due e w t fits asked = subst (λ (o : Order). IsStaged o total bytes due 0) (sym e)
     (record { is_write = w; total_is = t; fits = fits; counted_r2ts = asked })
@@ -195,7 +195,7 @@ staged_at order known total bytes due e w t fits asked = subst (λ (o : Order). 
 
 -- an order that the unit answers leaves store and disk as they are
 pub told_leads : (protected : Bool) (unit : LogicalUnit) (order : Order) (disk : Disk) (failures : ℕ) (outcome : Outcome)
-    → ((n : ℕ) → plan_of order disk.count ≡ Take n → ⊥) → Some outcome ≡ unit_outcome unit order → length outcome.bytes ≤ 96
+    → ((n : ℕ) → plan_of order disk.count ≡ Take n → ⊥) → Some outcome ≡ unit_outcome unit disk.count order → length outcome.bytes ≤ 96
     → LedTo protected (Some unit) order (store_of disk failures) (store_of disk failures) outcome
 told_leads protected unit order disk failures outcome no_take is few = record {
   given = (effect protected disk order []).outcome;
@@ -211,13 +211,13 @@ told_leads protected unit order disk failures outcome no_take is few = record {
 
 -- an order that it doesn't answer has the outcome that the store gives
 untold_leads : (protected : Bool) (unit : Option LogicalUnit) (order : Order) (before after : Store) (outcome : Outcome)
-    → order.expected < 2 ^ 32 → ((u : LogicalUnit) → unit ≡ Some u → None ≡ unit_outcome u order)
+    → order.expected < 2 ^ 32 → ((u : LogicalUnit) → unit ≡ Some u → None ≡ unit_outcome u before.disk.count order)
     → Executes protected before.failures after.failures before.disk order [] (record { disk = after.disk; outcome = outcome })
     → LedTo protected unit order before after outcome
 untold_leads protected unit order before after outcome fits none x = record {
   given = outcome;
   executes = x;
-  is = untold unit order outcome none;
+  is = untold unit before.disk.count order outcome none;
   few = omega (
     arith,
     fits,
@@ -226,7 +226,7 @@ untold_leads protected unit order before after outcome fits none x = record {
 }
 
 pub untold_ok : {E : Type 0} (protected : Bool) (unit : Option LogicalUnit) (order : Order) (before after : Store) (r : Result Outcome E)
-    → order.expected < 2 ^ 32 → ((u : LogicalUnit) → unit ≡ Some u → None ≡ unit_outcome u order)
+    → order.expected < 2 ^ 32 → ((u : LogicalUnit) → unit ≡ Some u → None ≡ unit_outcome u before.disk.count order)
     → IfOk r (λ outcome. Executes protected before.failures after.failures before.disk order [] (record { disk = after.disk; outcome = outcome }))
     → IfOk r (LedTo protected unit order before after)
 untold_ok protected unit order before after (Ok outcome) fits none x = untold_leads protected unit order before after outcome fits none x
@@ -242,7 +242,7 @@ pub held_none : {A : Type 0} (f : A → LogicalUnit) (o : Option A) (unit : Opti
 held_none {A = A} f o unit u e is some = absurd (let apart : None ≡ Some u = ap (λ (p : Option A). option_map f p) (sym e) ∙ is ∙ some in cc)
 
 -- the unit that is held doesn't answer
-pub none_said : (o : Option Outcome) (a u : LogicalUnit) (order : Order) (unit : Option LogicalUnit) → o ≡ None → o ≡ unit_outcome a order → Some a ≡ unit
-    → unit ≡ Some u → None ≡ unit_outcome u order
-none_said o a u order unit none told is some =
-    sym none ∙ told ∙ ap (λ (x : LogicalUnit). unit_outcome x order) (ap (λ (p : Option LogicalUnit). unwrap_or p a) (is ∙ some))
+pub none_said : (o : Option Outcome) (a u : LogicalUnit) (count : ℕ) (order : Order) (unit : Option LogicalUnit) → o ≡ None → o ≡ unit_outcome a count order
+    → Some a ≡ unit → unit ≡ Some u → None ≡ unit_outcome u count order
+none_said o a u count order unit none told is some =
+    sym none ∙ told ∙ ap (λ (x : LogicalUnit). unit_outcome x count order) (ap (λ (p : Option LogicalUnit). unwrap_or p a) (is ∙ some))

@@ -13,13 +13,14 @@ use Rattle.iscsi_login.specs.declared.phase.Phase.{Phase}
 use Rattle.iscsi_login.specs.declared.phase.Phase.TheVariants as phases
 use Rattle.iscsi_target.specs.declared.fault.TargetFault.{TargetFault}
 use Rattle.iscsi_target.specs.declared.tasks.Task.{Task}
-use Rattle.iscsi_target.specs.State.{Machine, Stepped, unchanged, joined}
+use Rattle.iscsi_target_session.specs.Session.{Session}
+use Rattle.iscsi_target.specs.State.{Machine, Stepped, unchanged, unit_of, joined}
 use Rattle.iscsi_target.specs.Execution.{Device}
 use Rattle.iscsi_target.specs.Machine.{Next, Dropped, Answered, Queued, full_met, step_on, done_first, then_stepped, MayAnswer, is_closed}
 use Rattle.iscsi_target.specs.Laws.{joined_stepped}
 use Rattle.iscsi_target.specs.Feed.{scene, Connection, Store, Feeds}
 use Rattle.iscsi_target.specs.Inside.{Moment, moment, connection, Advances, AnswersReady, Halts, HaltsAt, TakesOne, FailsOne}
-use Rattle.iscsi_target.specs.Crash.{IsBehind, CrashesNext, CrashesFed, IsPassed, commands_by, commands_in, commands_at}
+use Rattle.iscsi_target.specs.Crash.{IsBehind, CrashesNext, CrashesFed, IsPassed, commands_by, commands_in, commands_at, commands_of}
 use Rattle.iscsi_target.proofs.AppendLemmas.{may_append}
 use Rattle.iscsi_target.proofs.ServingLemmas.{runs_as, runs_rise}
 use Rattle.iscsi_target.proofs.JoiningLemmas.{SameNext, joined_then, joined_twice}
@@ -31,7 +32,7 @@ use Rattle.iscsi_target.proofs.CrashLemmas.{commands_same}
 next_commands : (x y : Next) → SameNext x y → commands_by x ≡ commands_by y
 next_commands Dropped Dropped h = refl
 next_commands (Answered r) (Answered q) h = refl
-next_commands (Queued s ts) (Queued t us) h = commands_same ts us h.1
+next_commands (Queued s ts) (Queued t us) h = commands_same (unit_of s) ts us h.1 ∙ ap (λ (x : Session). commands_of (unit_of x) us) h.0
 next_commands Dropped (Answered q) h = absurd h
 next_commands Dropped (Queued t us) h = absurd h
 next_commands (Answered r) Dropped h = absurd h

@@ -1,6 +1,6 @@
 -- Between two PDUs the first task is a write that waits for data, and no R2T was sent for one
 -- behind it.
-use Rattle.std.proofs.Common.{◌≡◌, ◌⊎◌, inl, inr, ℕ, List, [], ◌∷◌, ◌++◌, length, Bool, true, false, Some, None, refl, sym, ap, ◌∙◌, subst, ◌+◌, arith}
+use Rattle.std.proofs.Common.{◌≡◌, ◌⊎◌, inl, inr, ℕ, List, [], ◌∷◌, ◌++◌, length, Bool, true, false, Some, None, refl, sym, ap, ◌∙◌, subst, ◌+◌, arith, Option}
 use Rattle.std.specs.Prelude.{◌==◌, nat_lt, if◌then◌else◌}
 use Rattle.std.proofs.lemmas.Bool.{ltb-true}
 use Rattle.std.specs.List.{AllByRecursion}
@@ -9,6 +9,7 @@ use Rattle.scsi_disk.specs.Plan.{plan_of}
 use Rattle.scsi_disk.specs.declared.order.Order.{Order}
 use Rattle.scsi_disk.specs.declared.order.Plan.{Plan}
 use Rattle.scsi_disk.specs.declared.order.Plan.TheVariants.{Refuse, Take, Give}
+use Rattle.scsi_unit.specs.LogicalUnit.{LogicalUnit}
 use Rattle.iscsi_pdu.specs.declared.head.Head.{Head}
 use Rattle.iscsi_pdu.specs.declared.head.Head.TheVariants.{ScsiCommand}
 use Rattle.iscsi_pdu.specs.declared.head.scsi_command.ScsiCommand.{ScsiCommand as Command}
@@ -23,7 +24,7 @@ use Rattle.iscsi_target_session.specs.Session.{Session, Reply}
 use Rattle.iscsi_target.specs.Write.{Write}
 use Rattle.iscsi_target.specs.declared.tasks.Task.{Task}
 use Rattle.iscsi_target.specs.declared.tasks.Task.TheVariants.{Request, Data}
-use Rattle.iscsi_target.specs.State.{Machine, Stepped, on, unchanged, waiting}
+use Rattle.iscsi_target.specs.State.{Machine, Stepped, on, unchanged, waiting, unit_of}
 use Rattle.iscsi_target_session.specs.Rejecting.{reject_and_close}
 use Rattle.iscsi_target_session.specs.Login.{login_step}
 use Rattle.iscsi_target.specs.declared.due.Due.{Due}
@@ -96,7 +97,7 @@ begins_leave : Begins (λ device s disk task r. is_closed s ≡ false → AreUna
 begins_leave = record {
   request_ = λ device s disk m none live u. reply_leaves s disk _;
   refused_ = λ device s disk m h k broke live u. reply_leaves s disk _;
-  command_ = λ device s disk m h k none live u. execute_leaves device s disk h.initiator_task_tag (order_of h) [] live;
+  command_ = λ device s disk m h k none live u. execute_leaves device s disk h.initiator_task_tag (order_of (unit_of s.session) h) [] live;
   write_ = λ device s disk task w is whole live u. execute_leaves device s disk w.initiator_task_tag w.order w.pieces live;
   send_r2t_ = λ device s disk task w is whole idle live u. waiting_leaves s (with_r2t s.session.held w) (send_r2t s disk w) refl live whole refl u;
   wait_ = λ device s disk task w is whole idle live u. waiting_leaves s w (unchanged (led_by w s) disk) refl live whole idle u;
@@ -186,22 +187,22 @@ opened_unasked : (last : Bool) → is_unasked (if last then Nothing else Unsolic
 opened_unasked true = refl
 opened_unasked false = refl
 
-planned_unasked : (m : Message) (h : Command) (bytes : List ℕ) (plan : Plan) → IsUnasked (task_planned m h bytes plan)
-planned_unasked m h bytes (Take total) = opened_unasked h.is_final
-planned_unasked m h bytes (Refuse sense) = tt
-planned_unasked m h bytes (Give given) = tt
+planned_unasked : (m : Message) (h : Command) (order : Order) (bytes : List ℕ) (plan : Plan) → IsUnasked (task_planned m h order bytes plan)
+planned_unasked m h order bytes (Take total) = opened_unasked h.is_final
+planned_unasked m h order bytes (Refuse sense) = tt
+planned_unasked m h order bytes (Give given) = tt
 
-task_unasked : (count : ℕ) (m : Message) (head : Head) → IsUnasked (task_by count m head)
-task_unasked count m (ScsiCommand h) = planned_unasked m h (segment_bytes m.segment) (plan_of (order_of h) count)
-task_unasked count m head = tt
+task_unasked : (unit : Option LogicalUnit) (count : ℕ) (m : Message) (head : Head) → IsUnasked (task_by unit count m head)
+task_unasked unit count m (ScsiCommand h) = planned_unasked m h (order_of unit h) (segment_bytes m.segment) (plan_of (order_of unit h) count)
+task_unasked unit count m head = tt
 
 with_unasked : (tasks : List Task) (task : Task) → AreUnasked tasks → IsUnasked task → AreUnasked (tasks ++ task ∷ [])
 with_unasked [] task u a = (a, tt)
 with_unasked (x ∷ tasks) task u a = (u.0, with_unasked tasks task u.1 a)
 
-pub behind_with : (tasks : List Task) (count : ℕ) (m : Message) → AreUnasked (behind tasks) → AreUnasked (behind (tasks ++ task_of count m ∷ []))
-behind_with [] count m u = tt
-behind_with (x ∷ tasks) count m u = with_unasked tasks (task_of count m) u (task_unasked count m m.head)
+pub behind_with : (unit : Option LogicalUnit) (tasks : List Task) (count : ℕ) (m : Message) → AreUnasked (behind tasks) → AreUnasked (behind (tasks ++ task_of unit count m ∷ []))
+behind_with unit [] count m u = tt
+behind_with unit (x ∷ tasks) count m u = with_unasked tasks (task_of unit count m) u (task_unasked unit count m m.head)
 
 -- ---- all parts
 
@@ -240,8 +241,8 @@ parts_kept device disk = record {
   taken_ = λ s m h w v e f g live k. done_kept device s.session disk (with_write v s.tasks) live
       (data_unasked (first_burst s.session.held) s.tasks w v h (segment_bytes m.segment) f g k.unasked);
   refused_ = λ s t m rule a x live k. reply_kept t disk (reject_and_close t.session (waiting t.tasks) rule m) (same_kept s t m x k);
-  admitted_ = λ s t m a x f live k. done_kept device t.session disk (t.tasks ++ task_of disk.count m ∷ []) (same_live s t m x live)
-      (behind_with t.tasks disk.count m (same_kept s t m x k).unasked);
+  admitted_ = λ s t m a x f live k. done_kept device t.session disk (t.tasks ++ task_of (unit_of t.session) disk.count m ∷ []) (same_live s t m x live)
+      (behind_with (unit_of t.session) t.tasks disk.count m (same_kept s t m x k).unasked);
 }
 
 closed_kept : (device : Device) (s : Machine) (disk : Disk) (m : Message) → is_closed s ≡ true → step_on device s disk m ≡ unchanged s disk

@@ -1,5 +1,5 @@
 -- The queue of a target between two PDUs: what takes a place of the window, and how MaxCmdSN goes.
-use Rattle.std.proofs.Common.{◌≡◌, ◌≤◌, ◌<◌, ◌⊎◌, inl, inr, ℕ, suc, ◌+◌, ◌-◌, ◌^◌, ◌%◌, Bool, true, false, List, [], ◌∷◌, ◌++◌, length, Some, None, refl, sym, ap}
+use Rattle.std.proofs.Common.{◌≡◌, ◌≤◌, ◌<◌, ◌⊎◌, inl, inr, ℕ, suc, ◌+◌, ◌-◌, ◌^◌, ◌%◌, Bool, true, false, List, [], ◌∷◌, ◌++◌, length, Some, None, refl, sym, ap, Option}
 use Rattle.std.proofs.Common.{subst, ◌∙◌, ◌*◌, arith, length-append}
 use Rattle.std.specs.Prelude.{◌==◌, nat_lt, nat_le, not, filter, if◌then◌else◌}
 use Rattle.std.specs.List.{AllByRecursion}
@@ -7,8 +7,10 @@ use Rattle.std.proofs.lemmas.Bool.{ltb-true}
 use Rattle.std.proofs.lemmas.List.Elements.{filter-append}
 use Rattle.scsi_disk.specs.Disk.{Disk}
 use Rattle.scsi_disk.specs.Plan.{plan_of}
+use Rattle.scsi_disk.specs.declared.order.Order.{Order}
 use Rattle.scsi_disk.specs.declared.order.Plan.{Plan}
 use Rattle.scsi_disk.specs.declared.order.Plan.TheVariants as plans
+use Rattle.scsi_unit.specs.LogicalUnit.{LogicalUnit}
 use Rattle.iscsi_pdu.specs.declared.head.Head.{Head}
 use Rattle.iscsi_pdu.specs.declared.head.Head.TheVariants as heads
 use Rattle.iscsi_pdu.specs.declared.head.scsi_command.ScsiCommand.{ScsiCommand as CommandPdu}
@@ -28,7 +30,7 @@ use Rattle.iscsi_target_session.proofs.CaseLemmas.{by_cases}
 use Rattle.iscsi_target.specs.Write.{Write}
 use Rattle.iscsi_target.specs.declared.tasks.Task.{Task}
 use Rattle.iscsi_target.specs.declared.tasks.Task.TheVariants.{Request, Data}
-use Rattle.iscsi_target.specs.State.{Machine, Execution, Stepped, left, max_cmd_sn, on, opening, takes_place, unchanged, waiting}
+use Rattle.iscsi_target.specs.State.{Machine, Execution, Stepped, left, max_cmd_sn, on, opening, takes_place, unchanged, waiting, unit_of}
 use Rattle.iscsi_target.specs.Transfer.{is_in_sequence, received, taken, with_data, with_r2t}
 use Rattle.iscsi_target.specs.Execution.{Device, execute, reliable}
 use Rattle.iscsi_target.specs.Command.{led_by, order_of, send_r2t, task_by, task_of, task_planned}
@@ -131,7 +133,7 @@ begins_few : Begins (λ device s disk task r. First s task r)
 begins_few = record {
   request_ = λ device s disk m none. on_first s disk (Request m) _;
   refused_ = λ device s disk m h k broke. on_first s disk (Request m) _;
-  command_ = λ device s disk m h k none. done_first_of s (Request m) (execute device s disk h.initiator_task_tag (order_of h) []) (omega arith) refl;
+  command_ = λ device s disk m h k none. done_first_of s (Request m) (execute device s disk h.initiator_task_tag (order_of (unit_of s.session) h) []) (omega arith) refl;
   write_ = λ device s disk task w is h. done_first_of s task (execute device s disk w.initiator_task_tag w.order w.pieces) (omega arith) refl;
   send_r2t_ = λ device s disk task w is h g. waits_first s disk task w (with_r2t s.session.held w) (send_r2t s disk w) is refl refl refl;
   wait_ = λ device s disk task w is h g. waits_first s disk task w w (unchanged (led_by w s) disk) is refl refl refl;
@@ -263,15 +265,15 @@ not_immediate : (b : Bool) (n k : ℕ) → cmd_sn_if b k ≡ Some n → not b �
 not_immediate false n k e = refl
 not_immediate true n k e = absurd cc
 
-planned_place : (m : Message) (h : CommandPdu) (bytes : List ℕ) (plan : Plan) → not h.immediate ≡ true → takes_place (task_planned m h bytes plan) ≡ true
-planned_place m h bytes (plans.Take total) e = e
-planned_place m h bytes (plans.Refuse sense) e = refl
-planned_place m h bytes (plans.Give given) e = refl
+planned_place : (m : Message) (h : CommandPdu) (order : Order) (bytes : List ℕ) (plan : Plan) → not h.immediate ≡ true → takes_place (task_planned m h order bytes plan) ≡ true
+planned_place m h order bytes (plans.Take total) e = e
+planned_place m h order bytes (plans.Refuse sense) e = refl
+planned_place m h order bytes (plans.Give given) e = refl
 
-new_place : (count n : ℕ) (m : Message) (head : Head) → cmd_sn_of head ≡ Some n → takes_place (task_by count m head) ≡ true
-new_place count n m (heads.ScsiCommand h) e =
-    planned_place m h (segment_bytes m.segment) (plan_of (order_of h) count) (not_immediate h.immediate n h.cmd_sn e)
-new_place count n m head e = refl
+new_place : (unit : Option LogicalUnit) (count n : ℕ) (m : Message) (head : Head) → cmd_sn_of head ≡ Some n → takes_place (task_by unit count m head) ≡ true
+new_place unit count n m (heads.ScsiCommand h) e =
+    planned_place m h (order_of unit h) (segment_bytes m.segment) (plan_of (order_of unit h) count) (not_immediate h.immediate n h.cmd_sn e)
+new_place unit count n m head e = refl
 
 one_waits : (task : Task) (b : Bool) → takes_place task ≡ b → waiting (task ∷ []) ≤ 1
 one_waits task true e = rw e (omega arith)
@@ -305,15 +307,16 @@ room_for s n e lt few =
     has_room s.session.exp_cmd_sn (waiting s.tasks) lt (omega (arith, few))
     (ltb-true (distance s.session.exp_cmd_sn (max_cmd_sn s)) (2 ^ 31) near)
 
-admitted_few : (s t : Machine) (m : Message) (count : ℕ) → Accepts s m t → HasCmdSn m → AreFew s.tasks → AreFew (t.tasks ++ task_of count m ∷ [])
-admitted_few s _ m count (Immediately c none) h f = subst (λ (ts : List Task). AreFew (ts ++ task_of count m ∷ [])) (sym none) (one_few (task_of count m))
+admitted_few : (s t : Machine) (m : Message) (count : ℕ) → Accepts s m t → HasCmdSn m → AreFew s.tasks
+    → AreFew (t.tasks ++ task_of (unit_of t.session) count m ∷ [])
+admitted_few s _ m count (Immediately c none) h f = subst (λ (ts : List Task). AreFew (ts ++ task_of (unit_of s.session) count m ∷ [])) (sym none) (one_few (task_of (unit_of s.session) count m))
 admitted_few s _ m count (InTurn n c w is) h f =
     let fits : FitsNumber (Some n) = subst FitsNumber c h.request in
     let lt : s.session.exp_cmd_sn < 2 ^ 32 = subst (λ (k : ℕ). k < 2 ^ 32) is fits in
     let room : waiting s.tasks ≤ 7 = room_for s n w lt f.few in
     record {
-      few = (let le = waiting_with s.tasks (task_of count m) in omega (arith, le, room));
-      places = places_with s.tasks (task_of count m) (new_place count n m m.head c) f.places;
+      few = (let le = waiting_with s.tasks (task_of (unit_of s.session) count m) in omega (arith, le, room));
+      places = places_with s.tasks (task_of (unit_of s.session) count m) (new_place (unit_of s.session) count n m m.head c) f.places;
     }
 
 parts_few : (device : Device) (disk : Disk) → Parts device disk AtPdu
@@ -330,9 +333,9 @@ parts_few device disk = record {
         (is_closed_phase (reject_and_close t.session (waiting t.tasks) rule m).session.phase) refl (subst AreFew (sym (same_tasks s t m x)) f);
     each = λ h f. omega arith;
   };
-  admitted_ = λ s t m a x b. turns_at s m (m ∷ []) (t.tasks ++ task_of disk.count m ∷ [])
-      (done_in_turn device t.session disk (t.tasks ++ task_of disk.count m ∷ [])) (λ h f. admitted_few s t m disk.count x h f)
-      (done_few device t.session disk (t.tasks ++ task_of disk.count m ∷ []));
+  admitted_ = λ s t m a x b. turns_at s m (m ∷ []) (t.tasks ++ task_of (unit_of t.session) disk.count m ∷ [])
+      (done_in_turn device t.session disk (t.tasks ++ task_of (unit_of t.session) disk.count m ∷ [])) (λ h f. admitted_few s t m disk.count x h f)
+      (done_few device t.session disk (t.tasks ++ task_of (unit_of t.session) disk.count m ∷ []));
 }
 
 step_few : (device : Device) (disk : Disk) (s : Machine) (m : Message) → AtPdu s m (step_on device s disk m)
@@ -418,17 +421,17 @@ begins_alone = record {
   wait_ = λ device s disk task w is h g e i. stays_first w s.tasks e (opens_immediate s disk task w is i);
 }
 
-planned_immediate : (m : Message) (h : CommandPdu) (bytes : List ℕ) (plan : Plan) → cmd_sn_of m.head ≡ None → h.immediate ≡ true →
-    IsImmediate (task_planned m h bytes plan)
-planned_immediate m h bytes (plans.Take total) e i = i
-planned_immediate m h bytes (plans.Refuse sense) e i = e
-planned_immediate m h bytes (plans.Give given) e i = e
+planned_immediate : (m : Message) (h : CommandPdu) (order : Order) (bytes : List ℕ) (plan : Plan) → cmd_sn_of m.head ≡ None → h.immediate ≡ true →
+    IsImmediate (task_planned m h order bytes plan)
+planned_immediate m h order bytes (plans.Take total) e i = i
+planned_immediate m h order bytes (plans.Refuse sense) e i = e
+planned_immediate m h order bytes (plans.Give given) e i = e
 
-task_immediate : (count : ℕ) (m : Message) (head : Head) → m.head ≡ head → cmd_sn_of m.head ≡ None → IsImmediate (task_by count m head)
-task_immediate count m (heads.ScsiCommand h) k e =
-    planned_immediate m h (segment_bytes m.segment) (plan_of (order_of h) count) e
+task_immediate : (unit : Option LogicalUnit) (count : ℕ) (m : Message) (head : Head) → m.head ≡ head → cmd_sn_of m.head ≡ None → IsImmediate (task_by unit count m head)
+task_immediate unit count m (heads.ScsiCommand h) k e =
+    planned_immediate m h (order_of unit h) (segment_bytes m.segment) (plan_of (order_of unit h) count) e
     (immediate_if h.immediate h.cmd_sn (subst (λ (x : Head). cmd_sn_of x ≡ None) k e))
-task_immediate count m head k e = e
+task_immediate unit count m head k e = e
 
 alone_waits : (device : Device) (s : SessionState) (disk : Disk) (tasks : List Task) (task : Task) → tasks ≡ [] → IsImmediate task →
     waiting (done_in_turn device s disk (tasks ++ task ∷ [])).machine.tasks ≡ 0
@@ -444,19 +447,19 @@ reply_rises s disk r same = record {
 }
 
 admitted_rises : (device : Device) (s t : Machine) (m : Message) (disk : Disk) → Accepts s m t →
-    Rises s (having_accepted (m ∷ []) (done_in_turn device t.session disk (t.tasks ++ task_of disk.count m ∷ [])))
+    Rises s (having_accepted (m ∷ []) (done_in_turn device t.session disk (t.tasks ++ task_of (unit_of t.session) disk.count m ∷ [])))
 admitted_rises device s _ m disk (Immediately c none) = record {
   live = λ open_ full. inl (
-    ((done_tells device s.session disk (s.tasks ++ task_of disk.count m ∷ [])).live open_).1,
-    (let none_ = alone_waits device s.session disk s.tasks (task_of disk.count m) none (task_immediate disk.count m m.head refl c) in
+    ((done_tells device s.session disk (s.tasks ++ task_of (unit_of s.session) disk.count m ∷ [])).live open_).1,
+    (let none_ = alone_waits device s.session disk s.tasks (task_of (unit_of s.session) disk.count m) none (task_immediate (unit_of s.session) disk.count m m.head refl c) in
         omega (arith, none_)),
   );
 }
 admitted_rises device s _ m disk (InTurn n c w is) = record {
   live = λ open_ full. inr (
-    ((done_tells device (advanced s).session disk (s.tasks ++ task_of disk.count m ∷ [])).live open_).1,
-    (let a = (done_few device (advanced s).session disk (s.tasks ++ task_of disk.count m ∷ [])).waits in
-        let b = waiting_with s.tasks (task_of disk.count m) in omega (arith, a, b)),
+    ((done_tells device (advanced s).session disk (s.tasks ++ task_of (unit_of s.session) disk.count m ∷ [])).live open_).1,
+    (let a = (done_few device (advanced s).session disk (s.tasks ++ task_of (unit_of s.session) disk.count m ∷ [])).waits in
+        let b = waiting_with s.tasks (task_of (unit_of s.session) disk.count m) in omega (arith, a, b)),
   );
 }
 

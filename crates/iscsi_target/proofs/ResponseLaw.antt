@@ -15,7 +15,7 @@ use Rattle.iscsi_target_session.specs.Session.{Session, Reply, message}
 use Rattle.iscsi_target_session.specs.Login.{login_step}
 use Rattle.iscsi_target_session.specs.Rejecting.{reject_and_close}
 use Rattle.iscsi_target.specs.declared.tasks.Task.{Task}
-use Rattle.iscsi_target.specs.State.{Machine, Execution, Stepped, on, waiting}
+use Rattle.iscsi_target.specs.State.{Machine, Execution, Stepped, on, waiting, unit_of}
 use Rattle.iscsi_target.specs.Execution.{Device, reliable, device_after, execute, data_in_parts, data_ins, response_head, sense_segment, as_told}
 use Rattle.iscsi_target.specs.Command.{order_of}
 use Rattle.iscsi_target.specs.Machine.{step, answers, begun, done_in_turn}
@@ -65,12 +65,12 @@ execute_tells : (protected : Bool) (device : Device) (s : Machine) (disk : Disk)
     Tells protected (execute device s disk tag order pieces)
 unfolding segment_bytes
 execute_tells protected device s disk tag order pieces e =
-    let f : Effect = as_told s.session.settings.extras.unit order (device 0 disk order (data_of pieces)) in
+    let f : Effect = as_told (unit_of s.session) disk.count order (device 0 disk order (data_of pieces)) in
     let given : List (List ℕ × Bool) = data_in_parts s.session.held f.outcome.bytes in
     record {
       is = ins_told s.session (waiting s.tasks) tag 0 0 given
           (message (response_head s.session (waiting s.tasks) tag f.outcome (length given)) (sense_segment f.outcome.sense) ∷ [])
-          ∙ ap (λ (d : Device). told_of tag (as_told s.session.settings.extras.unit order (d 0 disk order (data_of pieces))).outcome ∷ []) e;
+          ∙ ap (λ (d : Device). told_of tag (as_told (unit_of s.session) disk.count order (d 0 disk order (data_of pieces))).outcome ∷ []) e;
     }
 
 -- ---- tasks
@@ -79,7 +79,7 @@ begins_tell : (protected : Bool) → Begins (λ device s disk task r. device ≡
 begins_tell protected = record {
   request_ = λ device s disk m none e. reply_tells protected s.tasks disk _ (request_answered_reply s.session (waiting s.tasks) m m.head).tags;
   refused_ = λ device s disk m h k broke e. reply_tells protected s.tasks disk _ (reject_and_close_reply s.session (waiting s.tasks) data_out_of_order m).tags;
-  command_ = λ device s disk m h k none e. execute_tells protected device s disk h.initiator_task_tag (order_of h) [] e;
+  command_ = λ device s disk m h k none e. execute_tells protected device s disk h.initiator_task_tag (order_of (unit_of s.session) h) [] e;
   write_ = λ device s disk task w is whole e. execute_tells protected device s disk w.initiator_task_tag w.order w.pieces e;
   send_r2t_ = λ device s disk task w is whole idle e. record { is = refl };
   wait_ = λ device s disk task w is whole idle e. record { is = refl };

@@ -20,7 +20,7 @@ use Rattle.iscsi_login.specs.Held.{Held, IsHeld, held_value, number_of, max_burs
 use Rattle.iscsi_target_session.specs.Configured.{Settings}
 use Rattle.iscsi_target_session.specs.Session.{Session, Reply, limit, message}
 use Rattle.iscsi_target.specs.declared.tasks.Task.{Task}
-use Rattle.iscsi_target.specs.State.{Machine, Execution, Stepped, on, unchanged, shut_down, waiting}
+use Rattle.iscsi_target.specs.State.{Machine, Execution, Stepped, on, unchanged, shut_down, waiting, unit_of}
 use Rattle.iscsi_stream.specs.Pieces.{Pieces, data_of, data_piece, data_pieces}
 use Rattle.iscsi_pdu.specs.Serial.{next_sn}
 use Rattle.iscsi_pdu.specs.Rules.{data_out_of_order}
@@ -93,7 +93,7 @@ abbrev pub Gives : Device → List Message → List Execution → Type 0
 Gives device answers [] = data_pieces answers ≡ []
 Gives device answers (e ∷ es) =
     (own : List Message) × (more : List Message) × (answers ≡ own ++ more)
-    × GivesTiles e (as_told e.unit e.order (device 0 e.disk e.order (data_of e.pieces))).outcome.bytes own × Gives (device_next device) more es
+    × GivesTiles e (as_told e.unit e.disk.count e.order (device 0 e.disk e.order (data_of e.pieces))).outcome.bytes own × Gives (device_next device) more es
 
 none_left : {A : Type 0} (a b : List A) → a ++ b ≡ [] → a ≡ []
 none_left [] b e = refl
@@ -132,7 +132,7 @@ gives_after device x answers (e ∷ es) none g = (
   x ++ g.0,
   g.1,
   ap (λ (ms : List Message). x ++ ms) g.2 ∙ sym (append_assoc x g.0 g.1),
-  gives_behind e (as_told e.unit e.order (device 0 e.disk e.order (data_of e.pieces))).outcome.bytes x g.0 none g.3,
+  gives_behind e (as_told e.unit e.disk.count e.order (device 0 e.disk e.order (data_of e.pieces))).outcome.bytes x g.0 none g.3,
   g.4,
 )
 
@@ -228,7 +228,7 @@ ins_own_tags s waits tag data_sn at (part ∷ given) more a = (refl, ins_own_tag
 execute_tells : (device : Device) (s : Machine) (disk : Disk) (tag : ℕ) (order : Order) (pieces : Pieces) →
     Tells device s.session (execute device s disk tag order pieces)
 execute_tells device s disk tag order pieces =
-    let e : Effect = as_told s.session.settings.extras.unit order (device 0 disk order (data_of pieces)) in
+    let e : Effect = as_told (unit_of s.session) disk.count order (device 0 disk order (data_of pieces)) in
     let given : List (List ℕ × Bool) = data_in_parts s.session.held e.outcome.bytes in
     let last : Message = message (response_head s.session (waiting s.tasks) tag e.outcome (length given)) (sense_segment e.outcome.sense) in
     let all : List Message = (execute device s disk tag order pieces).answers in
@@ -258,7 +258,7 @@ begins_tell : Begins (λ device s disk task r. Tells device s.session r)
 begins_tell = record {
   request_ = λ device s disk m none. of_reply device s.session s.tasks disk _ (request_answered_reply s.session (waiting s.tasks) m m.head);
   refused_ = λ device s disk m h k broke. of_reply device s.session s.tasks disk _ (reject_and_close_reply s.session (waiting s.tasks) data_out_of_order m);
-  command_ = λ device s disk m h k none. execute_tells device s disk h.initiator_task_tag (order_of h) [];
+  command_ = λ device s disk m h k none. execute_tells device s disk h.initiator_task_tag (order_of (unit_of s.session) h) [];
   write_ = λ device s disk task w is h. execute_tells device s disk w.initiator_task_tag w.order w.pieces;
   send_r2t_ = λ device s disk task w is h g. record {
     stat_sn = refl;

@@ -9,7 +9,7 @@ use Rattle.scsi_disk.specs.declared.order.Order.{Order}
 use Rattle.iscsi_stream.specs.Stream.{Message}
 use Rattle.iscsi_stream.specs.Canonical.{canon}
 use Rattle.iscsi_target_session.specs.Session.{Session, Reply, counted, ended}
-use Rattle.iscsi_target.specs.State.{Machine, Stepped, Execution, on, unchanged, left, closed, waiting}
+use Rattle.iscsi_target.specs.State.{Machine, Stepped, Execution, on, unchanged, left, closed, waiting, unit_of}
 use Rattle.iscsi_stream.specs.Pieces.{Pieces, data_of}
 use Rattle.iscsi_target.specs.State.{joined}
 use Rattle.iscsi_target.specs.Execution.{Device, reliable, device_next, execute, command_answers, data_in_parts, as_told}
@@ -173,7 +173,7 @@ accepts_by protected fb fa ms g broken new now before after h = record {
 pub order_serves : (protected : Bool) (fb fa tag : ℕ) (s : Machine) (disk : Disk) (order : Order) (pieces : Pieces) (e : Effect) (new : Machine) (now : Disk)
     (before after : List ℕ)
     → Executes protected fb fa disk order (data_of pieces) e → new ≡ record s { session = counted s.session } → now ≡ e.disk
-    → (let told : Effect = as_told s.session.settings.extras.unit order e in
+    → (let told : Effect = as_told (unit_of s.session) disk.count order e in
     after ≡ before ++ canon (command_answers s.session (waiting s.tasks) tag told.outcome (data_in_parts s.session.held told.outcome.bytes)))
     → Serves protected fb before (λ d. execute d s disk tag order pieces) None (moment new (store_of now fa) after)
 order_serves protected fb fa tag s disk order pieces e new now before after x is_new is_now is_after =
@@ -198,8 +198,8 @@ order_serves protected fb fa tag s disk order pieces e new now before after x is
             machine = ap joined is_new;
             disk_is = is_now ∙ ap (λ (y : Effect). y.disk) same;
             output = is_after ∙ ap (λ (y : Effect). before ++ canon (command_answers s.session (waiting s.tasks) tag
-                (as_told s.session.settings.extras.unit order y).outcome
-                (data_in_parts s.session.held (as_told s.session.settings.extras.unit order y).outcome.bytes))) same;
+                (as_told (unit_of s.session) disk.count order y).outcome
+                (data_in_parts s.session.held (as_told (unit_of s.session) disk.count order y).outcome.bytes))) same;
             rule_is = refl;
           }
     ]

@@ -13,7 +13,7 @@ use Rattle.iscsi_login.specs.declared.phase.Phase.TheVariants.{Login, Full, Clos
 use Rattle.iscsi_login.specs.Held.{first_burst}
 use Rattle.iscsi_target.specs.Write.{Write}
 use Rattle.iscsi_target.specs.declared.tasks.Task.{Task}
-use Rattle.iscsi_target.specs.State.{Machine, Stepped, on, unchanged, shut_down, waiting, max_cmd_sn}
+use Rattle.iscsi_target.specs.State.{Machine, Stepped, on, unchanged, shut_down, waiting, max_cmd_sn, unit_of}
 use Rattle.iscsi_pdu.specs.Serial.{is_within}
 use Rattle.iscsi_target_session.specs.Rejecting.{reject_and_close}
 use Rattle.iscsi_target.specs.State.{breaks}
@@ -50,7 +50,7 @@ pub record Parts (device : Device) (disk : Disk) (P : Machine → Message → St
   pub refused_ : (s t : Machine) (m : Message) (rule : ℕ) → pdu_answers s m m.head ≡ 0 → Accepts s m t → P s m (having_accepted (m ∷ []) (breaks t disk rule m))
   pub admitted_ : (s t : Machine) (m : Message) → pdu_answers s m m.head ≡ 0 → Accepts s m t →
       breaks_rules t.session.held (length (segment_bytes m.segment)) m.head ≡ false
-      → P s m (having_accepted (m ∷ []) (done_in_turn device t.session disk (t.tasks ++ task_of disk.count m ∷ [])))
+      → P s m (having_accepted (m ∷ []) (done_in_turn device t.session disk (t.tasks ++ task_of (unit_of t.session) disk.count m ∷ [])))
 
 -- what comes of a PDU
 abbrev met : Device → Machine → Disk → Met → Stepped

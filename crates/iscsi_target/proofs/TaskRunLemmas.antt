@@ -5,6 +5,7 @@ use Rattle.std.specs.Prelude.{◌==◌, ◌||◌, nat_lt, if◌then◌else◌, R
 use Rattle.std.proofs.lemmas.List.{append-nil}
 use Rattle.scsi_disk.specs.Disk.{Disk}
 use Rattle.scsi_disk.specs.Plan.{plan_of}
+use Rattle.scsi_disk.specs.declared.order.Order.{Order}
 use Rattle.scsi_disk.specs.declared.order.Plan.{Plan}
 use Rattle.scsi_disk.specs.declared.order.Plan.TheVariants.{Refuse, Take, Give}
 use Rattle.iscsi_pdu.specs.Rules.{data_out_of_order}
@@ -19,7 +20,7 @@ use Rattle.iscsi_target_session.specs.Session.{Session}
 use Rattle.iscsi_target.specs.Write.{Write}
 use Rattle.iscsi_target.specs.declared.tasks.Task.{Task}
 use Rattle.iscsi_target.specs.declared.tasks.Task.TheVariants.{Request, Data}
-use Rattle.iscsi_target.specs.State.{Machine, Execution, Stepped, on, unchanged, waiting, closed}
+use Rattle.iscsi_target.specs.State.{Machine, Execution, Stepped, on, unchanged, waiting, closed, unit_of}
 use Rattle.iscsi_target.specs.State.{breaks}
 use Rattle.iscsi_target.specs.Execution.{Device, reliable, device_next, device_after}
 use Rattle.iscsi_target.specs.Command.{order_of, opened, planned, proceed, scsi_command, breaks_burst_rules, breaks_rules, task_of}
@@ -37,6 +38,7 @@ use Rattle.iscsi_target.specs.Laws.{task_in, joined_stepped}
 use Rattle.iscsi_target.proofs.CommandLemmas.{proceeds_asking, proceeds_waiting}
 use Rattle.iscsi_target.proofs.ContinuationLemmas.{then_nothing}
 use Rattle.iscsi_target.proofs.AcceptedOrderLaw.{begun_leads}
+use Rattle.iscsi_target.proofs.KeepingLemmas.{begun_settings}
 use Rattle.iscsi_target.proofs.JoiningLemmas.{ones, idem, size_same, done_same, first_same}
 use Rattle.iscsi_target.proofs.DispatchLemmas.{alone, session_of}
 use Rattle.iscsi_target.proofs.ServingLemmas.{runs_as, serves_same, unchanged_serves}
@@ -47,16 +49,16 @@ use Rattle.iscsi_target.proofs.ReplyLemmas.{request_answered_reply}
 
 -- ---- what a task looks at
 
-planned_looks : (d : Device) (s : Machine) (disk : Disk) (h : Command) (bytes : List ℕ) (plan : Plan) → planned d s disk h bytes plan
-    ≡ planned (λ n. d 0) s disk h bytes plan
-planned_looks d s disk h bytes (Take total) = refl
-planned_looks d s disk h bytes (Refuse sense) = refl
-planned_looks d s disk h bytes (Give given) = refl
+planned_looks : (d : Device) (s : Machine) (disk : Disk) (h : Command) (order : Order) (bytes : List ℕ) (plan : Plan) → planned d s disk h order bytes plan
+    ≡ planned (λ n. d 0) s disk h order bytes plan
+planned_looks d s disk h order bytes (Take total) = refl
+planned_looks d s disk h order bytes (Refuse sense) = refl
+planned_looks d s disk h order bytes (Give given) = refl
 
 handled_looks : (d : Device) (s : Machine) (disk : Disk) (m : Message) (head : Head) → handled d s disk m head ≡ handled (λ n. d 0) s disk m head
 handled_looks d s disk m (ScsiCommand h) =
     ap (λ (r : Stepped). if breaks_burst_rules s.session.held h (length (segment_bytes m.segment)) then breaks s disk data_out_of_order m else r)
-    (planned_looks d s disk h (segment_bytes m.segment) (plan_of (order_of h) disk.count))
+    (planned_looks d s disk h (order_of (unit_of s.session) h) (segment_bytes m.segment) (plan_of (order_of (unit_of s.session) h) disk.count))
 handled_looks d s disk m head = refl
 
 -- it is what the store does with its first order
@@ -74,19 +76,19 @@ record Looks (s : Machine) (disk : Disk) (task : Task) (r : Stepped) : Type 0 wh
   pure : r.executed ≡ [] → (d : Device) → begun d s disk task ≡ r
   rule : is_closed r.machine ≡ false → r.rule ≡ None
 
-not_command : (d : Device) (s : Machine) (disk : Disk) (m : Message) (head : Head) → task_in head ≡ [] → handled d s disk m head
+not_command : (d : Device) (s : Machine) (disk : Disk) (m : Message) (head : Head) → task_in (unit_of s.session) head ≡ [] → handled d s disk m head
     ≡ on disk s.tasks (request_answered s.session (waiting s.tasks) m head)
 not_command d s disk m (ScsiCommand h) e = absurd cc
 not_command d s disk m head e = refl
 
-planned_is : (d : Device) (s : Machine) (disk : Disk) (h : Command) (bytes : List ℕ) (total : ℕ) (plan : Plan) → plan ≡ Take total →
-    planned d s disk h bytes plan ≡ proceed d s disk (opened h total bytes)
-planned_is d s disk h bytes total (Take n) e = let same : n ≡ total = cc in ap (λ (k : ℕ). proceed d s disk (opened h k bytes)) same
-planned_is d s disk h bytes total (Refuse sense) e = absurd cc
-planned_is d s disk h bytes total (Give given) e = absurd cc
+planned_is : (d : Device) (s : Machine) (disk : Disk) (h : Command) (order : Order) (bytes : List ℕ) (total : ℕ) (plan : Plan) → plan ≡ Take total →
+    planned d s disk h order bytes plan ≡ proceed d s disk (opened h order total bytes)
+planned_is d s disk h order bytes total (Take n) e = let same : n ≡ total = cc in ap (λ (k : ℕ). proceed d s disk (opened h order k bytes)) same
+planned_is d s disk h order bytes total (Refuse sense) e = absurd cc
+planned_is d s disk h order bytes total (Give given) e = absurd cc
 
 command_is : (d : Device) (s : Machine) (disk : Disk) (m : Message) (h : Command) (bytes : List ℕ) → breaks_burst_rules s.session.held h (length bytes) ≡ false
-    → scsi_command d s disk m h bytes ≡ planned d s disk h bytes (plan_of (order_of h) disk.count)
+    → scsi_command d s disk m h bytes ≡ planned d s disk h (order_of (unit_of s.session) h) bytes (plan_of (order_of (unit_of s.session) h) disk.count)
 command_is d s disk m h bytes e = rw e refl
 
 -- a write that is first goes on
@@ -94,7 +96,7 @@ writes_begun : (d : Device) (s : Machine) (disk : Disk) (task : Task) (w : Write
 writes_begun d s disk _ _ (Waits w) = refl
 writes_begun d s disk _ _ (Opens m h total k e f) =
     ap (λ (x : Head). handled d s disk m x) k ∙ command_is d s disk m h (segment_bytes m.segment) e
-    ∙ planned_is d s disk h (segment_bytes m.segment) total (plan_of (order_of h) disk.count) f
+    ∙ planned_is d s disk h (order_of (unit_of s.session) h) (segment_bytes m.segment) total (plan_of (order_of (unit_of s.session) h) disk.count) f
 
 refused_is : (d : Device) (s : Machine) (disk : Disk) (m : Message) (h : Command) → m.head ≡ ScsiCommand h →
     breaks_burst_rules s.session.held h (length (segment_bytes m.segment)) ≡ true
@@ -275,6 +277,15 @@ left_behind protected old task rule new g =
     (leads protected old.store.failures new.store.failures old.machine.session old.store.disk task old.machine.tasks rule new.machine
     new.store.disk old.output new.output
     g).ones_
+
+-- the session has what it was configured with
+pub settings_left : (protected : Bool) (old : Moment) (task : Task) (rule : Option ℕ) (new : Moment) → Goes protected old task rule new
+    → new.machine.session.settings ≡ old.machine.session.settings
+settings_left protected old task rule new g =
+    let l = leads protected old.store.failures new.store.failures old.machine.session old.store.disk task old.machine.tasks rule new.machine
+    new.store.disk old.output new.output g in
+    ap (λ (t : Session). t.settings) l.session
+    ∙ begun_settings g.serves.device old.machine.session old.store.disk task old.machine.tasks
 
 pub then_serves : (protected : Bool) (fb fm fa : ℕ) (s : Session) (disk : Disk) (task : Task) (more : List Task) (rule : Option ℕ)
     (mid : Machine) (mid_disk : Disk)
@@ -488,17 +499,17 @@ alone_handles : {E : Type 0} (protected : Bool) (result : Result (Option ℕ) E)
     → breaks_rules session.held (length (segment_bytes m.segment)) m.head ≡ false →
     Handles protected (λ d. handled d (with_tasks session []) before.disk m m.head) result (moment (with_tasks session []) before output)
     (moment new after written)
-    → Works protected result (moment (with_tasks session (task_of before.disk.count m ∷ [])) before output) (moment new after written)
+    → Works protected result (moment (with_tasks session (task_of (unit_of session) before.disk.count m ∷ [])) before output) (moment new after written)
 alone_handles protected (Ok rule) session m before output new after written keeps h = record {
-  ok = serves_same protected before.failures after.failures (λ d. done_in_turn d session before.disk (task_of before.disk.count m ∷ []))
+  ok = serves_same protected before.failures after.failures (λ d. done_in_turn d session before.disk (task_of (unit_of session) before.disk.count m ∷ []))
       (λ d. handled d (with_tasks session []) before.disk m m.head) rule new after.disk output written
-      (λ d. ap joined_stepped (sym (done_alone d session before.disk (task_of before.disk.count m) ∙ alone d (with_tasks session []) before.disk m keeps)))
+      (λ d. ap joined_stepped (sym (done_alone d session before.disk (task_of (unit_of session) before.disk.count m) ∙ alone d (with_tasks session []) before.disk m keeps)))
       h.ok;
   err = tt;
 }
 alone_handles protected (Err e) session m before output new after written keeps h = record {
   ok = tt;
-  err = first_stops protected before.failures after.failures session before.disk (task_of before.disk.count m ∷ []) [] new after.disk output written h.err;
+  err = first_stops protected before.failures after.failures session before.disk (task_of (unit_of session) before.disk.count m ∷ []) [] new after.disk output written h.err;
 }
 
 pub alone_works : {E : Type 0} (protected : Bool) (result : Result (Option ℕ) E) (s : Machine) (m : Message) (before : Store) (output : List ℕ)
@@ -506,10 +517,10 @@ pub alone_works : {E : Type 0} (protected : Bool) (result : Result (Option ℕ) 
     (written : List ℕ)
     → s.tasks ≡ [] → breaks_rules s.session.held (length (segment_bytes m.segment)) m.head ≡ false →
     Handles protected (λ d. handled d s before.disk m m.head) result (moment s before output) (moment new after written)
-    → Works protected result (moment (with_tasks s.session (s.tasks ++ task_of before.disk.count m ∷ [])) before output) (moment new after written)
+    → Works protected result (moment (with_tasks s.session (s.tasks ++ task_of (unit_of s.session) before.disk.count m ∷ [])) before output) (moment new after written)
 alone_works protected result s m before output new after written none keeps h =
     let is : s ≡ with_tasks s.session [] = ap (with_tasks s.session) none in
-    subst (λ (ts : List Task). Works protected result (moment (with_tasks s.session (ts ++ task_of before.disk.count m ∷ [])) before output)
+    subst (λ (ts : List Task). Works protected result (moment (with_tasks s.session (ts ++ task_of (unit_of s.session) before.disk.count m ∷ [])) before output)
     (moment new after written)) (sym none)
     (alone_handles protected result s.session m before output new after written keeps (subst
     (λ (x : Machine). Handles protected (λ d. handled d x before.disk m m.head) result (moment x before output) (moment new after written)) is h))

@@ -16,7 +16,7 @@ use Rattle.iscsi_target_session.specs.Session.{Session}
 use Rattle.iscsi_target.specs.Write.{Write}
 use Rattle.iscsi_target.specs.declared.tasks.Task.{Task}
 use Rattle.iscsi_target.specs.declared.tasks.Task.TheVariants.{Request, Data}
-use Rattle.iscsi_target.specs.State.{Machine, Execution, Stepped, on, unchanged, waiting}
+use Rattle.iscsi_target.specs.State.{Machine, Execution, Stepped, on, unchanged, waiting, unit_of}
 use Rattle.iscsi_target.specs.State.{breaks}
 use Rattle.iscsi_target.specs.Transfer.{is_whole, is_idle}
 use Rattle.iscsi_target.specs.Execution.{Device, device_next, device_after, execute}
@@ -30,17 +30,17 @@ use Rattle.iscsi_target_session.proofs.CaseLemmas.{by_cases}
 pub data Writes (s : Machine) (disk : Disk) : Task → Write → Type 0 where
   Waits : (w : Write) → Writes s disk (Data w) w
   Opens : (m : Message) (h : Command) (total : ℕ) → m.head ≡ ScsiCommand h → breaks_burst_rules s.session.held h (length (segment_bytes m.segment)) ≡ false
-      → plan_of (order_of h) disk.count ≡ Take total → Writes s disk (Request m) (opened h total (segment_bytes m.segment))
+      → plan_of (order_of (unit_of s.session) h) disk.count ≡ Take total → Writes s disk (Request m) (opened h (order_of (unit_of s.session) h) total (segment_bytes m.segment))
 
 -- B is shown of each kind of task that is the first.
 pub record Begins (B : Device → Machine → Disk → Task → Stepped → Type 0) : Type 0 where
-  pub request_ : (device : Device) (s : Machine) (disk : Disk) (m : Message) → task_in m.head ≡ []
+  pub request_ : (device : Device) (s : Machine) (disk : Disk) (m : Message) → task_in (unit_of s.session) m.head ≡ []
       → B device s disk (Request m) (on disk s.tasks (request_answered s.session (waiting s.tasks) m m.head))
   pub refused_ : (device : Device) (s : Machine) (disk : Disk) (m : Message) (h : Command) → m.head ≡ ScsiCommand h
       → breaks_burst_rules s.session.held h (length (segment_bytes m.segment)) ≡ true → B device s disk (Request m) (breaks s disk data_out_of_order m)
   pub command_ : (device : Device) (s : Machine) (disk : Disk) (m : Message) (h : Command) → m.head ≡ ScsiCommand h →
-      ((n : ℕ) → plan_of (order_of h) disk.count ≡ Take n → ⊥)
-      → B device s disk (Request m) (execute device s disk h.initiator_task_tag (order_of h) [])
+      ((n : ℕ) → plan_of (order_of (unit_of s.session) h) disk.count ≡ Take n → ⊥)
+      → B device s disk (Request m) (execute device s disk h.initiator_task_tag (order_of (unit_of s.session) h) [])
   pub write_ : (device : Device) (s : Machine) (disk : Disk) (task : Task) (w : Write) → Writes s disk task w → is_whole w ≡ true
       → B device s disk task (execute device s disk w.initiator_task_tag w.order w.pieces)
   pub send_r2t_ : (device : Device) (s : Machine) (disk : Disk) (task : Task) (w : Write) → Writes s disk task w → is_whole w ≡ false → is_idle w.due ≡ true →
@@ -56,9 +56,9 @@ proceed_begins B b device s disk task w is =
 
 planned_begins : (B : Device → Machine → Disk → Task → Stepped → Type 0) → Begins B →
     (device : Device) (s : Machine) (disk : Disk) (m : Message) (h : Command) (plan : Plan) → m.head ≡ ScsiCommand h
-    → breaks_burst_rules s.session.held h (length (segment_bytes m.segment)) ≡ false → plan_of (order_of h) disk.count ≡ plan
-    → B device s disk (Request m) (planned device s disk h (segment_bytes m.segment) plan)
-planned_begins B b device s disk m h (Take total) k e f = proceed_begins B b device s disk (Request m) (opened h total (segment_bytes m.segment))
+    → breaks_burst_rules s.session.held h (length (segment_bytes m.segment)) ≡ false → plan_of (order_of (unit_of s.session) h) disk.count ≡ plan
+    → B device s disk (Request m) (planned device s disk h (order_of (unit_of s.session) h) (segment_bytes m.segment) plan)
+planned_begins B b device s disk m h (Take total) k e f = proceed_begins B b device s disk (Request m) (opened h (order_of (unit_of s.session) h) total (segment_bytes m.segment))
     (Opens m h total k e f)
 planned_begins B b device s disk m h (Refuse sense) k e f = b.command_ device s disk m h k (λ n g. let x : Refuse sense ≡ Take n = sym f ∙ g in cc)
 planned_begins B b device s disk m h (Give given) k e f = b.command_ device s disk m h k (λ n g. let x : Give given ≡ Take n = sym f ∙ g in cc)
@@ -68,7 +68,7 @@ command_begins : (B : Device → Machine → Disk → Task → Stepped → Type 
     → B device s disk (Request m) (scsi_command device s disk m h (segment_bytes m.segment))
 command_begins B b device s disk m h k =
     by_cases (breaks_burst_rules s.session.held h (length (segment_bytes m.segment))) (λ e. rw e (b.refused_ device s disk m h k e))
-    (λ e. rw e (planned_begins B b device s disk m h (plan_of (order_of h) disk.count) k e refl))
+    (λ e. rw e (planned_begins B b device s disk m h (plan_of (order_of (unit_of s.session) h) disk.count) k e refl))
 
 handled_begins : (B : Device → Machine → Disk → Task → Stepped → Type 0) → Begins B → (device : Device) (s : Machine) (disk : Disk) (m : Message) (head : Head)
     → m.head ≡ head
@@ -76,7 +76,7 @@ handled_begins : (B : Device → Machine → Disk → Task → Stepped → Type 
 handled_begins B b device s disk m (ScsiCommand h) k = command_begins B b device s disk m h k
 handled_begins B b device s disk m head k =
     subst (λ (x : Head). B device s disk (Request m) (on disk s.tasks (request_answered s.session (waiting s.tasks) m x))) k
-    (b.request_ device s disk m (ap task_in k))
+    (b.request_ device s disk m (ap (task_in (unit_of s.session)) k))
 
 pub begins : (B : Device → Machine → Disk → Task → Stepped → Type 0) → Begins B → (device : Device) (s : Machine) (disk : Disk) (task : Task) →
     B device s disk task (begun device s disk task)

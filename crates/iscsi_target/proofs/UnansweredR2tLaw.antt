@@ -7,8 +7,10 @@ use Rattle.std.proofs.lemmas.List.{length-append}
 use Rattle.std.proofs.lemmas.Grind.{flat_map-append}
 use Rattle.scsi_disk.specs.Disk.{Disk}
 use Rattle.scsi_disk.specs.Plan.{plan_of}
+use Rattle.scsi_disk.specs.declared.order.Order.{Order}
 use Rattle.scsi_disk.specs.declared.order.Plan.{Plan}
 use Rattle.scsi_disk.specs.declared.order.Plan.TheVariants as plans
+use Rattle.scsi_unit.specs.LogicalUnit.{LogicalUnit}
 use Rattle.iscsi_pdu.specs.Rules.{data_out_of_order}
 use Rattle.iscsi_pdu.specs.declared.head.Head.{Head}
 use Rattle.iscsi_pdu.specs.declared.head.Head.TheVariants.{LoginRequest, ScsiCommand, DataOut}
@@ -23,7 +25,7 @@ use Rattle.iscsi_target_session.specs.Session.{Session, Reply}
 use Rattle.iscsi_target.specs.Write.{Write}
 use Rattle.iscsi_target.specs.declared.tasks.Task.{Task}
 use Rattle.iscsi_target.specs.declared.tasks.Task.TheVariants.{Request, Data}
-use Rattle.iscsi_target.specs.State.{Machine, Stepped, on, unchanged, shut_down, opening, waiting}
+use Rattle.iscsi_target.specs.State.{Machine, Stepped, on, unchanged, shut_down, opening, waiting, unit_of}
 use Rattle.iscsi_target_session.specs.Rejecting.{reject_and_close}
 use Rattle.iscsi_target.specs.State.{breaks}
 use Rattle.iscsi_target_session.specs.Login.{login_step, login_in}
@@ -168,8 +170,8 @@ begins_ask = record {
   refused_ = λ device s disk m h k broke before answered f u. done_leads s before answered (breaks s disk data_out_of_order m) f refl
       (on_ends disk s.tasks (reject_and_close s.session (waiting s.tasks) data_out_of_order m)) u;
   command_ = λ device s disk m h k none before answered f u.
-      done_leads s before answered (execute device s disk h.initiator_task_tag (order_of h) []) f
-      (execute_ranges device s disk h.initiator_task_tag (order_of h) []) (inr refl) u;
+      done_leads s before answered (execute device s disk h.initiator_task_tag (order_of (unit_of s.session) h) []) f
+      (execute_ranges device s disk h.initiator_task_tag (order_of (unit_of s.session) h) []) (inr refl) u;
   write_ = λ device s disk task w is whole before answered f u.
       done_leads s before answered (execute device s disk w.initiator_task_tag w.order w.pieces) ((writes_fit s disk task w before answered is f).whole whole)
       (execute_ranges device s disk w.initiator_task_tag w.order w.pieces) (inr refl) u;
@@ -342,27 +344,27 @@ taken_asks device s m disk h w v o kept k e f =
 
 -- ---- a request
 
-opened_fits : (h : CommandPdu) (total : ℕ) (bytes : List ℕ) → FitsWrite (opened h total bytes) 0 0
-opened_fits h total bytes = record { whole = λ x. refl; idle = λ x. refl; waits = λ x. opened_waits h.is_final 0 }
+opened_fits : (h : CommandPdu) (order : Order) (total : ℕ) (bytes : List ℕ) → FitsWrite (opened h order total bytes) 0 0
+opened_fits h order total bytes = record { whole = λ x. refl; idle = λ x. refl; waits = λ x. opened_waits h.is_final 0 }
 
-planned_fits : (m : Message) (h : CommandPdu) (bytes : List ℕ) (plan : Plan) → FitsTask (task_planned m h bytes plan) 0 0
-planned_fits m h bytes (plans.Take total) = opened_fits h total bytes
-planned_fits m h bytes (plans.Refuse sense) = refl
-planned_fits m h bytes (plans.Give given) = refl
+planned_fits : (m : Message) (h : CommandPdu) (order : Order) (bytes : List ℕ) (plan : Plan) → FitsTask (task_planned m h order bytes plan) 0 0
+planned_fits m h order bytes (plans.Take total) = opened_fits h order total bytes
+planned_fits m h order bytes (plans.Refuse sense) = refl
+planned_fits m h order bytes (plans.Give given) = refl
 
-task_fits : (count : ℕ) (m : Message) (head : Head) → FitsTask (task_by count m head) 0 0
-task_fits count m (ScsiCommand h) = planned_fits m h (segment_bytes m.segment) (plan_of (order_of h) count)
-task_fits count m head = refl
+task_fits : (unit : Option LogicalUnit) (count : ℕ) (m : Message) (head : Head) → FitsTask (task_by unit count m head) 0 0
+task_fits unit count m (ScsiCommand h) = planned_fits m h (order_of unit h) (segment_bytes m.segment) (plan_of (order_of unit h) count)
+task_fits unit count m head = refl
 
-with_fits : (tasks : List Task) (count : ℕ) (m : Message) → AreKept tasks → FitsTasks (tasks ++ task_of count m ∷ []) (unanswered tasks) 0
-with_fits [] count m k = (task_fits count m m.head, tt)
-with_fits (Request x ∷ more) count m k = absurd k.pending
-with_fits (Data x ∷ more) count m k = (pending_fits x k.pending, behind_with (Data x ∷ more) count m k.unasked)
+with_fits : (unit : Option LogicalUnit) (tasks : List Task) (count : ℕ) (m : Message) → AreKept tasks → FitsTasks (tasks ++ task_of unit count m ∷ []) (unanswered tasks) 0
+with_fits unit [] count m k = (task_fits unit count m m.head, tt)
+with_fits unit (Request x ∷ more) count m k = absurd k.pending
+with_fits unit (Data x ∷ more) count m k = (pending_fits x k.pending, behind_with unit (Data x ∷ more) count m k.unasked)
 
 admitted_asks : (device : Device) (s : Machine) (session : Session) (m : Message) (disk : Disk) → AreKept s.tasks →
-    Asks (unanswered s.tasks) 0 (done_in_turn device session disk (s.tasks ++ task_of disk.count m ∷ []))
-admitted_asks device s session m disk k = done_asks device session disk (s.tasks ++ task_of disk.count m ∷ [])
-    (unanswered s.tasks) 0 (with_fits s.tasks disk.count m k)
+    Asks (unanswered s.tasks) 0 (done_in_turn device session disk (s.tasks ++ task_of (unit_of session) disk.count m ∷ []))
+admitted_asks device s session m disk k = done_asks device session disk (s.tasks ++ task_of (unit_of session) disk.count m ∷ [])
+    (unanswered s.tasks) 0 (with_fits (unit_of session) s.tasks disk.count m k)
 
 having_asks : (before a : ℕ) (ms : List Message) (r : Stepped) → Asks before a r → Asks before a (having_accepted ms r)
 having_asks before a ms r h = record { open_ = h.open_; closed_ = h.closed_ }
@@ -386,7 +388,7 @@ parts_ask device disk = record {
   refused_ = λ s t m rule a x o k. closing s.tasks (pdu_answers s m m.head) (having_accepted (m ∷ []) (breaks t disk rule m)) refl refl;
   admitted_ = λ s t m a x f o k.
       having_asks (unanswered s.tasks) (pdu_answers s m m.head) (m ∷ []) _
-      (subst (λ (ts : List Task). Asks (unanswered s.tasks) (pdu_answers s m m.head) (done_in_turn device t.session disk (ts ++ task_of disk.count m ∷ [])))
+      (subst (λ (ts : List Task). Asks (unanswered s.tasks) (pdu_answers s m m.head) (done_in_turn device t.session disk (ts ++ task_of (unit_of t.session) disk.count m ∷ [])))
       (sym (same_tasks s t m x))
       (answering (unanswered s.tasks) (pdu_answers s m m.head) _ (admitted_asks device s t.session m disk k) a));
 }

@@ -8,10 +8,11 @@ use Rattle.scsi_cdb.specs.declared.sense.Sense.{Sense}
 use Rattle.scsi_disk.specs.Disk.{Disk}
 use Rattle.scsi_disk.specs.Effect.{guarded, Effect, effect, disk_by}
 use Rattle.scsi_disk.specs.Runs.{disk_after}
-use Rattle.scsi_disk.specs.Plan.{plan_of, plan_by, first_refusal, refusals, is_write, transfer}
+use Rattle.scsi_disk.specs.Plan.{plan_of, plan_by, first_refusal, refusals, is_write, taken_length}
 use Rattle.scsi_disk.specs.declared.order.Order.{Order}
 use Rattle.scsi_disk.specs.declared.order.Plan.{Plan}
 use Rattle.scsi_disk.specs.declared.order.Plan.TheVariants.{Refuse, Take, Give}
+use Rattle.scsi_unit.specs.LogicalUnit.{LogicalUnit}
 use Rattle.iscsi_pdu.specs.declared.head.scsi_command.ScsiCommand.{ScsiCommand as Command}
 use Rattle.iscsi_stream.specs.Segment.{segment_bytes}
 use Rattle.iscsi_stream.specs.Stream.{Message}
@@ -22,7 +23,7 @@ use Rattle.iscsi_target_session.specs.Session.{Session, Reply, message}
 use Rattle.iscsi_target.specs.Write.{Write}
 use Rattle.iscsi_target.specs.declared.tasks.Task.{Task}
 use Rattle.iscsi_target.specs.declared.tasks.Task.TheVariants.{Request, Data}
-use Rattle.iscsi_target.specs.State.{Machine, Execution, Stepped, on, opening, waiting}
+use Rattle.iscsi_target.specs.State.{Machine, Execution, Stepped, on, opening, waiting, unit_of}
 use Rattle.iscsi_target.specs.State.{breaks}
 use Rattle.iscsi_stream.specs.Pieces.{Pieces, data_of}
 use Rattle.iscsi_target_session.specs.Login.{login_step}
@@ -82,7 +83,7 @@ ins_ranges s waits tag data_sn at (part ∷ given) more = ins_ranges s waits tag
 pub execute_ranges : (device : Device) (s : Machine) (disk : Disk) (tag : ℕ) (order : Order) (pieces : Pieces) →
     r2t_ranges (execute device s disk tag order pieces).answers ≡ []
 execute_ranges device s disk tag order pieces =
-    let e : Effect = as_told s.session.settings.extras.unit order (device 0 disk order (data_of pieces)) in
+    let e : Effect = as_told (unit_of s.session) disk.count order (device 0 disk order (data_of pieces)) in
     let given : List (List ℕ × Bool) = data_in_parts s.session.held e.outcome.bytes in
     ins_ranges s.session (waiting s.tasks) tag 0 0 given (message (response_head s.session (waiting s.tasks) tag e.outcome (length given))
     (sense_segment e.outcome.sense) ∷ [])
@@ -101,10 +102,10 @@ due_opened : (total : ℕ) (last : Bool) → DueFits total (if last then Nothing
 due_opened total true = tt
 due_opened total false = tt
 
-opened_open : (count : ℕ) (held : Held) (h : Command) (total : ℕ) (bytes : List ℕ) → plan_of (order_of h) count ≡ Take total
-    → length bytes ≤ total → IsOpen count (opened h total bytes)
-opened_open count held h total bytes f fits =
-    let size : received (opened h total bytes) ≡ 0 + length bytes = size_with [] 0 bytes in
+opened_open : (count : ℕ) (held : Held) (h : Command) (order : Order) (total : ℕ) (bytes : List ℕ) → plan_of order count ≡ Take total
+    → length bytes ≤ total → IsOpen count (opened h order total bytes)
+opened_open count held h order total bytes f fits =
+    let size : received (opened h order total bytes) ≡ 0 + length bytes = size_with [] 0 bytes in
     record {
       plan = f;
       tiles = subst (λ (n : ℕ). Tiles (with_piece [] 0 bytes) n) (sym size) (tiles_with [] 0 bytes refl);
@@ -125,11 +126,11 @@ take_is_by : (order : Order) (count total : ℕ) (refused : Option Sense) (write
 take_is_by order count total (Some sense) write e w f = absurd cc
 take_is_by order count total None false e w f = absurd (let g = rw w at f in cc)
 take_is_by order count total None true e w f =
-    let g : Take (512 * (transfer order.cdb).count) ≡ Take total = rw w at f in
-    let size : 512 * (transfer order.cdb).count ≡ total = cc in
+    let g : Take (taken_length order) ≡ Take total = rw w at f in
+    let size : taken_length order ≡ total = cc in
     let rows = all_false (refusals order count) e in
-    eqb-true order.expected (512 * (transfer order.cdb).count) (not_and (is_write order.cdb)
-    (order.expected == 512 * (transfer order.cdb).count) w rows.1.1.1.1.1.1.1.1.0) ∙ size
+    eqb-true order.expected (taken_length order) (not_and (is_write order.cdb)
+    (order.expected == taken_length order) w rows.1.1.1.1.1.1.1.1.0) ∙ size
 
 pub take_is : (order : Order) (count total : ℕ) → plan_of order count ≡ Take total → order.expected ≡ total
 take_is order count total f = take_is_by order count total (first_refusal order count) (is_write order.cdb) refl refl f
@@ -159,11 +160,11 @@ immediate_bound most expected total (suc n) write immediate e le is =
       is,
     )
 
-pub immediate_fits : (count : ℕ) (h : Command) (held : Held) (total : ℕ) (bytes : List ℕ) → breaks_burst_rules held h (length bytes) ≡ false →
-    plan_of (order_of h) count ≡ Take total → length bytes ≤ total
-immediate_fits count h held total bytes e f =
+pub immediate_fits : (unit : Option LogicalUnit) (count : ℕ) (h : Command) (held : Held) (total : ℕ) (bytes : List ℕ) → breaks_burst_rules held h (length bytes) ≡ false →
+    plan_of (order_of unit h) count ≡ Take total → length bytes ≤ total
+immediate_fits unit count h held total bytes e f =
     immediate_bound (unasked held h.expected_data_transfer_length) h.expected_data_transfer_length total (length bytes) h.write (is_on held keys.ImmediateData)
-    (or_left (is_bad_segment held h (length bytes)) (is_bad_announcement held h (length bytes)) e) (omega arith) (take_is (order_of h) count total f)
+    (or_left (is_bad_segment held h (length bytes)) (is_bad_announcement held h (length bytes)) e) (omega arith) (take_is (order_of unit h) count total f)
 
 -- ---- tasks
 
@@ -182,7 +183,8 @@ record Goes (s : Machine) (disk : Disk) (r : Stepped) : Type 0 where
 writes_open : (s : Machine) (disk : Disk) (task : Task) (w : Write) → Writes s disk task w → OnTask (IsOpen disk.count) task → IsOpen disk.count w
 writes_open s disk _ _ (Waits w) o = o
 writes_open s disk _ _ (Opens m h total k e f) o =
-    opened_open disk.count s.session.held h total (segment_bytes m.segment) f (immediate_fits disk.count h s.session.held total (segment_bytes m.segment) e f)
+    opened_open disk.count s.session.held h (order_of (unit_of s.session) h) total (segment_bytes m.segment) f
+    (immediate_fits (unit_of s.session) disk.count h s.session.held total (segment_bytes m.segment) e f)
 
 executed_count : (protected : Bool) (device : Device) (disk : Disk) (order : Order) (bytes : List ℕ) → device ≡ reliable protected
     → (device 0 disk order bytes).disk.count ≡ disk.count
@@ -211,8 +213,8 @@ begins_go protected = record {
       (let c = request_answered_reply s.session (waiting s.tasks) m m.head in
       record { keeps = reply_goes s disk _ c.ranges o; count = refl; silent = λ stay. c.ranges });
   refused_ = λ device s disk m h k broke e open_ o. record { keeps = reply_goes s disk _ refl o; count = refl; silent = λ stay. refl };
-  command_ = λ device s disk m h k none e open_ o. execute_goes protected device s disk h.initiator_task_tag (order_of h) [] e
-      (no_plan_tiles (plan_of (order_of h) disk.count) none) o;
+  command_ = λ device s disk m h k none e open_ o. execute_goes protected device s disk h.initiator_task_tag (order_of (unit_of s.session) h) [] e
+      (no_plan_tiles (plan_of (order_of (unit_of s.session) h) disk.count) none) o;
   write_ = λ device s disk task w is whole e open_ o.
       execute_goes protected device s disk w.initiator_task_tag w.order w.pieces e (whole_tiles disk.count w (writes_open s disk task w is open_) whole) o;
   send_r2t_ = λ device s disk task w is whole idle e open_ o.
@@ -293,18 +295,18 @@ written_sound count v (Data x ∷ more) open_ o =
 
 -- ---- a request
 
-planned_sound : (count : ℕ) (held : Held) (m : Message) (h : Command) (plan : Plan) → breaks_burst_rules held h (length (segment_bytes m.segment)) ≡ false →
-    plan_of (order_of h) count ≡ plan
-    → OnTask (IsOpen count) (task_planned m h (segment_bytes m.segment) plan)
-planned_sound count held m h (Take total) e f = opened_open count held h total (segment_bytes m.segment) f
-    (immediate_fits count h held total (segment_bytes m.segment) e f)
-planned_sound count held m h (Refuse sense) e f = tt
-planned_sound count held m h (Give given) e f = tt
+planned_sound : (unit : Option LogicalUnit) (count : ℕ) (held : Held) (m : Message) (h : Command) (plan : Plan) → breaks_burst_rules held h (length (segment_bytes m.segment)) ≡ false →
+    plan_of (order_of unit h) count ≡ plan
+    → OnTask (IsOpen count) (task_planned m h (order_of unit h) (segment_bytes m.segment) plan)
+planned_sound unit count held m h (Take total) e f = opened_open count held h (order_of unit h) total (segment_bytes m.segment) f
+    (immediate_fits unit count h held total (segment_bytes m.segment) e f)
+planned_sound unit count held m h (Refuse sense) e f = tt
+planned_sound unit count held m h (Give given) e f = tt
 
-task_sound : (count : ℕ) (held : Held) (m : Message) (head : Head) → breaks_rules held (length (segment_bytes m.segment)) head ≡ false →
-    OnTask (IsOpen count) (task_by count m head)
-task_sound count held m (ScsiCommand h) e = planned_sound count held m h (plan_of (order_of h) count) e refl
-task_sound count held m head e = tt
+task_sound : (unit : Option LogicalUnit) (count : ℕ) (held : Held) (m : Message) (head : Head) → breaks_rules held (length (segment_bytes m.segment)) head ≡ false →
+    OnTask (IsOpen count) (task_by unit count m head)
+task_sound unit count held m (ScsiCommand h) e = planned_sound unit count held m h (plan_of (order_of unit h) count) e refl
+task_sound unit count held m head e = tt
 
 with_sound : (count : ℕ) (tasks : List Task) (task : Task) → IsSound count tasks → OnTask (IsOpen count) task → IsSound count (tasks ++ task ∷ [])
 with_sound count [] task o t = (t, tt)
@@ -336,9 +338,9 @@ parts_go protected disk = record {
       (found_open disk.count s.tasks h.initiator_task_tag w e o) f) o));
   refused_ = λ s t m rule a x o. taken_kept disk.count (breaks t disk rule m) (m ∷ []) (reply_goes t disk _ refl (same_sound disk.count s t m x o));
   admitted_ = λ s t m a x f o.
-      taken_kept disk.count (done_in_turn (reliable protected) t.session disk (t.tasks ++ task_of disk.count m ∷ [])) (m ∷ [])
-      (done_goes protected t.session disk (t.tasks ++ task_of disk.count m ∷ [])
-      (with_sound disk.count t.tasks (task_of disk.count m) (same_sound disk.count s t m x o) (task_sound disk.count t.session.held m m.head f)));
+      taken_kept disk.count (done_in_turn (reliable protected) t.session disk (t.tasks ++ task_of (unit_of t.session) disk.count m ∷ [])) (m ∷ [])
+      (done_goes protected t.session disk (t.tasks ++ task_of (unit_of t.session) disk.count m ∷ [])
+      (with_sound disk.count t.tasks (task_of (unit_of t.session) disk.count m) (same_sound disk.count s t m x o) (task_sound (unit_of t.session) disk.count t.session.held m m.head f)));
 }
 
 -- one step

@@ -1,10 +1,12 @@
 -- SCSI commands, and the data that writes take (RFC 7143, sections 11.3, 11.7 and 11.8).
-use Rattle.std.specs.Prelude.{ℕ, Bool, false, not, ◌&&◌, ◌||◌, nat_lt, nat_le, if◌then◌else◌, List, [], ◌∷◌, length}
+use Rattle.std.specs.Prelude.{ℕ, Bool, false, not, ◌&&◌, ◌||◌, nat_lt, nat_le, if◌then◌else◌, List, [], ◌∷◌, length, Option}
 use Rattle.scsi_disk.specs.Disk.{Disk}
 use Rattle.scsi_disk.specs.Plan.{plan_of}
 use Rattle.scsi_disk.specs.declared.order.Order.{Order}
 use Rattle.scsi_disk.specs.declared.order.Plan.{Plan}
 use Rattle.scsi_disk.specs.declared.order.Plan.TheVariants.{Take}
+use Rattle.scsi_unit.specs.LogicalUnit.{LogicalUnit}
+use Rattle.scsi_unit.specs.WriteSame.{meant}
 use Rattle.iscsi_pdu.specs.declared.head.scsi_command.ScsiCommand.{ScsiCommand}
 use Rattle.iscsi_pdu.specs.declared.head.Head.{Head}
 use Rattle.iscsi_pdu.specs.declared.head.Head.TheVariants as heads
@@ -16,7 +18,7 @@ use Rattle.iscsi_target_session.specs.Session.{Session, message, max_cmd_sn_with
 use Rattle.iscsi_target.specs.Write.{Write}
 use Rattle.iscsi_target.specs.declared.tasks.Task.{Task}
 use Rattle.iscsi_target.specs.declared.tasks.Task.TheVariants.{Request, Data}
-use Rattle.iscsi_target.specs.State.{Machine, Stepped, unchanged, waiting}
+use Rattle.iscsi_target.specs.State.{Machine, Stepped, unchanged, unit_of, waiting}
 use Rattle.iscsi_target.specs.declared.due.Due.TheVariants.{Nothing, Unsolicited}
 use Rattle.iscsi_pdu.specs.Rules.{data_out_of_order}
 use Rattle.iscsi_target.specs.State.{breaks}
@@ -25,15 +27,20 @@ use Rattle.iscsi_target.specs.Execution.{Device, execute}
 
 -- ---- a command
 
--- What a command orders of the disk (section 11.3).
-abbrev pub order_of : ScsiCommand → Order
-order_of h = record {
+-- What a command says (section 11.3).
+abbrev pub order_said : ScsiCommand → Order
+order_said h = record {
   cdb = h.cdb;
   lun = h.lun;
   read = h.read;
   write = h.write;
   expected = h.expected_data_transfer_length;
+  same = false;
 }
+
+-- What a command orders of the disk, which may tell more of itself than the profile has (section 11.3).
+abbrev pub order_of : Option LogicalUnit → ScsiCommand → Order
+order_of unit h = meant unit (order_said h)
 
 -- Immediate data come that may not be there, or too many of them (section 13.11).
 abbrev pub is_bad_segment : Held → ScsiCommand → ℕ → Bool
@@ -86,47 +93,49 @@ proceed device s disk w =
     else if is_idle w.due then send_r2t s disk w
     else unchanged (led_by w s) disk
 
--- The write of n bytes that a command with these immediate bytes opens (section 11.3).
-abbrev pub opened : ScsiCommand → ℕ → List ℕ → Write
-opened h total bytes = record {
+-- The write of n bytes that a command with this order and these immediate bytes opens (section 11.3).
+abbrev pub opened : ScsiCommand → Order → ℕ → List ℕ → Write
+opened h order total bytes = record {
   initiator_task_tag = h.initiator_task_tag;
   immediate = h.immediate;
-  order = order_of h;
+  order = order;
   total = total;
   pieces = with_piece [] 0 bytes;
   due = if h.is_final then Nothing else Unsolicited 0;
   r2t_count = 0;
 }
 
--- A command by its plan, with the tasks behind it: a write is opened, any other command is executed.
--- One that is refused doesn't wait for its data (section 11.4; own rule).
-abbrev pub planned : Device → Machine → Disk → ScsiCommand → List ℕ → Plan → Stepped
-planned device s disk h bytes (Take total) = proceed device s disk (opened h total bytes)
-planned device s disk h bytes _ = execute device s disk h.initiator_task_tag (order_of h) []
+-- A command by its order and plan, with the tasks behind it: a write is opened, any other command is
+-- executed. One that is refused doesn't wait for its data (section 11.4; own rule).
+abbrev pub planned : Device → Machine → Disk → ScsiCommand → Order → List ℕ → Plan → Stepped
+planned device s disk h order bytes (Take total) =
+    proceed device s disk (opened h order total bytes)
+planned device s disk h order bytes _ = execute device s disk h.initiator_task_tag order []
 
 -- A SCSI Command, with the tasks behind it (section 11.3).
 abbrev pub scsi_command : Device → Machine → Disk → Message → ScsiCommand → List ℕ → Stepped
 scsi_command device s disk m h bytes =
     if breaks_burst_rules s.session.held h (length bytes) then breaks s disk data_out_of_order m
-    else planned device s disk h bytes (plan_of (order_of h) disk.count)
+    else planned device s disk h (order_of (unit_of s.session) h) bytes
+    (plan_of (order_of (unit_of s.session) h) disk.count)
 
 -- ---- a command that comes
 
--- The task of a command with these immediate bytes, by its plan: a write takes its data while it
--- waits (section 11.3; own rule).
-abbrev pub task_planned : Message → ScsiCommand → List ℕ → Plan → Task
-task_planned m h bytes (Take total) = Data (opened h total bytes)
-task_planned m h bytes _ = Request m
+-- The task of a command with these immediate bytes, by its order and plan: a write takes its data while
+-- it waits (section 11.3; own rule).
+abbrev pub task_planned : Message → ScsiCommand → Order → List ℕ → Plan → Task
+task_planned m h order bytes (Take total) = Data (opened h order total bytes)
+task_planned m h order bytes _ = Request m
 
--- The task of a request, on a disk of n blocks (section 11.3).
-abbrev pub task_by : ℕ → Message → Head → Task
-task_by count m (heads.ScsiCommand h) =
-    task_planned m h (segment_bytes m.segment) (plan_of (order_of h) count)
-task_by count m _ = Request m
+-- The task of a request, on a disk of n blocks that may tell more of itself (section 11.3).
+abbrev pub task_by : Option LogicalUnit → ℕ → Message → Head → Task
+task_by unit count m (heads.ScsiCommand h) =
+    task_planned m h (order_of unit h) (segment_bytes m.segment) (plan_of (order_of unit h) count)
+task_by unit count m _ = Request m
 
--- The task of a request, on a disk of n blocks (section 11.3).
-abbrev pub task_of : ℕ → Message → Task
-task_of count m = task_by count m m.head
+-- The task of a request, on a disk of n blocks that may tell more of itself (section 11.3).
+abbrev pub task_of : Option LogicalUnit → ℕ → Message → Task
+task_of unit count m = task_by unit count m m.head
 
 -- A request with n bytes breaks the rules of the first burst (sections 13.10, 13.11 and
 -- 13.14).

@@ -2,11 +2,12 @@
 -- 11.3 and 11.7).
 --
 -- `protected` says of the store that it refuses each write.
-use Rattle.std.specs.Prelude.{Bool, ◌≡◌, ◌≤◌, ◌⊎◌, ℕ, List, [], ◌∷◌, ◌++◌, take}
+use Rattle.std.specs.Prelude.{Bool, ◌≡◌, ◌≤◌, ◌⊎◌, ℕ, List, [], ◌∷◌, ◌++◌, take, Option}
 use Rattle.std.specs.List.{flat_map}
 use Rattle.scsi_disk.specs.Disk.{Disk}
 use Rattle.scsi_disk.specs.Effect.{effect, IsSupplied}
 use Rattle.scsi_disk.specs.Runs.{Supplied}
+use Rattle.scsi_unit.specs.LogicalUnit.{LogicalUnit}
 use Rattle.iscsi_pdu.specs.declared.head.Head.{Head}
 use Rattle.iscsi_pdu.specs.declared.head.Head.TheVariants as heads
 use Rattle.iscsi_pdu.specs.Meaning.{Means}
@@ -18,32 +19,33 @@ use Rattle.iscsi_login.specs.declared.phase.Phase.{Phase}
 use Rattle.iscsi_login.specs.declared.phase.Phase.TheVariants as phases
 use Rattle.iscsi_target.specs.declared.tasks.Task.{Task}
 use Rattle.iscsi_target.specs.declared.tasks.Task.TheVariants.{Request, Data}
-use Rattle.iscsi_target.specs.State.{Machine, Stepped}
+use Rattle.iscsi_target.specs.State.{Machine, Stepped, unit_of}
 use Rattle.iscsi_target.specs.Command.{order_of}
 use Rattle.iscsi_target.specs.Machine.{Next, Dropped, Answered, Queued, full_met, MayAnswer}
 use Rattle.iscsi_target.specs.Feed.{Connection, Store}
 
 -- ---- commands and their data
 
--- The command of a request with these immediate data, if it is one (section 11.3).
-abbrev pub command_in : Head → List ℕ → List Supplied
-command_in (heads.ScsiCommand h) bytes = (order_of h, bytes) ∷ []
-command_in _ bytes = []
+-- The command of a request with these immediate data, if it is one, to a disk that may tell more of
+-- itself (section 11.3).
+abbrev pub command_in : Option LogicalUnit → Head → List ℕ → List Supplied
+command_in unit (heads.ScsiCommand h) bytes = (order_of unit h, bytes) ∷ []
+command_in unit _ bytes = []
 
 -- The command of a task, if it is one, with the data that came for it (sections 11.3 and 11.7).
-abbrev pub command_of : Task → List Supplied
-command_of (Request m) = command_in m.head (segment_bytes m.segment)
-command_of (Data w) = (w.order, data_of w.pieces) ∷ []
+abbrev pub command_of : Option LogicalUnit → Task → List Supplied
+command_of unit (Request m) = command_in unit m.head (segment_bytes m.segment)
+command_of unit (Data w) = (w.order, data_of w.pieces) ∷ []
 
 -- The commands of tasks (section 11.3).
-abbrev pub commands_of : List Task → List Supplied
-commands_of tasks = flat_map command_of tasks
+abbrev pub commands_of : Option LogicalUnit → List Task → List Supplied
+commands_of unit tasks = flat_map (command_of unit) tasks
 
 -- The commands of the tasks that are done in their turn (section 4.2.2.1).
 abbrev pub commands_by : Next → List Supplied
 commands_by Dropped = []
 commands_by (Answered r) = []
-commands_by (Queued session tasks) = commands_of tasks
+commands_by (Queued session tasks) = commands_of (unit_of session) tasks
 
 -- The commands that may be executed for a PDU, by the phase (section 4.2.4).
 abbrev pub commands_in : Phase → Machine → ℕ → Message → List Supplied

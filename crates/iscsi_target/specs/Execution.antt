@@ -17,7 +17,7 @@ use Rattle.iscsi_pdu.specs.declared.head.Head.TheVariants as heads
 use Rattle.iscsi_stream.specs.Stream.{Message}
 use Rattle.iscsi_login.specs.Held.{Held, max_burst}
 use Rattle.iscsi_target_session.specs.Session.{Session, message, counted, max_cmd_sn_with}
-use Rattle.iscsi_target.specs.State.{Machine, Execution, Stepped, waiting}
+use Rattle.iscsi_target.specs.State.{Machine, Execution, Stepped, unit_of, waiting}
 use Rattle.iscsi_stream.specs.Pieces.{Pieces, data_of, chunks}
 use Rattle.iscsi_pdu.specs.Fields.{reserved_tag}
 
@@ -143,14 +143,14 @@ send_outcome s e effect = record {
   executed = e ∷ [];
 }
 
--- What an order led to, where the disk may tell more of itself: that changes no block.
-abbrev pub as_told : Option LogicalUnit → Order → Effect → Effect
-as_told unit order after = record after { outcome = told unit order after.outcome }
+-- What an order led to, where the disk of n blocks may tell more of itself: that changes no block.
+abbrev pub as_told : Option LogicalUnit → ℕ → Order → Effect → Effect
+as_told unit count order after = record after { outcome = told unit count order after.outcome }
 
 -- What was executed led to, over a store that doesn't fail.
 abbrev pub effect_of : Bool → Execution → Effect
 effect_of protected e =
-    as_told e.unit e.order (effect protected e.disk e.order (data_of e.pieces))
+    as_told e.unit e.disk.count e.order (effect protected e.disk e.order (data_of e.pieces))
 
 -- An order of a task is executed, with the data of these pieces (section 11.4).
 abbrev pub execute : Device → Machine → Disk → ℕ → Order → Pieces → Stepped
@@ -159,8 +159,8 @@ execute device s disk tag order pieces =
     (record {
       initiator_task_tag = tag;
       disk = disk;
-      unit = s.session.settings.extras.unit;
+      unit = unit_of s.session;
       order = order;
       pieces = pieces;
     })
-    (as_told s.session.settings.extras.unit order (device 0 disk order (data_of pieces)))
+    (as_told (unit_of s.session) disk.count order (device 0 disk order (data_of pieces)))

@@ -1,7 +1,7 @@
 -- What the parts of a session do. No reader of its contract needs these.
 --
 -- `protected` says of the store that it refuses each write.
-use Rattle.std.specs.Prelude.{Bool, ◌≡◌, ◌≢◌, ◌⊎◌, ℕ, ◌<◌, ◌≤◌, Option, Some, None, false, if◌then◌else◌, List, [], ◌++◌, length, map, insert, remove, slice_index_or, Result, IfOk, OnOk, OnErr, ◌^◌}
+use Rattle.std.specs.Prelude.{Bool, ◌≡◌, ◌≢◌, ◌⊎◌, ℕ, ◌<◌, ◌≤◌, Option, Some, None, false, true, if◌then◌else◌, List, [], ◌++◌, length, map, insert, remove, slice_index_or, Result, IfOk, OnOk, OnErr, ◌^◌}
 use Rattle.std.specs.List.{AllByRecursion}
 use Rattle.iscsi_stream.specs.Canonical.{canon}
 use Rattle.scsi_disk.specs.Disk.{Disk}
@@ -143,7 +143,7 @@ pub record LedTo (protected : Bool) (unit : Option LogicalUnit) (order : Order) 
   pub given : Outcome
   pub executes : Executes protected before.failures after.failures before.disk order []
       (record { disk = after.disk; outcome = given })
-  pub is : outcome ≡ told unit order given
+  pub is : outcome ≡ told unit before.disk.count order given
   pub few : length outcome.bytes < 2 ^ 32
 
 -- What was done with a task, over a store: it was handled so, or memory ran out.
@@ -237,6 +237,7 @@ pub record IsAnswered (protected : Bool) (old : Scene) (broken : Option ℕ)
     (new : Scene) : Type 0 where
   pub head : Head
   pub segment : List ℕ
+  pub ready : is_ready old.connection.framing ≡ true
   pub means : Means old.connection.framing.held head segment
   pub framing_is : new.connection.framing ≡ given_up old.connection.framing head
   pub serves : Serves protected old.store.failures old.output

@@ -10,6 +10,7 @@ use Rattle.scsi_disk.specs.Plan.{plan_of}
 use Rattle.scsi_disk.specs.Runs.{Supplied}
 use Rattle.scsi_disk.specs.declared.order.Order.{Order}
 use Rattle.scsi_disk.specs.declared.order.Outcome.{Outcome}
+use Rattle.scsi_unit.specs.LogicalUnit.{LogicalUnit}
 use Rattle.iscsi_pdu.specs.declared.head.Head.{Head}
 use Rattle.iscsi_pdu.specs.declared.head.Head.TheVariants as heads
 use Rattle.iscsi_stream.specs.Segment.{segment_bytes}
@@ -17,7 +18,7 @@ use Rattle.iscsi_stream.specs.Stream.{Message}
 use Rattle.iscsi_login.specs.declared.phase.Phase.TheVariants as phases
 use Rattle.iscsi_target.specs.declared.tasks.Task.{Task}
 use Rattle.iscsi_target.specs.declared.tasks.Task.TheVariants.{Request, Data}
-use Rattle.iscsi_target.specs.State.{Machine, Execution, Stepped, max_cmd_sn}
+use Rattle.iscsi_target.specs.State.{Machine, Execution, Stepped, max_cmd_sn, unit_of}
 use Rattle.iscsi_stream.specs.Pieces.{data_of}
 use Rattle.iscsi_pdu.specs.Serial.{is_within}
 use Rattle.iscsi_target.specs.Transfer.{with_piece}
@@ -91,14 +92,14 @@ pub record HasCmdSn (m : Message) : Type 0 where
 abbrev pub Command : Type 0
 Command = ℕ × Order
 
--- The command of a request, if it is one (section 11.3).
-abbrev pub task_in : Head → List Command
-task_in (heads.ScsiCommand h) = (h.initiator_task_tag, order_of h) ∷ []
-task_in _ = []
+-- The command of a request, if it is one, to a disk that may tell more of itself (section 11.3).
+abbrev pub task_in : Option LogicalUnit → Head → List Command
+task_in unit (heads.ScsiCommand h) = (h.initiator_task_tag, order_of unit h) ∷ []
+task_in unit _ = []
 
 -- The commands among requests (section 11.3).
-abbrev pub tasks_in : List Message → List Command
-tasks_in ms = flat_map (λ m. task_in m.head) ms
+abbrev pub tasks_in : Option LogicalUnit → List Message → List Command
+tasks_in unit ms = flat_map (λ m. task_in unit m.head) ms
 
 -- The command that was executed (section 11.3).
 abbrev pub task_of : Execution → Command
@@ -129,13 +130,13 @@ Leads protected disk (e ∷ es) last =
     × Leads protected after.disk es last
 
 -- The command of a task, if it is one (section 11.3).
-abbrev pub task_open : Task → List Command
-task_open (Request m) = task_in m.head
-task_open (Data w) = (w.initiator_task_tag, w.order) ∷ []
+abbrev pub task_open : Option LogicalUnit → Task → List Command
+task_open unit (Request m) = task_in unit m.head
+task_open unit (Data w) = (w.initiator_task_tag, w.order) ∷ []
 
 -- The commands among tasks (section 11.3).
-abbrev pub tasks_open : List Task → List Command
-tasks_open tasks = flat_map task_open tasks
+abbrev pub tasks_open : Option LogicalUnit → List Task → List Command
+tasks_open unit tasks = flat_map (task_open unit) tasks
 
 -- The tag of the command that an answer is the response to (section 11.4).
 abbrev pub response_tag : Head → List ℕ
@@ -191,8 +192,9 @@ due_for protected e = told_of e.initiator_task_tag (effect_of protected e).outco
 -- the tasks that there are, unless the session is closed (section 4.2.2.1).
 pub record AreInOrder (r : Stepped) : Type 0 where
   pub more : List Command
-  pub order : tasks_in r.accepted ≡ tasks_done r.executed ++ more
-  pub open_ : is_closed r.machine ≡ false → more ≡ tasks_open r.machine.tasks
+  pub order : tasks_in (unit_of r.machine.session) r.accepted ≡ tasks_done r.executed ++ more
+  pub open_ : is_closed r.machine ≡ false
+      → more ≡ tasks_open (unit_of r.machine.session) r.machine.tasks
 
 -- ---- tasks in their turn
 

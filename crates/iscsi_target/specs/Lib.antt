@@ -11,6 +11,7 @@ pub mod Worked
 pub mod Sessions
 pub mod Feed
 pub mod Crash
+pub mod Asking
 pub mod Reads
 pub mod Laws
 pub mod Access

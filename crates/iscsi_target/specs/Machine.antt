@@ -28,7 +28,7 @@ use Rattle.iscsi_target_session.specs.Session.{Session, Reply, limit}
 use Rattle.iscsi_target.specs.Write.{Write}
 use Rattle.iscsi_target.specs.declared.tasks.Task.{Task}
 use Rattle.iscsi_target.specs.declared.tasks.Task.TheVariants.{Request, Data}
-use Rattle.iscsi_target.specs.State.{Machine, Execution, Stepped, on, unchanged, shut_down, waiting, max_cmd_sn}
+use Rattle.iscsi_target.specs.State.{Machine, Execution, Stepped, on, unchanged, shut_down, unit_of, waiting, max_cmd_sn}
 use Rattle.iscsi_target_session.specs.Rejecting.{reject, reject_and_close}
 use Rattle.iscsi_target_session.specs.LoginText.{is_normal}
 use Rattle.iscsi_target_session.specs.Login.{login_step}
@@ -210,7 +210,7 @@ admitted s count m =
     if is_tag_of s.tasks (tag_of m.head) then broken s kind_not_due m
     else if breaks_rules s.session.held (length (segment_bytes m.segment)) m.head
     then broken s data_out_of_order m
-    else Queued s.session (s.tasks ++ task_of count m ∷ [])
+    else Queued s.session (s.tasks ++ task_of (unit_of s.session) count m ∷ [])
 
 -- ---- an immediate request
 
@@ -236,7 +236,7 @@ answered_beside s m _ = no_room s m
 -- task's (section 4.2.2.1; how much room there is, is own rule).
 abbrev pub has_room : Machine → Head → Bool
 has_room s head =
-    is_some s.session.settings.extras.unit && not (is_tag_of s.tasks (tag_of head))
+    is_some (unit_of s.session) && not (is_tag_of s.tasks (tag_of head))
 
 -- An immediate request while there is a task is answered beside it, or rejected (section 4.2.2.1).
 abbrev pub beside : Machine → Message → Reply

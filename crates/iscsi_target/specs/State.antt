@@ -42,6 +42,10 @@ opening settings first_stat_sn =
 abbrev pub closed : Machine → Machine
 closed s = record { session = ended s.session; tasks = [] }
 
+-- What the disk of a session tells of itself, where it tells more than the profile has.
+abbrev pub unit_of : Session → Option LogicalUnit
+unit_of session = session.settings.extras.unit
+
 -- MaxCmdSN: the window, less the tasks that take a place of it (section 4.2.2.1).
 abbrev pub max_cmd_sn : Machine → ℕ
 max_cmd_sn s = max_cmd_sn_with s.session (waiting s.tasks)

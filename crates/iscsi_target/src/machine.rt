@@ -8,6 +8,7 @@ ghost use Rattle.iscsi_target.specs.State.{joined};
 ghost use Rattle.iscsi_target_session.specs.Rejecting.{reject};
 ghost use Rattle.iscsi_target.specs.State.{breaks};
 ghost use Rattle.iscsi_target.specs.Machine.{is_closed};
+ghost use Rattle.iscsi_target.specs.Asking.{asks_at, has_cache};
 ghost use Rattle.iscsi_target.specs.Inside.{Leaves};
 
 mod data_in;
@@ -17,8 +18,9 @@ mod reads;
 mod scsi_command;
 mod writes;
 
-use crate::tasks::Tasks;
+use crate::tasks::{Tasks, asks_head};
 use iscsi_login::{Params, Phase, Session as SessionType, Stage};
+use iscsi_pdu::Head;
 use iscsi_target_session::{Config, Numbers, Received, Session};
 use std::alloc::{AllocError, Global};
 use std::marker::Model;
@@ -101,6 +103,24 @@ impl Machine {
         ensures { result ≡ self.now.session.stage }
     {
         self.session.stage()
+    }
+
+    /// Whether the disk has a write cache.
+    pub fn has_cache(&self) -> bool
+        ensures { result ≡ has_cache self.now }
+    {
+        match self.session.unit() {
+            Some(unit) => unit.is_write_back(),
+            None => false,
+        }
+    }
+
+    /// Whether a command that may be executed for a PDU of this head asks that what was written lasts
+    /// before it is answered: that of the PDU, or of a task.
+    pub fn asks(&self, head: &Head) -> bool
+        ensures { result ≡ asks_at self.now head.now }
+    {
+        self.tasks.asks() || asks_head(head)
     }
 
     // How many tasks take a place of the window.

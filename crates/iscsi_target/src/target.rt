@@ -1,7 +1,7 @@
 //! A target's session over a stream. One file, since the calls share the steps by which a piece is
 //! taken.
 
-ghost use Rattle.std.specs.Prelude.{◌≡◌, ◌++◌, ℕ, List, false, IfOk, IfErr, OnOk, OnErr};
+ghost use Rattle.std.specs.Prelude.{◌≡◌, ◌⊎◌, ◌++◌, ℕ, List, false, true, IfOk, IfErr, OnOk, OnErr};
 ghost use Rattle.iscsi_stream.specs.Framing.{Takes, is_ready, stopped};
 ghost use Rattle.iscsi_target_session.specs.Session.{limit};
 ghost use Rattle.iscsi_target.specs.State.{closed};
@@ -10,6 +10,7 @@ ghost use Rattle.iscsi_target.specs.Feed.{scene, beginning, opening_connection, 
 ghost use Rattle.iscsi_target_session.specs.Configured.{Settings};
 ghost use Rattle.scsi_disk.specs.Disk.{Disk};
 ghost use Rattle.scsi_disk.specs.Lasting.{Lasts};
+ghost use Rattle.iscsi_target.specs.Asking.{NoneNextAsks, NoneReadyAsks, NotesAsking, SomeNextAsks, SomeReadyAsks, has_cache};
 ghost use Rattle.iscsi_target.specs.Crash.{CrashesFed, CrashesNext, CrashesReady};
 ghost use Rattle.iscsi_target.specs.Inside.{connection, store_of, target_fault, AnswersReady, ShutsReady, RestFails, TakesOne, FailsOne};
 
@@ -127,10 +128,56 @@ impl Target {
             (S.disk store.old) (S.disk store.new)
             (S.kept store.old) (S.kept store.new) }
     {
+        let mut asks = false;
+        self.feed_asking(piece, store, out, &mut asks)
+    }
+
+    /// Does what `feed_next` does. Over a disk with a write cache it notes, too, whether a command asks
+    /// that what was written lasts before it is answered: a SYNCHRONIZE CACHE, or a READ or a WRITE
+    /// with the bit FUA (SBC-3, section 4.15). Then `asks` is set, and the store is to be synced before
+    /// the answers leave. Over another disk, and where no command asks, `asks` stays as it is.
+    ///
+    /// It is also set for a command that waits behind a write, or waits for its data; so it may be set
+    /// at calls before that one which executes the command.
+    pub fn feed_asking<S: BlockStore>(
+        &mut self,
+        piece: &[u8],
+        store: &mut S,
+        out: &mut Vec<u8>,
+        asks: &mut bool,
+    ) -> Result<(usize, Phase), TargetFault>
+        ensures fed { FedNext S.protected
+            (scene self.old (store_of (S.disk store.old) (S.failures store.old)) out.old.items)
+            piece.now result
+            (scene self.new (store_of (S.disk store.new) (S.failures store.new)) out.new.items) }
+        ensures lasts { S.failures store.new ≡ 0
+            → Lasts (S.synced store.new) (S.disk store.new) (S.kept store.new) }
+        ensures crash { CrashesNext S.protected self.old piece.now
+            (S.disk store.old) (S.disk store.new)
+            (S.kept store.old) (S.kept store.new) }
+        // Where it is not noted that a command asks, none of those that were executed does.
+        ensures asks { NotesAsking S.protected
+            (scene self.old (store_of (S.disk store.old) (S.failures store.old)) out.old.items)
+            piece.now result
+            (scene self.new (store_of (S.disk store.new) (S.failures store.new)) out.new.items)
+            asks.old asks.new }
+        // It is noted only where one asks that may be executed for the PDU.
+        ensures only { asks.new ≡ true → (asks.old ≡ true)
+            ⊎ SomeNextAsks self.old.machine self.old.framing piece.now }
+        // Over a disk without a write cache nothing is noted.
+        ensures plain { has_cache self.old.machine ≡ false → asks.new ≡ asks.old }
+    {
         if self.machine.is_closed() {
             return Err(TargetFault::Closed);
         }
-        feed_once(&mut self.machine, &mut self.framer, piece, store, out)
+        feed_once(&mut self.machine, &mut self.framer, piece, store, out, asks)
+    }
+
+    /// Whether the disk has a write cache.
+    pub fn has_cache(&self) -> bool
+        ensures cache { result ≡ has_cache self.now.machine }
+    {
+        self.machine.has_cache()
     }
 
     /// What the session holds of its login (RFC 7143, section 13).
@@ -227,8 +274,9 @@ fn feed_all<S: BlockStore>(
         (store_of (S.disk store.new) (S.failures store.new)) (S.kept store.old) (S.kept store.new) }
 {
     let mut rest = piece;
+    let mut asks = false;
     while !rest.is_empty() {
-        let (taken, broken) = feed_one(machine, framer, rest, store, out)?;
+        let (taken, broken) = feed_one(machine, framer, rest, store, out, &mut asks)?;
         rest = &rest[taken..];
         let phase = machine.phase();
         if let Some(rule) = broken {
@@ -248,6 +296,7 @@ fn feed_once<S: BlockStore>(
     piece: &[u8],
     store: &mut S,
     out: &mut Vec<u8>,
+    asks: &mut bool,
 ) -> Result<(usize, Phase), TargetFault>
     requires limit { framer.old.limit ≡ limit machine.old.session.settings }
     requires unready { is_ready framer.old ≡ false }
@@ -261,8 +310,15 @@ fn feed_once<S: BlockStore>(
     ensures crash { CrashesNext S.protected (connection machine.old framer.old)
         piece.now (S.disk store.old)
         (S.disk store.new) (S.kept store.old) (S.kept store.new) }
+    ensures asks { NotesAsking S.protected (scene (connection machine.old framer.old)
+        (store_of (S.disk store.old) (S.failures store.old)) out.old.items) piece.now result
+        (scene (connection machine.new framer.new)
+        (store_of (S.disk store.new) (S.failures store.new)) out.new.items) asks.old asks.new }
+    ensures only { asks.new ≡ true
+        → (asks.old ≡ true) ⊎ SomeNextAsks machine.old framer.old piece.now }
+    ensures plain { has_cache machine.old ≡ false → asks.new ≡ asks.old }
 {
-    let (taken, broken) = feed_one(machine, framer, piece, store, out)?;
+    let (taken, broken) = feed_one(machine, framer, piece, store, out, asks)?;
     let phase = machine.phase();
     match broken {
         Some(rule) => Err(TargetFault::Protocol(rule)),
@@ -278,6 +334,7 @@ fn feed_one<S: BlockStore>(
     piece: &[u8],
     store: &mut S,
     out: &mut Vec<u8>,
+    asks: &mut bool,
 ) -> Result<(usize, Option<u8>), TargetFault>
     requires limit { framer.old.limit ≡ limit machine.old.session.settings }
     requires unready { is_ready framer.old ≡ false }
@@ -297,10 +354,35 @@ fn feed_one<S: BlockStore>(
     ensures crash { CrashesNext S.protected (connection machine.old framer.old)
         piece.now (S.disk store.old)
         (S.disk store.new) (S.kept store.old) (S.kept store.new) }
+    ensures noted { OnOk result (has_cache machine.old ≡ true → asks.new ≡ false → asks.old ≡ false) }
+    ensures none { IfOk result (λ done. has_cache machine.old ≡ true → asks.new ≡ false
+        → NoneNextAsks machine.old framer.old piece.now done.0) }
+    ensures only { asks.new ≡ true
+        → (asks.old ≡ true) ⊎ SomeNextAsks machine.old framer.old piece.now }
+    ensures plain { has_cache machine.old ≡ false → asks.new ≡ asks.old }
 {
     let taken = take_bytes(machine, framer, piece)?;
+    note_asking(machine, framer, asks);
     let broken = answer_ready(machine, framer, store, out)?;
     Ok((taken, broken))
+}
+
+// Notes whether a command that may be executed for the PDU that is ready asks that what was written
+// lasts, over a disk with a write cache.
+fn note_asking(machine: &Machine, framer: &Framer, asks: &mut bool)
+    ensures noted { has_cache machine.now ≡ true → asks.new ≡ false → asks.old ≡ false }
+    ensures none { has_cache machine.now ≡ true → asks.new ≡ false → NoneReadyAsks machine.now framer.now }
+    ensures only { asks.new ≡ true → (asks.old ≡ true) ⊎ SomeReadyAsks machine.now framer.now }
+    ensures plain { has_cache machine.now ≡ false → asks.new ≡ asks.old }
+{
+    if !machine.has_cache() {
+        return;
+    }
+    if let Some(pdu) = framer.pdu() {
+        if machine.asks(&pdu.head) {
+            *asks = true;
+        }
+    }
 }
 
 // Takes bytes up to the end of a PDU. A fault closes the session.

@@ -1,6 +1,8 @@
 //! The tasks of a session, in the order in which they are handled (RFC 7143, section 4.2.2.1).
 
 ghost use Rattle.std.specs.Prelude.{◌≡◌, ◌⊎◌, ◌<◌, ◌≤◌, ◌++◌, ◌∷◌, None, Some, [], true, length, insert, IfNone, IfSome, OnSome};
+ghost use Rattle.std.specs.List.{list_any};
+ghost use Rattle.iscsi_target.specs.Asking.{asks_head, asks_task};
 ghost use Rattle.iscsi_target.specs.Write.{Write};
 ghost use Rattle.iscsi_target.specs.State.{takes_place, waiting};
 ghost use Rattle.iscsi_target.specs.Transfer.{joined_write};
@@ -14,6 +16,7 @@ use crate::kept::Kept;
 use crate::open_write::OpenWrite;
 use arrayvec::ArrayVec;
 use iscsi_pdu::{Head, RESERVED_TAG};
+use scsi_unit::asks_to_last;
 use std::alloc::Global;
 use std::default::MadeWith;
 use std::marker::Model;
@@ -48,6 +51,16 @@ impl Task {
         }
     }
 
+    // Whether its command asks that what was written lasts before it is answered.
+    fn asks(&self) -> bool
+        ensures { result ≡ asks_task self.now }
+    {
+        match self {
+            Task::Request(kept) => asks_head(kept.head()),
+            Task::Data(write) => asks_to_last(&write.order.cdb),
+        }
+    }
+
     // Whether it is a write with this tag.
     fn is_write(&self, tag: u32) -> bool
         ensures { result ≡ is_write_with tag self.now }
@@ -62,6 +75,16 @@ impl Task {
 impl MadeWith<Global> for Task {
     fn made_with(alloc: Global) -> Task {
         Task::Request(Kept::blank(alloc))
+    }
+}
+
+/// Whether the command of a request asks that what was written lasts before it is answered.
+pub fn asks_head(head: &Head) -> bool
+    ensures { result ≡ asks_head head.now }
+{
+    match head {
+        Head::ScsiCommand(command) => asks_to_last(&command.cdb),
+        _ => false,
     }
 }
 
@@ -147,6 +170,13 @@ impl Tasks {
         ensures { result ≡ is_tag_of self.now (Some tag) }
     {
         self.list.as_slice().iter().any(|task| task.has_tag(tag))
+    }
+
+    /// Whether the command of one asks that what was written lasts before it is answered.
+    pub fn asks(&self) -> bool
+        ensures { result ≡ list_any asks_task self.now }
+    {
+        self.list.as_slice().iter().any(|task| task.asks())
     }
 }
 

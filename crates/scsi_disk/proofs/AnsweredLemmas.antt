@@ -14,7 +14,7 @@ use Rattle.scsi_disk.specs.declared.store.StoreFault.{StoreFault}
 use Rattle.scsi_disk.specs.declared.store.StoreFault.TheVariants.{Device, NoMemory}
 use Rattle.scsi_disk.specs.Disk.{Disk, IsOldOrNew, Tells, written}
 use Rattle.scsi_disk.specs.Plan.{is_read, plan_of, transfer}
-use Rattle.scsi_disk.specs.Effect.{Effect, Executes, FailsBy, HasOtherData, effect, check, disk_by, guarded, outcome_by}
+use Rattle.scsi_disk.specs.Effect.{Effect, Executes, FailsBy, HasOtherData, block_data, effect, check, disk_by, guarded, outcome_by}
 
 -- a failure was counted and not told, so that the store does not tell each
 pub does_not_tell : {T : Type 0} (tells : Bool) (before after ub ua : ℕ) (result : Result T StoreFault) → Tells tells before after ub ua result → before < after
@@ -76,7 +76,7 @@ module _ (protected : Bool) (before after ub ua : ℕ) (disk now : Disk) (order 
     pub took : (answer : Result Outcome StoreFault) (result : Result Outcome AllocError)
         → IfOk answer (λ o. o ≡ outcome_by (Take length) disk order)
         → OnOk answer (after ≡ before → now ≡ disk_by (Take length) disk order bytes)
-        → IsOldOrNew disk (written (transfer order.cdb).first bytes disk) now → Tells disk.tells before after ub ua answer
+        → IsOldOrNew disk (written (transfer order.cdb).first (block_data order bytes) disk) now → Tells disk.tells before after ub ua answer
         → IfOk answer (λ o. result ≡ Ok o) → (IsErrOf answer Device → IfOk result (λ o. o ≡ check order WriteError)) → (IsErrOf answer NoMemory → IsErr result)
         → IfOk result (λ o. Executes protected before after disk order bytes (at o))
     took (Ok o) result works same each tells is device none =

@@ -8,3 +8,4 @@ pub mod AppendLemmas
 pub mod ReadingLemmas
 pub mod GuardLemmas
 pub mod ProtectedLemmas
+pub mod RepeatLemmas

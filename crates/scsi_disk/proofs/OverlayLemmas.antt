@@ -1,12 +1,12 @@
 -- Writes on blocks: what one leaves, a part of one, and one after another.
-use Rattle.std.proofs.Common.{◌≡◌, ℕ, zero, suc, ◌+◌, ◌-◌, ◌*◌, ◌<◌, ◌≤◌, nat_lt, List, [], ◌∷◌, length, take, drop, refl, sym, ◌∙◌, ap, ◌⊎◌, inl, inr, arith}
+use Rattle.std.proofs.Common.{◌≡◌, ℕ, zero, suc, ◌+◌, ◌-◌, ◌*◌, ◌<◌, ◌≤◌, cond, nat_lt, List, [], ◌∷◌, length, take, drop, replicate, refl, sym, ◌∙◌, ap, ◌⊎◌, inl, inr, arith}
 use mathlib.Core.Path.{fun_ext}
 use Rattle.std.proofs.lemmas.Bool.{cases_lt}
-use Rattle.std.proofs.lemmas.List.{take-take, drop-take, drop-drop, length-take-le, length-drop}
+use Rattle.std.proofs.lemmas.List.{take-take, drop-take, drop-drop, length-take-le, length-drop, length-replicate}
 use Rattle.std.proofs.Math.Nat.{mul-le-mul_left}
 use borrow.Author.Tests.{lt-ltb, le-ltb}
-use Rattle.scsi_disk.specs.Disk.{Disk, IsOldOrNew, cut, overlaid, written}
-use Rattle.scsi_disk.proofs.BlockLemmas.{same_disk}
+use Rattle.scsi_disk.specs.Disk.{Disk, IsOldOrNew, cut, overlaid, written, zero_blocks}
+use Rattle.scsi_disk.proofs.BlockLemmas.{same_disk, cut-zeros_at}
 
 -- a part that lies in the front
 cut_front : (size k : ℕ) (bytes : List ℕ) (m : ℕ) → size * m + size ≤ k → cut size (take k bytes) m ≡ cut size bytes m
@@ -19,7 +19,7 @@ pub overlaid_below : (size first : ℕ) (ys : List ℕ) (block : ℕ → List �
 unfolding overlaid
 overlaid_below size first ys block n lt = rw (lt-ltb n first lt) refl
 
-overlaid_in : (size first : ℕ) (ys : List ℕ) (block : ℕ → List ℕ) (m : ℕ) → size * m < length ys → overlaid size first ys block (first + m) ≡ cut size ys m
+pub overlaid_in : (size first : ℕ) (ys : List ℕ) (block : ℕ → List ℕ) (m : ℕ) → size * m < length ys → overlaid size first ys block (first + m) ≡ cut size ys m
 unfolding overlaid
 overlaid_in size first ys block m lt =
     let at : first + m - first ≡ m = omega arith in
@@ -29,6 +29,29 @@ pub overlaid_past : (size first : ℕ) (ys : List ℕ) (block : ℕ → List ℕ
     ≡ block n
 unfolding overlaid
 overlaid_past size first ys block n ge past = rw (le-ltb n first ge, le-ltb (size * (n - first)) (length ys) past) refl
+
+-- parts of 00 over blocks of 00
+zero_part : (size c m : ℕ) (ys : List ℕ) → ys ≡ replicate (size * c) 0 → m < c → cut size ys m ≡ replicate size 0
+unfolding zero_blocks
+zero_part size c m ys blank lt = ap (λ t. cut size t m) blank ∙ cut-zeros_at size c m ∙ ap (λ b. cond b (replicate size 0) []) (lt-ltb m c lt)
+
+pub zeros_over : (size first c : ℕ) (ys : List ℕ) (block : ℕ → List ℕ) → 0 < size → ys ≡ replicate (size * c) 0
+    → ((i : ℕ) → i < c → block (first + i) ≡ replicate size 0) → (j : ℕ) → overlaid size first ys block j ≡ block j
+zeros_over size first c ys block some none blank j =
+    let long : length ys ≡ size * c = ap length none ∙ length-replicate {A = ℕ} (size * c) 0 in
+    elim (cases_lt j first) [
+      | inl low ↦ overlaid_below size first ys block j low
+      | inr ge ↦ elim (cases_lt (j - first) c) [
+        | inl lt ↦
+            let at : j ≡ first + (j - first) = omega arith in
+            let more : j - first + 1 ≤ c = omega arith in
+            let grown : size * (j - first + 1) ≡ size * (j - first) + size = omega arith in
+            let within : size * (j - first) < length ys = omega (arith, mul-le-mul_left size more) in
+            ap (overlaid size first ys block) at ∙ overlaid_in size first ys block (j - first) within ∙ zero_part size c (j - first) ys none lt
+            ∙ sym (ap block at ∙ blank (j - first) lt)
+        | inr far ↦ overlaid_past size first ys block j ge (omega (arith, mul-le-mul_left size far))
+      ]
+    ]
 
 -- the same overlay at two places
 pub overlaid_like : (size a b x y : ℕ) (ys : List ℕ) (f g : ℕ → List ℕ) → nat_lt x a ≡ nat_lt y b → x - a ≡ y - b → f x ≡ g y

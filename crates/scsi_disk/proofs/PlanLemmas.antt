@@ -9,7 +9,7 @@ use Rattle.scsi_disk.specs.declared.order.Order.{Order}
 use Rattle.scsi_disk.specs.declared.order.Plan.TheVariants.{Refuse, Take, Give}
 use Rattle.scsi_disk.specs.Disk.{Disk, IsDisk, joined, blocks_from}
 use Rattle.scsi_disk.specs.Effect.{wanted_data}
-use Rattle.scsi_disk.specs.Plan.{transfer, is_write, is_read, first_of, refusals, first_refusal, plan_by, plan_of, wanted_length, expected_length}
+use Rattle.scsi_disk.specs.Plan.{transfer, taken_length, is_write, is_read, first_of, refusals, first_refusal, plan_by, plan_of, wanted_length, expected_length}
 
 -- where nothing is refused, each test was false
 pub all_false : {A : Type 0} (rows : List (Bool × A)) → first_of rows ≡ None → AllByRecursion (λ row. row.0 ≡ false) rows
@@ -29,7 +29,7 @@ unrefused order blocks e =
 
 pub record IsTaken (order : Order) (blocks n : ℕ) : Type 0 where
   pub names : NamesBlocks order blocks
-  pub length : n ≡ 512 * (transfer order.cdb).count
+  pub length : n ≡ taken_length order
 
 pub record IsGiven (order : Order) (blocks n : ℕ) : Type 0 where
   pub names : NamesBlocks order blocks
@@ -39,8 +39,8 @@ taken_by : (order : Order) (blocks n : ℕ) (r : Option Sense) → first_refusal
 taken_by order blocks n (Some sense) e p = absurd (let h : Refuse sense ≡ Take n = p in cc)
 taken_by order blocks n None e p = record {
   names = unrefused order blocks e;
-  length = elim (is_write order.cdb) as (λ b. cond b (Take (512 * (transfer order.cdb).count)) (Give (min (wanted_length order blocks) (expected_length order)))
-      ≡ Take n → n ≡ 512 * (transfer order.cdb).count) [
+  length = elim (is_write order.cdb) as (λ b. cond b (Take (taken_length order)) (Give (min (wanted_length order blocks) (expected_length order)))
+      ≡ Take n → n ≡ taken_length order) [
         | true ↦ λ h. cc
         | false ↦ λ h. cc
       ] p;
@@ -49,11 +49,19 @@ taken_by order blocks n None e p = record {
 pub taken : (order : Order) (blocks n : ℕ) → plan_of order blocks ≡ Take n → IsTaken order blocks n
 taken order blocks n p = taken_by order blocks n (first_refusal order blocks) refl p
 
+-- where the data of one block go to each, those are taken
+pub takes_one : (order : Order) (blocks n : ℕ) → IsTaken order blocks n → order.same ≡ true → n ≡ 512
+takes_one order blocks n taken same = let one : n ≡ 512 = rw same at taken.length in one
+
+-- else those of all blocks
+pub takes_all : (order : Order) (blocks n : ℕ) → IsTaken order blocks n → order.same ≡ false → n ≡ 512 * (transfer order.cdb).count
+takes_all order blocks n taken same = let all : n ≡ 512 * (transfer order.cdb).count = rw same at taken.length in all
+
 given_by : (order : Order) (blocks n : ℕ) (r : Option Sense) → first_refusal order blocks ≡ r → plan_by r order blocks ≡ Give n → IsGiven order blocks n
 given_by order blocks n (Some sense) e p = absurd (let h : Refuse sense ≡ Give n = p in cc)
 given_by order blocks n None e p = record {
   names = unrefused order blocks e;
-  most = elim (is_write order.cdb) as (λ b. cond b (Take (512 * (transfer order.cdb).count)) (Give (min (wanted_length order blocks) (expected_length order)))
+  most = elim (is_write order.cdb) as (λ b. cond b (Take (taken_length order)) (Give (min (wanted_length order blocks) (expected_length order)))
       ≡ Give n → n ≤ wanted_length order blocks) [
         | true ↦ λ h. cc
         | false ↦ λ h. let least : min (wanted_length order blocks) (expected_length order) ≡ n = cc in omega arith

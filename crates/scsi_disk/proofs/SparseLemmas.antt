@@ -13,13 +13,13 @@ use Rattle.std.proofs.lemmas.Bool.{cases_lt, cases_order}
 use Rattle.std.proofs.lemmas.List.{length-replicate, replicate-append-replicate}
 use borrow.Author.Tests.{lt-ltb, le-ltb}
 use Rattle.scsi_disk.specs.Disk.{IsDisk, cut, zeros, zero_blocks, overlaid, written}
-use Rattle.scsi_disk.specs.Sparse.{Extents, AreExtents, HasBlocks, IsBlank, block_in, disk_in}
+use Rattle.scsi_disk.specs.Sparse.{Extents, AreExtents, AreZeros, HasBlocks, IsBlank, block_in, disk_in}
 use Rattle.std.proofs.lemmas.Slice.{take-put_mid}
 use Rattle.std.proofs.Math.Nat.{mul-le-mul_left}
 use borrow.Rule.Slice.PartMut.{put_mid}
 use Rattle.scsi_disk.specs.Disk.{joined}
 use Rattle.scsi_disk.proofs.BlockLemmas.{length-cut, same_disk, cut-zeros_at}
-use Rattle.scsi_disk.proofs.OverlayLemmas.{overlaid_below, overlaid_past, overlaid_like}
+use Rattle.scsi_disk.proofs.OverlayLemmas.{overlaid_below, overlaid_past, overlaid_like, zeros_over}
 use Rattle.scsi_disk.proofs.PlanLemmas.{joined-add}
 
 find_at : (es : List (ℕ × List ℕ)) (q : ℕ) → find nat_cmp q es ≡ lookup (is_at (nat_cmp q)) es
@@ -120,12 +120,33 @@ module _ (count : ℕ) (es : List (ℕ × List ℕ)) (n c : ℕ) (o : Option (Li
       in_run i lt ∙ ap (λ p. block_in 512 p (n % 64 + i)) e ∙ block_in-none 512 (n % 64 + i))
       ∙ joined-blank 512 0 c)
 
+  -- where it isn't there, a write of 00 changes nothing
+  pub run_cleared : (ys : List ℕ) → o ≡ None → ys ≡ replicate (512 * c) 0 → written n ys (disk_in (record { count = count; extents = from_entries es }))
+      ≡ disk_in (record { count = count; extents = from_entries es })
+  run_cleared ys e blank =
+      same_disk _ _ refl (fun_ext (zeros_over 512 n c ys (disk_in (record { count = count; extents = from_entries es })).block (omega arith) blank (λ i lt.
+      in_run i lt ∙ ap (λ p. block_in 512 p (n % 64 + i)) e ∙ block_in-none 512 (n % 64 + i)))) refl
+
 blank_at : (size blocks : ℕ) (bytes : List ℕ) (n : ℕ) → bytes ≡ replicate (size * blocks) 0 → n < blocks → block_in size (Some bytes) n ≡ block_in size None n
 unfolding block_in zero_blocks
 blank_at size blocks bytes n is lt = ap (λ b. cut size b n) is ∙ cut-zeros_at size blocks n ∙ ap (λ b. cond b (replicate size 0) []) (lt-ltb n blocks lt)
 
 pub blank : (blocks : ℕ) (bytes : List ℕ) → blocks ≡ 64 → bytes ≡ replicate (512 * blocks) 0 → IsBlank bytes
 blank blocks bytes e is = λ n lt. blank_at 512 blocks bytes n is (omega arith)
+
+-- bytes that are all 00
+pub all_zeros : (bytes : List ℕ) → AreZeros bytes → bytes ≡ replicate (length bytes) 0
+all_zeros [] zeros = refl
+all_zeros (x ∷ xs) zeros =
+    let first : x ≡ 0 = zeros 0 0 (omega arith) in
+    let rest = all_zeros xs (λ k d lt. zeros (suc k) d (omega (arith, lt))) in
+    ap (λ y. y ∷ xs) first ∙ ap (λ t. 0 ∷ t) rest
+
+pub all_blank : (blocks : ℕ) (bytes : List ℕ) → blocks ≡ 64 → length bytes ≡ 512 * blocks → AreZeros bytes → IsBlank bytes
+all_blank blocks bytes e long zeros = blank blocks bytes e (all_zeros bytes zeros ∙ ap (λ n. replicate n 0) long)
+
+pub zero_range : (a b : ℕ) (bytes : List ℕ) → AreZeros bytes → AreZeros (take b (drop a bytes))
+zero_range a b bytes zeros = All-take (λ byte. byte ≡ 0) b (drop a bytes) (All-drop (λ byte. byte ≡ 0) a bytes zeros)
 
 -- what the extents are after an insert
 pub get_inserted : (es fs : List (ℕ × List ℕ)) (k : ℕ) (v : List ℕ) → ((q : ℕ) → lookup (is_at (nat_cmp q)) fs
@@ -189,6 +210,45 @@ is_kept es k e = rw (get_at es k) (let h = e in search rules)
 not_at : (k q : ℕ) → (q < k) ⊎ (k < q) → is_at (nat_cmp k) q ≡ false
 not_at k q (inl low) = grind (arith, nat_tests)
 not_at k q (inr high) = grind (arith, nat_tests)
+
+-- what the extents are after a removal
+pub get_removed : (es fs : List (ℕ × List ℕ)) (k : ℕ) → ((q : ℕ) → lookup (is_at (nat_cmp q)) fs ≡ cond (is_at (nat_cmp k) q) None (lookup (is_at (nat_cmp q)) es))
+    → (q : ℕ) → get (from_entries {R = nat_cmp} fs) q ≡ cond (is_at (nat_cmp k) q) None (get (from_entries {R = nat_cmp} es) q)
+get_removed es fs k h q = get_at fs q ∙ h q ∙ ap (cond (is_at (nat_cmp k) q) None) (sym (get_at es q))
+
+still_there : (b : Bool) (o : Option (List ℕ)) (bytes : List ℕ) → cond b None o ≡ Some bytes → o ≡ Some bytes
+still_there true o bytes e = absurd (let h : None ≡ Some bytes = e in cc)
+still_there false o bytes e = e
+
+gone : (b : Bool) (o p : Option (List ℕ)) → p ≡ cond b None o → b ≡ true → p ≡ None
+gone true o p e t = e
+gone false o p e t = absurd (let h : false ≡ true = t in cc)
+
+put_back : (b : Bool) (v : List ℕ) (o p : Option (List ℕ)) → p ≡ cond b None o → (b ≡ true → o ≡ Some v) → o ≡ cond b (Some v) p
+put_back true v o p e is = is refl
+put_back false v o p e is = sym e
+
+-- the extents m without the one of key k
+module _ (m n : FinMap nat_cmp (List ℕ)) (k : ℕ) (h : (q : ℕ) → get n q ≡ cond (is_at (nat_cmp k) q) None (get m q)) where
+  pub removed : (count : ℕ) → AreExtents count m → AreExtents count n
+  removed count are = record {
+    some = are.some;
+    few = are.few;
+    whole = λ q bytes e. are.whole q bytes (still_there (is_at (nat_cmp k) q) (get m q) bytes (sym (h q) ∙ e));
+  }
+
+  -- nothing is seen of a removed extent of 00
+  pub unseen_gone : (count : ℕ) (v : List ℕ) → get m k ≡ Some v → IsBlank v → disk_in (record { count = count; extents = n })
+      ≡ disk_in (record { count = count; extents = m })
+  unseen_gone count v before blank = sym (unseen count n m k v
+      (λ q. put_back (is_at (nat_cmp k) q) v (get m q) (get n q) (h q) (λ t. ap (λ x. get m x) (sym (at_key k q t)) ∙ before)) blank
+      (λ q t. gone (is_at (nat_cmp k) q) (get m q) (get n q) (h q) t))
+
+  pub others_stay : (j : ℕ) → IsSome (get m j) → (j ≡ k) ⊎ IsSome (get n j)
+  others_stay j some = elim (cases_order j k) [
+    | inl same ↦ inl same
+    | inr differ ↦ inr (subst (λ (o : Option (List ℕ)). IsSome o) (sym (h j ∙ ap (λ b. cond b None (get m j)) (not_at k j differ))) some)
+  ]
 
 -- the extents where the one of block p has been written from that block on
 module _ (count p c : ℕ) (m n : FinMap nat_cmp (List ℕ)) (old new ys : List ℕ)
@@ -296,4 +356,13 @@ is_reached extents first count k some has low high = elim (cases_lt (64 * k) fir
   | inr behind ↦
       let same : 64 * k / 64 ≡ k = omega arith in
       subst (λ (n : ℕ). IsSome (get extents n)) same (has (64 * k) behind high)
+]
+
+-- behind a run the extents are there, if no other than that of the run has gone
+pub rest_there : (old new : FinMap nat_cmp (List ℕ)) (first i run count : ℕ) → (run ≡ count - i) ⊎ ((first + i) % 64 + run ≡ 64) → 0 < run
+    → ((k : ℕ) → IsSome (get old k) → (k ≡ (first + i) / 64) ⊎ IsSome (get new k)) → HasBlocks old (first + i) (count - i)
+    → HasBlocks new (first + (i + run)) (count - (i + run))
+rest_there old new first i run count end some kept has n low high = elim (kept (n / 64) (has n (omega (arith, low)) (omega (arith, low, high)))) [
+  | inl same ↦ elim end [ inl all ↦ absurd (omega (arith, all, low, high)) | inr full ↦ absurd (omega (arith, full, low, same)) ]
+  | inr there ↦ there
 ]

@@ -1,5 +1,6 @@
 -- What an order answers and leaves. Status and sense are those of SPC-4; residuals are own rules.
 use Rattle.std.specs.Prelude.{◌≡◌, ◌⊎◌, ℕ, ◌-◌, ◌<◌, ◌≤◌, nat_lt, IsTrue, Bool, true, false, if◌then◌else◌, min, List, [], length as size, length, take, Some, None, unwrap_or}
+use Rattle.std.specs.List.{repeat}
 use Rattle.scsi_cdb.specs.declared.sense.Sense.{Sense}
 use Rattle.scsi_cdb.specs.declared.sense.Sense.TheVariants.{ReadError, WriteError, WriteProtected}
 use Rattle.scsi_cdb.specs.declared.residual.Residual.{Residual}
@@ -52,6 +53,11 @@ wanted_data disk order =
 
 -- ---- the effect of an order
 
+-- the bytes that a WRITE leaves in its blocks: those that came, or those of one block in each
+abbrev pub block_data : Order → List ℕ → List ℕ
+block_data order bytes =
+    if order.same then repeat (transfer order.cdb).count bytes else bytes
+
 -- what an order answers, by its plan
 abbrev pub outcome_by : Plan → Disk → Order → Outcome
 outcome_by (Refuse sense) disk order = check order sense
@@ -61,7 +67,8 @@ outcome_by (Give length) disk order =
 
 -- the disk that it leaves, by its plan
 abbrev pub disk_by : Plan → Disk → Order → List ℕ → Disk
-disk_by (Take length) disk order bytes = written (transfer order.cdb).first bytes disk
+disk_by (Take length) disk order bytes =
+    written (transfer order.cdb).first (block_data order bytes) disk
 disk_by _ disk order bytes = disk
 
 -- the plan of an order on a store that refuses each write, or on one that takes them
@@ -108,7 +115,7 @@ FailsBy (Refuse sense) disk order bytes after = ⊥
 FailsBy (Take length) disk order bytes after =
     ((after.outcome ≡ check order WriteError)
     ⊎ ((disk.tells ≡ false) × (after.outcome ≡ good order length [])))
-    × IsOldOrNew disk (written (transfer order.cdb).first bytes disk) after.disk
+    × IsOldOrNew disk (written (transfer order.cdb).first (block_data order bytes) disk) after.disk
 FailsBy (Give length) disk order bytes after =
     ((after.outcome ≡ check order ReadError)
     ⊎ ((disk.tells ≡ false) × HasOtherData disk order length after.outcome))

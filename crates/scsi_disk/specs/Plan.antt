@@ -88,13 +88,17 @@ data_of present last _ = Some []
 abbrev pub parameter_data : Order → ℕ → Option (List ℕ)
 parameter_data order blocks = data_of (order.lun == 0) (blocks - 1) order.cdb
 
+-- How many bytes a WRITE takes: those of its blocks, or those of one, which go to each.
+abbrev pub taken_length : Order → ℕ
+taken_length order = if order.same then 512 else 512 * (transfer order.cdb).count
+
 -- ---- refusals
 
 -- The reasons to refuse an order on a disk of n blocks, in their order. The command is unknown, or
 -- the unit is not 0, but for the standard INQUIRY data. Data go both ways, or to a command that
 -- takes none. The command asks for protection (RDPROTECT or WRPROTECT), or for a page or a report
 -- that there is not. It names over 8,192 blocks, or blocks past the end. A WRITE expects other than
--- its blocks, or sends none of them. A SYNCHRONIZE CACHE names blocks past the end.
+-- what it takes, or sends none of it. A SYNCHRONIZE CACHE names blocks past the end.
 abbrev pub refusals : Order → ℕ → List (Bool × Sense)
 refusals order blocks =
     let named = transfer order.cdb in
@@ -107,8 +111,8 @@ refusals order blocks =
     ∷ (is_none (parameter_data order blocks), InvalidField)
     ∷ (nat_lt 8192 named.count, InvalidField)
     ∷ (nat_lt blocks (named.first + named.count), OutOfRange)
-    ∷ (is_write order.cdb && not (order.expected == 512 * named.count), InvalidField)
-    ∷ (is_write order.cdb && not order.write && nat_lt 0 named.count, InvalidField)
+    ∷ (is_write order.cdb && not (order.expected == taken_length order), InvalidField)
+    ∷ (is_write order.cdb && not order.write && (order.same || nat_lt 0 named.count), InvalidField)
     ∷ (nat_lt blocks (flushed.first + flushed.count), OutOfRange)
     ∷ []
 
@@ -141,7 +145,7 @@ wanted_length order blocks =
 abbrev pub plan_by : Option Sense → Order → ℕ → Plan
 plan_by (Some sense) order blocks = Refuse sense
 plan_by None order blocks =
-    if is_write order.cdb then Take (512 * (transfer order.cdb).count)
+    if is_write order.cdb then Take (taken_length order)
     else Give (min (wanted_length order blocks) (expected_length order))
 
 -- what an order leads to, on a disk of n blocks

@@ -1,5 +1,5 @@
 -- A store that keeps only what was written, in extents of 64 blocks.
-use Rattle.std.specs.Prelude.{◌≡◌, ℕ, ◌+◌, ◌/◌, ◌%◌, ◌^◌, ◌<◌, ◌≤◌, if◌then◌else◌, nat_lt, true, List, [], length, replicate, Option, Some, None, IsSome, refl}
+use Rattle.std.specs.Prelude.{◌≡◌, ℕ, ◌+◌, ◌/◌, ◌%◌, ◌^◌, ◌<◌, ◌≤◌, if◌then◌else◌, nat_lt, true, List, [], All, length, replicate, Option, Some, None, IsSome, refl}
 use Rattle.std.specs.Coded.{Coded, code_by, coded×, coded_ℕ, coded_list}
 use Rattle.std.specs.FinMap as map
 use Rattle.std.specs.Ordering.{nat_cmp}
@@ -35,6 +35,10 @@ pub record AreExtents (count : ℕ) (extents : FinMap nat_cmp (List ℕ)) : Type
   pub some : 0 < count
   pub few : count ≤ 2 ^ 40
   pub whole : (n : ℕ) (bytes : List ℕ) → get extents n ≡ Some bytes → length bytes ≡ 32768
+
+-- all bytes are 00
+abbrev pub AreZeros : List ℕ → Type 0
+AreZeros bytes = All (λ byte. byte ≡ 0) bytes
 
 -- the bytes read as if no extent were there
 abbrev pub IsBlank : List ℕ → Type 0

@@ -1,10 +1,11 @@
 //! What an order does to a store, and its answer.
 
 ghost use Rattle.std.specs.Prelude.{◌≡◌, ◌+◌, ◌*◌, ◌/◌, ◌<◌, ◌≤◌, ◌^◌, length as size, take as front, OnOk, OnErr, IfOk, IsOk, IsErr, IsErrOf, IsTrue};
+ghost use Rattle.std.specs.List.{repeat};
 ghost use Rattle.scsi_disk.specs.Disk.{Tells, IsOldOrNew, blocks_from, written};
 ghost use Rattle.scsi_disk.specs.Lasting.{Adds, Lasts, Within};
 ghost use Rattle.scsi_disk.specs.Plan.{transfer, is_read, parameter_data, wanted_length, plan_of};
-ghost use Rattle.scsi_disk.specs.Effect.{Effect, IsSupplied, IsSuppliedBy, Executes, effect, residual_of, good, given, check, HasOtherData, wanted_data, disk_by, outcome_by};
+ghost use Rattle.scsi_disk.specs.Effect.{Effect, IsSupplied, IsSuppliedBy, Executes, block_data, effect, residual_of, good, given, check, HasOtherData, wanted_data, disk_by, outcome_by};
 
 use crate::order::{Order, Outcome, Plan};
 use crate::planning::{
@@ -155,15 +156,34 @@ fn take<S: BlockStore>(
     ensures count { (S.disk store.new).count ≡ (S.disk store.old).count }
     ensures no_memory { IsErrOf result StoreFault.NoMemory
         → (S.disk store.new ≡ S.disk store.old) × Within (S.kept store.old) (S.kept store.new) }
-    ensures each { IsOldOrNew (S.disk store.old)
-        (written (transfer order.now.cdb).first bytes.now (S.disk store.old)) (S.disk store.new) }
-    ensures kept { Adds (written (transfer order.now.cdb).first bytes.now (S.disk store.old))
-        (S.kept store.old) (S.kept store.new) }
+    ensures each { IsOldOrNew (S.disk store.old) (written (transfer order.now.cdb).first
+        (block_data order.now bytes.now) (S.disk store.old)) (S.disk store.new) }
+    ensures kept { Adds (written (transfer order.now.cdb).first (block_data order.now bytes.now)
+        (S.disk store.old)) (S.kept store.old) (S.kept store.new) }
     ensures tells { Tells (S.disk store.old).tells (S.failures store.old) (S.failures store.new)
         (S.untold store.old) (S.untold store.new) result }
 {
-    store.write(transfer_of(&order.cdb).first, bytes)?;
+    let named = transfer_of(&order.cdb);
+    if order.same {
+        let all = repeated(alloc, bytes, named.count)?;
+        store.write(named.first, &all)?;
+    } else {
+        store.write(named.first, bytes)?;
+    }
     Ok(Outcome::good(order, length, Vec::new(alloc)))
+}
+
+/// The bytes of a block `n` times, at most 4 MiB of them.
+fn repeated(alloc: Global, block: &[u8], count: u32) -> Result<Vec<u8>, AllocError>
+    requires short { size block.now ≡ 512 }
+    requires few { count ≤ 8192 }
+    ensures { IfOk result (λ v. v.items ≡ repeat count block.now) }
+{
+    let mut all = Vec::with_capacity(alloc, 512 * count as usize)?;
+    for _ in 0..count {
+        all.extend_from_slice(block)?;
+    }
+    Ok(all)
 }
 
 /// What a command answers, where its store answered so.

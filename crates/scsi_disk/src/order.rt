@@ -15,6 +15,9 @@ pub struct Order {
     pub write: bool,
     /// The expected data transfer length, in bytes.
     pub expected: u32,
+    /// A WRITE has the data of one block, which go to each of its blocks, as those of WRITE SAME do. Of
+    /// another command it is not looked at.
+    pub same: bool,
 }
 
 /// What an order leads to. The order and the number of blocks alone decide it.

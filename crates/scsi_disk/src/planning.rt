@@ -1,7 +1,7 @@
 //! What an order leads to, before a block is touched (SPC-4 and SBC-3).
 
 ghost use Rattle.std.specs.Prelude.{◌≡◌, ◌+◌, ◌*◌, ◌-◌, ◌<◌, ◌≤◌, ◌||◌, ◌&&◌, ◌==◌, not, nat_lt, is_none, option_map, IfNone, length, take};
-ghost use Rattle.scsi_disk.specs.Plan.{transfer, synchronized, is_write, is_read, is_unknown, is_standard_inquiry, parameter_data, first_refusal, expected_length, wanted_length, plan_of};
+ghost use Rattle.scsi_disk.specs.Plan.{transfer, synchronized, taken_length, is_write, is_read, is_unknown, is_standard_inquiry, parameter_data, first_refusal, expected_length, wanted_length, plan_of};
 
 use crate::order::{Order, Plan};
 use arrayvec::ArrayVec;
@@ -206,7 +206,8 @@ fn refusal(order: &Order, blocks: u64) -> Option<Sense>
         return Some(Sense::OutOfRange);
     }
     if is_write(cdb)
-        && (order.expected != 512 * transfer.count || !order.write && transfer.count > 0)
+        && (order.expected != taken_length(order)
+            || !order.write && (order.same || transfer.count > 0))
     {
         return Some(Sense::InvalidField);
     }
@@ -214,6 +215,18 @@ fn refusal(order: &Order, blocks: u64) -> Option<Sense>
         return Some(Sense::OutOfRange);
     }
     None
+}
+
+/// How many bytes a WRITE takes: those of its blocks, or those of one, which go to each.
+fn taken_length(order: &Order) -> u32
+    requires { (transfer order.now.cdb).count ≤ 8192 }
+    ensures { result ≡ taken_length order.now }
+{
+    if order.same {
+        512
+    } else {
+        512 * transfer_of(&order.cdb).count
+    }
 }
 
 /// What the initiator expects, which a residual is counted from: nothing, where it names no
@@ -254,9 +267,10 @@ pub(crate) fn wanted_length(order: &Order, blocks: u64) -> u32
 /// 6. `OutOfRange`: its blocks end past the last one, also those of a SYNCHRONIZE CACHE, to which
 ///    the limit of 8,192 blocks does not apply. No blocks at the end are in range.
 /// 7. `InvalidField`: it is a WRITE whose expected length is not that of its blocks, or that has
-///    blocks and sends no data.
+///    blocks and sends no data. A WRITE of the same data to each block expects those of one block,
+///    and sends them.
 ///
-/// Else a WRITE takes the bytes of its blocks, and another command gives the lesser of what it has
+/// Else a WRITE takes the bytes of its blocks, or those of one block, and another command gives the lesser of what it has
 /// and what the initiator expects. The commands are those of SPC-4 and SBC-3; the order of the
 /// reasons, the sense of each and the limit of 8,192 blocks are own rules.
 pub fn plan(order: &Order, blocks: u64) -> Plan
@@ -265,9 +279,8 @@ pub fn plan(order: &Order, blocks: u64) -> Plan
     if let Some(sense) = refusal(order, blocks) {
         return Plan::Refuse(sense);
     }
-    let length = 512 * transfer_of(&order.cdb).count;
     if is_write(&order.cdb) {
-        return Plan::Take(length);
+        return Plan::Take(taken_length(order));
     }
     Plan::Give(wanted_length(order, blocks).min(expected_length(order)))
 }

@@ -1,11 +1,11 @@
 //! A store that keeps only what was written. One file, since reads, writes and the room for them go
 //! over the same extents.
 
-ghost use Rattle.std.specs.Prelude.{◌≡◌, refl, ◌+◌, ◌*◌, ◌/◌, ◌%◌, ◌^◌, ◌<◌, ◌≤◌, ◌++◌, length, take, ℕ, true, IsOk, IfOk, IsSome, OnOk, OnErr, IsErrOf};
+ghost use Rattle.std.specs.Prelude.{◌≡◌, refl, ◌+◌, ◌*◌, ◌/◌, ◌%◌, ◌^◌, ◌<◌, ◌≤◌, ◌⊎◌, ◌++◌, length, take, ℕ, true, IsTrue, ◌↔◌, IsOk, IfOk, IsSome, OnOk, OnErr, IsErrOf};
 ghost use Rattle.std.specs.FinMap.{get};
 ghost use Rattle.scsi_disk.specs.Disk.{Disk, IsOldOrNew, Tells, most_blocks, zeros, blocks_from, written, cut, overlaid};
 ghost use Rattle.scsi_disk.specs.Lasting.{Adds, Within};
-ghost use Rattle.scsi_disk.specs.Sparse.{disk_in, IsBlank, HasBlocks};
+ghost use Rattle.scsi_disk.specs.Sparse.{disk_in, AreZeros, IsBlank, HasBlocks};
 
 use crate::memory::{append_blocks, read_blocks, write_blocks};
 use crate::store::{BlockStore, StoreFault};
@@ -52,6 +52,13 @@ impl Extent {
     {
         write_blocks(&mut self.bytes, n, bytes);
     }
+
+    /// Whether all its bytes are 00.
+    fn is_blank(&self) -> bool
+        ensures { IsTrue result → IsBlank self.now }
+    {
+        are_zeros(&self.bytes)
+    }
 }
 
 /// The most blocks that a disk may have (own rule).
@@ -63,6 +70,10 @@ pub const MOST_BLOCKS: u64 = 1_099_511_627_776;
 /// into once. A read takes no memory. A write first goes over its extents, from the first of them.
 /// If not all are there, the write takes memory for the others, of 00, before it changes a byte. So
 /// after `NoMemory` no block has changed. The device does not fail.
+///
+/// A write of 00 alone takes no memory. A write that leaves an extent all 00 gives its memory back.
+/// To see that, the bytes of the write in this extent are looked at first, up to one that isn't 00.
+/// Only if there is none, the extent is.
 #[derive(Drop)]
 pub struct SparseStore {
     blocks: u64,
@@ -96,6 +107,37 @@ impl SparseStore {
             alloc,
             extents: BTreeMap::new(alloc),
         }
+    }
+
+    /// How many extents it keeps at most while these bytes are written from block `lba` on: those
+    /// that are there, and those that the write asks for. A write of 00 alone asks for none.
+    pub fn extents_with(&self, lba: u64, bytes: &[u8]) -> u64
+        requires whole { length bytes.now % 512 ≡ 0 }
+        requires inside { 512 * lba + length bytes.now ≤ 512 * (disk_in self.now).count }
+    {
+        prove!(lba <= self.blocks);
+        let kept = self.extents.len() as u64;
+        if are_zeros(bytes) {
+            return kept;
+        }
+        kept.saturating_add(self.missing(lba, bytes.len() as u64 / 512))
+    }
+
+    /// How many extents of these blocks aren't there.
+    fn missing(&self, first: u64, count: u64) -> u64
+        requires { first + count ≤ self.now.count }
+    {
+        prove!(first <= self.blocks);
+        if count == 0 {
+            return 0;
+        }
+        let begin = first / EXTENT_BLOCKS;
+        let end = (first + count - 1) / EXTENT_BLOCKS + 1;
+        let mut missing = end - begin;
+        for _ in self.extents.range(begin..end) {
+            missing = missing.saturating_sub(1);
+        }
+        missing
     }
 
     /// Reads blocks that lie in one extent.
@@ -162,12 +204,30 @@ impl SparseStore {
         Ok(())
     }
 
-    /// Writes blocks that lie in one extent, which is there.
+    /// Removes the extent of a write if it is all 00. It isn't looked at if one of the bytes that
+    /// were written isn't. Nothing is seen of it.
+    fn give_back(&mut self, extent: u64, bytes: &[u8])
+        ensures disk { disk_in self.new ≡ disk_in self.old }
+        ensures kept { (k : ℕ) → IsSome (get self.old.extents k)
+            → (k ≡ extent) ⊎ IsSome (get self.new.extents k) }
+    {
+        if !are_zeros(bytes) {
+            return;
+        }
+        let Some(found) = self.extents.get(&extent) else {
+            return;
+        };
+        if found.is_blank() {
+            self.extents.remove(&extent);
+        }
+    }
+
+    /// Writes blocks that lie in one extent. It is there, or all the bytes are 00.
     fn write_run(&mut self, n: u64, bytes: &[u8])
         requires whole { length bytes.now % 512 ≡ 0 }
         requires one { n % 64 + length bytes.now / 512 ≤ 64 }
         requires inside { n + length bytes.now / 512 ≤ self.old.count }
-        requires there { IsSome (get self.old.extents (n / 64)) }
+        requires there { AreZeros bytes.now ⊎ IsSome (get self.old.extents (n / 64)) }
         ensures disk { disk_in self.new ≡ written n bytes.now (disk_in self.old) }
         ensures kept { (k : ℕ) → IsSome (get self.old.extents k)
             → IsSome (get self.new.extents k) }
@@ -214,11 +274,13 @@ impl SparseStore {
         Ok(())
     }
 
-    /// Writes whole blocks, whose extents are there.
+    /// Writes whole blocks, and gives back each extent that is all 00 then. Their extents are there,
+    /// or all the bytes are 00.
     fn write_all(&mut self, first: u64, bytes: &[u8])
         requires whole { length bytes.now % 512 ≡ 0 }
         requires inside { first + length bytes.now / 512 ≤ self.old.count }
-        requires there { HasBlocks self.old.extents first (length bytes.now / 512) }
+        requires there { AreZeros bytes.now
+            ⊎ HasBlocks self.old.extents first (length bytes.now / 512) }
         ensures { disk_in self.new ≡ written first bytes.now (disk_in self.old) }
     {
         prove!(first <= self.blocks);
@@ -227,7 +289,9 @@ impl SparseStore {
         while done < blocks {
             let n = first + done as u64;
             let end = done + run_length(n, blocks - done);
-            self.write_run(n, &bytes[512 * done..512 * end]);
+            let run = &bytes[512 * done..512 * end];
+            self.write_run(n, run);
+            self.give_back(n / EXTENT_BLOCKS, run);
             done = end;
         }
     }
@@ -302,10 +366,12 @@ impl BlockStore for SparseStore {
         ensures tells { Tells true 0 0 0 0 result }
         // If all extents are there, no memory is needed.
         ensures room { HasBlocks self.old.extents lba (length bytes.now / 512) → IsOk result }
+        // If all bytes are 00, none is needed either.
+        ensures blank { AreZeros bytes.now → IsOk result }
     {
         prove!(lba <= self.blocks);
         let blocks = bytes.len() as u64 / 512;
-        if !self.has_all(lba, blocks) {
+        if !are_zeros(bytes) && !self.has_all(lba, blocks) {
             self.reserve_all(lba, blocks)?;
         }
         self.write_all(lba, bytes);
@@ -317,12 +383,20 @@ impl BlockStore for SparseStore {
     }
 }
 
+/// Whether bytes are all 00. None behind the first that isn't is looked at.
+fn are_zeros(bytes: &[u8]) -> bool
+    ensures { IsTrue result ↔ AreZeros bytes.now }
+{
+    bytes.iter().all(|byte| *byte == 0)
+}
+
 /// How many of these blocks, from block `n` on, lie in the extent of the first.
 fn run_length(n: u64, blocks: usize) -> usize
     requires { 0 < blocks }
     ensures some { 0 < result }
     ensures few { result ≤ blocks }
     ensures one { n % 64 + result ≤ 64 }
+    ensures end { (result ≡ blocks) ⊎ (n % 64 + result ≡ 64) }
 {
     ((EXTENT_BLOCKS - n % EXTENT_BLOCKS) as usize).min(blocks)
 }

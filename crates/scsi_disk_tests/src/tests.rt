@@ -35,6 +35,7 @@ fn order(words: [u32; 4], read: bool, write: bool, expected: u32) -> Order {
         read,
         write,
         expected,
+        same: false,
     }
 }
 
@@ -821,6 +822,69 @@ fn a_disk_that_is_read_alone(rt: HostRuntime) {
     same(&rt, &store.failures(), &0, &"failures");
 }
 
+/// A WRITE of the same block to blocks 2 to 9.
+const SAME_8: [u32; 4] = [0x2a000000, 0x00020000, 0x08000000, 0];
+
+/// An order of the data of one block for each of its blocks, with so many bytes.
+fn same_order(words: [u32; 4], data: Data) -> Order {
+    Order {
+        same: true,
+        ..order_of(words, data)
+    }
+}
+
+/// Plans of such orders, on a disk of 2,048 blocks.
+const SAME_PLANS: &[(&str, [u32; 4], Data, Plan)] = &[
+    ("one block", SAME_8, Data::Writes(512), Plan::Take(512)),
+    (
+        "all blocks",
+        SAME_8,
+        Data::Writes(4096),
+        Plan::Refuse(Sense::InvalidField),
+    ),
+    (
+        "not sent",
+        SAME_8,
+        Data::Neither(512),
+        Plan::Refuse(Sense::InvalidField),
+    ),
+    (
+        "past the end",
+        [0x2a000000, 0x07f90000, 0x08000000, 0],
+        Data::Writes(512),
+        Plan::Refuse(Sense::OutOfRange),
+    ),
+    (
+        "a READ is as ever",
+        READ_8,
+        Data::Reads(4096),
+        Plan::Give(4096),
+    ),
+];
+
+#[test]
+fn plans_of_the_same_data(rt: HostRuntime) {
+    for (name, words, data, want) in SAME_PLANS {
+        same(&rt, &plan(&same_order(*words, *data), 2048), want, name);
+    }
+}
+
+#[test]
+fn the_same_data_in_each_block(rt: HostRuntime) {
+    let mut store = SparseStore::new(rt.alloc(), 16);
+    let order = same_order(SAME_8, Data::Writes(512));
+    let outcome = run(&rt, rt.alloc(), &order, &[0x5a; 512], &mut store);
+    check_outcome(&rt, "written", &outcome, None, b"", Residual::Exact);
+    for block in 0..16 {
+        let due = if (2..10).contains(&block) { 0x5a } else { 0 };
+        check_block(&rt, &mut store, block, due);
+    }
+    let mut protected = ReadOnly::new(store);
+    let outcome = run(&rt, rt.alloc(), &order, &[0; 512], &mut protected);
+    let sense = Some(Sense::WriteProtected);
+    check_outcome(&rt, "refused", &outcome, sense, b"", Residual::Under(512));
+}
+
 /// The largest disk keeps what was written alone.
 #[test]
 fn the_largest_disk(rt: HostRuntime) {
@@ -1022,6 +1086,62 @@ fn sparse_store(rt: HostRuntime) {
     assert_ne!(rt; written, Err(StoreFault::Device));
     same(&rt, &store.failures(), &0, &"failures");
     written.expect(&rt, "a write");
+}
+
+/// Writes to 130 blocks, one after another: the first block, how many, and the byte of which they are.
+/// Some leave an extent of 00 alone, and one writes to it again.
+const OVER_ZEROS: &[(u64, usize, u8)] = &[
+    (62, 4, 0x5a),
+    (63, 1, 0x00),
+    (62, 1, 0x00),
+    (0, 3, 0x00),
+    (65, 1, 0x00),
+    (61, 1, 0x11),
+    (60, 4, 0x00),
+    (128, 2, 0x00),
+];
+
+/// Blocks, and the byte of which each is after these writes.
+const BEHIND_ZEROS: &[(u64, u8)] = &[
+    (0, 0x00),
+    (61, 0x00),
+    (62, 0x00),
+    (63, 0x00),
+    (64, 0x5a),
+    (65, 0x00),
+    (129, 0x00),
+];
+
+/// Writes blocks of one byte alone.
+fn write_fill(rt: &impl Abort, alloc: Global, store: &mut SparseStore, row: &(u64, usize, u8)) {
+    let (lba, count, fill) = *row;
+    assert!(rt; lba < 130 && count <= 130 && lba + count as u64 <= store.blocks());
+    let bytes = vec![in alloc; fill; 512 * count].expect(rt, "bytes");
+    same(rt, &store.write(lba, &bytes), &Ok(()), row);
+}
+
+#[test]
+fn zeros_in_a_sparse_store(rt: HostRuntime) {
+    let mut store = SparseStore::new(rt.alloc(), 130);
+    for row in OVER_ZEROS {
+        write_fill(&rt, rt.alloc(), &mut store, row);
+    }
+    for (lba, fill) in BEHIND_ZEROS {
+        check_block(&rt, &mut store, *lba, *fill);
+    }
+    // Of the three extents, the second alone has another byte than 00.
+    assert!(rt; store.blocks() == 130);
+    same(&rt, &store.extents_with(0, &[]), &1, &"kept");
+    same(&rt, &store.extents_with(63, &[0x5a; 1024]), &2, &"one more");
+    same(&rt, &store.extents_with(63, &[0x00; 1024]), &1, &"no more");
+}
+
+/// Blocks of 00, to extents that aren't there.
+#[test]
+fn zeros_take_no_memory(rt: HostRuntime) {
+    let mut store = SparseStore::new(rt.alloc(), 130);
+    same(&rt, &store.write(63, &[0; 1024]), &Ok(()), &"written");
+    check_around(&rt, &mut store, 0x00);
 }
 
 #[test]

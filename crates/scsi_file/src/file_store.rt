@@ -12,6 +12,7 @@ use scsi_disk::{BlockStore, StoreFault};
 /// A sync asks the medium only where something was written since the last one, so one of them
 /// serves several writes. It tells once that it failed. Behind that the medium is asked nothing
 /// more, and each read and write fails, since what was written may be lost with no further error.
+/// With a write cache each sync fails, too: writes that were answered before it may be lost.
 #[derive(Drop)]
 pub struct FileStore<M: Medium> {
     medium: M,
@@ -19,6 +20,8 @@ pub struct FileStore<M: Medium> {
     broken: bool,
     // nothing was written since the last sync, or that one failed
     synced: bool,
+    // writes are answered before they last
+    write_back: bool,
     ghost sound: { broken ≡ false → IsTrue (M.Medium.usable medium) },
     ghost quiet: { broken ≡ true → synced ≡ true },
     ghost lasts: { failed + M.Medium.untold medium ≡ 0
@@ -49,7 +52,24 @@ impl<M: Medium + Drop> FileStore<M> {
             failed: 0,
             broken: false,
             synced: true,
+            write_back: false,
         })
+    }
+
+    /// The same store, of whose writes some are answered before they last. Once a sync has failed, each
+    /// later one fails as well: so no initiator that asks once more is told that all lasts.
+    pub fn with_write_back(self) -> FileStore<M>
+        ensures seen { medium_of result ≡ medium_of self }
+        ensures synced { is_synced result ≡ is_synced self }
+        ensures failed { failed_by result ≡ failed_by self }
+    {
+        FileStore {
+            medium: self.medium,
+            failed: self.failed,
+            broken: self.broken,
+            synced: self.synced,
+            write_back: true,
+        }
     }
 }
 
@@ -125,11 +145,14 @@ impl<M: Medium> BlockStore for FileStore<M> {
     }
 
     fn sync(&mut self) -> Result<(), StoreFault> {
-        if self.synced {
+        if self.synced && !(self.broken && self.write_back) {
             return Ok(());
         }
         if self.failed == u64::MAX {
             return Err(StoreFault::NoMemory);
+        }
+        if self.broken {
+            return Err(fail(&mut self.failed));
         }
         // A write whose sync fails may be lost, and waits for none any more.
         self.synced = true;

@@ -1,4 +1,6 @@
 pub mod LogicalUnit
 pub mod Pages
 pub mod Modes
+pub mod WriteSame
 pub mod Telling
+pub mod WriteCache

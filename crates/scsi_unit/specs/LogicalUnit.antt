@@ -1,10 +1,13 @@
 -- A logical unit that tells more of itself than the profile does.
 use Rattle.std.specs.Prelude.{ℕ, ◌<◌, ◌≤◌, Bool, List, length, All}
 
--- Its serial number, and that no block of it may be written.
+-- Its serial number, whether it takes no write, whether it takes WRITE SAME, as a thin unit does, and
+-- whether it has a write cache: then a write may be lost in a crash until it is made to last.
 pub record LogicalUnit : Type 0 where
   pub serial : List ℕ
   pub write_protected : Bool
+  pub thin : Bool
+  pub write_back : Bool
 
 -- A byte of `!` to `~` (own rule).
 abbrev pub IsInSerial : ℕ → Type 0

@@ -7,5 +7,8 @@ mod modes;
 mod pages;
 mod telling;
 mod unit;
+mod write_cache;
+mod write_same;
 
 pub use unit::{LONGEST_SERIAL, LogicalUnit, is_serial};
+pub use write_cache::asks_to_last;

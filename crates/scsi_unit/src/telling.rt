@@ -2,11 +2,12 @@
 
 ghost use Rattle.std.specs.Prelude.{◌≡◌, ◌≤◌, IfOk, IfSome, length, option_map};
 ghost use Rattle.scsi_disk.specs.Plan.{first_of, is_standard_inquiry};
-ghost use Rattle.scsi_unit.specs.Telling.{block_data, data_told, no_sense, told_refusals, unit_outcome};
+ghost use Rattle.scsi_unit.specs.Telling.{block_data, capacity_told, data_told, no_sense, told_refusals, unit_outcome};
 
 use crate::data::{Data, cut, data};
-use crate::modes::mode_pages;
+use crate::pages::thin_capacity;
 use crate::unit::LogicalUnit;
+use crate::write_same::same_blocks;
 use scsi_cdb::layout::{bit, u8_at, u16_at};
 use scsi_cdb::{Cdb, Sense};
 use scsi_disk::{Order, Outcome};
@@ -23,18 +24,24 @@ impl LogicalUnit {
     /// What the unit answers of itself to an order, or `None` where another command is ordered.
     ///
     /// It answers INQUIRY, REQUEST SENSE, MODE SENSE(6) and MODE SENSE(10), and neither reads nor
-    /// changes a block. It refuses an order for the first of these reasons that applies:
+    /// changes a block. A thin unit, of this number of blocks, also answers READ CAPACITY(16), and a
+    /// WRITE SAME that `meant` leaves. It refuses an order for the first of these reasons that applies:
     /// 1. `NoUnit`: its unit is not 0. An INQUIRY for the standard data is answered for any unit.
     /// 2. `InvalidField`: it sends data.
-    /// 3. `InvalidField`: it asks for a page that there is not.
+    /// 3. `InvalidField`: it asks for a page that there is not, or is a WRITE SAME.
     ///
     /// Else it gives its data, cut at the allocation length and at what the initiator expects. The
     /// order of the reasons and the sense of each are own rules. The only error is that memory ran out.
-    pub fn outcome(&self, alloc: Global, order: &Order) -> Result<Option<Outcome>, AllocError>
-        ensures told { IfOk result (λ outcome. outcome ≡ unit_outcome self.now order.now) }
+    pub fn outcome(
+        &self,
+        alloc: Global,
+        order: &Order,
+        blocks: u64,
+    ) -> Result<Option<Outcome>, AllocError>
+        ensures told { IfOk result (λ outcome. outcome ≡ unit_outcome self.now blocks order.now) }
         ensures few { IfOk result (λ outcome. IfSome outcome (λ told. length told.bytes ≤ 96)) }
     {
-        let Some(told) = self.data_told(order.lun == 0, &order.cdb) else {
+        let Some(told) = self.data_told(order.lun == 0, blocks, &order.cdb) else {
             return Ok(None);
         };
         let outcome = match (refusal(order), told) {
@@ -46,9 +53,9 @@ impl LogicalUnit {
     }
 
     // The data of a command that the unit answers of itself.
-    fn data_told(&self, present: bool, cdb: &Cdb) -> Option<Option<Data>>
+    fn data_told(&self, present: bool, blocks: u64, cdb: &Cdb) -> Option<Option<Data>>
         ensures { option_map (option_map (λ bytes. bytes.items)) result
-            ≡ data_told self.now present cdb.now }
+            ≡ data_told self.now present blocks cdb.now }
     {
         match cdb {
             Cdb::Inquiry {
@@ -62,6 +69,10 @@ impl LogicalUnit {
                 };
                 Some(Some(cut(&data, usize::from(*allocation_length))))
             }
+            Cdb::Capacity16 {
+                allocation_length,
+                ..
+            } => self.capacity_told(blocks, *allocation_length),
             Cdb::Unknown(block) => self.block_data(block),
             Cdb::TestUnitReady { .. }
             | Cdb::Capacity10 { .. }
@@ -70,9 +81,19 @@ impl LogicalUnit {
             | Cdb::SyncCache10(_)
             | Cdb::Read16(_)
             | Cdb::Write16(_)
-            | Cdb::Capacity16 { .. }
             | Cdb::ReportLuns { .. } => None,
         }
+    }
+
+    // The data of READ CAPACITY(16), of a thin unit.
+    fn capacity_told(&self, blocks: u64, allocation_length: u32) -> Option<Option<Data>>
+        ensures { option_map (option_map (λ bytes. bytes.items)) result
+            ≡ capacity_told self.now blocks allocation_length }
+    {
+        if !self.is_thin() {
+            return None;
+        }
+        Some(Some(cut(&thin_capacity(blocks), allocation_length as usize)))
     }
 
     // The data of a command by its block.
@@ -86,19 +107,20 @@ impl LogicalUnit {
                 Some(Some(cut(&sense, usize::from(u8_at(block, 4)))))
             }
             MODE_SENSE6 => {
-                let Some(pages) = mode_pages(block) else {
+                let Some(pages) = self.mode_pages(block) else {
                     return Some(None);
                 };
                 let whole = self.behind_short_header(pages.as_slice());
                 Some(Some(cut(&whole, usize::from(u8_at(block, 4)))))
             }
             MODE_SENSE10 => {
-                let Some(pages) = mode_pages(block) else {
+                let Some(pages) = self.mode_pages(block) else {
                     return Some(None);
                 };
                 let whole = self.behind_long_header(pages.as_slice());
                 Some(Some(cut(&whole, usize::from(u16_at(block, 7)))))
             }
+            _ if self.is_thin() && same_blocks(block).is_some() => Some(None),
             _ => None,
         }
     }

@@ -1,6 +1,6 @@
 //! A logical unit, by what it tells of itself.
 
-ghost use Rattle.std.specs.Prelude.{◌≡◌, ◌↔◌, IsTrue, IfNone, IfSome};
+ghost use Rattle.std.specs.Prelude.{◌≡◌, ◌↔◌, IsTrue, IfNone, IfSome, false, true};
 ghost use Rattle.scsi_unit.specs.LogicalUnit.{IsInSerial, IsSerial};
 
 use arrayvec::ArrayVec;
@@ -14,6 +14,8 @@ pub const LONGEST_SERIAL: usize = 16;
 pub struct LogicalUnit {
     serial: ArrayVec<u8, LONGEST_SERIAL>,
     write_protected: bool,
+    thin: bool,
+    write_back: bool,
 }
 
 impl Model for LogicalUnit {
@@ -21,17 +23,27 @@ impl Model for LogicalUnit {
 
     ghost Value = { LogicalUnit };
 
-    ghost view = { λ u. record { serial = u.serial.items; write_protected = u.write_protected } };
+    ghost view = { λ u. record {
+      serial = u.serial.items;
+      write_protected = u.write_protected;
+      thin = u.thin;
+      write_back = u.write_back;
+    } };
 
     ghost invariant = { λ u. IsSerial u.serial.items };
 }
 
 impl LogicalUnit {
     /// A unit with this serial number, 1 to 16 bytes of `!` to `~` (own rule). It says of itself whether
-    /// it takes no write. Other bytes give `None`.
+    /// it takes no write, and that it has no write cache. Other bytes give `None`.
     pub fn new(serial: &[u8], write_protected: bool) -> Option<LogicalUnit>
         ensures some { IfSome result (λ unit. IsSerial serial.now
-            × (unit ≡ record { serial = serial.now; write_protected = write_protected })) }
+            × (unit ≡ record {
+              serial = serial.now;
+              write_protected = write_protected;
+              thin = false;
+              write_back = false;
+            })) }
         ensures none { IfNone result (¬ IsSerial serial.now) }
     {
         if !is_serial(serial) {
@@ -42,7 +54,29 @@ impl LogicalUnit {
         Some(LogicalUnit {
             serial: kept,
             write_protected,
+            thin: false,
+            write_back: false,
         })
+    }
+
+    /// The same unit as a thin one: it takes WRITE SAME(10) and WRITE SAME(16), says that they are
+    /// there to take blocks back, and that such blocks read as zeros. How its store keeps zeros is no
+    /// part of this.
+    pub fn with_thin(self) -> LogicalUnit
+        ensures { result ≡ record self { thin = true } }
+    {
+        LogicalUnit { thin: true, ..self }
+    }
+
+    /// The same unit, which says of itself that it has a write cache: a write may be lost in a crash
+    /// before a SYNCHRONIZE CACHE, unless it has the bit FUA (SBC-3, section 4.15).
+    pub fn with_write_back(self) -> LogicalUnit
+        ensures { result ≡ record self { write_back = true } }
+    {
+        LogicalUnit {
+            write_back: true,
+            ..self
+        }
     }
 
     /// Its serial number, of which there are 16 bytes at most.
@@ -53,11 +87,25 @@ impl LogicalUnit {
         self.serial.as_slice()
     }
 
+    /// Whether it has a write cache.
+    pub fn is_write_back(&self) -> bool
+        ensures { result ≡ self.now.write_back }
+    {
+        self.write_back
+    }
+
     /// Whether it takes no write.
     pub(crate) fn is_write_protected(&self) -> bool
         ensures { result ≡ self.now.write_protected }
     {
         self.write_protected
+    }
+
+    /// Whether it takes WRITE SAME.
+    pub(crate) fn is_thin(&self) -> bool
+        ensures { result ≡ self.now.thin }
+    {
+        self.thin
     }
 }
 

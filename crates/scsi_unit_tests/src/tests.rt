@@ -3,3 +3,4 @@
 mod memory;
 mod rows;
 mod serials;
+mod thin;

@@ -4,13 +4,14 @@ use Rattle.std.proofs.Common.{false, ◌≡◌, ◌≤◌, ℕ, ◌+◌, ◌-◌
 use Rattle.std.proofs.lemmas.List.{drop_at, length-append, length-drop, length-take-le, take_at}
 use borrow.Rule.Slice.PartMut.{put_mid}
 use Rattle.scsi_disk.specs.Disk.{Disk, disk_of, joined, written}
-use Rattle.scsi_disk.specs.Effect.{disk_by, effect}
+use Rattle.scsi_disk.specs.Effect.{block_data, disk_by, effect}
 use Rattle.scsi_disk.specs.Plan.{plan_of, transfer}
 use Rattle.scsi_disk.specs.declared.order.Order.{Order}
 use Rattle.scsi_disk.specs.declared.order.Plan.{Plan}
 use Rattle.scsi_disk.specs.declared.order.Plan.TheVariants.{Refuse, Take, Give}
 use Rattle.scsi_disk.proofs.BlockLemmas.{cut-put, joined-cut, same_disk}
 use Rattle.scsi_disk.proofs.PlanLemmas.{IsTaken, taken}
+use Rattle.scsi_disk.proofs.RepeatLemmas.{block_data_size}
 use Rattle.iscsi_stream.specs.Pieces.{Pieces, TilesFrom, data_of}
 use Rattle.iscsi_stream.specs.Stream.{Message}
 use Rattle.iscsi_target.specs.State.{Machine, Execution, Stepped}
@@ -74,8 +75,9 @@ by_plan (Give n) xs order pieces is t = record { bytes = xs; is = refl }
 by_plan (Take n) xs order pieces is t =
     let f : IsTaken order (length xs / 512) n = taken order (length xs / 512) n is in
     let size = tiles_size 0 pieces n t in
-    let same = f.length in
-    writes xs (data_of pieces) (transfer order.cdb).first (transfer order.cdb).count (omega (arith, size, same)) f.names.inside
+    let same : length (data_of pieces) ≡ n = omega (arith, size) in
+    writes xs (block_data order (data_of pieces)) (transfer order.cdb).first (transfer order.cdb).count
+    (block_data_size order (length xs / 512) n (data_of pieces) f same) f.names.inside
 
 -- an order is executed, with data that tile what it takes
 executes : (xs : List ℕ) (order : Order) (pieces : Pieces) → TilesPlan (plan_of order (length xs / 512)) pieces

@@ -15,7 +15,7 @@ use Rattle.scsi_disk.specs.declared.order.Plan.{Plan}
 use Rattle.scsi_disk.specs.declared.order.Plan.TheVariants.{Refuse, Take, Give}
 use Rattle.scsi_disk.specs.Disk.{Disk}
 use Rattle.scsi_disk.specs.Effect.{Effect, effect, outcome_by, wanted_data}
-use Rattle.scsi_disk.specs.Plan.{expected_length, first_refusal, is_unknown, is_write, plan_by, plan_of, refusals, transfer, wanted_length}
+use Rattle.scsi_disk.specs.Plan.{expected_length, first_refusal, is_unknown, is_write, plan_by, plan_of, refusals, taken_length, transfer, wanted_length}
 use Rattle.scsi_disk.proofs.PlanLemmas.{all_false}
 use Rattle.iscsi_pdu.specs.declared.head.Head.TheVariants as heads
 use Rattle.iscsi_pdu.specs.declared.serial.Window.{Window}
@@ -33,7 +33,7 @@ use Rattle.iscsi_target_session.specs.Session as target_session
 use Rattle.iscsi_target.specs.State as target
 use Rattle.iscsi_target.specs.State.{max_cmd_sn}
 use Rattle.iscsi_target_session.specs.Session.{message}
-use Rattle.iscsi_target.specs.Command.{order_of, planned}
+use Rattle.iscsi_target.specs.Command.{planned}
 use Rattle.iscsi_target.specs.Machine.{answers, having_accepted, step_on}
 use Rattle.iscsi_target.specs.Execution.{command_answers, execute, data_ins, data_in_head, marked, data_in_parts, response_head, sequence_parts, sense_segment}
 use Rattle.iscsi_target.specs.Execution.{reliable}
@@ -57,7 +57,7 @@ use Rattle.iscsi_initiator.specs.Submitted.{Submitted, accepted, command, or_acc
 use Rattle.iscsi_initiator.specs.Progress.{Reading}
 use Rattle.iscsi_initiator.specs.Steps.{quiet}
 use Rattle.iscsi_initiator.specs.Machine.{step}
-use Rattle.iscsi_target.proofs.CommandLemmas.{plain_executed, plainly}
+use Rattle.iscsi_target.proofs.CommandLemmas.{plain_executed, plain_order, plainly}
 use Rattle.iscsi_pair.specs.LocalDisk.{AreInStep, Exchange, reading_order, reported_sense, window_of_eight, local_command}
 use Rattle.iscsi_pair.proofs.Wire.WindowLemmas.{IsNear, near_next, near_now, tag_after, tells_eight}
 use Rattle.iscsi_pair.proofs.Wire.WrittenPdus.{command_readable, data_in_readable, outcome_readable}
@@ -390,11 +390,11 @@ window_now n lt =
     rw (high, low) refl
 
 -- a command that takes no data waits for none
-planned_now : (p : Plan) (t : target.Machine) (cmd_sn : ℕ) (disk : Disk) (h : ScsiCommand) → ((total : ℕ) → p ≡ Take total → total ≡ 0)
-    → planned (reliable false) (ready t cmd_sn) disk h [] p ≡ execute (reliable false) (ready t cmd_sn) disk h.initiator_task_tag (order_of h) []
-planned_now (Take total) t cmd_sn disk h none = (let e : total ≡ 0 = none total refl in rw e refl)
-planned_now (Give n) t cmd_sn disk h none = refl
-planned_now (Refuse sense) t cmd_sn disk h none = refl
+planned_now : (p : Plan) (t : target.Machine) (cmd_sn : ℕ) (disk : Disk) (h : ScsiCommand) (order : Order) → ((total : ℕ) → p ≡ Take total → total ≡ 0)
+    → planned (reliable false) (ready t cmd_sn) disk h order [] p ≡ execute (reliable false) (ready t cmd_sn) disk h.initiator_task_tag order []
+planned_now (Take total) t cmd_sn disk h order none = (let e : total ≡ 0 = none total refl in rw e refl)
+planned_now (Give n) t cmd_sn disk h order none = refl
+planned_now (Refuse sense) t cmd_sn disk h order none = refl
 
 -- a write without data is refused, unless it has no blocks
 none_by : (b : Bool) (count n total : ℕ) → (b && not false && nat_lt 0 count) ≡ false → (if b then Take (512 * count) else Give n) ≡ Take total → total ≡ 0
@@ -410,16 +410,16 @@ takes_none None lun cdb expected blocks total f e =
     none_by (is_write order.cdb) (transfer order.cdb).count (min (wanted_length order blocks) (expected_length order)) total tests.1.1.1.1.1.1.1.1.1.0 e
 
 -- no more is given than is expected
-given_by : (b : Bool) (count wanted most n : ℕ) → (if b then Take (512 * count) else Give (min wanted most)) ≡ Give n → n ≤ most
-given_by true count wanted most n e = absurd cc
-given_by false count wanted most n e = (let is : min wanted most ≡ n = cc in omega (arith, is))
+given_by : (b : Bool) (size wanted most n : ℕ) → (if b then Take size else Give (min wanted most)) ≡ Give n → n ≤ most
+given_by true size wanted most n e = absurd cc
+given_by false size wanted most n e = (let is : min wanted most ≡ n = cc in omega (arith, is))
 
 gives_few : (f : Option Sense) (order : Order) (blocks n : ℕ) → plan_by f order blocks ≡ Give n → n ≤ order.expected
 gives_few (Some sense) order blocks n e = absurd cc
 gives_few None order blocks n e =
     omega (
       arith,
-      given_by (is_write order.cdb) (transfer order.cdb).count (wanted_length order blocks) (expected_length order) n e,
+      given_by (is_write order.cdb) (taken_length order) (wanted_length order blocks) (expected_length order) n e,
       expected_by (order.read || (order.write && (is_write order.cdb || is_unknown order.cdb))) order.expected,
     )
 
@@ -430,11 +430,12 @@ outcome_few (Give n) disk order most few = omega (arith, few n refl, length-take
 
 -- the command is executed
 read_taken : (m : initiator.Machine) (t : target.Machine) (disk : Disk) (lun : ℕ) (cdb : List ℕ) (expected : ℕ) → m.cmd_sn < 2 ^ 32
+    → t.session.settings.extras.unit ≡ None
     → step_on (reliable false) (ready t m.cmd_sn) disk (read_command m lun cdb expected)
     ≡ having_accepted (read_command m lun cdb expected ∷ []) (execute (reliable false) (ready t (next_sn m.cmd_sn)) disk (next_tag m.initiator_task_tag)
     (reading_order lun cdb expected) [])
 unfolding segment_bytes
-read_taken m t disk lun cdb expected lt =
+read_taken m t disk lun cdb expected lt plain =
     let order : Order = reading_order lun cdb expected in
     let h : ScsiCommand = record (command m true lun cdb) { read = not (expected == 0); expected_data_transfer_length = expected } in
     request_alone (reliable false) (ready t m.cmd_sn).session disk (read_command m lun cdb expected)
@@ -444,8 +445,10 @@ read_taken m t disk lun cdb expected lt =
       kind = refl;
       short = le-ltb t.session.held.target_max_recv 0 (omega arith);
     }) refl (window_now m.cmd_sn lt) refl
+    ∙ ap (λ (o : Order). having_accepted (read_command m lun cdb expected ∷ []) (planned (reliable false) (ready t (next_sn m.cmd_sn)) disk
+    h o [] (plan_of o disk.count))) (plain_order t.session.settings.extras.unit h plain)
     ∙ ap (having_accepted (read_command m lun cdb expected ∷ []))
-    (planned_now (plan_of order disk.count) t (next_sn m.cmd_sn) disk h (λ total. takes_none (first_refusal order disk.count) lun cdb expected disk.count total
+    (planned_now (plan_of order disk.count) t (next_sn m.cmd_sn) disk h order (λ total. takes_none (first_refusal order disk.count) lun cdb expected disk.count total
     refl))
 
 -- ---- the whole of a read
@@ -554,7 +557,7 @@ local_read m t disk lun cdb expected on_ size are a e =
     ap (λ (s : Submitted). answers false t disk s.output) sent
     ∙ then_nothing (step_on (reliable false) t disk (read_command m lun cdb expected))
     ∙ ap (λ (x : target.Machine). step_on (reliable false) x disk (read_command m lun cdb expected)) is_t
-    ∙ read_taken m t disk lun cdb expected a.cmd_sn_fits
+    ∙ read_taken m t disk lun cdb expected a.cmd_sn_fits a.plain
     ∙ ap (having_accepted (read_command m lun cdb expected ∷ []))
     (plain_executed (reliable false) t' disk (next_tag m.initiator_task_tag) order [] a.plain) in
     let tag : next_tag m.initiator_task_tag ≤ 0xffff_fffe = tag_after m.initiator_task_tag a.tag_fits in

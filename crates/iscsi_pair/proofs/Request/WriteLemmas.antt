@@ -12,7 +12,7 @@ use Rattle.std.proofs.lemmas.Grind.{flat_map-append}
 use Rattle.scsi_cdb.specs.declared.sense.Sense.{Sense}
 use Rattle.scsi_disk.specs.Disk.{Disk}
 use Rattle.scsi_disk.specs.Effect.{Effect, disk_by, effect, outcome_by, wanted_data}
-use Rattle.scsi_disk.specs.Plan.{expected_length, first_refusal, is_unknown, is_write, plan_by, plan_of, refusals, transfer, wanted_length}
+use Rattle.scsi_disk.specs.Plan.{expected_length, first_refusal, is_unknown, is_write, plan_by, plan_of, refusals, taken_length, transfer, wanted_length}
 use Rattle.scsi_disk.specs.declared.order.Plan.{Plan}
 use Rattle.scsi_disk.specs.declared.order.Plan.TheVariants.{Refuse, Take, Give}
 use Rattle.scsi_disk.specs.declared.order.Order.{Order}
@@ -62,7 +62,7 @@ use Rattle.iscsi_initiator.specs.declared.request.Request.TheVariants as request
 use Rattle.iscsi_initiator.specs.Machine.{step, taken}
 use Rattle.iscsi_stream.proofs.ChunkLemmas.{joined, joined_chunks}
 use Rattle.iscsi_target.proofs.OpenWriteLemmas.{data_of_one}
-use Rattle.iscsi_target.proofs.CommandLemmas.{plain_executed, plainly}
+use Rattle.iscsi_target.proofs.CommandLemmas.{plain_executed, plain_order, plainly}
 use Rattle.iscsi_pair.specs.LocalDisk.{AreInStep, Exchange, reported_sense, writing_order, local_command}
 use Rattle.iscsi_pair.proofs.Wire.WindowLemmas.{IsNear, last_with, near_next, tells_fewer, tells_eight, tag_after}
 use Rattle.iscsi_pair.proofs.Login.RoundAgrees.{some_then}
@@ -684,11 +684,11 @@ burst_kept m lun cdb bytes =
 
 -- ---- what the command is planned to do
 
-all_by : (is_write_ : Bool) (count n total expected : ℕ) → (is_write_ && not (expected == 512 * count)) ≡ false
-    → (if is_write_ then Take (512 * count) else Give n) ≡ Take total → total ≡ expected
-all_by true count n total expected test e =
-    let is : 512 * count ≡ total = cc in sym is ∙ sym (eqb-true expected (512 * count) (not-false (expected == 512 * count) test))
-all_by false count n total expected test e = absurd cc
+all_by : (is_write_ : Bool) (size n total expected : ℕ) → (is_write_ && not (expected == size)) ≡ false
+    → (if is_write_ then Take size else Give n) ≡ Take total → total ≡ expected
+all_by true size n total expected test e =
+    let is : size ≡ total = cc in sym is ∙ sym (eqb-true expected size (not-false (expected == size) test))
+all_by false size n total expected test e = absurd cc
 
 -- a write takes all bytes that are sent
 takes_all : (f : Option Sense) (order : Order) (blocks total : ℕ) → first_refusal order blocks ≡ f → plan_by f order blocks ≡ Take total
@@ -696,7 +696,7 @@ takes_all : (f : Option Sense) (order : Order) (blocks total : ℕ) → first_re
 takes_all (Some sense) order blocks total f e = absurd cc
 takes_all None order blocks total f e =
     let tests = all_false (refusals order blocks) f in
-    all_by (is_write order.cdb) (transfer order.cdb).count (min (wanted_length order blocks) (expected_length order)) total order.expected
+    all_by (is_write order.cdb) (taken_length order) (min (wanted_length order blocks) (expected_length order)) total order.expected
     tests.1.1.1.1.1.1.1.1.0 e
 
 give_by : (is_write_ write unknown : Bool) (size wanted expected n : ℕ) → (write && not is_write_) ≡ false
@@ -712,7 +712,7 @@ gives_none (Some sense) lun cdb bytes blocks n f e = absurd cc
 gives_none None lun cdb bytes blocks n f e =
     let order : Order = writing_order lun cdb bytes in
     let tests = all_false (refusals order blocks) f in
-    give_by (is_write order.cdb) order.write (is_unknown order.cdb) (512 * (transfer order.cdb).count) (wanted_length order blocks) order.expected n
+    give_by (is_write order.cdb) order.write (is_unknown order.cdb) (taken_length order) (wanted_length order blocks) order.expected n
     tests.1.1.1.0 e
 
 outcome_none : (p : Plan) (disk : Disk) (order : Order) → ((n : ℕ) → p ≡ Give n → n ≡ 0) → (outcome_by p disk order).bytes ≡ []
@@ -754,13 +754,13 @@ unasked_data m bytes = sequence (begun_write m) None reserved_tag (length (immed
 
 command_taken : (m : initiator.Machine) (t : target.Machine) (disk : Disk) (lun : ℕ) (cdb bytes : List ℕ) → m.cmd_sn < 2 ^ 32 → t.session.held ≡ m.held
     → t.session.held.target_max_recv ≤ target_session.limit t.session.settings
-    → length (immediate m bytes) ≤ t.session.held.target_max_recv
+    → length (immediate m bytes) ≤ t.session.held.target_max_recv → t.session.settings.extras.unit ≡ None
     → step_on (reliable false) (ready t m.cmd_sn) disk (write_message m lun cdb bytes)
     ≡ having_accepted (write_message m lun cdb bytes ∷ []) (planned (reliable false) (ready t (next_sn m.cmd_sn)) disk
-    (write_head m lun cdb bytes) (immediate m bytes)
+    (write_head m lun cdb bytes) (writing_order lun cdb bytes) (immediate m bytes)
     (plan_of (writing_order lun cdb bytes) disk.count))
 unfolding segment_bytes
-command_taken m t disk lun cdb bytes lt held limit short =
+command_taken m t disk lun cdb bytes lt held limit short plain =
     let kept : breaks_burst_rules t.session.held (write_head m lun cdb bytes) (length (immediate m bytes)) ≡ false =
     ap (λ (k : Held). breaks_burst_rules k (write_head m lun cdb bytes) (length (immediate m bytes))) held ∙ burst_kept m lun cdb bytes in
     request_alone (reliable false) (ready t m.cmd_sn).session disk (write_message m lun cdb bytes)
@@ -771,11 +771,14 @@ command_taken m t disk lun cdb bytes lt held limit short =
       short = le-ltb t.session.held.target_max_recv (length (immediate m bytes)) short;
     }) refl (window_now m.cmd_sn lt) kept
     ∙ rw kept refl
+    ∙ ap (λ (o : Order). having_accepted (write_message m lun cdb bytes ∷ []) (planned (reliable false) (ready t (next_sn m.cmd_sn)) disk
+    (write_head m lun cdb bytes) o (immediate m bytes) (plan_of o disk.count)))
+    (plain_order t.session.settings.extras.unit (write_head m lun cdb bytes) plain)
 
 -- the answers to the command and the data behind it
 abbrev first_answers : initiator.Machine → target.Machine → Disk → ℕ → List ℕ → List ℕ → Plan → Stepped
 first_answers m t disk lun cdb bytes p =
-    let r = planned (reliable false) (ready t (next_sn m.cmd_sn)) disk (write_head m lun cdb bytes) (immediate m bytes) p in
+    let r = planned (reliable false) (ready t (next_sn m.cmd_sn)) disk (write_head m lun cdb bytes) (writing_order lun cdb bytes) (immediate m bytes) p in
     then_stepped r (answers false r.machine r.disk (unasked_data m bytes))
 
 -- The target answers well, and it comes to the outcome of this order.
@@ -836,7 +839,7 @@ immediate_are false size bytes = refl
 
 -- what is open once the command came, and no data are due unasked
 abbrev first_write : initiator.Machine → ℕ → List ℕ → List ℕ → ℕ → Write
-first_write m lun cdb bytes total = opened (write_head m lun cdb bytes) total (immediate m bytes)
+first_write m lun cdb bytes total = opened (write_head m lun cdb bytes) (writing_order lun cdb bytes) total (immediate m bytes)
 
 -- all first data are in the command
 none_unasked : (m : initiator.Machine) (t : target.Machine) (disk : Disk) (lun : ℕ) (cdb bytes : List ℕ) (window : Window) (total : ℕ)
@@ -1041,7 +1044,7 @@ local_write m t disk lun cdb bytes on_ size are a e =
       expected = few;
       none_done = a.none_done;
     } in
-    let first : Stepped = planned (reliable false) (ready t (next_sn m.cmd_sn)) disk (write_head m lun cdb bytes) (immediate m bytes) p in
+    let first : Stepped = planned (reliable false) (ready t (next_sn m.cmd_sn)) disk (write_head m lun cdb bytes) (writing_order lun cdb bytes) (immediate m bytes) p in
     let x : Comes m i order bytes disk (first_answers m t disk lun cdb bytes p) =
     by_plan p m t disk lun cdb bytes m.window refl all (near_next (next_sn m.cmd_sn) m.cmd_sn m.window a.cmd_sn_fits refl a.window) (has_more m bytes) refl in
     let r : Stepped = then_stepped (having_accepted (write_message m lun cdb bytes ∷ []) first)
@@ -1051,7 +1054,7 @@ local_write m t disk lun cdb bytes on_ size are a e =
     ∙ ap (λ (y : target.Machine). answers false y disk (accepted m request).output) is_t
     ∙ ap (λ (y : Stepped). then_stepped y (answers false y.machine y.disk (unasked_data m bytes)))
     (command_taken m t disk lun cdb bytes a.cmd_sn_fits a.held limit
-    short) in
+    short a.plain) in
     let most : ℕ = m.held.target_max_recv in
     let short_ : length (immediate m bytes) ≤ most = subst (λ (h : Held). length (immediate m bytes) ≤ h.target_max_recv) a.held short in
     let written : ArePlain most (write_message m lun cdb bytes ∷ unasked_data m bytes) =

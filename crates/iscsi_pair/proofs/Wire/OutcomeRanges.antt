@@ -18,6 +18,7 @@ use Rattle.scsi_disk.specs.Disk.{Disk}
 use Rattle.scsi_disk.specs.Effect.{effect, outcome_by, residual_of}
 use Rattle.scsi_disk.specs.Plan.{data_of, expected_length, is_read, is_unknown, is_write, parameter_data, plan_of, transfer, wanted_length}
 use Rattle.scsi_disk.proofs.PlanLemmas.{given, taken}
+use Rattle.scsi_disk.proofs.RepeatLemmas.{takes_few}
 use Rattle.iscsi_target.specs.Execution.{residual_count}
 
 -- the numbers of the response have room
@@ -97,10 +98,9 @@ fits_by (Refuse sense) disk order e few = record {
   residual = residual_fits 0 (expected_length order) (omega arith) (expected_most order few);
 }
 fits_by (Take n) disk order e few =
-    let facts = taken order disk.count n e in
     record {
       status = omega arith;
-      residual = residual_fits n (expected_length order) (omega (arith, facts.length, facts.names.few)) (expected_most order few);
+      residual = residual_fits n (expected_length order) (takes_few order disk.count n (taken order disk.count n e)) (expected_most order few);
     }
 fits_by (Give n) disk order e few =
     let facts = given order disk.count n e in

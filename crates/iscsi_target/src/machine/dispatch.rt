@@ -3,7 +3,7 @@
 ghost use Rattle.std.specs.Prelude.{◌≡◌, ◌≢◌, ◌⊎◌, ◌<◌, ◌≤◌, [], None, length, false};
 ghost use Rattle.scsi_disk.specs.Disk.{Disk};
 ghost use Rattle.iscsi_stream.specs.Segment.{segment_bytes};
-ghost use Rattle.iscsi_target.specs.State.{on, waiting};
+ghost use Rattle.iscsi_target.specs.State.{on, unit_of, waiting};
 ghost use Rattle.iscsi_target_session.specs.Login.{login_step};
 ghost use Rattle.iscsi_target.specs.Machine.{admitted, advanced, beside, has_room, handled, begun, full_met, is_closed, is_meant, is_over_limit};
 ghost use Rattle.iscsi_target_session.specs.Requests.{request_answered, task_request};
@@ -192,7 +192,8 @@ impl Machine {
         ensures works { Works S.protected result
             (moment self.old (store_of (S.disk store.old) (S.failures store.old)) out.old.items)
             (moment self.new (store_of (S.disk store.new) (S.failures store.new)) out.new.items) }
-        ensures crash { Crashes S.protected (commands_of self.old.tasks)
+        ensures crash { Crashes S.protected
+            (commands_of (unit_of self.old.session) self.old.tasks)
             (S.disk store.old) (S.disk store.new) (S.kept store.old) (S.kept store.new) }
     {
         while let Some(task) = self.tasks.take_first() {
@@ -218,7 +219,7 @@ impl Machine {
             (λ device. begun device self.old (S.disk store.old) task) result
             (moment self.old (store_of (S.disk store.old) (S.failures store.old)) out.old.items)
             (moment self.new (store_of (S.disk store.new) (S.failures store.new)) out.new.items) }
-        ensures crash { Crashes S.protected (command_of task)
+        ensures crash { Crashes S.protected (command_of (unit_of self.old.session) task)
             (S.disk store.old) (S.disk store.new) (S.kept store.old) (S.kept store.new) }
     {
         match task {
@@ -240,8 +241,8 @@ impl Machine {
             received.now received.now.head) result
             (moment self.old (store_of (S.disk store.old) (S.failures store.old)) out.old.items)
             (moment self.new (store_of (S.disk store.new) (S.failures store.new)) out.new.items) }
-        ensures crash { Crashes S.protected (command_in received.now.head
-            (segment_bytes received.now.segment))
+        ensures crash { Crashes S.protected (command_in (unit_of self.old.session)
+            received.now.head (segment_bytes received.now.segment))
             (S.disk store.old) (S.disk store.new) (S.kept store.old) (S.kept store.new) }
     {
         match &received.pdu.head {

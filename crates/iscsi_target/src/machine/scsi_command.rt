@@ -5,9 +5,9 @@ ghost use Rattle.scsi_disk.specs.Plan.{plan_of};
 ghost use Rattle.iscsi_pdu.specs.Meaning.{Fits};
 ghost use Rattle.iscsi_login.specs.Held.{first_burst, is_on, max_burst};
 ghost use Rattle.iscsi_stream.specs.Canonical.{canon};
-ghost use Rattle.iscsi_target.specs.State.{waiting};
+ghost use Rattle.iscsi_target.specs.State.{unit_of, waiting};
 ghost use Rattle.iscsi_target.specs.Execution.{data_in_parts, sequence_parts, data_in_head, data_ins, command_answers, execute};
-ghost use Rattle.iscsi_target.specs.Command.{order_of, breaks_burst_rules, scsi_command};
+ghost use Rattle.iscsi_target.specs.Command.{order_of, order_said, breaks_burst_rules, scsi_command};
 ghost use Rattle.iscsi_target.specs.Crash.{Crashes};
 ghost use Rattle.iscsi_target.specs.Inside.{Handles, LedTo, moment, store_of};
 ghost use Rattle.iscsi_target.specs.Queue.{TakePlaces};
@@ -39,19 +39,31 @@ impl Machine {
             received.now command.now bytes.now) result
             (moment self.old (store_of (S.disk store.old) (S.failures store.old)) out.old.items)
             (moment self.new (store_of (S.disk store.new) (S.failures store.new)) out.new.items) }
-        ensures crash { Crashes S.protected ((order_of command.now, bytes.now) ∷ [])
+        ensures crash { Crashes S.protected
+            ((order_of (unit_of self.old.session) command.now, bytes.now) ∷ [])
             (S.disk store.old) (S.disk store.new) (S.kept store.old) (S.kept store.new) }
     {
         if self.breaks_burst_rules(command, bytes.len()) {
             return self.reject_and_close(DATA_OUT_OF_ORDER, received, out);
         }
-        let order = order_of(command);
+        let order = self.order_of(command);
         let planned = plan(&order, store.blocks());
         match planned {
             Plan::Take(total) => self.open(command, total, bytes, store, out),
             Plan::Refuse(_) | Plan::Give(_) => {
                 self.execute_order(command.initiator_task_tag, order, planned, store, out)
             }
+        }
+    }
+
+    // What a command orders of the disk, which may tell more of itself than the profile has.
+    pub(super) fn order_of(&self, command: &ScsiCommand) -> Order
+        ensures { result ≡ order_of (unit_of self.now.session) command.now }
+    {
+        let order = order_said(command);
+        match self.session.unit() {
+            Some(unit) => unit.meant(order),
+            None => order,
         }
     }
 
@@ -142,7 +154,7 @@ impl Machine {
     ) -> Result<Outcome, AllocError>
         requires planned { planned ≡ plan_of order (S.disk store.old).count }
         requires gives { (n : ℕ) → plan_of order (S.disk store.old).count ≢ Plan.Take n }
-        ensures ok { IfOk result (LedTo S.protected self.now.session.settings.extras.unit order
+        ensures ok { IfOk result (LedTo S.protected (unit_of self.now.session) order
             (store_of (S.disk store.old) (S.failures store.old))
             (store_of (S.disk store.new) (S.failures store.new))) }
         ensures disk { S.disk store.new ≡ S.disk store.old }
@@ -150,8 +162,9 @@ impl Machine {
         ensures crash { Crashes S.protected []
             (S.disk store.old) (S.disk store.new) (S.kept store.old) (S.kept store.new) }
     {
+        let blocks = store.blocks();
         if let Some(unit) = self.session.unit() {
-            if let Some(told) = unit.outcome(alloc, &order)? {
+            if let Some(told) = unit.outcome(alloc, &order, blocks)? {
                 return Ok(told);
             }
         }
@@ -191,9 +204,9 @@ impl Machine {
     }
 }
 
-// What a command orders of the disk.
-pub(super) fn order_of(command: &ScsiCommand) -> Order
-    ensures { result ≡ order_of command.now }
+// What a command says.
+fn order_said(command: &ScsiCommand) -> Order
+    ensures { result ≡ order_said command.now }
 {
     Order {
         cdb: command.cdb,
@@ -201,5 +214,6 @@ pub(super) fn order_of(command: &ScsiCommand) -> Order
         read: command.read,
         write: command.write,
         expected: command.expected_data_transfer_length,
+        same: false,
     }
 }

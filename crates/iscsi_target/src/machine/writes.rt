@@ -6,7 +6,7 @@ ghost use Rattle.scsi_disk.specs.Plan.{plan_of};
 ghost use Rattle.iscsi_pdu.specs.Meaning.{Fits};
 ghost use Rattle.iscsi_stream.specs.Pieces.{data_of};
 ghost use Rattle.iscsi_stream.specs.Segment.{segment_bytes};
-ghost use Rattle.iscsi_target.specs.State.{waiting};
+ghost use Rattle.iscsi_target.specs.State.{unit_of, waiting};
 ghost use Rattle.iscsi_target.specs.Execution.{execute};
 ghost use Rattle.iscsi_target.specs.Transfer.{is_whole, is_idle, desired};
 ghost use Rattle.iscsi_target.specs.Command.{order_of, r2t_head, led_by, send_r2t, proceed, opened, breaks_rules, task_of};
@@ -16,7 +16,6 @@ ghost use Rattle.iscsi_target.specs.Inside.{Leaves, Handles, Follows, moment, st
 ghost use Rattle.iscsi_target.specs.Queue.{TakePlaces};
 
 use super::Machine;
-use super::scsi_command::order_of;
 use crate::due::Due;
 use crate::kept::Kept;
 use crate::open_write::OpenWrite;
@@ -26,7 +25,7 @@ use iscsi_pdu::rule::DATA_OUT_OF_ORDER;
 use iscsi_pdu::{DataOut, Head, ReadyToTransfer, ScsiCommand};
 use iscsi_stream::write_pdu;
 use iscsi_target_session::Received;
-use scsi_disk::{BlockStore, Plan, execute, plan};
+use scsi_disk::{BlockStore, Order, Plan, execute, plan};
 use std::alloc::{AllocError, Global};
 
 /// The most that a response takes: a header, the sense data behind their length, padding.
@@ -42,18 +41,22 @@ impl Machine {
         store: &mut S,
         out: &mut Vec<u8>,
     ) -> Result<Option<u8>, AllocError>
-        requires plan { plan_of (order_of command.now) (S.disk store.old).count ≡ Plan.Take total }
+        requires plan { plan_of (order_of (unit_of self.old.session) command.now)
+            (S.disk store.old).count ≡ Plan.Take total }
         requires fits { length bytes.now ≤ total }
         requires places { TakePlaces self.old.tasks }
         requires room { length self.old.tasks < 9 }
         ensures handles { Handles S.protected (λ device. proceed device self.old (S.disk store.old)
-            (opened command.now total bytes.now)) result
+            (opened command.now (order_of (unit_of self.old.session) command.now) total
+            bytes.now)) result
             (moment self.old (store_of (S.disk store.old) (S.failures store.old)) out.old.items)
             (moment self.new (store_of (S.disk store.new) (S.failures store.new)) out.new.items) }
-        ensures crash { Crashes S.protected ((order_of command.now, bytes.now) ∷ [])
+        ensures crash { Crashes S.protected
+            ((order_of (unit_of self.old.session) command.now, bytes.now) ∷ [])
             (S.disk store.old) (S.disk store.new) (S.kept store.old) (S.kept store.new) }
     {
-        let write = opened(*out.allocator(), command, total, bytes)?;
+        let order = self.order_of(command);
+        let write = opened(*out.allocator(), command, order, total, bytes)?;
         self.proceed(write, store, out)
     }
 
@@ -192,12 +195,13 @@ impl Machine {
     ) -> Result<Task, AllocError>
         requires keeps { breaks_rules self.now.session.held (length (segment_bytes received.now.segment))
             received.now.head ≡ false }
-        ensures { IfOk result (λ task. task ≡ task_of blocks received.now) }
+        ensures { IfOk result (λ task. task ≡ task_of (unit_of self.now.session) blocks received.now) }
     {
         let alloc = *out.allocator();
         if let Head::ScsiCommand(command) = &received.pdu.head {
-            if let Plan::Take(total) = plan(&order_of(command), blocks) {
-                let write = opened(alloc, command, total, received.pdu.bytes)?;
+            let order = self.order_of(command);
+            if let Plan::Take(total) = plan(&order, blocks) {
+                let write = opened(alloc, command, order, total, received.pdu.bytes)?;
                 return Ok(Task::Data(write));
             }
         }
@@ -205,24 +209,25 @@ impl Machine {
     }
 }
 
-// The write of `n` bytes that a command opens with its immediate data, and the room for all of
-// them.
+// The write of `n` bytes that a command with this order opens with its immediate data, and the room
+// for all of them.
 fn opened(
     alloc: Global,
     command: &ScsiCommand,
+    order: Order,
     total: u32,
     bytes: &[u8],
 ) -> Result<OpenWrite, AllocError>
-    requires plan { (count : ℕ) × (plan_of (order_of command.now) count ≡ Plan.Take total) }
+    requires plan { (count : ℕ) × (plan_of order count ≡ Plan.Take total) }
     requires fits { length bytes.now ≤ total }
-    ensures { IfOk result (λ write. write ≡ opened command.now total bytes.now) }
+    ensures { IfOk result (λ write. write ≡ opened command.now order total bytes.now) }
 {
     let mut data = Vec::with_capacity(alloc, total as usize)?;
     data.extend_from_slice(bytes)?;
     Ok(OpenWrite {
         initiator_task_tag: command.initiator_task_tag,
         immediate: command.immediate,
-        order: order_of(command),
+        order,
         total,
         data,
         due: if command.is_final {

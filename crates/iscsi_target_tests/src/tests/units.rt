@@ -90,20 +90,58 @@ const TELLING: &[Dialogue] = &[
     ),
 ];
 
+/// Sessions of a target whose disk is thin, with the serial number `disk-7`: WRITE SAME takes 512 bytes,
+/// at once or asked for, and writes them to each block. Residuals are counted from these 512 bytes.
+const THIN: &[Dialogue] = &[
+    (
+        "WRITE SAME(10) of 3 blocks, with its data",
+        false,
+        "I> 01a10000 00000200 00000000 00000000 00000001 00000200 00000001 00000003 41080000 00000000 03000000 00000000 5a*512\n\
+        T> 21800000 00000000 00000000 00000000 00000001 00000000 00000003 00000002 00000009 00000000 00000000 00000000\n\
+        # 3\n\
+        = full",
+    ),
+    (
+        "WRITE SAME(16) of 2048 blocks, whose data are asked for",
+        false,
+        "I> 01a10000 00000000 00000000 00000000 00000001 00000200 00000001 00000003 93000000 00000000 00000000 08000000\n\
+        T> 31800000 00000000 00000000 00000000 00000001 00000000 00000003 00000002 00000008 00000000 00000000 00000200\n\
+        # 0\n\
+        = full\n\
+        I> 05800000 00000200 00000000 00000000 00000001 00000000 00000000 00000003 00000000 00000000 00000000 00000000 5a*512\n\
+        T> 21800000 00000000 00000000 00000000 00000001 00000000 00000003 00000002 00000009 00000000 00000000 00000000\n\
+        # 2048\n\
+        = full",
+    ),
+    (
+        "WRITE SAME that is refused: an anchor, past the end, the data of two blocks",
+        false,
+        "I> 01a10000 00000200 00000000 00000000 00000001 00000200 00000001 00000003 41180000 00000000 03000000 00000000 5a*512\n\
+        T> 21820002 00000014 00000000 00000000 00000001 00000000 00000003 00000002 00000009 00000000 00000000 00000200 0012700005000000000a00000000240000000000\n\
+        I> 01a10000 00000200 00000000 00000000 00000002 00000200 00000002 00000004 41080000 07fe0000 03000000 00000000 5a*512\n\
+        T> 21820002 00000014 00000000 00000000 00000002 00000000 00000004 00000003 0000000a 00000000 00000000 00000200 0012700005000000000a00000000210000000000\n\
+        I> 01a10000 00000400 00000000 00000000 00000003 00000400 00000003 00000005 41080000 00000000 02000000 00000000 5a*1024\n\
+        T> 21820002 00000014 00000000 00000000 00000003 00000000 00000005 00000004 0000000b 00000000 00000000 00000400 0012700005000000000a00000000240000000000\n\
+        # 0\n\
+        = full",
+    ),
+];
+
 // A target whose disk has this serial number, and that has just begun.
-fn target_telling(rt: &impl Abort, alloc: Global, serial: &[u8]) -> Box<Target> {
+fn target_telling(rt: &impl Abort, alloc: Global, serial: &[u8], thin: bool) -> Box<Target> {
     let config = Config::new(alloc, NAME, 1, 1, Preferences::standard()).expect(
         rt,
         "a configuration",
     );
     let unit = LogicalUnit::new(serial, false).expect(rt, "a unit");
+    let unit = if thin { unit.with_thin() } else { unit };
     Box::new(alloc, Target::new(alloc, config.with_unit(unit), 1)).expect(rt, "a target")
 }
 
 // A session behind the login, whose stream comes in pieces of this length.
-fn check_telling(rt: &impl Abort, alloc: Global, row: &Dialogue, len: usize) {
+fn check_telling(rt: &impl Abort, alloc: Global, row: &Dialogue, len: usize, thin: bool) {
     let (name, _, lines) = *row;
-    let mut target = target_telling(rt, alloc, b"disk-7");
+    let mut target = target_telling(rt, alloc, b"disk-7", thin);
     let mut store = SparseStore::new(alloc, 2048);
     check(rt, alloc, name, len, &mut target, &mut store, LOGIN);
     check(rt, alloc, name, len, &mut target, &mut store, lines);
@@ -113,7 +151,16 @@ fn check_telling(rt: &impl Abort, alloc: Global, row: &Dialogue, len: usize) {
 fn telling_disks(rt: HostRuntime) {
     for row in TELLING {
         for len in LENGTHS {
-            check_telling(&rt, rt.alloc(), row, *len);
+            check_telling(&rt, rt.alloc(), row, *len, false);
+        }
+    }
+}
+
+#[test]
+fn thin_disks(rt: HostRuntime) {
+    for row in THIN {
+        for len in LENGTHS {
+            check_telling(&rt, rt.alloc(), row, *len, true);
         }
     }
 }

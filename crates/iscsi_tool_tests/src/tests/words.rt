@@ -101,14 +101,6 @@ const JOBS: &[(&str, &str)] = &[
         "Serve(ServeJob { storage: Memory { blocks: 8 }, service: AtOnce(Options { listen: 127.0.0.1, port: 1, sessions: Some(2), at_once: 3, name: [110], portal: Some([49, 57, 50, 46, 48, 46, 50, 46, 55, 58, 51, 50, 54, 48]), unit: None, limits: Limits { idle: None, login_within: Some(30) }, preferences: Preferences { initial_r2t: false, immediate_data: true, max_burst: 262144, first_burst: 65536, time2wait: 2, time2retain: 20, max_recv: 8192 }, memory: 268435456, print_port: false, log: false }), read_only: false, secrets: None })",
     ),
     (
-        "serve --port 1 --sessions 2 --blocks 8 --at-once 3 --name n --serial DISK0001",
-        "Serve(ServeJob { storage: Memory { blocks: 8 }, service: AtOnce(Options { listen: 127.0.0.1, port: 1, sessions: Some(2), at_once: 3, name: [110], portal: None, unit: Some(UnitOptions { serial: [68, 73, 83, 75, 48, 48, 48, 49], write_protected: false }), limits: Limits { idle: None, login_within: Some(30) }, preferences: Preferences { initial_r2t: false, immediate_data: true, max_burst: 262144, first_burst: 65536, time2wait: 2, time2retain: 20, max_recv: 8192 }, memory: 268435456, print_port: false, log: false }), read_only: false, secrets: None })",
-    ),
-    (
-        "serve --port 1 --sessions 2 --blocks 8 --at-once 3 --name n --read-only --serial !0123456789abc~}",
-        "Serve(ServeJob { storage: Memory { blocks: 8 }, service: AtOnce(Options { listen: 127.0.0.1, port: 1, sessions: Some(2), at_once: 3, name: [110], portal: None, unit: Some(UnitOptions { serial: [33, 48, 49, 50, 51, 52, 53, 54, 55, 56, 57, 97, 98, 99, 126, 125], write_protected: true }), limits: Limits { idle: None, login_within: Some(30) }, preferences: Preferences { initial_r2t: false, immediate_data: true, max_burst: 262144, first_burst: 65536, time2wait: 2, time2retain: 20, max_recv: 8192 }, memory: 268435456, print_port: false, log: false }), read_only: true, secrets: None })",
-    ),
-    (
         "serve --size 32M",
         "Serve(ServeJob { storage: Memory { blocks: 65536 }, service: InTurn { port: 3260, sessions: None }, read_only: false, secrets: None })",
     ),
@@ -231,6 +223,26 @@ const JOBS: &[(&str, &str)] = &[
     (
         "normalise --from=initiator --connection=00 --capture=-",
         "Capture(CaptureJob { file: \"-\", work: Normalise(Wanted { connection: 0, end: Initiator }) })",
+    ),
+];
+
+/// Words of a disk that tells more of itself, and the job that they ask for.
+const UNITS: &[(&str, &str)] = &[
+    (
+        "serve --port 1 --sessions 2 --blocks 8 --at-once 3 --name n --serial DISK0001",
+        "Serve(ServeJob { storage: Memory { blocks: 8 }, service: AtOnce(Options { listen: 127.0.0.1, port: 1, sessions: Some(2), at_once: 3, name: [110], portal: None, unit: Some(UnitOptions { serial: [68, 73, 83, 75, 48, 48, 48, 49], write_protected: false, thin: false, write_back: false }), limits: Limits { idle: None, login_within: Some(30) }, preferences: Preferences { initial_r2t: false, immediate_data: true, max_burst: 262144, first_burst: 65536, time2wait: 2, time2retain: 20, max_recv: 8192 }, memory: 268435456, print_port: false, log: false }), read_only: false, secrets: None })",
+    ),
+    (
+        "serve --port 1 --sessions 2 --blocks 8 --at-once 3 --name n --serial DISK0001 --thin",
+        "Serve(ServeJob { storage: Memory { blocks: 8 }, service: AtOnce(Options { listen: 127.0.0.1, port: 1, sessions: Some(2), at_once: 3, name: [110], portal: None, unit: Some(UnitOptions { serial: [68, 73, 83, 75, 48, 48, 48, 49], write_protected: false, thin: true, write_back: false }), limits: Limits { idle: None, login_within: Some(30) }, preferences: Preferences { initial_r2t: false, immediate_data: true, max_burst: 262144, first_burst: 65536, time2wait: 2, time2retain: 20, max_recv: 8192 }, memory: 268435456, print_port: false, log: false }), read_only: false, secrets: None })",
+    ),
+    (
+        "serve --port 1 --sessions 2 --blocks 8 --at-once 3 --name n --read-only --serial !0123456789abc~}",
+        "Serve(ServeJob { storage: Memory { blocks: 8 }, service: AtOnce(Options { listen: 127.0.0.1, port: 1, sessions: Some(2), at_once: 3, name: [110], portal: None, unit: Some(UnitOptions { serial: [33, 48, 49, 50, 51, 52, 53, 54, 55, 56, 57, 97, 98, 99, 126, 125], write_protected: true, thin: false, write_back: false }), limits: Limits { idle: None, login_within: Some(30) }, preferences: Preferences { initial_r2t: false, immediate_data: true, max_burst: 262144, first_burst: 65536, time2wait: 2, time2retain: 20, max_recv: 8192 }, memory: 268435456, print_port: false, log: false }), read_only: true, secrets: None })",
+    ),
+    (
+        "serve --port 1 --sessions 2 --file d --at-once 3 --name n --serial S --write-back",
+        "Serve(ServeJob { storage: Image(Image { path: \"d\", origin: Found { blocks: None } }), service: AtOnce(Options { listen: 127.0.0.1, port: 1, sessions: Some(2), at_once: 3, name: [110], portal: None, unit: Some(UnitOptions { serial: [83], write_protected: false, thin: false, write_back: true }), limits: Limits { idle: None, login_within: Some(30) }, preferences: Preferences { initial_r2t: false, immediate_data: true, max_burst: 262144, first_burst: 65536, time2wait: 2, time2retain: 20, max_recv: 8192 }, memory: 268435456, print_port: false, log: false }), read_only: false, secrets: None })",
     ),
 ];
 
@@ -675,6 +687,22 @@ const REFUSED: &[(&str, &str)] = &[
         "error: the following required arguments were not provided:\n  --at-once <k>\n",
     ),
     (
+        "serve --blocks 1 --at-once 1 --thin",
+        "error: the following required arguments were not provided:\n  --serial <S>\n",
+    ),
+    (
+        "serve --file d --at-once 1 --write-back",
+        "error: the following required arguments were not provided:\n  --serial <S>\n",
+    ),
+    (
+        "serve --blocks 1 --at-once 1 --serial a --write-back",
+        "error: '--write-back' cannot be used with a disk in memory: it needs '--file <F>' or '--nbd <SERVER>'\n\nUsage: lanthovur serve",
+    ),
+    (
+        "serve --file d --at-once 1 --serial a --write-back --read-only",
+        "error: '--write-back' cannot be used with '--read-only': nothing is written\n\nUsage: lanthovur serve",
+    ),
+    (
         "serve --blocks 1 --at-once 1 --serial a --serial b",
         "error: the argument '--serial <S>' cannot be used multiple times\n",
     ),
@@ -829,6 +857,13 @@ fn check_job(rt: &impl Abort, alloc: Global, line: &str, job: &str) {
 #[test]
 fn words_that_are_a_job(rt: HostRuntime) {
     for (line, job) in JOBS {
+        check_job(&rt, rt.alloc(), line, job);
+    }
+}
+
+#[test]
+fn words_of_a_disk_that_tells_more(rt: HostRuntime) {
+    for (line, job) in UNITS {
         check_job(&rt, rt.alloc(), line, job);
     }
 }

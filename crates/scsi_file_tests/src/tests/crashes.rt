@@ -216,3 +216,30 @@ fn a_crash_leaves_each_mixture_and_nothing_else(rt: HostRuntime) -> Result<(), F
     }
     Ok(())
 }
+
+/// What two syncs behind a write answer, where the first one fails.
+fn synced_twice(
+    alloc: Global,
+    cached: bool,
+) -> Result<Option<[Result<(), StoreFault>; 3]>, AllocError> {
+    let Ok(store) = FileStore::new(StopsAt::new(letters(alloc)?, 2)) else {
+        return Ok(None);
+    };
+    let mut store = if cached {
+        store.with_write_back()
+    } else {
+        store
+    };
+    let first = write(&mut store, 2, b"XY");
+    let second = store.sync();
+    Ok(Some([first, second, store.sync()]))
+}
+
+#[test]
+fn a_failed_sync_is_told_again_with_a_write_cache(rt: HostRuntime) -> Result<(), Fail> {
+    let once = synced_twice(rt.alloc(), false)?;
+    same(&rt, &once, &Some([Ok(()), FAILED, Ok(())]), &"without");
+    let again = synced_twice(rt.alloc(), true)?;
+    same(&rt, &again, &Some([Ok(()), FAILED, FAILED]), &"with");
+    Ok(())
+}

@@ -10,9 +10,9 @@ use std::process::Abort;
 
 // What the unit answers, once more where memory ran out.
 fn at_last(rt: &impl Abort, alloc: Global, unit: &LogicalUnit, order: &Order) -> Option<Outcome> {
-    match unit.outcome(alloc, order) {
+    match unit.outcome(alloc, order, 2048) {
         Ok(outcome) => outcome,
-        Err(_) => unit.outcome(alloc, order).expect(rt, "once more"),
+        Err(_) => unit.outcome(alloc, order, 2048).expect(rt, "once more"),
     }
 }
 

@@ -3,7 +3,7 @@
 use crate::asserts::same;
 use scsi_cdb::{Cdb, Residual, Sense};
 use scsi_disk::{Order, Outcome};
-use scsi_unit::LogicalUnit;
+use scsi_unit::{LogicalUnit, asks_to_last};
 use std::alloc::Global;
 use std::process::Abort;
 
@@ -24,6 +24,7 @@ pub fn reads(first: &[u8], expected: u32) -> Order {
         read: true,
         write: false,
         expected,
+        same: false,
     }
 }
 
@@ -33,7 +34,7 @@ pub fn unit(rt: &impl Abort, write_protected: bool) -> LogicalUnit {
 }
 
 fn answer(rt: &impl Abort, alloc: Global, unit: &LogicalUnit, order: &Order) -> Option<Outcome> {
-    unit.outcome(alloc, order).expect(rt, "memory")
+    unit.outcome(alloc, order, 2048).expect(rt, "memory")
 }
 
 /// A command with an allocation length of 255, and the data that it gives; all other bytes of them, up
@@ -253,6 +254,92 @@ fn a_protected_unit_says_so(rt: HostRuntime) {
         &&b"\0\x12\0\x80\0\0\0\0"[..],
         &"(10)",
     );
+}
+
+/// Commands of MODE SENSE to a unit with a write cache, and the first bytes of what they give: the byte
+/// of the device in the header, and behind it the caching page.
+const CACHED: &[(&str, &[u8], &[u8])] = &[
+    (
+        "(6), caching",
+        b"\x1a\0\x08\0\xff\0",
+        b"\x17\0\x10\0\x08\x12\x04\0",
+    ),
+    (
+        "(6), caching, default",
+        b"\x1a\0\x88\0\xff\0",
+        b"\x17\0\x10\0\x08\x12\x04\0",
+    ),
+    (
+        "(6), caching, changeable",
+        b"\x1a\0\x48\0\xff\0",
+        b"\x17\0\x10\0\x08\x12\0\0",
+    ),
+    (
+        "(6), all",
+        b"\x1a\0\x3f\0\xff\0",
+        b"\x23\0\x10\0\x08\x12\x04\0",
+    ),
+    (
+        "(6), control",
+        b"\x1a\0\x0a\0\xff\0",
+        b"\x0f\0\x10\0\x0a\x0a\0\0",
+    ),
+    (
+        "(10), caching",
+        b"\x5a\0\x08\0\0\0\0\0\xff\0",
+        b"\0\x1a\0\x10\0\0\0\0\x08\x12\x04\0",
+    ),
+];
+
+#[test]
+fn a_write_cache_is_told(rt: HostRuntime) {
+    let cached = unit(&rt, false).with_write_back();
+    for (name, first, front) in CACHED {
+        let order = reads(first, 4096);
+        let outcome = answer(&rt, rt.alloc(), &cached, &order).expect(&rt, "an answer");
+        let begins = outcome.bytes.as_slice().starts_with(front);
+        same(&rt, &begins, &true, name);
+    }
+}
+
+#[test]
+fn a_protected_unit_with_a_write_cache_says_both(rt: HostRuntime) {
+    let both = unit(&rt, true).with_write_back();
+    let order = reads(b"\x1a\0\x0a\0\x04\0", 4);
+    let outcome = answer(&rt, rt.alloc(), &both, &order).expect(&rt, "an answer");
+    same(
+        &rt,
+        &outcome.bytes.as_slice(),
+        &&b"\x0f\0\x90\0"[..],
+        &"(6)",
+    );
+}
+
+/// Descriptor blocks, and whether they ask that what was written lasts before they are answered.
+const ASKING: &[(&str, &[u8], bool)] = &[
+    ("SYNCHRONIZE CACHE", b"\x35\0\0\0\0\0\0\0\0", true),
+    ("SYNCHRONIZE CACHE, IMMED", b"\x35\x02\0\0\0\0\0\0\0", true),
+    ("WRITE(10)", b"\x2a\0\0\0\0\0\0\0\x01", false),
+    ("WRITE(10), FUA", b"\x2a\x08\0\0\0\0\0\0\x01", true),
+    ("WRITE(10), DPO", b"\x2a\x10\0\0\0\0\0\0\x01", false),
+    (
+        "WRITE(16), DPO and FUA",
+        b"\x8a\x18\0\0\0\0\0\0\0\0\0\0\0\x01",
+        true,
+    ),
+    ("WRITE(16)", b"\x8a\0\0\0\0\0\0\0\0\0\0\0\0\x01", false),
+    ("READ(10)", b"\x28\0\0\0\0\0\0\0\x01", false),
+    ("READ(10), FUA", b"\x28\x08\0\0\0\0\0\0\x01", true),
+    ("TEST UNIT READY", b"\0", false),
+    ("MODE SENSE(6)", b"\x1a\x08\x3f\0\xff\0", false),
+    ("INQUIRY", b"\x12\0\0\0\x24\0", false),
+];
+
+#[test]
+fn flushes_and_fua_ask(rt: HostRuntime) {
+    for (name, first, due) in ASKING {
+        same(&rt, &asks_to_last(&Cdb::read(&block(first))), due, name);
+    }
 }
 
 /// Commands that the unit leaves to its disk: TEST UNIT READY, READ CAPACITY, READ, WRITE, REPORT LUNS,

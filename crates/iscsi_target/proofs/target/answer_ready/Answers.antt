@@ -5,7 +5,9 @@ use Rattle.iscsi_stream.specs.Stream.{Message, message}
 use Rattle.iscsi_stream.proofs.PassingLemmas.{unready_after}
 use Rattle.iscsi_target.specs.State.{Machine, closed}
 use Rattle.iscsi_target.specs.Feed.{Store}
-use Rattle.iscsi_target.specs.Inside.{Moment, store_of, moment, HaltsAt}
+use Rattle.iscsi_target.specs.Execution.{Device}
+use Rattle.iscsi_target.specs.Machine.{step_on}
+use Rattle.iscsi_target.specs.Inside.{Moment, Serves, store_of, moment, HaltsAt}
 use Rattle.iscsi_target.proofs.DispatchLemmas.{over_none}
 use Rattle.iscsi_target.proofs.OutOfMemoryLemmas.{halts_closed, halts_settings}
 use Rattle.iscsi_target.specs.Crash.{Crashes, commands_at}
@@ -15,6 +17,26 @@ pub answer_pdu-requires-clause-within : goal.answer_pdu-requires-clause-within
 answer_pdu-requires-clause-within g c =
     over_none c.args.machine.now c.continued.result c.in-Some.pdu.head c.in-Some.pdu.bytes.now
     (subst (λ (n : ℕ). length c.in-Some.pdu.bytes.now ≤ n) c.requires.limit c.in-Some.ensures.within)
+
+pub returns-in-Ok-clause-ok : goal.returns-in-Ok-clause-ok
+returns-in-Ok-clause-ok g c =
+    let ready = c.in-Some.ensures.ready.0 refl in
+    let m : Message = message c.continued.result c.in-Some.pdu.head c.in-Some.pdu.bytes.now in
+    let continued : c.continued.result ≡ continues c.args.framer.now.logins c.in-Some.pdu.head = search rules in
+    let same : m ≡ message_of c.args.framer.now c.in-Some.pdu.head c.in-Some.pdu.bytes.now =
+    ap (λ (b : Bool). message b c.in-Some.pdu.head c.in-Some.pdu.bytes.now) continued in
+    let before : Store = store_of (g.S.BlockStore.disk c.args.store.now) (g.S.BlockStore.failures c.args.store.now) in
+    let after : Store = store_of (g.S.BlockStore.disk c.answer_pdu.new.store) (g.S.BlockStore.failures c.answer_pdu.new.store) in
+    inr (record {
+      head = c.in-Some.pdu.head;
+      segment = c.in-Some.pdu.bytes.now;
+      ready = ready;
+      means = c.in-Some.ensures.means;
+      framing_is = c.take.ensures.taken c.in-Some.pdu.head c.in-Some.pdu.bytes.now ready c.in-Some.ensures.means;
+      serves = subst (λ (x : Message). Serves g.S.BlockStore.protected before.failures c.args.out.now.items
+          (λ (device : Device). step_on device c.args.machine.now before.disk x) c.in-Ok.broken (moment c.answer_pdu.new.self after c.answer_pdu.new.out.items))
+          same c.in-Ok.ensures.answers.ok;
+    })
 
 pub returns-in-Err-clause-err : goal.returns-in-Err-clause-err
 returns-in-Err-clause-err g c =

@@ -3,6 +3,7 @@ use Rattle.std.proofs.lemmas.Result.{err_from_is_err_and}
 use Rattle.iscsi_target.specs.Feed.{Connection, Store}
 use Rattle.iscsi_target.specs.Inside.{connection, store_of}
 use Rattle.iscsi_target.proofs.FeedInvariant.{fed_none, fed_one, ends_failed, ends_broken, next_fed}
+use Rattle.iscsi_target.proofs.NotingLemmas.{notes_next}
 use Rattle.iscsi_target.proofs.target.feed_once.Goals as goal
 
 pub returns-in_err-taken-clause-fed : goal.returns-in_err-taken-clause-fed
@@ -44,3 +45,16 @@ returns-in-None-clause-fed g c =
     next_fed g.S.BlockStore.protected old before out piece c.in_ok-taken.taken c.phase-phase.result new after c.feed_one.new.out.items
     c.requires.unready c.requires.live
     (rw c.in-None.is at c.in_ok-taken.ensures.ok) c.phase-phase.ensures.joined c.phase-phase.ensures.phase
+
+pub returns-in-None-clause-asks : goal.returns-in-None-clause-asks
+returns-in-None-clause-asks g c =
+    let old : Connection = connection c.args.machine.now c.args.framer.now in
+    let before : Store = store_of (g.S.BlockStore.disk c.args.store.now) (g.S.BlockStore.failures c.args.store.now) in
+    let new : Connection = connection c.feed_one.new.machine c.feed_one.new.framer in
+    let after : Store = store_of (g.S.BlockStore.disk c.feed_one.new.store) (g.S.BlockStore.failures c.feed_one.new.store) in
+    let out : List ℕ = c.args.out.now.items in
+    let piece : List ℕ = c.args.piece.now in
+    notes_next g.S.BlockStore.protected old before out piece c.in_ok-taken.taken c.phase-phase.result new after c.feed_one.new.out.items
+    c.args.asks.now c.feed_one.new.asks c.requires.unready c.requires.live
+    (rw c.in-None.is at c.in_ok-taken.ensures.ok) c.phase-phase.ensures.joined c.phase-phase.ensures.phase
+    c.in_ok-taken.ensures.noted c.in_ok-taken.ensures.none

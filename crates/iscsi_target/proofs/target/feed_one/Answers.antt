@@ -1,12 +1,14 @@
-use Rattle.std.proofs.Common.{List, ℕ, drop, refl, sym, ap, ◌∙◌, subst}
+use Rattle.std.proofs.Common.{◌≡◌, List, ℕ, drop, refl, sym, ap, ◌∙◌, subst}
 use Rattle.iscsi_stream.specs.Framing.{Framing}
 use Rattle.iscsi_target_session.specs.Session.{limit}
 use Rattle.iscsi_target.specs.State.{Machine}
 use Rattle.iscsi_target.specs.Feed.{scene, Connection, Store}
 use Rattle.iscsi_target.specs.Inside.{connection, store_of, AnswersReady}
 use Rattle.iscsi_target.proofs.FeedInvariant.{fed_none, fed_one, stays_within}
+use Rattle.iscsi_target.specs.Asking.{NoneReadyAsks, has_cache}
 use Rattle.iscsi_target.specs.Crash.{CrashesNext}
 use Rattle.iscsi_target.proofs.CrashLemmas.{next_by}
+use Rattle.iscsi_target.proofs.NotingLemmas.{some_next}
 use Rattle.iscsi_target.proofs.target.feed_one.Goals as goal
 
 pub returns-clause-ok : goal.returns-clause-ok
@@ -74,3 +76,22 @@ returns-clause-crash g c =
     (g.S.BlockStore.disk c.args.store.now) (g.S.BlockStore.disk c.answer_ready.new.store) (g.S.BlockStore.kept c.args.store.now)
     (g.S.BlockStore.kept c.answer_ready.new.store)
     c.in_ok-taken.ensures.ok c.answer_ready.ensures.crash)
+
+pub returns-clause-none : goal.returns-clause-none
+returns-clause-none g c = λ cache quiet framing takes head segment ready means.
+    (let same : framing ≡ c.take_bytes.new.framer = takes.gathered ∙ sym c.in_ok-taken.ensures.ok.gathered in
+    let kept : c.take_bytes.new.machine ≡ c.args.machine.now = c.in_ok-taken.ensures.kept in
+    let none : NoneReadyAsks c.take_bytes.new.machine c.take_bytes.new.framer =
+    c.note_asking.ensures.none (ap has_cache kept ∙ cache) quiet in
+    subst (λ (m : Machine). NoneReadyAsks m framing) kept
+    (subst (λ (v : Framing). NoneReadyAsks c.take_bytes.new.machine v) (sym same) none) head segment ready means)
+
+pub returns-clause-only : goal.returns-clause-only
+returns-clause-only g c = λ noted.
+    some_next c.args.machine.now c.take_bytes.new.machine c.args.framer.now c.take_bytes.new.framer c.args.piece.now c.in_ok-taken.taken c.args.asks.now
+    c.in_ok-taken.ensures.ok c.in_ok-taken.ensures.kept (c.note_asking.ensures.only noted)
+
+pub returns-in_err-broken-clause-only : goal.returns-in_err-broken-clause-only
+returns-in_err-broken-clause-only g c = λ noted.
+    some_next c.args.machine.now c.take_bytes.new.machine c.args.framer.now c.take_bytes.new.framer c.args.piece.now c.in_ok-taken.taken c.args.asks.now
+    c.in_ok-taken.ensures.ok c.in_ok-taken.ensures.kept (c.note_asking.ensures.only noted)

@@ -1,6 +1,6 @@
 use Rattle.std.proofs.Common.{◌≡◌, inl, inr, ℕ, [], ◌∷◌, ◌++◌, sym, ap, ◌∙◌, subst, arith, rules, List}
 use Rattle.iscsi_target.specs.declared.tasks.Task.{Task}
-use Rattle.iscsi_target.specs.State.{Machine, waiting, takes_place}
+use Rattle.iscsi_target.specs.State.{Machine, unit_of, waiting, takes_place}
 use Rattle.iscsi_target_session.specs.Rejecting.{reject_and_close}
 use Rattle.iscsi_target.specs.Command.{task_of}
 use Rattle.iscsi_target.specs.Feed.{Store}
@@ -40,14 +40,14 @@ returns-in_err-task-clause-follows g c =
     let kept : refusal c.args.self.now c.args.received.now ≡ None = sym c.refusal.ensures ∙ search rules in
     let before : Store = (store_of (g.S.BlockStore.disk c.args.store.now) (g.S.BlockStore.failures c.args.store.now)) in
     let h = short_works g.S.BlockStore.protected c.in_err-task.field-0.0 c.args.self.now (c.args.self.now.tasks
-    ++ task_of (g.S.BlockStore.disk c.args.store.now).count c.args.received.now ∷ []) before c.args.out.now.items in
+    ++ task_of (unit_of c.args.self.now.session) (g.S.BlockStore.disk c.args.store.now).count c.args.received.now ∷ []) before c.args.out.now.items in
     admitted_follows g.S.BlockStore.protected c.from_residual.result c.args.self.now (g.S.BlockStore.disk c.args.store.now).count c.args.received.now before
     c.args.out.now.items c.args.self.now before c.args.out.now.items kept (record { ok = search rules; err = on_err c.from_residual.result h.err })
 
 pub push-requires-clause-place : goal.push-requires-clause-place
 push-requires-clause-place g c = elim c.requires.turn [
   | inl none ↦ inl (ap (λ (x : Machine). x.tasks) c.self.view_is ∙ none)
-  | inr some ↦ inr (ap takes_place c.in_ok-task.ensures ∙ takes_as c.blocks-2.result c.args.received.now some)
+  | inr some ↦ inr (ap takes_place c.in_ok-task.ensures ∙ takes_as (unit_of c.args.self.now.session) c.blocks-2.result c.args.received.now some)
 ]
 
 pub push-requires-clause-room : goal.push-requires-clause-room
@@ -58,12 +58,13 @@ push-requires-clause-room g c =
 
 pub returns-clause-follows : goal.returns-clause-follows
 returns-clause-follows g c =
-    let task : c.in_ok-task.task ≡ task_of (g.S.BlockStore.disk c.args.store.now).count c.args.received.now = c.in_ok-task.ensures
-    ∙ ap (λ (n : ℕ). task_of n c.args.received.now) c.blocks-2.ensures.count in
+    let task : c.in_ok-task.task ≡ task_of (unit_of c.self.inside.session) (g.S.BlockStore.disk c.args.store.now).count c.args.received.now = c.in_ok-task.ensures
+    ∙ ap (λ (x : Machine). task_of (unit_of x.session) c.blocks-2.result c.args.received.now) (sym c.self.view_is)
+    ∙ ap (λ (n : ℕ). task_of (unit_of c.self.inside.session) n c.args.received.now) c.blocks-2.ensures.count in
     let pushed : with_tasks c.self.inside.session c.push.new.self ≡ with_tasks c.args.self.now.session (c.args.self.now.tasks
-    ++ task_of (g.S.BlockStore.disk c.args.store.now).count c.args.received.now ∷ []) =
+    ++ task_of (unit_of c.args.self.now.session) (g.S.BlockStore.disk c.args.store.now).count c.args.received.now ∷ []) =
     ap (with_tasks c.self.inside.session) (c.push.ensures ∙ ap (λ (t : Task). c.self.inside.tasks ++ t ∷ []) task)
-    ∙ ap (λ (x : Machine). with_tasks x.session (x.tasks ++ task_of (g.S.BlockStore.disk c.args.store.now).count c.args.received.now ∷ [])) c.self.view_is
+    ∙ ap (λ (x : Machine). with_tasks x.session (x.tasks ++ task_of (unit_of x.session) (g.S.BlockStore.disk c.args.store.now).count c.args.received.now ∷ [])) c.self.view_is
     in
     let kept : refusal c.args.self.now c.args.received.now ≡ None = sym c.refusal.ensures ∙ search rules in
     let before : Store = (store_of (g.S.BlockStore.disk c.args.store.now) (g.S.BlockStore.failures c.args.store.now)) in
@@ -82,21 +83,22 @@ returns-then-len-eq0-clause-crash g c =
     subst (λ (orders : List Supplied). Crashes g.S.BlockStore.protected orders (g.S.BlockStore.disk c.args.store.now) (g.S.BlockStore.disk c.handle.new.store)
     (g.S.BlockStore.kept c.args.store.now) (g.S.BlockStore.kept c.handle.new.store))
     (sym (ap commands_by (admitted_none c.args.self.now (g.S.BlockStore.disk c.args.store.now).count c.args.received.now kept)
-    ∙ commands_alone (g.S.BlockStore.disk c.args.store.now).count c.args.received.now c.args.self.now.tasks none)) c.handle.ensures.crash
+    ∙ commands_alone (unit_of c.args.self.now.session) (g.S.BlockStore.disk c.args.store.now).count c.args.received.now c.args.self.now.tasks none)) c.handle.ensures.crash
 
 pub returns-clause-crash : goal.returns-clause-crash
 returns-clause-crash g c =
-    let task : c.in_ok-task.task ≡ task_of (g.S.BlockStore.disk c.args.store.now).count c.args.received.now = c.in_ok-task.ensures
-    ∙ ap (λ (n : ℕ). task_of n c.args.received.now) c.blocks-2.ensures.count in
+    let task : c.in_ok-task.task ≡ task_of (unit_of c.self.inside.session) (g.S.BlockStore.disk c.args.store.now).count c.args.received.now = c.in_ok-task.ensures
+    ∙ ap (λ (x : Machine). task_of (unit_of x.session) c.blocks-2.result c.args.received.now) (sym c.self.view_is)
+    ∙ ap (λ (n : ℕ). task_of (unit_of c.self.inside.session) n c.args.received.now) c.blocks-2.ensures.count in
     let pushed : with_tasks c.self.inside.session c.push.new.self ≡ with_tasks c.args.self.now.session (c.args.self.now.tasks
-    ++ task_of (g.S.BlockStore.disk c.args.store.now).count c.args.received.now ∷ []) =
+    ++ task_of (unit_of c.args.self.now.session) (g.S.BlockStore.disk c.args.store.now).count c.args.received.now ∷ []) =
     ap (with_tasks c.self.inside.session) (c.push.ensures ∙ ap (λ (t : Task). c.self.inside.tasks ++ t ∷ []) task)
-    ∙ ap (λ (x : Machine). with_tasks x.session (x.tasks ++ task_of (g.S.BlockStore.disk c.args.store.now).count c.args.received.now ∷ [])) c.self.view_is
+    ∙ ap (λ (x : Machine). with_tasks x.session (x.tasks ++ task_of (unit_of x.session) (g.S.BlockStore.disk c.args.store.now).count c.args.received.now ∷ [])) c.self.view_is
     in
     let kept : refusal c.args.self.now c.args.received.now ≡ None = sym c.refusal.ensures ∙ search rules in
     subst (λ (orders : List Supplied). Crashes g.S.BlockStore.protected orders (g.S.BlockStore.disk c.args.store.now) (g.S.BlockStore.disk c.work_off.new.store)
     (g.S.BlockStore.kept c.args.store.now) (g.S.BlockStore.kept c.work_off.new.store))
-    (ap (λ (x : Machine). commands_of x.tasks) pushed
+    (ap (λ (x : Machine). commands_of (unit_of x.session) x.tasks) pushed
     ∙ sym (ap commands_by (admitted_none c.args.self.now (g.S.BlockStore.disk c.args.store.now).count c.args.received.now kept))) c.work_off.ensures.crash
 
 pub returns-in-Some-clause-follows : goal.returns-in-Some-clause-follows

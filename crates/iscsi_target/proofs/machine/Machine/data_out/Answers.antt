@@ -4,7 +4,7 @@ use Rattle.iscsi_login.specs.Held.{first_burst}
 use Rattle.iscsi_pdu.specs.Rules.{data_out_of_order}
 use Rattle.iscsi_target.specs.Write.{Write}
 use Rattle.iscsi_target.specs.declared.tasks.Task.TheVariants.{Data}
-use Rattle.iscsi_target.specs.State.{Machine, closed, waiting}
+use Rattle.iscsi_target.specs.State.{Machine, closed, unit_of, waiting}
 use Rattle.iscsi_target.specs.State.{breaks}
 use Rattle.iscsi_target_session.specs.Rejecting.{reject_and_close}
 use Rattle.iscsi_target.specs.Transfer.{received, is_in_sequence, with_data, joined_write}
@@ -134,7 +134,7 @@ returns-clause-crash g c =
     (subst (λ (orders : List Supplied). Crashes g.S.BlockStore.protected orders (g.S.BlockStore.disk c.args.store.now)
     (g.S.BlockStore.disk c.work_off.new.store)
     (g.S.BlockStore.kept c.args.store.now) (g.S.BlockStore.kept c.work_off.new.store))
-    (commands_same (with_write (joined_write v) c.args.self.now.tasks) (with_write v c.args.self.now.tasks) (ones_written v c.args.self.now.tasks))
-    (subst (λ (x : Machine). Crashes g.S.BlockStore.protected (commands_of x.tasks) (g.S.BlockStore.disk c.args.store.now)
+    (commands_same (unit_of c.args.self.now.session) (with_write (joined_write v) c.args.self.now.tasks) (with_write v c.args.self.now.tasks) (ones_written v c.args.self.now.tasks))
+    (subst (λ (x : Machine). Crashes g.S.BlockStore.protected (commands_of (unit_of x.session) x.tasks) (g.S.BlockStore.disk c.args.store.now)
     (g.S.BlockStore.disk c.work_off.new.store)
     (g.S.BlockStore.kept c.args.store.now) (g.S.BlockStore.kept c.work_off.new.store)) whole c.work_off.ensures.crash))

@@ -17,6 +17,6 @@ returns-clause-handles g c = record {
       order_serves g.S.BlockStore.protected (g.S.BlockStore.failures c.args.store.now) fa c.args.tag c.args.self.now
       disk c.args.order.now [] e
       c.count.new.self now c.args.out.now.items c.send_read.new.out.items answers.executes c.count.ensures refl
-      (told_read c.args.self.now c.args.tag c.args.order.now answers.outcome c.args.out.now.items c.send_read.new.out.items reads answers.output);
+      (told_read c.args.self.now c.args.tag disk.count c.args.order.now answers.outcome c.args.out.now.items c.send_read.new.out.items reads answers.output);
   err = search rules;
 }

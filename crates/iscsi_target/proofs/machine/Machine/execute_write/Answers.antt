@@ -34,7 +34,7 @@ returns-clause-handles g c = record {
       (g.S.BlockStore.disk c.args.store.now) w.order bytes e)
       (c.deref.ensures.value ∙ sym (data_of_one w.data.items)) c.in_ok-outcome.ensures.ok)
       c.count.ensures refl
-      (write_told c.args.self.now w.initiator_task_tag w.order c.in_ok-outcome.outcome c.args.out.now.items c.append_response.new.out.items
+      (write_told c.args.self.now w.initiator_task_tag (g.S.BlockStore.disk c.args.store.now).count w.order c.in_ok-outcome.outcome c.args.out.now.items c.append_response.new.out.items
       c.write.invariant.is_write
       (told_write c.args.self.now w.initiator_task_tag c.in_ok-outcome.outcome c.response_head-head.result c.args.out.now.items c.reserve.new.self.items
       c.append_response.new.out.items none

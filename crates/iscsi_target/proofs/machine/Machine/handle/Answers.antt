@@ -1,5 +1,5 @@
 use Rattle.std.proofs.Common.{◌≡◌, refl, false, rules, List, subst}
-use Rattle.iscsi_target.specs.State.{on, waiting}
+use Rattle.iscsi_target.specs.State.{on, unit_of, waiting}
 use Rattle.iscsi_target.specs.Execution.{Device}
 use Rattle.iscsi_target.specs.Machine.{handled}
 use Rattle.iscsi_target_session.specs.Requests.{request_answered}
@@ -39,5 +39,5 @@ returns-in-ScsiCommand-clause-crash g c =
     subst (λ (orders : List Supplied). Crashes g.S.BlockStore.protected orders (g.S.BlockStore.disk c.args.store.now)
     (g.S.BlockStore.disk c.scsi_command.new.store)
     (g.S.BlockStore.kept c.args.store.now) (g.S.BlockStore.kept c.scsi_command.new.store))
-    (command_is_in c.received.inside.continued c.received.inside.pdu.head c.received.inside.pdu.bytes.now c.args.received.now c.received.view_is
+    (command_is_in (unit_of c.args.self.now.session) c.received.inside.continued c.received.inside.pdu.head c.received.inside.pdu.bytes.now c.args.received.now c.received.view_is
     c.in-ScsiCommand.head c.in-ScsiCommand.is) c.scsi_command.ensures.crash

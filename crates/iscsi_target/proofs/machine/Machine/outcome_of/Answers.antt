@@ -2,6 +2,7 @@ use Rattle.std.proofs.Common.{◌≡◌, ◌<◌, ◌≤◌, ◌^◌, ℕ, lengt
 use Rattle.std.specs.Prelude.{IfSome}
 use Rattle.scsi_disk.specs.declared.order.Outcome.{Outcome}
 use Rattle.scsi_unit.specs.LogicalUnit.{LogicalUnit}
+use Rattle.scsi_unit.specs.Telling.{unit_outcome}
 use Rattle.iscsi_target.specs.State.{Machine}
 use Rattle.iscsi_target.specs.Inside.{LedTo, store_of}
 use Rattle.iscsi_target.proofs.OrderLemmas.{told_leads, untold_ok, held_unit, held_none, none_said}
@@ -15,7 +16,8 @@ returns-in-Some-2-clause-ok g c =
     subst (λ (unit : Option LogicalUnit). LedTo g.S.BlockStore.protected unit c.args.order (store_of disk failures) (store_of disk failures) c.in-Some-2.told)
     (held_unit _ c.unit.result c.in-Some.unit _ c.in-Some.is (c.unit.ensures ∙ ap (λ (s : Machine). s.session.settings.extras.unit) c.self.view_is))
     (told_leads g.S.BlockStore.protected c.in-Some.unit.now c.args.order disk failures c.in-Some-2.told c.requires.gives
-    (sym c.in-Some-2.is ∙ c.in_ok-told.ensures.told)
+    (sym c.in-Some-2.is ∙ c.in_ok-told.ensures.told
+    ∙ ap (λ (n : ℕ). unit_outcome c.in-Some.unit.now n c.args.order) c.blocks-blocks.ensures.count)
     (subst (λ (o : Option Outcome). IfSome o (λ told. length told.bytes ≤ 96)) c.in-Some-2.is c.in_ok-told.ensures.few))
 
 pub returns-clause-ok : goal.returns-clause-ok
@@ -27,7 +29,8 @@ returns-clause-ok g c =
     (store_of (g.S.BlockStore.disk c.args.store.now) (g.S.BlockStore.failures c.args.store.now))
     (store_of (g.S.BlockStore.disk c.execute_planned.new.store) (g.S.BlockStore.failures c.execute_planned.new.store)) c.execute_planned.result short
     (λ u some. elim c.match-unit.branch [
-      | in-Some+in_ok-told+in_default-2 w ↦ none_said w.in_ok-told.field-0 w.in-Some.unit.now u c.args.order unit w.in_default-2.is w.in_ok-told.ensures.told
+      | in-Some+in_ok-told+in_default-2 w ↦ none_said w.in_ok-told.field-0 w.in-Some.unit.now u (g.S.BlockStore.disk c.args.store.now).count c.args.order unit w.in_default-2.is
+          (w.in_ok-told.ensures.told ∙ ap (λ (n : ℕ). unit_outcome w.in-Some.unit.now n c.args.order) c.blocks-blocks.ensures.count)
           (held_unit _ c.unit.result w.in-Some.unit unit w.in-Some.is is) some
       | in_default w ↦ absurd (held_none _ c.unit.result unit u w.in_default.is is some)
     ])

@@ -1,7 +1,7 @@
 use Rattle.std.proofs.Common.{refl, sym, ◌∙◌, [], ◌∷◌}
 use Rattle.iscsi_target.specs.Execution.{Device}
 use Rattle.iscsi_target.specs.Command.{scsi_command}
-use Rattle.iscsi_target.specs.State.{breaks}
+use Rattle.iscsi_target.specs.State.{breaks, unit_of}
 use Rattle.iscsi_pdu.specs.Rules.{data_out_of_order}
 use Rattle.iscsi_target.proofs.ServingLemmas.{leaves_handles}
 use Rattle.iscsi_target.proofs.CommandLemmas.{command_broken}
@@ -21,6 +21,6 @@ returns-then-breaks_burst_rules-clause-handles g c =
 
 pub returns-in-Refuse-clause-crash : goal.returns-in-Refuse-clause-crash
 returns-in-Refuse-clause-crash g c =
-    any_orders g.S.BlockStore.protected ((order_of c.args.command.now, c.args.bytes.now) ∷ []) (g.S.BlockStore.disk c.args.store.now)
+    any_orders g.S.BlockStore.protected ((order_of (unit_of c.args.self.now.session) c.args.command.now, c.args.bytes.now) ∷ []) (g.S.BlockStore.disk c.args.store.now)
     (g.S.BlockStore.disk c.execute_order.new.store) (g.S.BlockStore.kept c.args.store.now)
     (g.S.BlockStore.kept c.execute_order.new.store) c.execute_order.ensures.crash

@@ -1,14 +1,16 @@
-use Rattle.std.proofs.Common.{◌≡◌, ◌∷◌, List, true, length, sym, ap, ◌∙◌, subst, rules}
+use Rattle.std.proofs.Common.{◌≡◌, ◌∷◌, List, true, length, refl, sym, ap, ◌∙◌, subst, rules}
 use Rattle.std.specs.Prelude.{◌||◌, nat_lt, None, Ok}
 use Rattle.std.specs.declared.alloc.AllocError.{AllocError}
 use Rattle.iscsi_target.specs.Machine.{is_closed}
 use Rattle.iscsi_target.specs.declared.tasks.Task.{Task}
 use Rattle.iscsi_target.specs.Inside.{Moment, Works, moment, store_of}
-use Rattle.iscsi_target.specs.Crash.{commands_of}
+use Rattle.iscsi_target_session.specs.Configured.{Settings}
+use Rattle.iscsi_target.specs.State.{Machine, unit_of}
+use Rattle.iscsi_target.specs.Crash.{Crashes, command_of, commands_of}
 use Rattle.iscsi_target.proofs.CrashLemmas.{goes_first, task_done, tasks_left}
 use Rattle.iscsi_target.proofs.ServingLemmas.{on_err}
 use Rattle.iscsi_target.proofs.TurnLemmas.{with_tasks}
-use Rattle.iscsi_target.proofs.TaskRunLemmas.{Goes, at_tasks, left_behind, goes_start, goes_then, goes_stop, goes_short, goes_end, either}
+use Rattle.iscsi_target.proofs.TaskRunLemmas.{Goes, at_tasks, left_behind, settings_left, goes_start, goes_then, goes_stop, goes_short, goes_end, either}
 use Rattle.iscsi_target.proofs.machine.Machine.work_off.Goals as goal
 use Rattle.iscsi_target.proofs.machine.Machine.work_off.Goals.{then-is_closed-via-then-is_closed, then-is_closed-via-else-is_closed+then-len-behind}
 
@@ -17,7 +19,8 @@ loop-task-init g c = record {
   works = goes_start g.S.BlockStore.protected (moment c.args.self.now
       (store_of (g.S.BlockStore.disk c.args.store.now) (g.S.BlockStore.failures c.args.store.now))
       c.args.out.now.items);
-  crash = goes_first g.S.BlockStore.protected (commands_of c.args.self.now.tasks) (g.S.BlockStore.disk c.args.store.now) (g.S.BlockStore.kept c.args.store.now);
+  settings = refl;
+  crash = goes_first g.S.BlockStore.protected (commands_of (unit_of c.args.self.now.session) c.args.self.now.tasks) (g.S.BlockStore.disk c.args.store.now) (g.S.BlockStore.kept c.args.store.now);
 }
 
 pub returns-in_err-broken-clause-works : goal.returns-in_err-broken-clause-works
@@ -68,14 +71,19 @@ loop-task-preserved g c =
     record {
       works = goes_then g.S.BlockStore.protected old now new c.self.inside.session c.in-Some.task c.take_first.new.self c.in_ok-broken.broken
           c.loop-task.invariant.works is step;
-      crash = tasks_left g.S.BlockStore.protected (commands_of c.args.self.now.tasks) c.take_first.new.self c.begin.new.self.tasks
+      settings = settings_left g.S.BlockStore.protected taken c.in-Some.task c.in_ok-broken.broken new step
+          ∙ ap (λ (m : Machine). m.session.settings) c.self.view_is ∙ c.loop-task.invariant.settings;
+      crash = tasks_left (unit_of c.args.self.now.session) g.S.BlockStore.protected (commands_of (unit_of c.args.self.now.session) c.args.self.now.tasks) c.take_first.new.self c.begin.new.self.tasks
           (g.S.BlockStore.disk c.args.store.now)
           (g.S.BlockStore.disk c.begin.new.store) (g.S.BlockStore.kept c.args.store.now) (g.S.BlockStore.kept c.begin.new.store)
           (left_behind g.S.BlockStore.protected taken c.in-Some.task c.in_ok-broken.broken new step)
-          (task_done g.S.BlockStore.protected (commands_of c.args.self.now.tasks) c.loop-task.self c.self.inside.session c.in-Some.task c.take_first.new.self
+          (task_done (unit_of c.args.self.now.session) g.S.BlockStore.protected (commands_of (unit_of c.args.self.now.session) c.args.self.now.tasks) c.loop-task.self c.self.inside.session c.in-Some.task c.take_first.new.self
           (g.S.BlockStore.disk c.args.store.now) (g.S.BlockStore.disk c.loop-task.store) (g.S.BlockStore.disk c.begin.new.store)
           (g.S.BlockStore.kept c.args.store.now) (g.S.BlockStore.kept c.loop-task.store) (g.S.BlockStore.kept c.begin.new.store) is
-          c.loop-task.invariant.crash (g.met.S.BlockStore.stays c.loop-task.store) c.in_ok-broken.ensures.crash);
+          c.loop-task.invariant.crash (g.met.S.BlockStore.stays c.loop-task.store)
+          (subst (λ (p : Settings). Crashes g.S.BlockStore.protected (command_of p.extras.unit c.in-Some.task) (g.S.BlockStore.disk c.loop-task.store)
+          (g.S.BlockStore.disk c.begin.new.store) (g.S.BlockStore.kept c.loop-task.store) (g.S.BlockStore.kept c.begin.new.store))
+          (ap (λ (m : Machine). m.session.settings) c.self.view_is ∙ c.loop-task.invariant.settings) c.in_ok-broken.ensures.crash));
     }
 
 pub returns-clause-works : goal.returns-clause-works
@@ -91,19 +99,25 @@ returns-clause-works g c =
 
 pub returns-in_err-broken-clause-crash : goal.returns-in_err-broken-clause-crash
 returns-in_err-broken-clause-crash g c =
-    (task_done g.S.BlockStore.protected (commands_of c.args.self.now.tasks) c.loop-task.self c.self.inside.session c.in-Some.task c.take_first.new.self
+    (task_done (unit_of c.args.self.now.session) g.S.BlockStore.protected (commands_of (unit_of c.args.self.now.session) c.args.self.now.tasks) c.loop-task.self c.self.inside.session c.in-Some.task c.take_first.new.self
     (g.S.BlockStore.disk c.args.store.now) (g.S.BlockStore.disk c.loop-task.store) (g.S.BlockStore.disk c.begin.new.store)
     (g.S.BlockStore.kept c.args.store.now) (g.S.BlockStore.kept c.loop-task.store) (g.S.BlockStore.kept c.begin.new.store)
     (sym c.self.view_is ∙ ap (with_tasks c.self.inside.session) c.in-Some.ensures.some)
-    c.loop-task.invariant.crash (g.met.S.BlockStore.stays c.loop-task.store) c.in_err-broken.ensures.crash).done
+    c.loop-task.invariant.crash (g.met.S.BlockStore.stays c.loop-task.store)
+    (subst (λ (p : Settings). Crashes g.S.BlockStore.protected (command_of p.extras.unit c.in-Some.task) (g.S.BlockStore.disk c.loop-task.store)
+    (g.S.BlockStore.disk c.begin.new.store) (g.S.BlockStore.kept c.loop-task.store) (g.S.BlockStore.kept c.begin.new.store))
+    (ap (λ (m : Machine). m.session.settings) c.self.view_is ∙ c.loop-task.invariant.settings) c.in_err-broken.ensures.crash)).done
 
 pub returns-then-is_closed-clause-crash : goal.returns-then-is_closed-clause-crash
 returns-then-is_closed-clause-crash g c =
-    (task_done g.S.BlockStore.protected (commands_of c.args.self.now.tasks) c.loop-task.self c.self.inside.session c.in-Some.task c.take_first.new.self
+    (task_done (unit_of c.args.self.now.session) g.S.BlockStore.protected (commands_of (unit_of c.args.self.now.session) c.args.self.now.tasks) c.loop-task.self c.self.inside.session c.in-Some.task c.take_first.new.self
     (g.S.BlockStore.disk c.args.store.now) (g.S.BlockStore.disk c.loop-task.store) (g.S.BlockStore.disk c.begin.new.store)
     (g.S.BlockStore.kept c.args.store.now) (g.S.BlockStore.kept c.loop-task.store) (g.S.BlockStore.kept c.begin.new.store)
     (sym c.self.view_is ∙ ap (with_tasks c.self.inside.session) c.in-Some.ensures.some)
-    c.loop-task.invariant.crash (g.met.S.BlockStore.stays c.loop-task.store) c.in_ok-broken.ensures.crash).done
+    c.loop-task.invariant.crash (g.met.S.BlockStore.stays c.loop-task.store)
+    (subst (λ (p : Settings). Crashes g.S.BlockStore.protected (command_of p.extras.unit c.in-Some.task) (g.S.BlockStore.disk c.loop-task.store)
+    (g.S.BlockStore.disk c.begin.new.store) (g.S.BlockStore.kept c.loop-task.store) (g.S.BlockStore.kept c.begin.new.store))
+    (ap (λ (m : Machine). m.session.settings) c.self.view_is ∙ c.loop-task.invariant.settings) c.in_ok-broken.ensures.crash)).done
 
 pub returns-clause-crash : goal.returns-clause-crash
 returns-clause-crash g c = c.loop-task.invariant.crash.done

@@ -1,6 +1,7 @@
-use Rattle.std.proofs.Common.{length}
+use Rattle.std.proofs.Common.{◌≡◌, length}
 use Rattle.std.specs.declared.alloc.AllocError.{AllocError}
 use Rattle.iscsi_target.specs.Inside.{moment, store_of}
+use Rattle.iscsi_target.specs.State.{unit_of}
 use Rattle.iscsi_target.specs.Crash.{commands_of}
 use Rattle.iscsi_target.proofs.CrashLemmas.{Pends}
 use Rattle.iscsi_target.proofs.TaskRunLemmas.{GoesOn}
@@ -11,7 +12,9 @@ invariant-loop-task g l = record {
   works : GoesOn g.S.BlockStore.protected AllocError (moment l.initial.self
       (store_of (g.S.BlockStore.disk l.initial.store) (g.S.BlockStore.failures l.initial.store))
       l.initial.out.items) (moment l.self (store_of (g.S.BlockStore.disk l.store) (g.S.BlockStore.failures l.store)) l.out.items);
-  crash : Pends g.S.BlockStore.protected (commands_of l.initial.self.tasks) (commands_of l.self.tasks) (g.S.BlockStore.disk l.initial.store)
+  settings : l.self.session.settings ≡ l.initial.self.session.settings;
+  crash : Pends g.S.BlockStore.protected (commands_of (unit_of l.initial.self.session) l.initial.self.tasks)
+      (commands_of (unit_of l.initial.self.session) l.self.tasks) (g.S.BlockStore.disk l.initial.store)
       (g.S.BlockStore.disk l.store)
       (g.S.BlockStore.kept l.initial.store) (g.S.BlockStore.kept l.store);
 }
