@@ -13,7 +13,8 @@ use Rattle.iscsi_stream.proofs.CanonBytesLaw.{IsRaw, are_narrow, put_all_bytes, 
 use Rattle.iscsi_pair.specs.Served.{HasRoom, IsServed}
 use Rattle.iscsi_loop.specs.declared.command.Command.{Command}
 use Rattle.iscsi_loop.specs.declared.command.Command.TheVariants.{TestUnitReady, Inquiry, Capacity, Capacity16, Luns, Read, Write, Sync, Ping, Logout}
-use Rattle.iscsi_loop.specs.Commands.{HasNumbers, flush, long_transfer, reading, request_of, transfer, writing}
+use Rattle.scsi_cdb.specs.Plain.{flush, long_transfer, reading, transfer, writing}
+use Rattle.iscsi_loop.specs.Commands.{HasNumbers, request_of}
 
 -- a descriptor block has 16 bytes
 abbrev IsBlock : Cdb → Type 0

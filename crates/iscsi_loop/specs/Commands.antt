@@ -1,59 +1,13 @@
 -- The requests that the commands of a script are (SPC-4 and SBC-3; which there are is own rule).
-use Rattle.std.specs.Prelude.{ℕ, ◌*◌, ◌^◌, ◌<◌, Bool, true, false, nat_lt, if◌then◌else◌, replicate}
+use Rattle.std.specs.Prelude.{ℕ, ◌*◌, ◌^◌, ◌<◌, Bool, true, false, replicate}
 use Rattle.scsi_cdb.specs.declared.cdb.Cdb.{Cdb}
 use Rattle.scsi_cdb.specs.declared.cdb.Cdb.TheVariants as cdb
-use Rattle.scsi_cdb.specs.declared.cdb.Transfer10.{Transfer10}
-use Rattle.scsi_cdb.specs.declared.cdb.Transfer16.{Transfer16}
 use Rattle.scsi_cdb.specs.Blocks.{canonical}
+use Rattle.scsi_cdb.specs.Plain.{flush, reading, writing}
 use Rattle.iscsi_initiator.specs.declared.request.Request.{Request}
 use Rattle.iscsi_initiator.specs.declared.request.Request.TheVariants as requests
 use Rattle.iscsi_loop.specs.declared.command.Command.{Command}
 use Rattle.iscsi_loop.specs.declared.command.Command.TheVariants.{TestUnitReady, Inquiry, Capacity, Capacity16, Luns, Read, Write, Sync, Ping, Logout}
-
--- A transfer of n blocks from this one on, with each other field 0 (SBC-3, READ(10)).
-abbrev pub transfer : ℕ → ℕ → Transfer10
-transfer logical_block_address blocks = record {
-  options = 0;
-  logical_block_address = logical_block_address;
-  group_number = 0;
-  blocks = blocks;
-  control = 0;
-}
-
--- The same with room for more (SBC-3, READ(16)).
-abbrev pub long_transfer : ℕ → ℕ → Transfer16
-long_transfer logical_block_address blocks = record {
-  options = 0;
-  logical_block_address = logical_block_address;
-  blocks = blocks;
-  group_number = 0;
-  control = 0;
-}
-
--- READ(10), or READ(16) where that has no room for the first block (SBC-3).
-abbrev pub reading : ℕ → ℕ → Cdb
-reading logical_block_address blocks =
-    if nat_lt logical_block_address (2 ^ 32)
-    then cdb.Read10 (transfer logical_block_address blocks)
-    else cdb.Read16 (long_transfer logical_block_address blocks)
-
--- WRITE(10), or WRITE(16) where that has no room for the first block (SBC-3).
-abbrev pub writing : ℕ → ℕ → Cdb
-writing logical_block_address blocks =
-    if nat_lt logical_block_address (2 ^ 32)
-    then cdb.Write10 (transfer logical_block_address blocks)
-    else cdb.Write16 (long_transfer logical_block_address blocks)
-
--- A flush of n blocks from this one on, with each other field 0 (SBC-3, SYNCHRONIZE CACHE
--- (10)).
-abbrev pub flush : ℕ → ℕ → Cdb
-flush logical_block_address blocks = cdb.SyncCache10 (record {
-  options = 0;
-  logical_block_address = logical_block_address;
-  group_number = 0;
-  blocks = blocks;
-  control = 0;
-})
 
 -- A command to a unit that may return n bytes; the unit's number is byte 1 of the LUN, the
 -- second from above (SAM-5, section 4.7).

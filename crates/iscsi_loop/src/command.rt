@@ -1,16 +1,12 @@
 //! The commands of a script, and the requests that they are.
 
-ghost use Rattle.std.specs.Prelude.{◌≡◌, false, IfOk};
-ghost use Rattle.scsi_cdb.specs.declared.cdb.Cdb.TheVariants as cdb;
+ghost use Rattle.std.specs.Prelude.{◌≡◌, IfOk};
 ghost use Rattle.scsi_cdb.specs.Blocks.{Fits};
-ghost use Rattle.iscsi_loop.specs.Commands.{HasNumbers, request_of, is_logout, data_in_request, written, reading, writing, flush, transfer, long_transfer};
+ghost use Rattle.iscsi_loop.specs.Commands.{HasNumbers, request_of, is_logout, data_in_request, written};
 
 use iscsi_initiator::Request;
-use scsi_cdb::{Bytes, Cdb, Synchronize10, Transfer10, Transfer16};
+use scsi_cdb::{Bytes, Cdb};
 use std::alloc::{AllocError, Global};
-
-/// The first block for which a READ(10) or WRITE(10) has no room (SBC-3).
-const FIRST_LONG_ADDRESS: u64 = 4_294_967_296;
 
 /// A command of a script.
 #[derive(Drop)]
@@ -85,18 +81,18 @@ impl Command {
                 allocation_length,
             } => Ok(data_in_request(
                 unit,
-                standard_data(allocation_length),
+                Cdb::standard_inquiry(allocation_length),
                 u32::from(allocation_length),
             )),
             Command::Capacity => Ok(data_in_request(0, Cdb::Capacity10 { control: 0 }, 8)),
-            Command::Capacity16 => Ok(data_in_request(0, long_capacity(32), 32)),
-            Command::Luns => Ok(data_in_request(0, list_of_units(16), 16)),
+            Command::Capacity16 => Ok(data_in_request(0, Cdb::long_capacity(32), 32)),
+            Command::Luns => Ok(data_in_request(0, Cdb::unit_list(16), 16)),
             Command::Read {
                 logical_block_address,
                 blocks,
             } => Ok(data_in_request(
                 0,
-                reading(logical_block_address, blocks),
+                Cdb::reading(logical_block_address, blocks),
                 512 * u32::from(blocks),
             )),
             Command::Write {
@@ -107,7 +103,7 @@ impl Command {
             Command::Sync {
                 logical_block_address,
                 blocks,
-            } => Ok(data_in_request(0, flush(logical_block_address, blocks), 0)),
+            } => Ok(data_in_request(0, Cdb::flush(logical_block_address, blocks), 0)),
             Command::Ping(bytes) => Ok(Request::Ping { bytes }),
             Command::Logout => Ok(Request::Logout),
         }
@@ -138,102 +134,7 @@ fn written(
     let bytes = vec![in alloc; byte; 512 * usize::from(blocks)]?;
     Ok(Request::Out {
         lun: 0,
-        cdb: writing(logical_block_address, blocks).write(),
+        cdb: Cdb::writing(logical_block_address, blocks).write(),
         bytes: Bytes::from_vec(bytes),
     })
-}
-
-// A READ of blocks from this one on.
-fn reading(logical_block_address: u64, blocks: u16) -> Cdb
-    ensures block { result ≡ reading logical_block_address blocks }
-    ensures fits { Fits result }
-{
-    if logical_block_address < FIRST_LONG_ADDRESS {
-        Cdb::Read10(transfer(logical_block_address as u32, blocks))
-    } else {
-        Cdb::Read16(long_transfer(logical_block_address, blocks))
-    }
-}
-
-// A WRITE of blocks from this one on.
-fn writing(logical_block_address: u64, blocks: u16) -> Cdb
-    ensures block { result ≡ writing logical_block_address blocks }
-    ensures fits { Fits result }
-{
-    if logical_block_address < FIRST_LONG_ADDRESS {
-        Cdb::Write10(transfer(logical_block_address as u32, blocks))
-    } else {
-        Cdb::Write16(long_transfer(logical_block_address, blocks))
-    }
-}
-
-// A flush of blocks from this one on.
-fn flush(logical_block_address: u32, blocks: u16) -> Cdb
-    ensures block { result ≡ flush logical_block_address blocks }
-    ensures fits { Fits result }
-{
-    Cdb::SyncCache10(Synchronize10 {
-        options: 0,
-        logical_block_address,
-        group_number: 0,
-        blocks,
-        control: 0,
-    })
-}
-
-fn long_capacity(allocation_length: u32) -> Cdb
-    ensures block { result ≡ cdb.Capacity16 allocation_length 0 }
-    ensures fits { Fits result }
-{
-    Cdb::Capacity16 {
-        allocation_length,
-        control: 0,
-    }
-}
-
-fn standard_data(allocation_length: u16) -> Cdb
-    ensures block { result ≡ cdb.Inquiry false 0 allocation_length 0 }
-    ensures fits { Fits result }
-{
-    Cdb::Inquiry {
-        evpd: false,
-        page: 0,
-        allocation_length,
-        control: 0,
-    }
-}
-
-fn list_of_units(allocation_length: u32) -> Cdb
-    ensures block { result ≡ cdb.ReportLuns 0 allocation_length 0 }
-    ensures fits { Fits result }
-{
-    Cdb::ReportLuns {
-        select: 0,
-        allocation_length,
-        control: 0,
-    }
-}
-
-fn transfer(logical_block_address: u32, blocks: u16) -> Transfer10
-    ensures { result ≡ transfer logical_block_address blocks }
-{
-    Transfer10 {
-        options: 0,
-        logical_block_address,
-        group_number: 0,
-        blocks,
-        control: 0,
-    }
-}
-
-fn long_transfer(logical_block_address: u64, blocks: u16) -> Transfer16
-    ensures { result ≡ long_transfer logical_block_address blocks }
-{
-    Transfer16 {
-        options: 0,
-        logical_block_address,
-        blocks: u32::from(blocks),
-        group_number: 0,
-        control: 0,
-    }
 }

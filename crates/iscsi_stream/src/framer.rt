@@ -9,7 +9,7 @@ ghost use Rattle.iscsi_stream.specs.Framing.{opening, is_ready, Takes, FeedFails
 use crate::fault::StreamFault;
 use crate::gathering::{Buffer, HEADER, Stage, gather};
 use crate::logins::Logins;
-use iscsi_pdu::{Pdu, pad};
+use iscsi_pdu::{Head, Pdu, pad};
 use std::alloc::Global;
 use std::marker::Model;
 
@@ -111,19 +111,30 @@ impl Framer {
         ensures within { IfSome result (λ p. length p.bytes.now ≤ self.now.limit) }
         ensures short { self.now.limit < 2 ^ 24 }
     {
+        match self.ready() {
+            Some((head, bytes)) => Some(Pdu { head: *head, bytes }),
+            None => None,
+        }
+    }
+
+    // The head and the segment of the PDU that is ready. A head has 80 bytes, so it is lent.
+    fn ready(&self) -> Option<(&Head, &[u8])>
+        ensures ready { IsSome result ↔ IsTrue (is_ready self.now) }
+        ensures means { IfSome result (λ p. Means self.now.held p.0.now p.1.now) }
+        ensures fits { IfSome result (λ p. Fits p.0.now) }
+        ensures within { IfSome result (λ p. length p.1.now ≤ self.now.limit) }
+        ensures short { self.now.limit < 2 ^ 24 }
+    {
         if self.failed {
             return None;
         }
-        let Stage::Body(head, len, padded) = self.stage else {
+        let Stage::Body { head, len, padded } = &self.stage else {
             return None;
         };
-        if self.buffer.segment.len() < len as usize || padded < pad(len) {
+        if self.buffer.segment.len() < *len as usize || *padded < pad(*len) {
             return None;
         }
-        Some(Pdu {
-            head,
-            bytes: &self.buffer.segment,
-        })
+        Some((head, &self.buffer.segment))
     }
 
     /// The number of stream bytes before the PDU that is ready or begun, or before the next one.
@@ -139,8 +150,8 @@ impl Framer {
         ensures value { (head : Head) (segment : List ℕ) → IsTrue (is_ready self.now)
             → Means self.now.held head segment → result ≡ continues self.now.logins head }
     {
-        match self.pdu() {
-            Some(pdu) => self.logins.continues(&pdu.head),
+        match self.ready() {
+            Some((head, _)) => self.logins.continues(head),
             None => false,
         }
     }
@@ -155,7 +166,7 @@ impl Framer {
         }
         match self.stage {
             Stage::Header(filled) => filled,
-            Stage::Body(_, _, padded) => HEADER + self.buffer.segment.len() + padded as usize,
+            Stage::Body { padded, .. } => HEADER + self.buffer.segment.len() + padded as usize,
         }
     }
 
@@ -165,10 +176,10 @@ impl Framer {
             → Means self.old.held head segment → self.new ≡ given_up self.old head }
         ensures none { is_ready self.old ≡ false → self.new ≡ self.old }
     {
-        let Some(pdu) = self.pdu() else {
+        let Some((head, _)) = self.ready() else {
             return;
         };
-        let logins = self.logins.after(&pdu.head);
+        let logins = self.logins.after(head);
         let held = self.held();
         self.place = self.place.saturating_add(held as u64);
         self.logins = logins;
@@ -187,7 +198,7 @@ impl Framer {
         if self.failed {
             return Err(StreamFault::Failed);
         }
-        if self.held() > 0 && self.pdu().is_none() {
+        if self.held() > 0 && self.ready().is_none() {
             self.failed = true;
             return Err(StreamFault::Truncated(self.place));
         }

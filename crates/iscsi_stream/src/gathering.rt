@@ -19,7 +19,7 @@ pub(crate) enum Stage {
     Header(usize),
     /// The whole header, which says this head and the length of the segment; and how many bytes of
     /// padding came, which are counted and not kept.
-    Body(Head, u32, u32),
+    Body { head: Head, len: u32, padded: u32 },
 }
 
 /// The bytes of a segment, and the length of the longest one for which memory was asked. It is kept
@@ -122,13 +122,14 @@ pub(crate) fn gather(
     ensures same_room { OnErr result (buffer.new.room ≡ buffer.old.room) }
     ensures holds { HasRoom limit (vec_capacity buffer.new.segment) buffer.new.room }
 {
-    match *stage {
-        Stage::Body(head, len, padded) => {
-            let (taken, padded) = fill_body(&mut buffer.segment, len, padded, piece);
-            *stage = Stage::Body(head, len, padded);
+    match stage {
+        Stage::Body { len, padded, .. } => {
+            let (taken, now) = fill_body(&mut buffer.segment, *len, *padded, piece);
+            *padded = now;
             Ok(taken)
         }
         Stage::Header(filled) => {
+            let filled = *filled;
             let taken = fill_header(header, filled, piece);
             if filled + taken < HEADER {
                 *stage = Stage::Header(filled + taken);
@@ -136,7 +137,7 @@ pub(crate) fn gather(
             }
             let (head, len) = begin(header, buffer, limit, place)?;
             let (more, padded) = fill_body(&mut buffer.segment, len, 0, &piece[taken..]);
-            *stage = Stage::Body(head, len, padded);
+            *stage = Stage::Body { head, len, padded };
             Ok(taken + more)
         }
     }

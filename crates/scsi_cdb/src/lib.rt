@@ -8,6 +8,7 @@ mod cdb;
 mod inquiry;
 pub mod layout;
 mod luns;
+mod plain;
 mod residual;
 mod sense;
 

@@ -6,7 +6,7 @@ use Rattle.iscsi_stream.proofs.framer.Framer.take.Goals as goal
 
 pub returns-clause-taken : goal.returns-clause-taken
 returns-clause-taken c head segment ready means =
-    let same = Means-unique c.args.self.now.held c.in-Some.pdu.head head c.in-Some.pdu.bytes.now segment c.in-Some.ensures.means means in
+    let same = Means-unique c.args.self.now.held c.in-Some.head.now head c.in-Some.field-0-1.now segment c.in-Some.ensures.means means in
     let live = live_of c.args.self.now.failed c.args.self.now.held ready in
     let inside = ap (λ v. v.failed) c.self.view_is ∙ live in
     let place = ap (λ v. v.place) c.self.view_is in

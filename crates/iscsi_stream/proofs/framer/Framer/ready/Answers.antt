@@ -2,8 +2,8 @@ use Rattle.std.proofs.Common.{◌+◌, ◌<◌, take, length, refl, arith}
 use Rattle.std.proofs.lemmas.List.{length-take}
 use Rattle.iscsi_pdu.specs.Meaning.{padding}
 use Rattle.iscsi_stream.proofs.ReadyLemmas.{short_not, body_not, body_whole, body_means, none_not}
-use Rattle.iscsi_stream.proofs.framer.Framer.pdu.Goals as goal
-use Rattle.iscsi_stream.proofs.framer.Framer.pdu.Goals.{then-len-via-then-len, then-len-via-else-len+then-padded-pad}
+use Rattle.iscsi_stream.proofs.framer.Framer.ready.Goals as goal
+use Rattle.iscsi_stream.proofs.framer.Framer.ready.Goals.{then-len-via-then-len, then-len-via-else-len+then-padded-pad}
 
 pub returns-in_default-clause-ready : goal.returns-in_default-clause-ready
 returns-in_default-clause-ready c =
