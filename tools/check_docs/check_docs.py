@@ -210,13 +210,12 @@ def check_kinds():
 
 
 def check_keys():
-    text, table = read("crates/iscsi_text/specs/Key.antt"), read("crates/iscsi_login/specs/Key.antt")
-    types = {}
-    for word, of in (("number_keys", "Number"), ("boolean_keys", "Boolean"), ("items_keys", "Items"), ("plain_keys", "Plain")):
-        body = re.search(rf"^{word} = (.*?)\n\n", text + "\n\n", re.M | re.S).group(1)
-        types |= {key: of for key in re.findall(r'codes "(\w+)"', body)}
-        if "target_address" in body:
-            types["TargetAddress"] = of
+    text, table = read("crates/iscsi_text/specs/Key.antt"), read("crates/iscsi_text/specs/Negotiated.antt")
+    body = re.search(r"^declared = (.*?)\n\n", text, re.M | re.S).group(1)
+    types = dict(re.findall(r'\(codes "(\w+)", (\w+)\)', body))
+    types |= {"TargetAddress": of for of in re.findall(r"\(target_address, (\w+)\)", body)}
+    kinds = {"Minimum": "Number", "Maximum": "Number", "Or": "Boolean", "And": "Boolean", "NoneItem": "Items"}
+    types |= {key: kinds[rule] for key, rule in re.findall(r'^row keys\.(\w+) = line \d+ \(codes "\1"\) \(?(\w+)', table, re.M)}
     section = re.search(r"^## 8\. .*?^## 9\. ", read("docs/FORMATS.md"), re.M | re.S).group(0)
     rows = [cells_of(line) for line in section.split("\n") if line.startswith("| `")]
     named = [(key, row) for row in rows for key in re.findall(r"`(\w+)`", row[0])]
@@ -235,7 +234,7 @@ def check_keys():
             held = values.get(default.split(" ")[0], f"answers.Number {default}")
             held = held if held == "answers.NoneItem" else f"({held})"
             due = f"{rule} {held} {'true' if first.endswith('*') else 'false'}"
-            look(row.group(1) == due, where, f"specs/Key says {row.group(1)}")
+            look(row.group(1) == due, where, f"specs/Negotiated says {row.group(1)}")
 
 
 # ---- figures

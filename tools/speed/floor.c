@@ -1,8 +1,10 @@
 /* A target without a disk: how fast any target could be that keeps to the rules of `serve`, with the client of speed.c.
  *
  *   cc -O2 -o floor floor.c
- *   ./floor PORT                                for speed.c
- *   ./floor PORT client [SEGMENT BURST DATA-IN]  for client.c; SEGMENT and BURST are those of `serve`, DATA-IN that of client.c
+ *   ./floor PORT [CLIENT [SEGMENT BURST DATA-IN]]
+ *
+ * CLIENT is `client` for client.c, or `libiscsi` for speed.c. SEGMENT and BURST are those of `serve`, and DATA-IN is how long a
+ * Data-In is at most.
  *
  * It prints `listening`, and serves one connection after another on 127.0.0.1 until it is killed. It says in a login what
  * `serve` says to libiscsi (segments of 8,192 bytes, first bursts of 65,536, bursts of 262,144, immediate data, no initial
@@ -306,7 +308,7 @@ static void prepare_blocks(void) {
 
 int main(int argc, char **argv) {
   if (argc != 2 && argc != 3 && argc != 6) return 2;
-  has_numbers = argc > 2;
+  has_numbers = argc > 2 && !strcmp(argv[2], "client");
   if (argc == 6) segment_out = atoi(argv[3]), burst = atoi(argv[4]), segment_in = atoi(argv[5]);
   if (first_burst > burst) first_burst = burst;
   struct sockaddr_in address = {.sin_family = AF_INET, .sin_port = htons(atoi(argv[1])), .sin_addr = {htonl(INADDR_LOOPBACK)}};

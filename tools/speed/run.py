@@ -8,7 +8,8 @@ median of each, and the least and the most. WORD is one of serve, normalise, sho
 
 serve      commands a second of speed.c (libiscsi) over `serve`, over tgtd on a file in memory and over floor.c, a target
            without a disk that keeps to the same rules of the protocol, by size, with 1 and 8 outstanding; and
-           microseconds of processor time that the target and the client take for a command
+           microseconds of processor time that the target and the client take for a command; then the same with segments
+           and bursts of 131,072 bytes
 normalise  megabytes a second of 64 MiB from a file, in segments of 8 KiB and in PDUs of 48 bytes, beside `dd` with reads
            of as many bytes as the program's
 show       lines a second, beside those of tshark for as many packets of the same PDUs
@@ -40,6 +41,8 @@ DISK = 512 * BLOCKS
 STREAM = 64 << 20
 # How many bytes the program reads at a time.
 READ = 4096
+# Bytes of segments and bursts of the second table.
+LONG = 131072
 TICK = os.sysconf("SC_CLK_TCK")
 
 
@@ -86,13 +89,14 @@ def table(title, head, lines):
 
 
 class Lanthovur:
-    """`serve`, for so many connections one after another."""
+    """`serve`, for so many connections one after another; with long segments `serve --at-once`."""
 
     title = "`serve`"
 
-    def __init__(self, room, sessions):
+    def __init__(self, room, sessions, is_long=False):
         port = free_port()
-        words = ["serve", "--port", str(port), "--blocks", str(BLOCKS), "--sessions", str(sessions)]
+        long = ["--at-once", "1", "--segment", str(LONG), "--burst", str(LONG)] if is_long else []
+        words = ["serve", "--port", str(port), "--blocks", str(BLOCKS), "--sessions", str(sessions), *long]
         self.process = subprocess.Popen([PROGRAM, *words], stdout=subprocess.PIPE)
         assert self.process.stdout.readline() == b"listening\n"
         self.url = f"iscsi://127.0.0.1:{port}/{NAME}/0"
@@ -108,9 +112,10 @@ class Floor:
 
     title = "floor"
 
-    def __init__(self, room, sessions):
+    def __init__(self, room, sessions, is_long=False):
         port = free_port()
-        self.process = subprocess.Popen([compiled(room, "floor"), str(port)], stdout=subprocess.PIPE)
+        long = ["libiscsi", str(LONG), str(LONG), str(LONG)] if is_long else []
+        self.process = subprocess.Popen([compiled(room, "floor"), str(port), *long], stdout=subprocess.PIPE)
         assert self.process.stdout.readline() == b"listening\n"
         self.url = f"iscsi://127.0.0.1:{port}/{NAME}/0"
         self.pid = self.process.pid
@@ -125,7 +130,7 @@ class Tgt:
 
     title = "tgt"
 
-    def __init__(self, room, sessions):
+    def __init__(self, room, sessions, is_long=False):
         port = free_port()
         control = str(port % 30000)
         portal = f"portal=127.0.0.1:{port}"
@@ -137,6 +142,9 @@ class Tgt:
             ["--mode", "logicalunit", "--op", "new", "--tid", "1", "--lun", "1", *self.backing()],
             ["--mode", "target", "--op", "bind", "--tid", "1", "-I", "ALL"],
         ]
+        lengths = ("MaxRecvDataSegmentLength", "MaxXmitDataSegmentLength", "MaxBurstLength")
+        for name, value in [*((name, LONG) for name in lengths), ("InitialR2T", "No")] if is_long else []:
+            steps.append(["--mode", "target", "--op", "update", "--tid", "1", "--name", name, "--value", str(value)])
         for step in steps:
             subprocess.run(["/usr/sbin/tgtadm", "-C", control, "--lld", "iscsi", *step], check=True)
         self.url = f"iscsi://127.0.0.1:{port}/{NAME}/1"
@@ -181,7 +189,13 @@ def serve(room, rounds, seconds):
     kinds = [Lanthovur, Floor] + ([] if missing("tgtd", "tgtadm") else [Tgt])
     if len(kinds) == 2:
         print("\nserve: tgt is not installed")
-    targets = [kind(room, rounds * len(SIZES) * 2) for kind in kinds]
+    serve_table("Commands a second over a socket", client, kinds, room, rounds, seconds, False)
+    serve_table("Commands a second with long segments", client, kinds, room, rounds, seconds, True)
+
+
+def serve_table(title, client, kinds, room, rounds, seconds, is_long):
+    """A table of these targets, with the standard preferences or with long segments and bursts."""
+    targets = [kind(room, rounds * len(SIZES) * 2, is_long) for kind in kinds]
     measured = (("reads", 0), ("writes", 0), ("µs a command", 1), ("µs of the client", 1))
     lines = []
     try:
@@ -194,15 +208,14 @@ def serve(room, rounds, seconds):
                             cell.values.append(value)
                 for place, (what, digits) in enumerate(measured):
                     cells = [row[place] for row in rows]
-                    ratios = [f"{cell.median / cells[-1].median:.2f}" for cell in cells[:-1] if len(kinds) == 3]
+                    ratios = [f"{cells[0].median / cell.median:.2f}" for cell in cells[1:]]
                     name = f"{size // 1024} KiB, {depth} outstanding: {what}"
                     lines.append([name, *(cell.text(digits) for cell in cells), *ratios])
     finally:
         for target in targets:
             target.end()
     titles = [kind.title for kind in kinds]
-    ratios = [f"{title} / tgt" for title in titles[:-1] if len(kinds) == 3]
-    table("Commands a second over a socket", ["", *titles, *ratios], lines)
+    table(title, ["", *titles, *(f"{titles[0]} / {title}" for title in titles[1:])], lines)
 
 
 # ---- streams

@@ -315,7 +315,7 @@ def table(head, lines):
 
 
 def ratio(ours, theirs, stage, what):
-    """A number of ours over that of tgt."""
+    """A number of ours over one of theirs."""
     both = ours.median(stage, what), theirs.median(stage, what)
     return f"{both[0] / both[1]:.2f}" if all(both) else ""
 
@@ -324,7 +324,7 @@ def cells_table(measures, kinds, depths, is_long):
     """A table of all sizes, with a line for each number."""
     targets, lines = measures.started(kinds, BLOCKS, is_long=is_long), []
     titles = [target.title for target in targets]
-    has_ratio = "tgt" in titles and titles[0] != "tgt"
+    beside = [title for title in ("tgt", "floor") if title in titles[1:]]
     try:
         for depth in depths:
             for size in SIZES:
@@ -332,11 +332,11 @@ def cells_table(measures, kinds, depths, is_long):
                 for what, unit in (("rate", "{}s"), ("time", "µs a {}")):
                     for stage in ("read", "write"):
                         name = f"{size // 1024} KiB, {depth} outstanding: {unit.format(stage)}"
-                        last = [ratio(cells[0], cells[titles.index("tgt")], stage, what)] if has_ratio else []
+                        last = [ratio(cells[0], cells[titles.index(title)], stage, what) for title in beside]
                         lines.append([name, *(cell.text(stage, what) for cell in cells), *last])
     finally:
         end_all(targets)
-    return table(["", *titles, *([f"{titles[0]} / tgt"] if has_ratio else [])], lines)
+    return table(["", *titles, *(f"{titles[0]} / {title}" for title in beside)], lines)
 
 
 def side_by_side(measures):

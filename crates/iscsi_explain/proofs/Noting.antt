@@ -1,5 +1,5 @@
 -- The lines of notes, with one more.
-use Rattle.std.proofs.Common.{◌≡◌, ℕ, List, [], ◌∷◌, ◌++◌, refl, sym, ap, ◌∙◌, append-nil, append_assoc}
+use Rattle.std.proofs.Common.{◌≡◌, ℕ, List, [], ◌∷◌, ◌++◌, sym, ap, ◌∙◌, append-nil, append_assoc}
 use Rattle.iscsi_explain.specs.Forms.{note, notes_from}
 
 pub notes_end : (texts : List (List ℕ)) (text : List ℕ)

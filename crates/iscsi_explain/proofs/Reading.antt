@@ -1,5 +1,5 @@
 -- What showing a stream keeps from read to read.
-use Rattle.std.proofs.Common.{◌≡◌, ℕ, false, List, [], ◌++◌, length, take, Option, refl, sym, ap, subst, ◌∙◌, append-nil, inl, inr}
+use Rattle.std.proofs.Common.{◌≡◌, ℕ, false, List, [], ◌++◌, length, Option, refl, sym, ap, subst, ◌∙◌, append-nil, inl, inr}
 use Rattle.std.specs.Prelude.{IsTrue, ◌⊎◌}
 use Rattle.std.specs.Io.KnownBytes.{Appends, Consumes, Keeps}
 use Rattle.std.proofs.KnownBytes.{Appends-trans, Appends-nil, Consumes-trans, Consumes-kept, Consumes-nil}
@@ -7,7 +7,6 @@ use Rattle.std.proofs.lemmas.List.{nil_from_length}
 use Rattle.iscsi_stream.specs.Segment.{no_login}
 use Rattle.iscsi_stream.specs.Stream.{Message, StreamMeans, ReadsAs, longest_segment}
 use Rattle.iscsi_stream.specs.Framing.{Framing, opening, is_ready, HasTaken}
-use Rattle.iscsi_stream.specs.Normalising.{WroteFront}
 use Rattle.iscsi_stream.proofs.SettledBytesLemmas.{length-settled}
 use Rattle.iscsi_stream.proofs.ReadyLemmas.{apart, not_whole-nil}
 use Rattle.iscsi_stream.proofs.TakingLemmas.{at_opening}

@@ -1,5 +1,5 @@
 -- What is written of a PDU in each form.
-use Rattle.std.specs.Prelude.{◌≡◌, ℕ, ◌≤◌, Bool, ◌&&◌, nat_lt, not, if◌then◌else◌, List, [], ◌∷◌, ◌++◌, map}
+use Rattle.std.specs.Prelude.{◌≡◌, ℕ, ◌&&◌, nat_lt, not, if◌then◌else◌, List, [], ◌∷◌, ◌++◌, map}
 use Rattle.json.specs.Print.{print}
 use Rattle.json.specs.Lex.{tokens}
 use Rattle.iscsi_stream.specs.Shown.{IsLine}

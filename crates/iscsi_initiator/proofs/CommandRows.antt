@@ -10,7 +10,7 @@ use Rattle.iscsi_pdu.specs.Meaning.{whole, header}
 use Rattle.iscsi_stream.specs.Segment.{Bytes, segment_bytes}
 use Rattle.iscsi_stream.specs.Stream.{Message}
 use Rattle.iscsi_stream.specs.Canonical.{canonical_bytes}
-use Rattle.iscsi_login.specs.declared.preferences.Answered.TheVariants.{Number, Flag, NoneItem}
+use Rattle.iscsi_text.specs.declared.negotiated.Answered.TheVariants.{Number, Flag, NoneItem}
 use Rattle.iscsi_login.specs.declared.phase.Phase.TheVariants as phases
 use Rattle.iscsi_login.specs.declared.stage.Stage.TheVariants.{Security, Full}
 use Rattle.iscsi_initiator.specs.declared.fault.InitiatorFault.TheVariants.{Protocol}

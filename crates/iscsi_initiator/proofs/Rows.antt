@@ -11,10 +11,10 @@ use Rattle.iscsi_stream.specs.Segment as segments
 use Rattle.iscsi_stream.specs.Stream.{Message}
 use Rattle.iscsi_login.specs.declared.stage.Stage.{Stage}
 use Rattle.iscsi_login.specs.declared.stage.Stage.TheVariants.{Security, Operational, Full}
-use Rattle.iscsi_login.specs.declared.stage.Session.TheVariants.{Normal}
+use Rattle.iscsi_text.specs.declared.negotiated.Session.TheVariants.{Normal}
 use Rattle.iscsi_login.specs.declared.offers.Auth.TheVariants as auths
 use Rattle.iscsi_login.specs.declared.phase.Phase.TheVariants as phases
-use Rattle.iscsi_login.specs.declared.preferences.Answered.TheVariants.{Number, Flag, NoneItem}
+use Rattle.iscsi_text.specs.declared.negotiated.Answered.TheVariants.{Number, Flag, NoneItem}
 use Rattle.iscsi_login.specs.Negotiation.{standard}
 use Rattle.iscsi_login.specs.Offers.{Proposal}
 use Rattle.iscsi_initiator.specs.declared.fault.InitiatorFault.{InitiatorFault}

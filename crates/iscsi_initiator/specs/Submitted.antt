@@ -9,7 +9,7 @@ use Rattle.iscsi_pdu.specs.declared.head.logout_request.LogoutRequest.{LogoutReq
 use Rattle.iscsi_pdu.specs.Serial.{next_sn, is_within}
 use Rattle.iscsi_stream.specs.Segment.{Bytes}
 use Rattle.iscsi_stream.specs.Stream.{Message}
-use Rattle.iscsi_login.specs.declared.key.NegKey.TheVariants.{InitialR2T, ImmediateData}
+use Rattle.iscsi_text.specs.declared.negotiated.NegKey.TheVariants.{InitialR2T, ImmediateData}
 use Rattle.iscsi_login.specs.declared.phase.Phase.{Phase}
 use Rattle.iscsi_login.specs.declared.phase.Phase.TheVariants as phases
 use Rattle.iscsi_login.specs.Held.{is_on, unasked}

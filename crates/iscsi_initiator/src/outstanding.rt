@@ -1,7 +1,7 @@
 //! The outstanding request.
 
 ghost use Rattle.std.specs.Prelude.{◌≡◌, ◌≤◌, ◌+◌, ◌++◌, length, take, drop, OnOk, OnErr};
-ghost use Rattle.iscsi_login.specs.declared.key.NegKey.TheVariants.{MaxBurstLength};
+ghost use Rattle.iscsi_text.specs.declared.negotiated.NegKey.TheVariants.{MaxBurstLength};
 ghost use Rattle.iscsi_login.specs.Held.{held_value, number_of};
 ghost use Rattle.iscsi_initiator.specs.State.{Machine};
 ghost use Rattle.iscsi_pdu.specs.Serial.{next_sn};

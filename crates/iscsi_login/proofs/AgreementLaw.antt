@@ -6,16 +6,16 @@ use Rattle.std.specs.Option.{IfSome}
 use Rattle.std.proofs.lemmas.Bool.Decides.{nat_tests}
 use Rattle.iscsi_text.specs.Value.{Typed}
 use Rattle.iscsi_text.specs.Value as values
-use Rattle.iscsi_login.specs.declared.key.NegKey.{NegKey}
-use Rattle.iscsi_login.specs.declared.key.NegKey.TheVariants as keys
-use Rattle.iscsi_login.specs.declared.key.Range.{Range}
-use Rattle.iscsi_login.specs.declared.key.Rule.{Rule}
-use Rattle.iscsi_login.specs.declared.key.Rule.TheVariants as rules
-use Rattle.iscsi_login.specs.declared.stage.Session.{Session}
-use Rattle.iscsi_login.specs.declared.preferences.Answered.{Answered}
-use Rattle.iscsi_login.specs.declared.preferences.Answered.TheVariants.{Number, Flag, NoneItem, Reject}
+use Rattle.iscsi_text.specs.declared.negotiated.NegKey.{NegKey}
+use Rattle.iscsi_text.specs.declared.negotiated.NegKey.TheVariants as keys
+use Rattle.iscsi_text.specs.declared.negotiated.Range.{Range}
+use Rattle.iscsi_text.specs.declared.negotiated.Rule.{Rule}
+use Rattle.iscsi_text.specs.declared.negotiated.Rule.TheVariants as rules
+use Rattle.iscsi_text.specs.declared.negotiated.Session.{Session}
+use Rattle.iscsi_text.specs.declared.negotiated.Answered.{Answered}
+use Rattle.iscsi_text.specs.declared.negotiated.Answered.TheVariants.{Number, Flag, NoneItem, Reject}
 use Rattle.iscsi_login.specs.declared.preferences.Preferences.{Preferences}
-use Rattle.iscsi_login.specs.Key.{name_of, all_keys, rule_of, default_of, is_irrelevant, IsWithin}
+use Rattle.iscsi_text.specs.Negotiated.{name_of, all_keys, rule_of, default_of, is_irrelevant, IsWithin}
 use Rattle.iscsi_login.specs.Negotiation.{preference, Allows, IsInRange, in_range, has_none, value_of, chosen, result_of, is_word, word, answered_value}
 use Rattle.iscsi_login.specs.Negotiation.{IsLegal, or_default}
 use Rattle.iscsi_login.specs.Answer.{answer_to, held_by_target, held_by_initiator, first_or, value_after_offers, value_after_answer}

@@ -8,11 +8,11 @@ use Rattle.iscsi_text.specs.Value as values
 use Rattle.iscsi_text.specs.Text.{Pairs, values_of}
 use Rattle.iscsi_text.proofs.KeyLemmas.{bytes_eq_same}
 use Rattle.iscsi_text.proofs.PairLemmas.{values_of-same, values_of-other, values_of-append, key_cases}
-use Rattle.iscsi_login.specs.declared.key.NegKey.{NegKey}
-use Rattle.iscsi_login.specs.declared.key.NegKey.TheVariants as keys
-use Rattle.iscsi_login.specs.declared.stage.Session.{Session}
+use Rattle.iscsi_text.specs.declared.negotiated.NegKey.{NegKey}
+use Rattle.iscsi_text.specs.declared.negotiated.NegKey.TheVariants as keys
+use Rattle.iscsi_text.specs.declared.negotiated.Session.{Session}
 use Rattle.iscsi_login.specs.declared.preferences.Preferences.{Preferences}
-use Rattle.iscsi_login.specs.Key.{name_of, key_named}
+use Rattle.iscsi_text.specs.Negotiated.{name_of, key_named}
 use Rattle.iscsi_login.specs.Answer.{answer_to, other_answer, answer_value, pairs_with, answers_to, tag_key, max_recv_key, declarations, answer}
 use Rattle.iscsi_text.proofs.OrderLemmas.{values_in_order}
 

@@ -1,15 +1,16 @@
 -- Answers added pair by pair.
-use Rattle.std.proofs.Common.{◌≡◌, ◌≢◌, ℕ, zero, suc, ◌+◌, ◌<◌, ◌≤◌, List, [], ◌∷◌, ◌++◌, length, take, slice_get, Option, Some, None, IsSome, refl, sym, ap}
+use Rattle.std.proofs.Common.{◌≡◌, ◌≢◌, ℕ, zero, suc, ◌+◌, ◌<◌, ◌≤◌, List, [], ◌∷◌, ◌++◌, length, take, get_or, Option, Some, None, IsSome, refl, sym, ap}
 use Rattle.std.proofs.Common.{subst, ◌∙◌, append_assoc, add-one, arith}
 use Rattle.std.specs.List.{flat_map}
 use Rattle.std.proofs.lemmas.List.{append-nil, length-append}
 use Rattle.std.proofs.lemmas.Grind.{flat_map-append}
+use Rattle.iscsi_text.specs.declared.pair.Pair.{Pair}
 use Rattle.iscsi_text.specs.Key.{kind_of, target_address}
 use Rattle.iscsi_text.specs.Value.{Typed}
 use Rattle.iscsi_text.specs.Text.{Pairs, values_of, IsInOrder, Arranges, IsMeaning}
-use Rattle.iscsi_text.specs.Inside.{Inserts}
+use Rattle.iscsi_text.specs.Inside.{shown, all_shown, Inserts}
 use Rattle.iscsi_text.proofs.PairLemmas.{values_of-append, values_of-same}
-use Rattle.iscsi_login.specs.declared.stage.Session.{Session}
+use Rattle.iscsi_text.specs.declared.negotiated.Session.{Session}
 use Rattle.iscsi_login.specs.declared.preferences.Preferences.{Preferences}
 use Rattle.iscsi_login.specs.Answer.{answer_value, answers_to, tag_key, max_recv_key, declarations}
 use Rattle.iscsi_login.proofs.AnswerLemmas.{values_of-answers, undeclared, answer_values}
@@ -39,19 +40,17 @@ pub record StandsAt (given : Pairs) (n : ℕ) (pair : List ℕ × Typed) : Type 
   pub whole : given ≡ take n given ++ pair ∷ rest
   pub more : take (suc n) given ≡ take n given ++ pair ∷ []
 
-pub stands_at : (given : Pairs) (n : ℕ) (pair : List ℕ × Typed) → slice_get given n ≡ Some pair → StandsAt given n pair
-stands_at [] n pair is = cc
-stands_at (p ∷ ps) zero pair is = let same : p ≡ pair = cc in record { rest = ps; whole = ap (λ q. q ∷ ps) same; more = ap (λ q. q ∷ []) same }
-stands_at (p ∷ ps) (suc n) pair is = let s = stands_at ps n pair is in record {
+stands_at : (xs : List Pair) (n : ℕ) (d : Pair) → n < length xs → StandsAt (all_shown xs) n (shown (get_or xs n d))
+stands_at [] n d lt = absurd (omega arith)
+stands_at (x ∷ xs) zero d lt = record { rest = all_shown xs; whole = refl; more = refl }
+stands_at (x ∷ xs) (suc n) d lt = let s = stands_at xs n d (omega arith) in record {
   rest = s.rest;
-  whole = ap (λ qs. p ∷ qs) s.whole;
-  more = ap (λ qs. p ∷ qs) s.more;
+  whole = ap (λ qs. shown x ∷ qs) s.whole;
+  more = ap (λ qs. shown x ∷ qs) s.more;
 }
 
-pub none_past_end : (given : Pairs) (n : ℕ) → n < length given → slice_get given n ≢ None
-none_past_end [] n lt is = absurd (omega arith)
-none_past_end (p ∷ ps) zero lt is = cc
-none_past_end (p ∷ ps) (suc n) lt is = none_past_end ps n (omega arith) is
+pub stands_in : (xs : List Pair) (given : Pairs) (n : ℕ) (d : Pair) → all_shown xs ≡ given → n < length xs → StandsAt given n (shown (get_or xs n d))
+stands_in xs given n d is lt = subst (λ ps. StandsAt ps n (shown (get_or xs n d))) is (stands_at xs n d lt)
 
 -- the keys that have no answer
 pub unanswered_max_recv : (session : Session) (p : Preferences) (v : Typed) → answer_value session p max_recv_key v ≡ None

@@ -17,15 +17,15 @@ use Rattle.iscsi_text.specs.Text.{Pairs, values_of, HasNo, IsMeaning, IsPair}
 use Rattle.iscsi_text.proofs.NumeralLemmas.{canonical_spells, spelling_no_zero}
 use Rattle.iscsi_text.proofs.KeyLemmas.{same_key}
 use Rattle.iscsi_text.proofs.PairLemmas.{key_cases}
-use Rattle.iscsi_login.specs.declared.key.NegKey.{NegKey}
-use Rattle.iscsi_login.specs.declared.key.NegKey.TheVariants as keys
-use Rattle.iscsi_login.specs.declared.key.Rule.{Rule}
-use Rattle.iscsi_login.specs.declared.key.Rule.TheVariants as rules
-use Rattle.iscsi_login.specs.declared.stage.Session.{Session}
-use Rattle.iscsi_login.specs.declared.preferences.Answered.{Answered}
-use Rattle.iscsi_login.specs.declared.preferences.Answered.TheVariants.{Number, Flag, NoneItem}
+use Rattle.iscsi_text.specs.declared.negotiated.NegKey.{NegKey}
+use Rattle.iscsi_text.specs.declared.negotiated.NegKey.TheVariants as keys
+use Rattle.iscsi_text.specs.declared.negotiated.Rule.{Rule}
+use Rattle.iscsi_text.specs.declared.negotiated.Rule.TheVariants as rules
+use Rattle.iscsi_text.specs.declared.negotiated.Session.{Session}
+use Rattle.iscsi_text.specs.declared.negotiated.Answered.{Answered}
+use Rattle.iscsi_text.specs.declared.negotiated.Answered.TheVariants.{Number, Flag, NoneItem}
 use Rattle.iscsi_login.specs.declared.preferences.Preferences.{Preferences}
-use Rattle.iscsi_login.specs.Key.{name_of, rule_of, all_keys, key_named, is_irrelevant}
+use Rattle.iscsi_text.specs.Negotiated.{name_of, rule_of, all_keys, key_named, is_irrelevant}
 use Rattle.iscsi_login.specs.Negotiation.{IsInRange, Allows, result_of, preference, word, answered_value}
 use Rattle.iscsi_login.specs.Answer.{answer_to, other_answer, answered_no, rejected, answer_value, answers_to, pairs_with, max_recv_key, tag_key, declarations}
 use Rattle.iscsi_login.specs.Answer.{answer}

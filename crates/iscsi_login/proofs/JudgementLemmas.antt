@@ -11,9 +11,9 @@ use Rattle.iscsi_text.specs.Value.{Typed}
 use Rattle.iscsi_text.specs.Value as values
 use Rattle.iscsi_text.specs.Text.{Pairs, values_of, IsPair, IsMeaning}
 use Rattle.iscsi_text.proofs.KeyLemmas.{same_key}
-use Rattle.iscsi_login.specs.declared.key.NegKey.{NegKey}
-use Rattle.iscsi_login.specs.declared.key.NegKey.TheVariants as keys
-use Rattle.iscsi_login.specs.Key.{name_of, all_keys, key_named}
+use Rattle.iscsi_text.specs.declared.negotiated.NegKey.{NegKey}
+use Rattle.iscsi_text.specs.declared.negotiated.NegKey.TheVariants as keys
+use Rattle.iscsi_text.specs.Negotiated.{name_of, all_keys, key_named}
 use Rattle.iscsi_login.specs.Negotiation.{max_recv_range}
 use Rattle.iscsi_login.specs.Answer.{max_recv_key, IsSegmentLength, is_segment_length, IsLengthOrNone, DeclaresWell}
 use Rattle.iscsi_login.specs.Check.{Answers, declarable, may_declare, may_answer, is_good_pair, is_bad, is_unanswered, key_or, bad_key, IsOffer, IsGoodAnswer}

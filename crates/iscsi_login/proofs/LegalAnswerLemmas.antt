@@ -4,12 +4,12 @@ use Rattle.std.proofs.lemmas.Bool.{and_parts, and_from, or_cases, or_left, or_ri
 use Rattle.iscsi_text.specs.Value.{Typed}
 use Rattle.iscsi_text.specs.Value as values
 use Rattle.iscsi_text.proofs.KeyLemmas.{same_key}
-use Rattle.iscsi_login.specs.declared.key.NegKey.{NegKey}
-use Rattle.iscsi_login.specs.declared.key.Rule.{Rule}
-use Rattle.iscsi_login.specs.declared.key.Rule.TheVariants as rules
-use Rattle.iscsi_login.specs.declared.preferences.Answered.{Answered}
-use Rattle.iscsi_login.specs.declared.preferences.Answered.TheVariants.{Number, Flag, NoneItem, Reject}
-use Rattle.iscsi_login.specs.Key.{rule_of}
+use Rattle.iscsi_text.specs.declared.negotiated.NegKey.{NegKey}
+use Rattle.iscsi_text.specs.declared.negotiated.Rule.{Rule}
+use Rattle.iscsi_text.specs.declared.negotiated.Rule.TheVariants as rules
+use Rattle.iscsi_text.specs.declared.negotiated.Answered.{Answered}
+use Rattle.iscsi_text.specs.declared.negotiated.Answered.TheVariants.{Number, Flag, NoneItem, Reject}
+use Rattle.iscsi_text.specs.Negotiated.{rule_of}
 use Rattle.iscsi_login.specs.Negotiation.{Allows, has_none, value_of, chosen, is_word, answered_value, IsChoice, IsLegal, is_given, is_one_item, is_legal}
 use Rattle.iscsi_login.proofs.AgreementLaw.{in_range_cases, in_range_within, value_cases}
 

@@ -1,5 +1,5 @@
 -- The offers are what some text means, and what an initiator may offer.
-use Rattle.std.proofs.Common.{◌≡◌, ℕ, ◌<◌, ◌≤◌, Bool, true, false, ◌&&◌, not, List, [], ◌∷◌, ◌++◌, map, length, refl, sym, ap, subst, ◌∙◌, inl, inr, arith}
+use Rattle.std.proofs.Common.{◌≡◌, ℕ, ◌<◌, ◌≤◌, true, false, not, List, [], ◌∷◌, ◌++◌, map, length, refl, sym, ap, subst, ◌∙◌, inl, inr, arith}
 use Rattle.std.proofs.Common.{codes}
 use Rattle.std.specs.List.{list_all}
 use Rattle.std.specs.Str.{bytes_eq}
@@ -10,21 +10,14 @@ use Rattle.iscsi_text.specs.Value as values
 use Rattle.iscsi_text.specs.Text.{Pairs, values_of}
 use Rattle.iscsi_text.proofs.KeyLemmas.{bytes_eq_same}
 use Rattle.iscsi_text.proofs.PairLemmas.{values_of-same, values_of-other, key_cases}
-use Rattle.iscsi_login.specs.declared.stage.Session.{Session}
-use Rattle.iscsi_login.specs.declared.stage.Session.TheVariants.{Normal, Discovery}
-use Rattle.iscsi_login.specs.Key.{name_of, all_keys}
+use Rattle.iscsi_text.specs.declared.negotiated.Session.{Session}
+use Rattle.iscsi_text.specs.declared.negotiated.Session.TheVariants.{Normal, Discovery}
+use Rattle.iscsi_text.specs.Negotiated.{name_of, all_keys}
 use Rattle.iscsi_text.specs.Reading.{in_order}
 use Rattle.iscsi_login.specs.Offers.{Proposal, auth_items, session_name, target_pair, security_offers, operational_offers, single_offers}
 use Rattle.iscsi_login.specs.Check.{described, IsOffer}
+use Rattle.iscsi_login.specs.Inside.{is_new, all_new}
 use Rattle.iscsi_text.proofs.OrderLemmas.{values_in_order}
-
--- no later pair has this key
-abbrev is_new : List ℕ → Pairs → Bool
-is_new key ps = list_all (λ p. not (bytes_eq p.0 key)) ps
-
-abbrev all_new : Pairs → Bool
-all_new [] = true
-all_new (p ∷ ps) = is_new p.0 ps && all_new ps
 
 new_absent : (key : List ℕ) (ps : Pairs) → is_new key ps ≡ true → values_of key ps ≡ []
 new_absent key [] e = refl
@@ -33,7 +26,7 @@ new_absent key (p ∷ ps) e =
     let other : bytes_eq p.0 key ≡ false = not-true (bytes_eq p.0 key) both.0 in
     values_of-other key p ps (λ same. let is = bytes_eq_same p.0 key same in cc) ∙ new_absent key ps both.1
 
-at_most_one : (key : List ℕ) (ps : Pairs) → all_new ps ≡ true → length (values_of key ps) ≤ 1
+pub at_most_one : (key : List ℕ) (ps : Pairs) → all_new ps ≡ true → length (values_of key ps) ≤ 1
 at_most_one key [] e = omega arith
 at_most_one key (p ∷ ps) e =
     let both = and_parts (is_new p.0 ps) (all_new ps) e in

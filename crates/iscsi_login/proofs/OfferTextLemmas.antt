@@ -6,14 +6,14 @@ use Rattle.iscsi_text.specs.declared.key.KeyKind.TheVariants as kinds
 use Rattle.iscsi_text.specs.Key.{kind_of, IsKey}
 use Rattle.iscsi_text.specs.Value as values
 use Rattle.iscsi_text.specs.Text.{HasNo, IsMeaning, IsPair}
-use Rattle.iscsi_login.specs.declared.key.NegKey.{NegKey}
-use Rattle.iscsi_login.specs.declared.key.NegKey.TheVariants as keys
+use Rattle.iscsi_text.specs.declared.negotiated.NegKey.{NegKey}
+use Rattle.iscsi_text.specs.declared.negotiated.NegKey.TheVariants as keys
 use Rattle.iscsi_login.specs.declared.preferences.Preferences.{Preferences}
-use Rattle.iscsi_login.specs.declared.stage.Session.{Session}
-use Rattle.iscsi_login.specs.declared.stage.Session.TheVariants.{Normal, Discovery}
+use Rattle.iscsi_text.specs.declared.negotiated.Session.{Session}
+use Rattle.iscsi_text.specs.declared.negotiated.Session.TheVariants.{Normal, Discovery}
 use Rattle.iscsi_login.specs.declared.offers.Auth.{Auth}
 use Rattle.iscsi_login.specs.declared.offers.Auth.TheVariants as auths
-use Rattle.iscsi_login.specs.Key.{name_of, rule_of, operational_keys}
+use Rattle.iscsi_text.specs.Negotiated.{name_of, rule_of, operational_keys}
 use Rattle.iscsi_login.specs.Negotiation.{IsInRange, preference, answered_value}
 use Rattle.iscsi_login.specs.Answer.{max_recv_key}
 use Rattle.iscsi_text.specs.Reading.{in_order}

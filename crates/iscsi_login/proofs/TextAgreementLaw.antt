@@ -13,12 +13,12 @@ use Rattle.iscsi_text.specs.Value as values
 use Rattle.iscsi_text.specs.Text.{Pairs, values_of}
 use Rattle.iscsi_text.proofs.KeyLemmas.{bytes_eq_same, same_key}
 use Rattle.iscsi_text.proofs.PairLemmas.{key_cases}
-use Rattle.iscsi_login.specs.declared.key.NegKey.{NegKey}
-use Rattle.iscsi_login.specs.declared.key.NegKey.TheVariants as keys
-use Rattle.iscsi_login.specs.declared.stage.Session.{Session}
-use Rattle.iscsi_login.specs.declared.preferences.Answered.{Answered}
+use Rattle.iscsi_text.specs.declared.negotiated.NegKey.{NegKey}
+use Rattle.iscsi_text.specs.declared.negotiated.NegKey.TheVariants as keys
+use Rattle.iscsi_text.specs.declared.negotiated.Session.{Session}
+use Rattle.iscsi_text.specs.declared.negotiated.Answered.{Answered}
 use Rattle.iscsi_login.specs.declared.preferences.Preferences.{Preferences}
-use Rattle.iscsi_login.specs.Key.{name_of, all_keys, IsWithin}
+use Rattle.iscsi_text.specs.Negotiated.{name_of, all_keys, IsWithin}
 use Rattle.iscsi_login.specs.Negotiation.{IsInRange, max_recv_range}
 use Rattle.iscsi_login.specs.Held.{Held, held_value}
 use Rattle.iscsi_login.specs.Answer.{IsSegmentLength, answer_to, answer_value, held_by_target, held_by_initiator, first_or, first_number, declared_max_recv}

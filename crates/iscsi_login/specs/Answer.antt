@@ -7,11 +7,11 @@ use Rattle.iscsi_text.specs.Key.{is_among, kind_of}
 use Rattle.iscsi_text.specs.Value.{Typed}
 use Rattle.iscsi_text.specs.Value as values
 use Rattle.iscsi_text.specs.Text.{Pairs, values_of}
-use Rattle.iscsi_login.specs.declared.key.NegKey.{NegKey}
-use Rattle.iscsi_login.specs.declared.stage.Session.{Session}
-use Rattle.iscsi_login.specs.declared.preferences.Answered.{Answered}
+use Rattle.iscsi_text.specs.declared.negotiated.NegKey.{NegKey}
+use Rattle.iscsi_text.specs.declared.negotiated.Session.{Session}
+use Rattle.iscsi_text.specs.declared.negotiated.Answered.{Answered}
 use Rattle.iscsi_login.specs.declared.preferences.Preferences.{Preferences}
-use Rattle.iscsi_login.specs.Key.{name_of, rule_of, default_of, key_named, is_irrelevant, all_keys, IsWithin}
+use Rattle.iscsi_text.specs.Negotiated.{name_of, rule_of, default_of, key_named, is_irrelevant, all_keys, IsWithin}
 use Rattle.iscsi_login.specs.Negotiation.{max_recv_range, result_of, value_of, word, answered_value, or_default}
 use Rattle.iscsi_login.specs.Held.{Held, held_value}
 use Rattle.iscsi_text.specs.Reading.{in_order}

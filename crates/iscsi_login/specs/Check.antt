@@ -5,8 +5,8 @@ use Rattle.std.specs.Str.{bytes_eq}
 use Rattle.iscsi_text.specs.Key.{is_among}
 use Rattle.iscsi_text.specs.Value.{Typed}
 use Rattle.iscsi_text.specs.Text.{Pairs, values_of, IsSingle}
-use Rattle.iscsi_login.specs.declared.key.NegKey.{NegKey}
-use Rattle.iscsi_login.specs.Key.{name_of, all_keys, key_named}
+use Rattle.iscsi_text.specs.declared.negotiated.NegKey.{NegKey}
+use Rattle.iscsi_text.specs.Negotiated.{name_of, all_keys, key_named}
 use Rattle.iscsi_login.specs.Negotiation.{IsLegal, is_legal}
 use Rattle.iscsi_login.specs.Answer.{max_recv_key, tag_key, IsSegmentLength, is_segment_length}
 

@@ -1,12 +1,12 @@
 -- What an end holds of a login: a value of each negotiated key, and what each end takes (RFC 7143,
 -- section 13).
 use Rattle.std.specs.Prelude.{ℕ, Bool, false, List, map, min, max, slice_index_or}
-use Rattle.iscsi_login.specs.declared.key.NegKey.{NegKey}
-use Rattle.iscsi_login.specs.declared.key.NegKey.TheVariants as keys
+use Rattle.iscsi_text.specs.declared.negotiated.NegKey.{NegKey}
+use Rattle.iscsi_text.specs.declared.negotiated.NegKey.TheVariants as keys
 use Rattle.iscsi_login.specs.declared.preferences.Preferences.{Preferences}
-use Rattle.iscsi_login.specs.declared.preferences.Answered.{Answered}
-use Rattle.iscsi_login.specs.declared.preferences.Answered.TheVariants.{Flag, Number, Reject}
-use Rattle.iscsi_login.specs.Key.{row, rule_of, default_of, all_keys, IsWithin}
+use Rattle.iscsi_text.specs.declared.negotiated.Answered.{Answered}
+use Rattle.iscsi_text.specs.declared.negotiated.Answered.TheVariants.{Flag, Number, Reject}
+use Rattle.iscsi_text.specs.Negotiated.{rule_of, default_of, all_keys, key_place, IsWithin}
 use Rattle.iscsi_login.specs.Negotiation.{Allows, max_recv_range}
 
 -- The held values (section 13).
@@ -25,13 +25,9 @@ defaults = record {
   target_max_recv = 8192;
 }
 
--- A key's place in `all_keys`.
-abbrev pub place_of : NegKey → ℕ
-place_of key = (row key).place
-
 -- The value at a key's place.
 abbrev pub value_at : List Answered → NegKey → Answered
-value_at values key = slice_index_or values (place_of key) Reject
+value_at values key = slice_index_or values (key_place key) Reject
 
 -- The held value of a key (section 13).
 abbrev pub held_value : Held → NegKey → Answered

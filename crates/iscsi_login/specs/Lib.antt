@@ -1,6 +1,5 @@
 pub mod Name
 pub mod Stage
-pub mod Key
 pub mod Negotiation
 pub mod Held
 pub mod Answer

@@ -6,15 +6,15 @@ use Rattle.std.specs.Str.{bytes_eq}
 use Rattle.iscsi_text.specs.Key.{is_among}
 use Rattle.iscsi_text.specs.Value.{Typed}
 use Rattle.iscsi_text.specs.Value as values
-use Rattle.iscsi_login.specs.declared.key.NegKey.{NegKey}
-use Rattle.iscsi_login.specs.declared.key.NegKey.TheVariants as keys
-use Rattle.iscsi_login.specs.declared.key.Range.{Range}
-use Rattle.iscsi_login.specs.declared.key.Rule.{Rule}
-use Rattle.iscsi_login.specs.declared.key.Rule.TheVariants as rules
-use Rattle.iscsi_login.specs.declared.preferences.Answered.{Answered}
-use Rattle.iscsi_login.specs.declared.preferences.Answered.TheVariants.{Number, Flag, NoneItem, Reject}
+use Rattle.iscsi_text.specs.declared.negotiated.NegKey.{NegKey}
+use Rattle.iscsi_text.specs.declared.negotiated.NegKey.TheVariants as keys
+use Rattle.iscsi_text.specs.declared.negotiated.Range.{Range}
+use Rattle.iscsi_text.specs.declared.negotiated.Rule.{Rule}
+use Rattle.iscsi_text.specs.declared.negotiated.Rule.TheVariants as rules
+use Rattle.iscsi_text.specs.declared.negotiated.Answered.{Answered}
+use Rattle.iscsi_text.specs.declared.negotiated.Answered.TheVariants.{Number, Flag, NoneItem, Reject}
 use Rattle.iscsi_login.specs.declared.preferences.Preferences.{Preferences}
-use Rattle.iscsi_login.specs.Key.{rule_of, default_of, between, IsWithin}
+use Rattle.iscsi_text.specs.Negotiated.{rule_of, default_of, between, IsWithin}
 
 -- ---- preferences
 

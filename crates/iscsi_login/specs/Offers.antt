@@ -4,16 +4,16 @@ use Rattle.iscsi_text.specs.Value.{Typed}
 use Rattle.iscsi_text.specs.Value as values
 use Rattle.iscsi_text.specs.Text.{Pairs}
 use Rattle.iscsi_text.specs.Canonical.{canonical_text}
-use Rattle.iscsi_login.specs.declared.key.NegKey.{NegKey}
+use Rattle.iscsi_text.specs.declared.negotiated.NegKey.{NegKey}
 use Rattle.iscsi_login.specs.declared.stage.Stage.{Stage}
 use Rattle.iscsi_login.specs.declared.stage.Stage.TheVariants.{Security, Operational}
-use Rattle.iscsi_login.specs.declared.stage.Session.{Session}
-use Rattle.iscsi_login.specs.declared.stage.Session.TheVariants.{Normal, Discovery}
+use Rattle.iscsi_text.specs.declared.negotiated.Session.{Session}
+use Rattle.iscsi_text.specs.declared.negotiated.Session.TheVariants.{Normal, Discovery}
 use Rattle.iscsi_login.specs.declared.preferences.Preferences.{Preferences}
 use Rattle.iscsi_login.specs.declared.offers.Auth.{Auth}
 use Rattle.iscsi_login.specs.declared.offers.Auth.TheVariants as auths
 use Rattle.iscsi_login.specs.declared.offers.Offers.{Offers}
-use Rattle.iscsi_login.specs.Key.{name_of, rule_of, operational_keys}
+use Rattle.iscsi_text.specs.Negotiated.{name_of, rule_of, operational_keys}
 use Rattle.iscsi_login.specs.Negotiation.{preference, answered_value}
 use Rattle.iscsi_login.specs.Answer.{max_recv_key}
 use Rattle.iscsi_text.specs.Reading.{in_order}

@@ -8,11 +8,9 @@ ghost use Rattle.iscsi_text.specs.Canonical.{canonical_text};
 ghost use Rattle.iscsi_text.specs.Inside.{shown, all_shown};
 ghost use Rattle.iscsi_login.specs.Answer.{answer_to, other_answer, answer_value, answers_to, declarations, answer};
 
-use crate::key::NegKey;
 use crate::negotiation::{answered_value, result, word};
 use crate::preferences::Preferences;
-use crate::stage::Session;
-use iscsi_text::{Pair, Text, Value, key_kind, write_pairs};
+use iscsi_text::{NegKey, Pair, Session, Text, Value, key_kind, write_pairs};
 use std::alloc::{AllocError, Global};
 
 /// The canonical answer to a login text: `answer_pairs`, as bytes.
@@ -60,10 +58,8 @@ pub fn answer_pairs<'a>(
         answer session preferences.now tag max_recv text.now) }
 {
     let mut pairs = declarations(alloc, tag, max_recv)?;
-    for n in 0..text.len() {
-        if let Some((key, offer)) = text.pair(n) {
-            add_answer(&mut pairs, key, &offer, preferences, session)?;
-        }
+    for offered in text.pairs() {
+        add_answer(&mut pairs, offered, preferences, session)?;
     }
     Ok(pairs)
 }
@@ -92,22 +88,23 @@ fn declarations<'a>(
     Ok(pairs)
 }
 
-// Puts the answer to an offer among the pairs, if it has one.
+// Puts the answer to an offered pair among the pairs, if it has one.
 fn add_answer<'a>(
     pairs: &mut Vec<Pair<'a>>,
-    key: &'a [u8],
-    offer: &Value,
+    offered: &Pair<'a>,
     preferences: &Preferences,
     session: Session,
 ) -> Result<(), AllocError>
     requires in_order { IsInOrder (all_shown pairs.old.items) }
-    requires new { IsSome (answer_value session preferences.now key.now (typed offer.now)) →
-        values_of key.now (all_shown pairs.old.items) ≡ [] }
+    requires new { IsSome (answer_value session preferences.now
+        offered.now.key.now (typed offered.now.value)) →
+        values_of offered.now.key.now (all_shown pairs.old.items) ≡ [] }
     ensures { OnOk result (Arranges
-        (all_shown pairs.old.items ++ answers_to session preferences.now (key.now, typed offer.now))
+        (all_shown pairs.old.items ++ answers_to session preferences.now (shown offered.now))
         (all_shown pairs.new.items)) }
 {
-    if let Some(value) = answer_value(key, offer, preferences, session) {
+    let key = offered.key;
+    if let Some(value) = answer_value(key, &offered.value, preferences, session) {
         add(pairs, Pair { key, value })?;
     }
     Ok(())

@@ -9,12 +9,11 @@ ghost use Rattle.iscsi_text.specs.Reading.{in_order};
 ghost use Rattle.iscsi_login.specs.Offers.{proposed, offers_at};
 ghost use Rattle.iscsi_login.specs.Check.{bad_key, is_bad, is_unanswered, key_or, may_answer, may_declare};
 
-use crate::key::NegKey;
 use crate::negotiation::is_legal;
 use crate::offers::{Offers, said};
 use crate::params::is_segment_length;
 use crate::stage::Stage;
-use iscsi_text::{Pair, Text, Value, value_in};
+use iscsi_text::{NegKey, Pair, Text, Value, value_in};
 
 impl Offers<'_> {
     /// The key for which the initiator refuses this answer to its text of a stage, in a login that

@@ -3,10 +3,10 @@
 ghost use Rattle.std.specs.Prelude.{◌≡◌, ℕ, Option, map, IfSome, ◌<◌, ◌^◌};
 ghost use Rattle.iscsi_text.specs.Value.{Typed};
 ghost use Rattle.iscsi_text.specs.Text.{Pairs, Arranges, HasNo, IsMeaning, values_of};
-ghost use Rattle.iscsi_login.specs.declared.key.NegKey.{NegKey};
-ghost use Rattle.iscsi_login.specs.declared.stage.Session.{Session};
+ghost use Rattle.iscsi_text.specs.declared.negotiated.NegKey.{NegKey};
+ghost use Rattle.iscsi_text.specs.declared.negotiated.Session.{Session};
 ghost use Rattle.iscsi_login.specs.declared.preferences.Preferences.{Preferences};
-ghost use Rattle.iscsi_login.specs.Key.{name_of, IsWithin};
+ghost use Rattle.iscsi_text.specs.Negotiated.{name_of, IsWithin};
 ghost use Rattle.iscsi_login.specs.Negotiation.{IsInRange, IsLegal, max_recv_range};
 ghost use Rattle.iscsi_login.specs.Held.{Held};
 ghost use Rattle.iscsi_login.specs.Answer.{answer_to, held_by_target, held_by_initiator, declared_max_recv, answer, initiator_holds, target_holds};

@@ -5,7 +5,6 @@
 mod answer;
 mod check;
 mod config_fault;
-mod key;
 pub mod laws;
 mod name;
 mod negotiation;
@@ -17,11 +16,11 @@ mod stage;
 
 pub use answer::{answer_pairs, answer_text};
 pub use config_fault::ConfigFault;
-pub use key::{NegKey, Range, Rule};
+pub use iscsi_text::{Answered, NegKey, Range, Rule, Session};
 pub use name::is_name;
 pub use negotiation::{legal_answer, result};
 pub use offers::{Auth, Offers};
 pub use params::{Params, declares_well};
 pub use phase::Phase;
-pub use preferences::{Answered, Preferences};
-pub use stage::{Session, Stage};
+pub use preferences::Preferences;
+pub use stage::Stage;

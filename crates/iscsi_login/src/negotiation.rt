@@ -4,9 +4,8 @@ ghost use Rattle.std.specs.Prelude.{◌≡◌, ◌↔◌, IsTrue, ◌==◌};
 ghost use Rattle.iscsi_text.specs.Value.{typed};
 ghost use Rattle.iscsi_login.specs.Negotiation.{result_of, is_legal, IsLegal, has_none, chosen, value_of, is_word, word, answered_value, or_default};
 
-use crate::key::{NegKey, Rule};
-use crate::preferences::{Answered, Preferences};
-use iscsi_text::Value;
+use crate::preferences::Preferences;
+use iscsi_text::{Answered, NegKey, Rule, Value};
 
 /// The value that an offer gives at an end with these preferences, or `Reject`.
 ///
@@ -76,7 +75,7 @@ pub fn value(rule: Rule, value: &Value) -> Answered
 {
     match (rule, value) {
         (Rule::Minimum(range) | Rule::Maximum(range), Value::Number(n)) => {
-            if u64::from(range.low) <= *n && *n <= u64::from(range.high) {
+            if range.contains(*n) {
                 Answered::Number(*n as u32)
             } else {
                 Answered::Reject

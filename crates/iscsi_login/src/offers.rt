@@ -1,17 +1,16 @@
 //! What an initiator offers (RFC 7143, sections 6.3, 12.1 and 13).
 
-ghost use Rattle.std.specs.Prelude.{◌≡◌, ◌++◌, OnOk, OnErr, codes};
+ghost use Rattle.std.specs.Prelude.{◌≡◌, ◌++◌, true, OnOk, OnErr, codes};
 ghost use Rattle.iscsi_text.specs.Value as values;
 ghost use Rattle.iscsi_text.specs.Inside.{shown, all_shown};
 ghost use Rattle.iscsi_text.specs.Reading.{in_order};
 ghost use Rattle.iscsi_login.specs.Offers.{auth_items, session_name, preferred_pair, max_recv_pair, proposed, security_offers, operational_offers, single_offers, offers_at, text_of};
-ghost use Rattle.iscsi_login.specs.Inside.{said};
+ghost use Rattle.iscsi_login.specs.Inside.{all_new, said};
 
-use crate::key::NegKey;
 use crate::negotiation::answered_value;
 use crate::preferences::Preferences;
-use crate::stage::{Session, Stage};
-use iscsi_text::{Pair, Value, write_pairs};
+use crate::stage::Stage;
+use iscsi_text::{NEGOTIATED_KEYS, NegKey, Pair, Session, Value, write_pairs};
 use std::alloc::AllocError;
 
 /// Which ways of authentication an initiator offers (RFC 7143, section 12.1). None but `None` can
@@ -138,41 +137,31 @@ impl Offers<'_> {
         ]
     }
 
-    // The pairs of the operational stage.
-    pub(crate) fn operational_pairs(&self) -> [Pair; 14]
+    // The pairs of the operational stage. `AuthMethod` isn't offered there: the most bytes of a
+    // segment, which no answer settles, take its place.
+    pub(crate) fn operational_pairs(&self) -> [Pair<'static>; NEGOTIATED_KEYS]
         ensures { all_shown result ≡ in_order (operational_offers (proposed self.now)) }
     {
-        [
-            self.preferred(NegKey::DataDigest),
-            self.preferred(NegKey::DataPDUInOrder),
-            self.preferred(NegKey::DataSequenceInOrder),
-            self.preferred(NegKey::DefaultTime2Retain),
-            self.preferred(NegKey::DefaultTime2Wait),
-            self.preferred(NegKey::ErrorRecoveryLevel),
-            self.preferred(NegKey::FirstBurstLength),
-            self.preferred(NegKey::HeaderDigest),
-            self.preferred(NegKey::ImmediateData),
-            self.preferred(NegKey::InitialR2T),
-            self.preferred(NegKey::MaxBurstLength),
-            self.preferred(NegKey::MaxConnections),
-            self.preferred(NegKey::MaxOutstandingR2T),
-            self.max_recv(),
-        ]
+        let mut pairs = NegKey::ALL.map(|key| self.preferred(key));
+        pairs[NegKey::AuthMethod.place()] = self.max_recv();
+        put_in_order(&mut pairs);
+        pairs
     }
 
-    // All pairs of a login that starts in the operational stage, and the target's name in any
-    // session. The pairs are those of the operational stage, and those of who speaks to whom, where
-    // the order of the keys puts them.
-    pub(crate) fn single_pairs(&self) -> [Pair; 17]
+    // All pairs of a login that starts in the operational stage. A discovery session doesn't say the
+    // target's name, which stands behind them there.
+    pub(crate) fn single_pairs(&self) -> [Pair; SINGLE_PAIRS]
         ensures { said self.now.session (all_shown result) ≡
             in_order (single_offers (proposed self.now)) }
     {
-        let operational = self.operational_pairs();
-        let mut pairs = [self.target_name(); 17];
-        pairs[..10].copy_from_slice(&operational[..10]);
-        pairs[10] = self.initiator_name();
-        pairs[11..15].copy_from_slice(&operational[10..]);
-        pairs[15] = self.session_type();
+        let mut pairs = [self.target_name(); SINGLE_PAIRS];
+        pairs[..NEGOTIATED_KEYS].copy_from_slice(&self.operational_pairs());
+        pairs[NEGOTIATED_KEYS] = self.initiator_name();
+        pairs[NEGOTIATED_KEYS + 1] = self.session_type();
+        match self.session {
+            Session::Normal => put_in_order(&mut pairs),
+            Session::Discovery => put_in_order(&mut pairs[..SINGLE_PAIRS - 1]),
+        }
         pairs
     }
 
@@ -226,6 +215,18 @@ impl Offers<'_> {
             value: Value::Number(u64::from(self.prefs.max_recv)),
         }
     }
+}
+
+// How many pairs are in the one text of a login that starts in the operational stage: those of the
+// stage, and who speaks to whom, and for what.
+const SINGLE_PAIRS: usize = NEGOTIATED_KEYS + 3;
+
+// Puts pairs of unlike keys in the byte order of their keys.
+fn put_in_order(pairs: &mut [Pair])
+    requires { all_new (all_shown pairs.old) ≡ true }
+    ensures { all_shown pairs.new ≡ in_order (all_shown pairs.old) }
+{
+    pairs.sort_unstable_by_key(|pair| pair.key);
 }
 
 // The pairs but the last, the target's name, which a discovery session doesn't say.

@@ -2,16 +2,14 @@
 
 ghost use Rattle.std.specs.Prelude.{◌≡◌, ◌↔◌, IsTrue, map, IfSome};
 ghost use Rattle.iscsi_text.specs.Value.{typed};
-ghost use Rattle.iscsi_login.specs.Key.{rule_of, all_keys, IsWithin};
+ghost use Rattle.iscsi_text.specs.Negotiated.{rule_of, default_of, all_keys, IsWithin};
 ghost use Rattle.iscsi_login.specs.Negotiation.{Allows, IsInRange, max_recv_range};
 ghost use Rattle.iscsi_login.specs.Held.{defaults, first_burst, held_value, number_of, IsHeld};
 ghost use Rattle.iscsi_login.specs.Answer.{declared_max_recv, IsSegmentLength, is_segment_length, DeclaresWell, value_after_offers, target_holds, value_after_answer, initiator_holds};
 
-use crate::key::{BYTES, NegKey};
 use crate::negotiation::{or_default, result, value};
-use crate::preferences::{Answered, Preferences};
-use crate::stage::Session;
-use iscsi_text::{Text, Value};
+use crate::preferences::Preferences;
+use iscsi_text::{Answered, BYTES, NEGOTIATED_KEYS, NegKey, Session, Text, Value};
 use std::marker::Model;
 
 /// The value of each negotiated key, and the most bytes that each end takes in one segment.
@@ -20,7 +18,7 @@ use std::marker::Model;
 /// allows, and each length one that may be declared.
 #[derive(Debug, Drop)]
 pub struct Params {
-    values: [Answered; 14],
+    values: [Answered; NEGOTIATED_KEYS],
     /// The most bytes that the initiator takes in one segment, 512 to 16777215.
     pub initiator_max_recv: u32,
     /// The most bytes that the target takes in one segment, 512 to 16777215.
@@ -63,22 +61,7 @@ impl Params {
         ensures declares { result ≡ record defaults { initiator_max_recv = max_recv } }
     {
         Params {
-            values: [
-                Answered::Number(1),
-                Answered::Flag(true),
-                Answered::Flag(true),
-                Answered::Number(262144),
-                Answered::Number(65536),
-                Answered::Number(2),
-                Answered::Number(20),
-                Answered::Number(1),
-                Answered::Flag(true),
-                Answered::Flag(true),
-                Answered::Number(0),
-                Answered::NoneItem,
-                Answered::NoneItem,
-                Answered::NoneItem,
-            ],
+            values: default_values(),
             initiator_max_recv: max_recv,
             target_max_recv: 8192,
         }
@@ -129,12 +112,11 @@ impl Params {
         requires declares { IfSome max_recv (IsWithin max_recv_range) }
         ensures holds { self.new ≡ target_holds session preferences.now max_recv text.now self.old }
     {
-        let values = self.values_after_offers(text, preferences, session);
-        let initiator_max_recv = declared_max_recv(text).unwrap_or(self.initiator_max_recv);
-        let target_max_recv = max_recv.unwrap_or(self.target_max_recv);
-        self.values = values;
-        self.initiator_max_recv = initiator_max_recv;
-        self.target_max_recv = target_max_recv;
+        *self = Params {
+            values: self.values_after_offers(text, preferences, session),
+            initiator_max_recv: declared_max_recv(text).unwrap_or(self.initiator_max_recv),
+            target_max_recv: max_recv.unwrap_or(self.target_max_recv),
+        };
     }
 
     /// At the initiator: holds what this answer settles, the length that the answered text
@@ -148,12 +130,11 @@ impl Params {
         requires declares { IfSome max_recv (IsWithin max_recv_range) }
         ensures holds { self.new ≡ initiator_holds max_recv answer.now self.old }
     {
-        let values = self.values_after_answer(answer);
-        let initiator_max_recv = max_recv.unwrap_or(self.initiator_max_recv);
-        let target_max_recv = declared_max_recv(answer).unwrap_or(self.target_max_recv);
-        self.values = values;
-        self.initiator_max_recv = initiator_max_recv;
-        self.target_max_recv = target_max_recv;
+        *self = Params {
+            values: self.values_after_answer(answer),
+            initiator_max_recv: max_recv.unwrap_or(self.initiator_max_recv),
+            target_max_recv: declared_max_recv(answer).unwrap_or(self.target_max_recv),
+        };
     }
 
     // What the target holds of each key once it has answered this text.
@@ -162,7 +143,7 @@ impl Params {
         text: &Text,
         preferences: &Preferences,
         session: Session,
-    ) -> [Answered; 14]
+    ) -> [Answered; NEGOTIATED_KEYS]
         ensures { result ≡
             map (value_after_offers session preferences.now text.now self.now) all_keys }
     {
@@ -189,7 +170,7 @@ impl Params {
     }
 
     // What the initiator holds of each key once it has this answer.
-    fn values_after_answer(&self, answer: &Text) -> [Answered; 14]
+    fn values_after_answer(&self, answer: &Text) -> [Answered; NEGOTIATED_KEYS]
         ensures { result ≡ map (value_after_answer answer.now self.now) all_keys }
     {
         NegKey::ALL.map(|key| self.after_answer(key, answer))
@@ -204,6 +185,13 @@ impl Params {
             None => self.get(key),
         }
     }
+}
+
+// The default of each key.
+fn default_values() -> [Answered; NEGOTIATED_KEYS]
+    ensures { result ≡ map default_of all_keys }
+{
+    NegKey::ALL.map(|key| key.default_value())
 }
 
 /// Whether `MaxRecvDataSegmentLength`, if the text has it, is a number from 512 to 16777215
@@ -223,7 +211,7 @@ pub(crate) fn is_segment_length(value: &Value) -> bool
     ensures test { result ≡ is_segment_length (typed value.now) }
 {
     match value {
-        Value::Number(bytes) => u64::from(BYTES.low) <= *bytes && *bytes <= u64::from(BYTES.high),
+        Value::Number(bytes) => BYTES.contains(*bytes),
         Value::Boolean(_) | Value::Items(_) | Value::Plain(_) | Value::Odd(_) => false,
     }
 }

@@ -3,20 +3,7 @@
 ghost use Rattle.std.specs.Prelude.{◌≡◌, ◌↔◌, IsTrue};
 ghost use Rattle.iscsi_login.specs.Negotiation.{preference, IsInRange, standard};
 
-use crate::key::{BYTES, NegKey, SECONDS};
-
-/// A value of a negotiated key, or that there is none.
-#[derive(Clone, Copy, Debug, PartialEq, Eq)]
-pub enum Answered {
-    /// Of a key with numbers.
-    Number(u32),
-    /// Of a boolean key: `Yes` is true, `No` is false.
-    Flag(bool),
-    /// Of a key with a list: the item `None`.
-    NoneItem,
-    /// No value. It stands in answers, and is never held.
-    Reject,
-}
+use iscsi_text::{Answered, BYTES, NegKey, SECONDS};
 
 /// What an end prefers, where it may choose. Each field is the key of its name.
 ///
@@ -61,11 +48,11 @@ impl Preferences {
     pub fn in_range(&self) -> bool
         ensures in_range { IsTrue result ↔ IsInRange self.now }
     {
-        BYTES.contains(self.max_burst)
-            && BYTES.contains(self.first_burst)
-            && SECONDS.contains(self.time2wait)
-            && SECONDS.contains(self.time2retain)
-            && BYTES.contains(self.max_recv)
+        BYTES.contains(u64::from(self.max_burst))
+            && BYTES.contains(u64::from(self.first_burst))
+            && SECONDS.contains(u64::from(self.time2wait))
+            && SECONDS.contains(u64::from(self.time2retain))
+            && BYTES.contains(u64::from(self.max_recv))
     }
 
     /// The preference for a key, which is never `Reject`.

@@ -1,16 +1,7 @@
-//! Kinds of session, and the stages of a login (RFC 7143, section 6.3).
+//! The stages of a login (RFC 7143, section 6.3).
 
 ghost use Rattle.std.specs.Prelude.{◌≡◌};
 ghost use Rattle.iscsi_login.specs.Stage.{may_move, stage_number};
-
-/// What a session is for (RFC 7143, section 13.21).
-#[derive(Clone, Copy, Debug, PartialEq, Eq)]
-pub enum Session {
-    /// All that an initiator asks of a target.
-    Normal,
-    /// To learn the names of targets.
-    Discovery,
-}
 
 /// Where a login is (RFC 7143, section 6.3). On the wire the stages are 0, 1 and 3.
 #[derive(Clone, Copy, Debug, PartialEq, Eq)]

@@ -3,7 +3,7 @@
 ghost use Rattle.std.specs.Prelude.{◌≡◌, Some, None, IfOk};
 ghost use Rattle.iscsi_text.specs.Canonical.{canonical_text};
 ghost use Rattle.iscsi_login.specs.Answer.{answer};
-ghost use Rattle.iscsi_login.specs.declared.stage.Session.TheVariants.{Normal};
+ghost use Rattle.iscsi_text.specs.declared.negotiated.Session.TheVariants.{Normal};
 
 use iscsi_login::{Preferences, Session, answer_text};
 use iscsi_text::Text;

@@ -2,7 +2,7 @@
 use Rattle.std.specs.Prelude.{◌≡◌, ◌⊎◌, ℕ, List, [], ◌∷◌, ◌++◌, take, Option, Result, Ok, Err, codes, if◌then◌else◌}
 use Rattle.std.specs.Io.KnownBytes.{IsAtEnd}
 use Rattle.std.specs.List.{flat_map}
-use Rattle.iscsi_login.specs.declared.stage.Session.TheVariants.{Normal}
+use Rattle.iscsi_text.specs.declared.negotiated.Session.TheVariants.{Normal}
 use Rattle.iscsi_login.specs.declared.stage.Stage.TheVariants.{Security}
 use Rattle.iscsi_login.specs.declared.offers.Auth.TheVariants as auth
 use Rattle.iscsi_login.specs.Negotiation.{standard}

@@ -6,7 +6,7 @@ use Rattle.scsi_cdb.specs.declared.cdb.Transfer10.{Transfer10}
 use Rattle.scsi_cdb.specs.declared.residual.Residual.TheVariants.{Exact}
 use Rattle.iscsi_login.specs.Negotiation.{standard}
 use Rattle.iscsi_login.specs.declared.stage.Stage.TheVariants as stages
-use Rattle.iscsi_login.specs.declared.stage.Session.TheVariants as sessions
+use Rattle.iscsi_text.specs.declared.negotiated.Session.TheVariants as sessions
 use Rattle.iscsi_login.specs.declared.offers.Auth.TheVariants as auths
 use Rattle.iscsi_target_session.specs.Configured.{no_extras}
 use Rattle.iscsi_initiator.specs.declared.request.Done.{Done}

@@ -10,7 +10,7 @@ use Rattle.scsi_disk.specs.declared.order.Outcome.{Outcome}
 use Rattle.iscsi_pdu.specs.declared.serial.Window.{Window}
 use Rattle.iscsi_stream.specs.Stream.{Message}
 use Rattle.iscsi_login.specs.declared.phase.Phase.TheVariants as phases
-use Rattle.iscsi_login.specs.declared.stage.Session.TheVariants as sessions
+use Rattle.iscsi_text.specs.declared.negotiated.Session.TheVariants as sessions
 use Rattle.iscsi_login.specs.Held.{Held, IsHeld}
 use Rattle.iscsi_target_session.specs.Session as target_session
 use Rattle.iscsi_target.specs.State as target

@@ -12,7 +12,7 @@ ghost use Rattle.scsi_disk.specs.Disk.{disk_of};
 ghost use Rattle.iscsi_initiator.specs.Laws.{listed};
 ghost use Rattle.iscsi_pair.specs.Served.{IsServed, disk_after, disk_outcomes};
 ghost use Rattle.iscsi_pair.specs.Outcomes.{Gives, HasRun, IsIdle, events_of, opening_of, requests_among};
-ghost use Rattle.iscsi_login.specs.declared.stage.Session.TheVariants as sessions;
+ghost use Rattle.iscsi_text.specs.declared.negotiated.Session.TheVariants as sessions;
 ghost use Rattle.iscsi_login.specs.declared.stage.Stage.TheVariants as stages;
 
 use crate::step::{

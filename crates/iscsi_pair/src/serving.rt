@@ -4,7 +4,7 @@ ghost use Rattle.std.specs.Prelude.{◌≡◌, ◌⊎◌, [], ℕ, List, None, f
 ghost use Rattle.std.specs.List.{AllByRecursion};
 ghost use Rattle.scsi_disk.specs.Disk.{disk_of};
 ghost use Rattle.iscsi_initiator.specs.declared.request.Done.{Done};
-ghost use Rattle.iscsi_login.specs.declared.stage.Session.TheVariants as sessions;
+ghost use Rattle.iscsi_text.specs.declared.negotiated.Session.TheVariants as sessions;
 ghost use Rattle.iscsi_pair.specs.declared.step.RunFault.TheVariants as faults;
 ghost use Rattle.iscsi_pair.specs.declared.step.Step.{Step};
 ghost use Rattle.iscsi_pair.specs.Outcomes.{CanBeServed, Gives, HasRun, IsIdle, opening_of, requests_among};

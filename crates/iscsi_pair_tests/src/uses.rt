@@ -2,7 +2,7 @@
 
 ghost use Rattle.std.specs.Prelude.{◌≡◌, map, IfErr, IfOk, IsTrue, None};
 ghost use Rattle.std.specs.List.{AllByRecursion};
-ghost use Rattle.iscsi_login.specs.declared.stage.Session.TheVariants as sessions;
+ghost use Rattle.iscsi_text.specs.declared.negotiated.Session.TheVariants as sessions;
 ghost use Rattle.iscsi_pair.specs.declared.step.RunFault.TheVariants as faults;
 ghost use Rattle.iscsi_pair.specs.Outcomes.{CanBeServed, opening_of, requests_among};
 ghost use Rattle.iscsi_pair.specs.Served.{IsServed, disk_outcomes};

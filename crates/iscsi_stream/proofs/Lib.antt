@@ -16,6 +16,7 @@ pub mod ReadyLemmas
 pub mod RefusalLaws
 pub mod RunLaws
 pub mod SegmentLemmas
+pub mod SkippingLemmas
 pub mod SettledBytesLemmas
 pub mod TakingLemmas
 pub mod WritingLemmas

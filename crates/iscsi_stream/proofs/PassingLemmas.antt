@@ -1,9 +1,9 @@
 -- What passing PDUs on leaves.
-use Rattle.std.proofs.Common.{◌≡◌, ℕ, ◌+◌, ◌-◌, ◌<◌, ◌≤◌, ◌^◌, min, Bool, true, false, List, [], ◌∷◌, ◌++◌, length, take, drop, refl, sym, ap, subst, ◌∙◌}
+use Rattle.std.proofs.Common.{◌≡◌, ℕ, ◌+◌, ◌-◌, ◌<◌, ◌≤◌, ◌^◌, min, max, Bool, true, false, List, [], ◌∷◌, ◌++◌, length, take, drop, refl, sym, ap, subst, ◌∙◌}
 use Rattle.std.proofs.Common.{arith, append-nil, append_assoc, inl, inr}
 use Rattle.std.specs.Prelude.{not, ◌&&◌, Some}
 use Rattle.std.proofs.lemmas.Bool.{cases_lt}
-use Rattle.std.proofs.lemmas.List.{length-append, take-append-drop, take_rest, nil_from_length}
+use Rattle.std.proofs.lemmas.List.{length-append, length-take, take_all, take-append-drop, take_rest, nil_from_length}
 use Rattle.iscsi_pdu.specs.declared.head.Head.{Head}
 use Rattle.iscsi_pdu.specs.declared.head.HeadFault.{HeadFault}
 use Rattle.iscsi_pdu.specs.Meaning.{IsHeader, Means, fault_of, AreBytes}
@@ -13,11 +13,13 @@ use Rattle.iscsi_stream.specs.declared.fault.StreamFault.TheVariants as stream
 use Rattle.iscsi_stream.specs.declared.counts.Counts.{Counts}
 use Rattle.iscsi_stream.specs.Faults.{tool_fault}
 use Rattle.iscsi_stream.specs.Segment.{no_login}
-use Rattle.iscsi_stream.specs.Stream.{Message, longest_segment, Splits, ReadsAs}
+use Rattle.iscsi_stream.specs.Stream.{Message, pdu_len, longest_segment, Splits, ReadsAs}
 use Rattle.iscsi_stream.specs.declared.normalising.Form.{Form}
-use Rattle.iscsi_stream.specs.Framing.{Framing, is_whole, is_ready, settled, Takes, FeedFails, HasTaken, Moves, given_up, message_of, last_place}
+use Rattle.iscsi_stream.specs.Framing.{Framing, holding, length_at, begun_len, is_whole, is_ready, settled, Takes, FeedFails, HasTaken, Moves, given_up, message_of, last_place}
+use Rattle.iscsi_stream.specs.Headers.{skipped}
 use Rattle.iscsi_stream.specs.Passing.{IsDue, progress, PassesOn, Counted, Appended, PassFails}
-use Rattle.iscsi_stream.proofs.HeadLemmas.{AreBytes-take}
+use Rattle.iscsi_stream.proofs.GatheringLemmas.{begun_len-long, is_full}
+use Rattle.iscsi_stream.proofs.HeadLemmas.{AreBytes-take, header-length, means-length, means_of}
 use Rattle.iscsi_stream.proofs.SettledBytesLemmas.{settled-short, length-settled, is_whole-settled}
 use Rattle.iscsi_stream.proofs.ReadyLemmas.{apart, not_whole-nil}
 use Rattle.iscsi_stream.proofs.OneMeaningLaw.{AreBytes-back, no_pdu_bad, no_pdu_over}
@@ -56,6 +58,48 @@ pass_one form v w h d before after bytes k n means is appended due pdus bytes_in
       appended = appended;
       counted = record { pdus = λ lt. omega (arith, pdus); bytes_in = bytes_in; bytes_out = λ lt. omega (arith, bytes_out) };
     }
+
+-- ---- a PDU that has no segment
+
+-- its bytes, which come at once
+bare_means : (bytes : List ℕ) (h : Head) → length bytes ≡ 48 → IsHeader (take 48 bytes) h 0 → Means bytes h []
+bare_means bytes h size header = means_of bytes h [] header size refl
+
+-- Where nothing is held the framer takes them, and then a PDU is ready.
+pub bare_taken : (v : Framing) (piece : List ℕ) (h : Head) (n : ℕ) → v.failed ≡ false → v.held ≡ [] → 48 ≤ length piece → IsHeader (take 48 piece) h n →
+    length_at (take 48 piece) ≡ 0 → Takes v piece 48 (holding v (take 48 piece)) × Means (take 48 piece) h []
+bare_taken v piece h n live empty long header none =
+    let bytes = take 48 piece in
+    let size : length bytes ≡ 48 = omega (arith, length-take 48 piece, long) in
+    let same : take 48 bytes ≡ bytes = take_all 48 bytes (omega (arith, size)) in
+    let len : 0 ≡ length_at bytes = sym none in
+    let zero : n ≡ 0 = header-length bytes h n header ∙ none in
+    let says : IsHeader (take 48 bytes) h 0 = subst (λ (x : List ℕ). IsHeader x h 0) (sym same) (subst (IsHeader bytes h) zero header) in
+    let held : settled (v.held ++ bytes) ≡ bytes = ap (λ (x : List ℕ). settled (x ++ bytes)) empty ∙ settled-short bytes (omega (arith, size)) in (
+      record {
+        live = live;
+        bound = long;
+        gathered = ap (holding v) (sym held);
+        begun = λ _. (
+          h,
+          record {
+            header = subst (λ (n : ℕ). IsHeader (take 48 bytes) h n) len says;
+            within = omega (arith, len);
+            no_more = omega (arith, size);
+          },
+        );
+        stops = λ _. is_full bytes (omega (arith, size)) (omega (arith, size, ap pdu_len len));
+      },
+      bare_means bytes h size says,
+    )
+
+-- given up whole it is passed by
+pub bare_passed : (v : Framing) (bytes : List ℕ) (h : Head) → v.held ≡ [] → Means bytes h [] → skipped v h 0 ≡ given_up (holding v bytes) h
+bare_passed v bytes h empty means =
+    let len : 0 ≡ length_at bytes = means-length bytes h [] means in
+    let size : pdu_len 0 ≡ length bytes = sym means.size in
+    let room : v.room ≡ max v.room (begun_len bytes) = omega (arith, begun_len-long bytes (omega (arith, means.size)), len) in
+    rw (← size, ← room) refl
 
 -- ---- a piece
 

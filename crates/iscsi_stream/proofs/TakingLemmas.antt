@@ -22,7 +22,7 @@ settled-nil = settled-short [] (omega arith)
 -- ---- the room of its buffer
 
 -- the padding says no other length
-begun_len-settled : (bytes : List ℕ) → begun_len (settled bytes) ≡ begun_len bytes
+pub begun_len-settled : (bytes : List ℕ) → begun_len (settled bytes) ≡ begun_len bytes
 begun_len-settled bytes =
     elim (cases_lt (length bytes) 48) [
       | inl lt ↦ begun_len-short (settled bytes) (omega (arith, length-settled bytes)) ∙ sym (begun_len-short bytes lt)
@@ -34,7 +34,7 @@ pub length_at-front : (front rest : List ℕ) → 48 ≤ length front → length
 length_at-front front rest long = length_at-same (front ++ rest) front (take-append-le 48 front rest long)
 
 -- more bytes say no less
-begun_len-more : (bytes more : List ℕ) → begun_len bytes ≤ begun_len (bytes ++ more)
+pub begun_len-more : (bytes more : List ℕ) → begun_len bytes ≤ begun_len (bytes ++ more)
 begun_len-more bytes more =
     elim (cases_lt (length bytes) 48) [
       | inl lt ↦ omega (arith, begun_len-short bytes lt)

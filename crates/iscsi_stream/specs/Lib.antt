@@ -2,6 +2,7 @@ pub mod Canonical
 pub mod Faults
 pub mod Framing
 pub mod Gathering
+pub mod Headers
 pub mod Normalising
 pub mod Passing
 pub mod Pieces

@@ -41,10 +41,28 @@ pub fn text_of<'a>(
         (λ _. (continued ≡ false) × (is_last pdu.now.head ≡ true))) }
     ensures memory { OnErr result ((continued ≡ false) × (is_last pdu.now.head ≡ true)) }
 {
-    if continued || !is_last(&pdu.head) {
+    text_in(alloc, &pdu.head, pdu.bytes, continued)
+}
+
+// The same of a head and a segment.
+fn text_in<'a>(
+    alloc: Global,
+    head: &Head,
+    bytes: &'a [u8],
+    continued: bool,
+) -> Result<Option<Text<'a>>, AllocError>
+    ensures means { IfOk result (λ text. text_or_bytes text bytes.now
+        ≡ segment_of continued head.now bytes.now) }
+    ensures no_longer { IfOk result (λ text. IfSome text
+        (λ pairs. length (canonical_text pairs) ≤ length bytes.now)) }
+    ensures whole { IfOk result (λ text. IfSome text
+        (λ _. (continued ≡ false) × (is_last head.now ≡ true))) }
+    ensures memory { OnErr result ((continued ≡ false) × (is_last head.now ≡ true)) }
+{
+    if continued || !is_last(head) {
         return Ok(None);
     }
-    read_text(alloc, pdu.bytes)
+    read_text(alloc, bytes)
 }
 
 /// The header of a PDU's canonical form, with the length of its canonical segment. The PDU
@@ -73,8 +91,25 @@ pub fn canonical(pdu: &Pdu<'_>, continued: bool, out: &mut Vec<u8>) -> Result<()
         ++ canonical_bytes (message continued pdu.now.head pdu.now.bytes.now)) }
     ensures err { OnErr result (out.new.items ≡ out.old.items) }
 {
+    canonical_of(&pdu.head, pdu.bytes, continued, out)
+}
+
+/// The same of a head, which has 80 bytes and is lent, and a segment.
+#[inline(always)]
+pub(crate) fn canonical_of(
+    head: &Head,
+    bytes: &[u8],
+    continued: bool,
+    out: &mut Vec<u8>,
+) -> Result<(), AllocError>
+    requires fits { Fits head.now }
+    requires short { length bytes.now < 2 ^ 24 }
+    ensures ok { OnOk result (out.new.items ≡ out.old.items
+        ++ canonical_bytes (message continued head.now bytes.now)) }
+    ensures err { OnErr result (out.new.items ≡ out.old.items) }
+{
     let start = out.len();
-    let result = append(pdu, continued, out);
+    let result = append(head, bytes, continued, out);
     if result.is_err() {
         out.truncate(start);
     }
@@ -101,16 +136,17 @@ pub fn write_pdu(head: &Head, segment: &[u8], out: &mut Vec<u8>) -> Result<(), A
 }
 
 // Appends the canonical form, of which a front may stand where memory ran out.
-fn append(pdu: &Pdu<'_>, continued: bool, out: &mut Vec<u8>) -> Result<(), AllocError>
-    requires fits { Fits pdu.now.head }
-    requires short { length pdu.now.bytes.now < 2 ^ 24 }
+#[inline(always)]
+fn append(head: &Head, bytes: &[u8], continued: bool, out: &mut Vec<u8>) -> Result<(), AllocError>
+    requires fits { Fits head.now }
+    requires short { length bytes.now < 2 ^ 24 }
     ensures ok { OnOk result (out.new.items ≡ out.old.items
-        ++ canonical_bytes (message continued pdu.now.head pdu.now.bytes.now)) }
+        ++ canonical_bytes (message continued head.now bytes.now)) }
     ensures front { take (length out.old.items) out.new.items ≡ out.old.items }
 {
-    match text_of(*out.allocator(), pdu, continued)? {
-        Some(text) => append_text(&pdu.head, &text, out),
-        None => append_bytes(&pdu.head, pdu.bytes, out),
+    match text_in(*out.allocator(), head, bytes, continued)? {
+        Some(text) => append_text(head, &text, out),
+        None => append_bytes(head, bytes, out),
     }
 }
 
@@ -133,6 +169,7 @@ fn append_text(head: &Head, text: &Text<'_>, out: &mut Vec<u8>) -> Result<(), Al
 }
 
 // Appends a header, a segment as it is and its padding.
+#[inline(always)]
 fn append_bytes(head: &Head, bytes: &[u8], out: &mut Vec<u8>) -> Result<(), AllocError>
     requires fits { Fits head.now }
     requires short { length bytes.now < 2 ^ 24 }

@@ -1,15 +1,17 @@
 //! PDUs out of a stream that comes in pieces.
 
-ghost use Rattle.std.specs.Prelude.{◌≡◌, ◌≤◌, ◌<◌, ◌^◌, ◌+◌, ◌↔◌, [], false, true, length, IfOk, IfErr, OnErr, OnOk, ◌⊎◌, IfSome, IsSome, IsTrue, ℕ, List};
-ghost use Rattle.iscsi_pdu.specs.Meaning.{Means, Fits};
+ghost use Rattle.std.specs.Prelude.{◌≡◌, ◌≢◌, ◌≤◌, ◌<◌, ◌^◌, ◌+◌, ◌↔◌, [], false, true, length, IfOk, IfErr, OnErr, OnOk, ◌⊎◌, IfSome, IsSome, IsTrue, ℕ, List, take};
+ghost use Rattle.iscsi_pdu.specs.Meaning.{IsHeader, Means, Fits};
 ghost use Rattle.iscsi_pdu.specs.declared.head.Head.{Head};
 ghost use Rattle.iscsi_stream.specs.Segment.{continues};
-ghost use Rattle.iscsi_stream.specs.Framing.{opening, is_ready, Takes, FeedFails, stopped, FinishFails, given_up};
+ghost use Rattle.iscsi_stream.specs.Framing.{opening, is_ready, length_at, Takes, FeedFails, stopped, FinishFails, given_up};
+ghost use Rattle.iscsi_stream.specs.Headers.{TakesHeader, skipped};
 
 use crate::fault::StreamFault;
 use crate::gathering::{Buffer, HEADER, Stage, gather};
 use crate::logins::Logins;
 use iscsi_pdu::{Head, Pdu, pad};
+use scsi_cdb::layout::u24_at;
 use std::alloc::Global;
 use std::marker::Model;
 
@@ -103,6 +105,94 @@ impl Framer {
         result
     }
 
+    /// Takes bytes of the piece up to the end of a header, and says how many it took: all of them,
+    /// or as many as the header lacks. Where the header is whole it takes none. Its faults, and
+    /// what they leave, are those of `feed` with the piece.
+    pub fn feed_header(&mut self, piece: &[u8]) -> Result<usize, StreamFault>
+        ensures ok { IfOk result (λ n. TakesHeader self.old piece.now n self.new) }
+        ensures err { IfErr result (FeedFails self.old piece.now) }
+        ensures stopped { OnErr result (self.new ≡ stopped self.old) }
+    {
+        let lacking = HEADER.saturating_sub(self.held());
+        self.feed(&piece[..piece.len().min(lacking)])
+    }
+
+    /// The head of the PDU that is begun, and the length of its segment, where the header is whole
+    /// and no more of the PDU came. The segment may be empty, and the PDU ready.
+    pub fn begun(&self) -> Option<(&Head, u32)>
+        ensures begun { IsSome result ↔ ((self.now.failed ≡ false) × (length self.now.held ≡ 48)) }
+        ensures header { IfSome result (λ begun. IsHeader self.now.held begun.0.now begun.1) }
+        ensures fits { IfSome result (λ begun. Fits begun.0.now) }
+        ensures within { IfSome result (λ begun. begun.1 ≤ self.now.limit) }
+        ensures room { IfSome result (λ begun. begun.1 ≤ self.now.room) }
+        ensures short { self.now.limit < 2 ^ 24 }
+    {
+        if self.failed {
+            return None;
+        }
+        let Stage::Body { head, len, padded } = &self.stage else {
+            return None;
+        };
+        if self.buffer.segment.len() > 0 || *padded > 0 {
+            return None;
+        }
+        Some((head, *len))
+    }
+
+    /// Gives the PDU up that is begun, where the header is whole and no more of it came: its
+    /// segment and padding are taken elsewhere, and the next byte is one of the next PDU. Else it
+    /// does nothing.
+    pub fn skip(&mut self)
+        ensures skipped { (head : Head) (len : ℕ) → self.old.failed ≡ false
+            → IsHeader self.old.held head len → self.new ≡ skipped self.old head len }
+        ensures none { length self.old.held ≢ 48 → self.new ≡ self.old }
+    {
+        let Some((head, len)) = self.begun() else {
+            return;
+        };
+        let logins = self.logins.after(head);
+        let length = HEADER as u64 + u64::from(len) + u64::from(pad(len));
+        self.place = self.place.saturating_add(length);
+        self.logins = logins;
+        self.stage = Stage::Header(0);
+    }
+
+    /// The header of the next PDU, where nothing is held, and that header lies whole at the
+    /// beginning of the piece and says no segment.
+    #[inline(always)]
+    pub(crate) fn bare<'a>(&self, piece: &'a [u8]) -> Option<&'a [u8; 48]>
+        ensures live { IsSome result → self.now.failed ≡ false }
+        ensures empty { IsSome result → self.now.held ≡ [] }
+        ensures whole { IsSome result → 48 ≤ length piece.now }
+        ensures header { IfSome result (λ header. header.now ≡ take 48 piece.now) }
+        ensures none { IfSome result (λ header. length_at header.now ≡ 0) }
+    {
+        if self.failed || self.held() > 0 {
+            return None;
+        }
+        let header: &[u8; 48] = piece.first_chunk()?;
+        if u24_at(header, 5) > 0 {
+            return None;
+        }
+        Some(header)
+    }
+
+    /// Passes a PDU by, which has this head and no segment, where nothing is held.
+    #[inline(always)]
+    pub(crate) fn pass(&mut self, head: &Head)
+        ensures { self.old.held ≡ [] → self.new ≡ skipped self.old head.now 0 }
+    {
+        self.logins = self.logins.after(head);
+        self.place = self.place.saturating_add(HEADER as u64);
+    }
+
+    /// Whether a PDU with this head, which is the next one, continues another login PDU.
+    pub(crate) fn continues(&self, head: &Head) -> bool
+        ensures { result ≡ continues self.now.logins head.now }
+    {
+        self.logins.continues(head)
+    }
+
     /// The PDU that is ready. Its segment lies in the framer's buffer.
     pub fn pdu(&self) -> Option<Pdu<'_>>
         ensures ready { IsSome result ↔ IsTrue (is_ready self.now) }
@@ -117,8 +207,8 @@ impl Framer {
         }
     }
 
-    // The head and the segment of the PDU that is ready. A head has 80 bytes, so it is lent.
-    fn ready(&self) -> Option<(&Head, &[u8])>
+    /// The head and the segment of the PDU that is ready. A head has 80 bytes, so it is lent.
+    pub(crate) fn ready(&self) -> Option<(&Head, &[u8])>
         ensures ready { IsSome result ↔ IsTrue (is_ready self.now) }
         ensures means { IfSome result (λ p. Means self.now.held p.0.now p.1.now) }
         ensures fits { IfSome result (λ p. Fits p.0.now) }

@@ -3,19 +3,20 @@
 
 ghost use Rattle.std.specs.Prelude.{◌≡◌, ◌<◌, ◌^◌, ◌++◌, ◌∷◌, ℕ, List, [], length, IfOk, IfErr, OnOk, OnErr, IsTrue, ◌↔◌, false};
 ghost use Rattle.std.specs.Io.KnownBytes.{Appends, Consumes, IsAtEnd};
-ghost use Rattle.iscsi_pdu.specs.Meaning.{AreBytes, Fits};
+ghost use Rattle.iscsi_pdu.specs.Meaning.{AreBytes, Fits, Means};
 ghost use Rattle.iscsi_stream.specs.Stream.{Message, StreamMeans, message, longest_segment};
-ghost use Rattle.iscsi_stream.specs.Framing.{is_ready};
+ghost use Rattle.iscsi_stream.specs.Framing.{is_ready, holding, message_of};
 ghost use Rattle.iscsi_stream.specs.Normalising.{IsCanonical, IsNormalised, Shows, Writes, WritesUntil, AtEnd};
 ghost use Rattle.iscsi_stream.specs.Passing.{IsDue, progress, PassesOn, Appended, PassFails};
 
-use crate::canonical_form::canonical;
+use crate::canonical_form::canonical_of;
 use crate::counts::Counts;
 use crate::fault::ToolFault;
 use crate::framer::Framer;
+use crate::gathering::HEADER;
 use crate::io::{PIECE, Reads, write_fully};
 use crate::lines::show_line;
-use iscsi_pdu::Pdu;
+use iscsi_pdu::{Head, Pdu, read_head};
 use std::alloc::{AllocError, Global};
 use std::io::{Read, Write};
 
@@ -149,10 +150,46 @@ fn pass_on(
 {
     let mut rest = piece;
     while !rest.is_empty() {
+        // Most PDUs have no segment, and lie whole in a piece.
+        if let Some(header) = framer.bare(rest) {
+            // A head has 80 bytes, so it is lent where it lies.
+            let read = read_head(header);
+            if let Ok((head, _)) = &read {
+                append_bare(form, framer, head, out, counts)?;
+                rest = &rest[HEADER..];
+                continue;
+            }
+        }
         let taken = framer.feed(rest)?;
         rest = &rest[taken..];
         append_ready(form, framer, out, counts)?;
     }
+    Ok(())
+}
+
+// Appends what stands for a PDU with this head and no segment, and passes it by.
+#[inline(always)]
+fn append_bare(
+    form: Form,
+    framer: &mut Framer,
+    head: &Head,
+    out: &mut Vec<u8>,
+    counts: &mut Counts,
+) -> Result<(), AllocError>
+    requires fits { Fits head.now }
+    requires empty { framer.old.held ≡ [] }
+    ensures ok { OnOk result ((header : List ℕ) → Means header head.now []
+        → PassesOn form (progress (holding framer.old header) out.old.items counts.old)
+        (progress framer.new out.new.items counts.new) []
+        (message_of framer.old head.now [] ∷ [])) }
+    ensures err { OnErr result (out.new.items ≡ out.old.items) }
+{
+    let before = out.len();
+    let continues = framer.continues(head);
+    append_pdu(form, framer.place(), head, &[], continues, out)?;
+    counts.pdus = counts.pdus.saturating_add(1);
+    counts.bytes_out = counts.bytes_out.saturating_add((out.len() - before) as u64);
+    framer.pass(head);
     Ok(())
 }
 
@@ -168,11 +205,12 @@ fn append_ready(
         (progress framer.new out.new.items counts.new) [] more) }
     ensures err { OnErr result (out.new.items ≡ out.old.items) }
 {
-    let Some(pdu) = framer.pdu() else {
+    let Some((head, bytes)) = framer.ready() else {
         return Ok(());
     };
     let before = out.len();
-    append_pdu(form, framer.place(), &pdu, framer.continued(), out)?;
+    let continued = framer.continues(head);
+    append_pdu(form, framer.place(), head, bytes, continued, out)?;
     counts.pdus = counts.pdus.saturating_add(1);
     counts.bytes_out = counts.bytes_out.saturating_add((out.len() - before) as u64);
     framer.take();
@@ -180,22 +218,24 @@ fn append_ready(
 }
 
 // Appends what stands for a PDU at this place, which continues another or does not.
+#[inline(always)]
 fn append_pdu(
     form: Form,
     place: u64,
-    pdu: &Pdu<'_>,
+    head: &Head,
+    bytes: &[u8],
     continued: bool,
     out: &mut Vec<u8>,
 ) -> Result<(), AllocError>
-    requires fits { Fits pdu.now.head }
-    requires short { length pdu.now.bytes.now < 2 ^ 24 }
-    ensures ok { OnOk result ((bytes : List ℕ)
-        × IsDue form (message continued pdu.now.head pdu.now.bytes.now ∷ []) bytes
-        × (out.new.items ≡ out.old.items ++ bytes)) }
+    requires fits { Fits head.now }
+    requires short { length bytes.now < 2 ^ 24 }
+    ensures ok { OnOk result ((due : List ℕ)
+        × IsDue form (message continued head.now bytes.now ∷ []) due
+        × (out.new.items ≡ out.old.items ++ due)) }
     ensures err { OnErr result (out.new.items ≡ out.old.items) }
 {
     match form {
-        Form::Canonical => canonical(pdu, continued, out),
-        Form::Line => show_line(place, pdu, out),
+        Form::Canonical => canonical_of(head, bytes, continued, out),
+        Form::Line => show_line(place, &Pdu { head: *head, bytes }, out),
     }
 }

@@ -5,7 +5,7 @@ use Rattle.scsi_disk.specs.Disk.{Disk, cut, overlaid}
 use Rattle.scsi_disk.specs.Plan.{plan_of, transfer}
 use Rattle.scsi_disk.specs.Effect.{block_data, effect, disk_by, guarded, IsSupplied}
 use Rattle.scsi_disk.proofs.GuardLemmas.{takes_none}
-use Rattle.scsi_disk.specs.Lasting.{Adds}
+use Rattle.scsi_disk.specs.Lasting.{Adds, Within}
 use Rattle.scsi_disk.specs.Runs.{Supplied}
 use Rattle.scsi_disk.specs.declared.order.Order.{Order}
 use Rattle.scsi_disk.specs.declared.order.Plan.{Plan}
@@ -52,6 +52,14 @@ none_written protected order bytes before after old new count gives stays adds =
         (sym (is ∙ ap (λ (d : Disk). d.block n) (disk_kept (guarded protected (plan_of order before.count)) before order bytes
         (takes_none protected (plan_of order before.count) gives)))) (stays n))
   ];
+}
+
+-- then the store was read
+pub read_behind : (protected : Bool) (orders : List Supplied) (before after now : Disk) (old mid new : ℕ → List ℕ → Type 0) → Crashes protected orders before after old mid →
+    now ≡ after → Within mid new → Crashes protected orders before now old new
+read_behind protected orders before after now old mid new h same within = record {
+  count = ap (λ (d : Disk). d.count) same ∙ h.count;
+  adds = λ n c k. h.adds n c (within n c k);
 }
 
 pub any_orders : (protected : Bool) (orders : List Supplied) (before after : Disk) (old new : ℕ → List ℕ → Type 0) → Crashes protected [] before after old new →

@@ -15,7 +15,7 @@ use Rattle.iscsi_pdu.specs.declared.head.data_out.DataOut.{DataOut as DataPdu}
 use Rattle.iscsi_stream.specs.Segment.{segment_if, segment_of, segment_bytes, text_or_bytes, is_last}
 use Rattle.iscsi_stream.specs.Stream.{Message, message}
 use Rattle.iscsi_login.specs.declared.phase.Phase.{Phase}
-use Rattle.iscsi_login.specs.declared.stage.Session.{Session as SessionType}
+use Rattle.iscsi_text.specs.declared.negotiated.Session.{Session as SessionType}
 use Rattle.iscsi_target_session.specs.Session.{Session, limit}
 use Rattle.iscsi_target.specs.State.{Machine, Stepped, on, unchanged, shut_down, waiting, max_cmd_sn, unit_of}
 use Rattle.std.proofs.Common.{inl, inr, arith}
@@ -35,14 +35,13 @@ use Rattle.iscsi_target.specs.Inside.{Moment, moment, Leaves, Works, refusal, Fo
 use Rattle.iscsi_target.specs.declared.verdict.Verdict.{Verdict}
 use Rattle.iscsi_target.specs.declared.verdict.Verdict.TheVariants as verdicts
 use Rattle.iscsi_target.proofs.TurnLemmas.{with_tasks}
-use Rattle.iscsi_target_session.specs.Rejecting.{reject}
 use Rattle.iscsi_pdu.specs.Rules.{kind_not_due, segment_too_long, command_out_of_turn}
 use Rattle.scsi_disk.specs.Plan.{plan_of}
 use Rattle.scsi_disk.specs.declared.order.Order.{Order}
 use Rattle.scsi_disk.specs.declared.order.Plan.{Plan}
 use Rattle.scsi_disk.specs.declared.order.Plan.TheVariants.{Refuse, Take, Give}
 use Rattle.iscsi_login.specs.Held.{Held}
-use Rattle.iscsi_target.specs.declared.tasks.Task.TheVariants.{Data}
+use Rattle.iscsi_target.specs.declared.tasks.Task.TheVariants.{Data, Request}
 use Rattle.iscsi_target.proofs.WriteTilingLaws.{immediate_fits}
 use Rattle.iscsi_target.specs.Command.{scsi_command, opened, planned, order_of, breaks_burst_rules, breaks_rules, task_planned, task_by, task_of}
 use Rattle.iscsi_target.specs.Execution.{Device}
@@ -236,6 +235,18 @@ pub waits_as : (unit : Option LogicalUnit) (count total : ℕ) (c : Bool) (hd : 
 waits_as unit count total c hd bytes m is h e plan =
     sym (ap (task_by unit count m) (head_of c hd bytes m is ∙ e) ∙ ap (λ (b : List ℕ). task_planned m h (order_of unit h) b (plan_of (order_of unit h) count))
     (plain c hd bytes m is (ap is_last e)) ∙ ap (task_planned m h (order_of unit h) bytes) plan)
+
+kept_planned : (m : Message) (h : Command) (order : Order) (bytes : List ℕ) (plan : Plan) → ((n : ℕ) → plan ≡ Take n → ⊥) → Request m ≡ task_planned m h order bytes plan
+kept_planned m h order bytes (Take total) none = absurd (none total refl)
+kept_planned m h order bytes (Refuse sense) none = refl
+kept_planned m h order bytes (Give given) none = refl
+
+-- a command that takes nothing is kept as it came
+pub kept_as : (unit : Option LogicalUnit) (count : ℕ) (c : Bool) (hd : Head) (bytes : List ℕ) (m : Message) (is : message c hd bytes ≡ m) (h : Command) → hd ≡ ScsiCommand h →
+    ((n : ℕ) → plan_of (order_of unit h) count ≡ Take n → ⊥) → Request m ≡ task_of unit count m
+kept_as unit count c hd bytes m is h e none =
+    kept_planned m h (order_of unit h) (segment_bytes m.segment) (plan_of (order_of unit h) count) none
+    ∙ sym (ap (task_by unit count m) (head_of c hd bytes m is ∙ e))
 
 -- where there is no other task, a request is handled where it lies
 pub alone : (d : Device) (s : Machine) (disk : Disk) (m : Message) → breaks_rules s.session.held (length (segment_bytes m.segment)) m.head ≡ false →

@@ -16,6 +16,7 @@ pub mod DiskFoldLemmas
 pub mod OpenWriteLemmas
 pub mod JoiningLemmas
 pub mod AppendLemmas
+pub mod ArrivalLemmas
 pub mod AskingLemmas
 pub mod NotingLemmas
 pub mod ReplyLemmas

@@ -1,6 +1,5 @@
 -- A login text with very many keys.
 use Rattle.std.specs.Prelude.{false, ◌≡◌, ℕ, zero, suc, ◌+◌, ◌/◌, ◌%◌, List, [], ◌∷◌, ◌++◌, None, codes, refl}
-use Rattle.std.specs.Fmt.{digits}
 use Rattle.iscsi_stream.specs.Canonical.{canon}
 use Rattle.iscsi_target.specs.Machine.{answers}
 use Rattle.iscsi_target.specs.Worked.{hex, entry, first, says, first_text, fresh, blank}

@@ -1,5 +1,5 @@
 -- What is noted of commands that ask to last, over one PDU of a piece.
-use Rattle.std.proofs.Common.{◌≡◌, ◌<◌, ◌≤◌, Bool, ◌⊎◌, inl, inr, ◌∙◌, ℕ, ◌+◌, List, [], ◌∷◌, ◌++◌, true, false, length, take, drop, Option, Some, None}
+use Rattle.std.proofs.Common.{◌≡◌, ◌<◌, ◌≤◌, Bool, ◌⊎◌, inl, inr, ◌∙◌, ℕ, ◌+◌, List, [], ◌∷◌, ◌++◌, true, false, length, take, drop, Option, None}
 use Rattle.std.proofs.Common.{refl, sym, ap, subst, arith}
 use Rattle.std.specs.Prelude.{Ok}
 use Rattle.std.specs.List.{AllByRecursion}
@@ -15,7 +15,7 @@ use Rattle.iscsi_target.specs.State.{Machine, joined}
 use Rattle.iscsi_target.specs.Machine.{is_closed}
 use Rattle.iscsi_target.specs.Feed.{Connection, FeedsOne, Scene, Store, scene}
 use Rattle.iscsi_target.specs.Inside.{AnswersReady, TakesOne, connection}
-use Rattle.iscsi_target.specs.Asking.{NoneAsks, NoneNextAsks, NotesAsking, SomeNextAsks, SomeReadyAsks, asks_at, has_cache}
+use Rattle.iscsi_target.specs.Asking.{NoneNextAsks, NotesAsking, SomeNextAsks, SomeReadyAsks, asks_at, has_cache}
 use Rattle.iscsi_target.proofs.FeedInvariant.{FedAs, FedUpTo, GoesUpTo, fed_bytes, fed_none, fed_pdu, feeds_one, front_taken}
 use Rattle.iscsi_target.proofs.AskingLemmas.{answers_none}
 

@@ -1,7 +1,8 @@
 -- What orders give and leave.
-use Rattle.std.proofs.Common.{◌≡◌, ◌≤◌, inl, inr, ◌∙◌, ℕ, List, [], Bool, true, false, min, length, Option, Some, None, IsTrue, refl, sym, ap, subst}
+use Rattle.std.proofs.Common.{◌≡◌, ◌≤◌, inl, inr, ◌∙◌, ℕ, List, [], Bool, true, false, min, length, Option, Some, None, IsTrue, refl, sym, ap}
 use Rattle.std.proofs.Common.{arith, ◌<◌, ◌^◌, unwrap_or}
-use Rattle.std.specs.Prelude.{◌||◌, ◌&&◌, if◌then◌else◌, option_map, Result, Ok, Err, IfOk}
+use Rattle.std.specs.declared.alloc.AllocError.{AllocError}
+use Rattle.std.specs.Prelude.{◌||◌, ◌&&◌, if◌then◌else◌, option_map, Result, Ok, Err, IfOk, OnErr}
 use Rattle.std.proofs.lemmas.Bool.{cases_lt, false≢true}
 use Rattle.std.proofs.lemmas.List.{length-take}
 use Rattle.scsi_cdb.specs.declared.cdb.Cdb.{Cdb}
@@ -19,6 +20,8 @@ use Rattle.scsi_unit.specs.Telling.{told, unit_outcome}
 use Rattle.iscsi_target.specs.declared.due.Due.{Due}
 use Rattle.iscsi_target.specs.Feed.{Store}
 use Rattle.iscsi_target.specs.Inside.{LedTo, store_of}
+use Rattle.scsi_disk.specs.Found.{IsFound}
+use Rattle.scsi_disk.specs.declared.found.Found.{Found}
 use Rattle.iscsi_target.specs.Staged.{IsStaged, CountsR2ts}
 use Rattle.scsi_disk.specs.declared.order.Plan.{Plan}
 use Rattle.scsi_disk.specs.declared.order.Plan.TheVariants.{Refuse, Take, Give}
@@ -90,6 +93,14 @@ order_keeps protected fb fa disk order bytes after x no_take =
       | inr ge ↦ ap (λ (a : Effect). a.disk) (x.works (omega (arith, ge, x.rises)))
           ∙ disk_kept (guarded protected (plan_of order disk.count)) disk order bytes none
     ]
+
+-- so does one whose result is this
+pub result_keeps : (result : Result Outcome AllocError) (protected : Bool) (fb fa : ℕ) (disk now : Disk) (order : Order) (bytes : List ℕ)
+    → IfOk result (λ o. Executes protected fb fa disk order bytes (record { disk = now; outcome = o })) → OnErr result (now ≡ disk)
+    → ((n : ℕ) → plan_of order disk.count ≡ Take n → ⊥) → now ≡ disk
+result_keeps (Ok o) protected fb fa disk now order bytes x same none =
+    order_keeps protected fb fa disk order bytes (record { disk = now; outcome = o }) x none
+result_keeps (Err f) protected fb fa disk now order bytes x same none = same
 
 -- what the unit doesn't answer
 untold : (unit : Option LogicalUnit) (count : ℕ) (order : Order) (outcome : Outcome) → ((u : LogicalUnit) → unit ≡ Some u → None ≡ unit_outcome u count order)
@@ -185,11 +196,10 @@ takes_is None order n count e = takes_by (is_write order.cdb) order n count refl
     takes_by true order n count is e = (is, cc)
     takes_by false order n count is e = absurd cc
 
-pub staged_at : (order known : Order) (total : ℕ) (bytes : List ℕ) (due : Due) → order ≡ known → is_write known.cdb ≡ true → total
-    ≡ taken_length known → length bytes ≤ total → CountsR2ts total (length bytes) 0 due
-    → IsStaged order total bytes due 0
-staged_at order known total bytes due e w t fits asked = subst (λ (o : Order). IsStaged o total bytes due 0) (sym e)
-    (record { is_write = w; total_is = t; fits = fits; counted_r2ts = asked })
+pub staged_at : (order : Order) (found : Found) (total : ℕ) (bytes : List ℕ) (due : Due) → is_write order.cdb ≡ true → IsFound order found → total
+    ≡ taken_length order → length bytes ≤ total → CountsR2ts total (length bytes) 0 due
+    → IsStaged order found total bytes due 0
+staged_at order found total bytes due w f t fits asked = record { is_write = w; found_is = f; total_is = t; fits = fits; counted_r2ts = asked }
 
 -- ---- what the disk tells of itself
 

@@ -7,10 +7,10 @@ use Rattle.iscsi_pdu.specs.declared.head.Head.{Head}
 use Rattle.iscsi_pdu.specs.declared.head.Head.TheVariants.{NopOut, ScsiCommand, TaskRequest, TextRequest, LogoutRequest}
 use Rattle.iscsi_stream.specs.Segment.{Segment, Bytes, Text, segment_bytes}
 use Rattle.iscsi_stream.specs.Stream.{Message}
-use Rattle.iscsi_login.specs.declared.key.NegKey.{NegKey}
-use Rattle.iscsi_login.specs.declared.key.NegKey.TheVariants as keys
+use Rattle.iscsi_text.specs.declared.negotiated.NegKey.{NegKey}
+use Rattle.iscsi_text.specs.declared.negotiated.NegKey.TheVariants as keys
 use Rattle.iscsi_login.specs.declared.phase.Phase.{Phase}
-use Rattle.iscsi_login.specs.Key.{rule_of}
+use Rattle.iscsi_text.specs.Negotiated.{rule_of}
 use Rattle.iscsi_login.specs.Negotiation.{Allows, IsInRange}
 use Rattle.iscsi_login.specs.Held.{IsHeld, defaults, held_value}
 use Rattle.iscsi_login.proofs.AgreementLaw.{default_allowed}

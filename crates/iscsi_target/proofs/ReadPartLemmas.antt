@@ -1,9 +1,10 @@
--- READs whose data go out part by part.
-use Rattle.std.proofs.Common.{Bool, ◌≡◌, ◌<◌, ◌≤◌, ℕ, ◌+◌, ◌*◌, List, [], ◌++◌, min, length, take, drop, replicate, refl, sym, ap, ◌∙◌, subst, arith}
+-- Data that go out part by part, from bytes or from blocks that are read.
+use Rattle.std.proofs.Common.{Bool, ◌≡◌, ◌<◌, ◌≤◌, ℕ, ◌+◌, ◌-◌, ◌*◌, ◌/◌, ◌%◌, List, [], ◌++◌, min, length, take, drop, replicate, refl, sym, ap, ◌∙◌, subst, arith}
 use Rattle.std.proofs.Common.{append_assoc, Result, Ok, Err, OnOk}
 use Rattle.std.specs.Prelude.{◌==◌}
 use Rattle.std.proofs.lemmas.Bool.Decides.{nat_tests}
-use Rattle.std.proofs.lemmas.List.{append-nil, drop_at, length-append, take_all, take_at}
+use Rattle.std.proofs.lemmas.List.{append-nil, drop_at, drop-drop, length-append, length-drop, length-take-le, take_all, take_at}
+use Rattle.std.proofs.Math.Seq.{take-add}
 use Rattle.scsi_cdb.specs.declared.sense.Sense.TheVariants.{ReadError}
 use Rattle.scsi_disk.specs.Disk.{Appends, Disk, IsDisk, Tells, blocks_from}
 use Rattle.scsi_disk.specs.declared.store.StoreFault.{StoreFault}
@@ -21,116 +22,204 @@ use Rattle.iscsi_stream.specs.Canonical.{canon}
 use Rattle.iscsi_login.specs.Held.{max_burst}
 use Rattle.iscsi_target.specs.State.{Machine, waiting}
 use Rattle.iscsi_target.specs.Inside.{store_of}
-use Rattle.iscsi_target.specs.Execution.{data_in_head, data_in_parts, data_ins, response_head, sense_segment, sequence_parts}
-use Rattle.iscsi_target.specs.Reads.{AnswersRead, Read, Reply, SendsPart, SendsRuns, SendsSequence, read_in, reply}
+use Rattle.iscsi_target.specs.Execution.{command_answers, data_in_head, data_in_parts, data_ins, response_head, sense_segment, sequence_parts}
+use Rattle.iscsi_target.specs.Reads.{AnswersRead, CanBeCut, Given, HasPart, IsOf, IsPart, Reply, SendsAnswers, SendsData, SendsPart, SendsSequence, given, reply, source_len}
 use Rattle.iscsi_target.specs.declared.machine.data_in.Sent.{Sent}
+use Rattle.iscsi_target.specs.declared.machine.source.Source.{Source}
+use Rattle.iscsi_target.specs.declared.machine.source.Source.TheVariants.{Bytes, Blocks}
 use Rattle.iscsi_target.proofs.DataInSequenceLemmas.{GaveRuns, GaveUpTo, front_kept, gave_more, gave_run, unsent}
 use Rattle.iscsi_target.proofs.CommandLemmas.{told_order}
 
+-- ---- parts of a source
+
+-- no bytes
+pub no_part : (source : Source) (disk : Disk) (blocks n at left : ℕ) → HasPart source blocks at left → IsPart source disk n n at 0 []
+no_part (Bytes all) disk blocks n at left has = (refl, refl, refl)
+no_part (Blocks range) disk blocks n at left has = (has.0, refl, none_read disk (range.first + at / 512) n)
+
+pub part_size : (source : Source) (disk : Disk) (before after at n : ℕ) (bytes : List ℕ) → IsPart source disk before after at n bytes → length bytes ≡ n
+part_size (Bytes all) disk before after at n bytes is = is.1
+part_size (Blocks range) disk before after at n bytes is = omega (arith, is.1, is.2.size)
+
+-- one part behind another
+pub part_more : (source : Source) (disk : Disk) (before mid after at a b : ℕ) (x y : List ℕ) → before ≤ mid → mid ≤ after
+    → IsPart source disk before mid at a x → IsPart source disk mid after (at + a) b y → IsPart source disk before after at (a + b) (x ++ y)
+part_more (Bytes all) disk before mid after at a b x y low high p q = (
+  q.0 ∙ p.0,
+  omega (arith, length-append x y, p.1, q.1),
+  (λ i. p.2 i ++ q.2 i) ∙ ap (λ (t : List ℕ). take a (drop at all.now) ++ take b t) (sym (drop-drop a at all.now))
+      ∙ sym (take-add a b (drop at all.now)),
+)
+part_more (Blocks range) disk before mid after at a b x y low high p q =
+    let here : range.first + (at + a) / 512 ≡ range.first + at / 512 + a / 512 = omega (arith, p.0, p.1) in
+    let sum : a / 512 + b / 512 ≡ (a + b) / 512 = omega (arith, p.1, q.1) in
+    let next : WereRead disk (range.first + at / 512 + a / 512) (b / 512) mid after y =
+    subst (λ (k : ℕ). WereRead disk k (b / 512) mid after y) here q.2 in (
+      p.0,
+      omega (arith, p.1, q.1),
+      subst (λ (k : ℕ). WereRead disk (range.first + at / 512) k before after (x ++ y)) sum
+          (read_more disk (range.first + at / 512) (a / 512) (b / 512) before mid after x y low high p.2 next),
+    )
+
+-- the first n bytes of those that are left, where it can be cut there
+pub part_first : (source : Source) (blocks at end most n : ℕ) → CanBeCut source most → at ≤ end → n ≡ min most (end - at) → HasPart source blocks at (end - at)
+    → HasPart source blocks at n
+part_first (Bytes all) blocks at end most n cut low is has = omega (arith, low, is, has)
+part_first (Blocks range) blocks at end most n cut low is has = (
+  has.0,
+  omega (arith, is, cut, has.1),
+  omega (arith, is, has.2),
+  has.3,
+  has.4,
+)
+
+-- and the others
+pub part_left : (source : Source) (blocks at end most n : ℕ) → CanBeCut source most → at ≤ end → n ≡ min most (end - at) → HasPart source blocks at (end - at)
+    → HasPart source blocks (at + n) (end - (at + n))
+part_left (Bytes all) blocks at end most n cut low is has = omega (arith, low, is, has)
+part_left (Blocks range) blocks at end most n cut low is has = (
+  omega (arith, is, cut, has.0, has.1),
+  omega (arith, is, cut, has.0, has.1, low),
+  omega (arith, is, has.2, low),
+  has.3,
+  has.4,
+)
+
+-- a part on a disk that is the same
+on_disk : (source : Source) (disk mid : Disk) (before after at n : ℕ) (bytes : List ℕ) → mid ≡ disk → IsPart source mid before after at n bytes
+    → IsPart source disk before after at n bytes
+on_disk source disk mid before after at n bytes same is = subst (λ (d : Disk). IsPart source d before after at n bytes) same is
+
 -- ---- a part
 
-no_padding : (n k : ℕ) → n ≡ 512 * k → replicate {A = ℕ} (padding n) 0 ≡ []
-no_padding n k is = ap (λ (m : ℕ). replicate {A = ℕ} m 0) (let none : padding n ≡ 0 = omega arith in none)
+no_padding : (n : ℕ) → n % 512 ≡ 0 → replicate {A = ℕ} (padding n) 0 ≡ []
+no_padding n is = ap (λ (m : ℕ). replicate {A = ℕ} m 0) (let none : padding n ≡ 0 = omega (arith, is) in none)
 
-pub part_sent : {T : Type 0} (r : Result T StoreFault) (head : Head) (disk : Disk) (part : BlockRange) (before after ub ua : ℕ) (old mid new : List ℕ)
-    → mid ≡ old ++ header head (512 * part.count) → OnOk r (after ≡ before → new ≡ mid ++ blocks_from disk part.first part.count)
-    → OnOk r (Appends (512 * part.count) mid new) → Tells disk.tells before after ub ua r → OnOk r (SendsPart head (read_in disk part before after) old new)
-part_sent (Ok x) head disk part before after ub ua old mid new is works a tells = record {
-  bytes = a.bytes;
-  is_of = appended_read disk part.first part.count before after ub ua x mid new tells works a;
-  output = a.behind ∙ ap (λ (t : List ℕ). t ++ a.bytes) is ∙ append_assoc old (header head (512 * part.count)) a.bytes
-      ∙ ap (λ (k : ℕ). old ++ (header head k ++ a.bytes)) (sym a.size)
-      ∙ ap (λ (t : List ℕ). old ++ t) (sym (append-nil (header head (length a.bytes) ++ a.bytes))
-      ∙ ap (λ (t : List ℕ). header head (length a.bytes) ++ a.bytes ++ t) (sym (no_padding (length a.bytes) part.count a.size))
-      ∙ sym (whole_is head a.bytes));
+-- bytes that are there went out
+pub bytes_sent : {T : Type 0} (r : Result T StoreFault) (head : Head) (disk : Disk) (all : List ℕ) (source : Source) (failures at n : ℕ) (old new part : List ℕ)
+    → ((bytes : List ℕ) → length bytes ≡ n → bytes ≡ take n (drop at all) → IsPart source disk failures failures at n bytes) → at + n ≤ length all
+    → part ≡ take n (drop at all) → OnOk r (new ≡ old ++ whole head part) → OnOk r (SendsPart head (given source disk failures failures) at n old new)
+bytes_sent (Ok x) head disk all source failures at n old new part is fits same out = record {
+  bytes = part;
+  is_of = is part (ap length same ∙ length-take-le n (drop at all) (omega (arith, length-drop at all, fits))) same;
+  output = out;
 }
-part_sent (Err f) head disk part before after ub ua old mid new is works a tells = tt
+bytes_sent (Err f) head disk all source failures at n old new part is fits same out = tt
+
+-- blocks were read behind the head
+pub blocks_sent : {T : Type 0} (r : Result T StoreFault) (head : Head) (disk : Disk) (range : BlockRange) (before after ub ua at from n : ℕ) (old mid new : List ℕ)
+    → at % 512 ≡ 0 → n % 512 ≡ 0 → from ≡ at / 512 → mid ≡ old ++ header head n → OnOk r (after ≡ before → new ≡ mid ++ blocks_from disk (range.first + from) (n / 512))
+    → OnOk r (Appends (512 * (n / 512)) mid new) → Tells disk.tells before after ub ua r → OnOk r (SendsPart head (given (Blocks range) disk before after) at n old new)
+blocks_sent (Ok x) head disk range before after ub ua at from n old mid new even cut is_from is works a tells =
+    let size : length a.bytes ≡ n = omega (arith, a.size, cut) in
+    record {
+      bytes = a.bytes;
+      is_of = (
+        even,
+        cut,
+        appended_read disk (range.first + at / 512) (n / 512) before after ub ua x mid new tells
+            (λ same. works same ∙ ap (λ (k : ℕ). mid ++ blocks_from disk (range.first + k) (n / 512)) is_from) a,
+      );
+      output = a.behind ∙ ap (λ (t : List ℕ). t ++ a.bytes) is ∙ append_assoc old (header head n) a.bytes
+          ∙ ap (λ (k : ℕ). old ++ (header head k ++ a.bytes)) (sym size)
+          ∙ ap (λ (t : List ℕ). old ++ t) (sym (append-nil (header head (length a.bytes) ++ a.bytes))
+          ∙ ap (λ (t : List ℕ). header head (length a.bytes) ++ a.bytes ++ t) (sym (no_padding (length a.bytes) (omega (arith, size, cut))))
+          ∙ sym (whole_is head a.bytes));
+    }
+blocks_sent (Err f) head disk range before after ub ua at from n old mid new even cut is_from is works a tells = tt
 
 -- ---- a sequence
 
--- of the blocks of a sequence those before the ones that are left went out
-pub record PartsOut (to : Reply) (read : Read) (before sent : Sent) (rest : BlockRange) : Type 0 where
+-- of a sequence the bytes before those that are left went out
+pub record PartsOut (to : Reply) (from : Given) (before sent : Sent) (end : ℕ) : Type 0 where
   pub bytes : List ℕ
-  pub done : ℕ
-  pub first : rest.first ≡ read.range.first + done
-  pub left : done + rest.count ≡ read.range.count
-  pub were : WereRead read.disk read.range.first done read.before read.after bytes
-  pub carried : sent.bytes ≡ before.bytes + 512 * done
+  pub is_of : IsOf from before.bytes (sent.bytes - before.bytes) bytes
+  pub low : before.bytes ≤ sent.bytes
+  pub high : sent.bytes ≤ end
   pub few : sent.count ≤ sent.bytes
   pub front : take (length to.old) to.new ≡ to.old
-  pub gave : (more : List ℕ) → length more ≡ 512 * rest.count
+  pub gave : (more : List ℕ) → length more ≡ end - sent.bytes
       → GaveUpTo to.machine to.tag (unsent before (bytes ++ more)) (unsent sent more) to.old to.new
 
-pub parts_none : (s : Machine) (tag : ℕ) (disk : Disk) (run : BlockRange) (n : ℕ) (before : Sent) (old : List ℕ) → before.count ≤ before.bytes →
-    PartsOut (reply s tag old old) (read_in disk run n n) before before run
-parts_none s tag disk run n before old few = record {
-  bytes = [];
-  done = 0;
-  first = omega arith;
-  left = omega arith;
-  were = none_read disk run.first n;
-  carried = omega arith;
-  few = few;
-  front = take_all (length old) old (omega arith);
-  gave = λ more long. record {
-    written = refl;
-    count = refl;
-    carried = refl;
-    few = few;
-    front = take_all (length old) old (omega arith);
-  };
-}
-
-same_test : (a b : ℕ) → (512 * a == 512 * b) ≡ (a == b)
-same_test a b = grind (arith, nat_tests)
-
-pub parts_next : (s : Machine) (tag : ℕ) (disk mid : Disk) (run rest next : BlockRange) (fb fm fa n most : ℕ) (before sent : Sent) (head : Head)
-    (old new now : List ℕ) → 512 * most ≡ s.session.held.initiator_max_recv → 0 < most → 0 < rest.count → n ≡ min most rest.count
-    → head ≡ data_in_head s.session (waiting s.tasks) tag sent.count sent.bytes (n == rest.count) → mid ≡ disk
-    → SendsPart head (read_in mid (record { first = rest.first; count = n }) fm fa) new now → next.first ≡ rest.first + n → next.count + n ≡ rest.count
-    → fb ≤ fm → fm ≤ fa → PartsOut (reply s tag old new) (read_in disk run fb fm) before sent rest
-    → PartsOut (reply s tag old now) (read_in disk run fb fa) before (record { count = sent.count + 1; bytes = sent.bytes + 512 * n }) next
-parts_next s tag disk mid run rest next fb fm fa n most before sent head old new now is_most some more_left is_n is_head same part is_first is_count low up g =
-    let x : List ℕ = part.bytes in
-    let size : length x ≡ 512 * n = part.is_of.size in
-    let at : rest.first ≡ run.first + g.done = g.first in
-    let here : WereRead disk (run.first + g.done) n fm fa x =
-    subst (λ (d : Disk). WereRead d (run.first + g.done) n fm fa x) same (subst (λ (k : ℕ). WereRead mid k n fm fa x) at part.is_of) in
+pub parts_none : (s : Machine) (tag : ℕ) (source : Source) (disk : Disk) (blocks n end : ℕ) (before : Sent) (old : List ℕ) → before.count ≤ before.bytes
+    → before.bytes ≤ end → HasPart source blocks before.bytes (end - before.bytes) → PartsOut (reply s tag old old) (given source disk n n) before before end
+parts_none s tag source disk blocks n end before old few low has =
+    let none : 0 ≡ before.bytes - before.bytes = omega arith in
     record {
-      bytes = g.bytes ++ x;
-      done = g.done + n;
-      first = omega (arith, is_first, at);
-      left = omega (arith, g.left, is_count);
-      were = read_more disk run.first g.done n fb fm fa g.bytes x low up g.were here;
-      carried = omega (arith, g.carried);
-      few = omega (arith, g.few, is_n, is_most, some, more_left);
-      front = front_kept old new (whole head x) now part.output g.front;
-      gave = λ more long.
-          (let rest_bytes : List ℕ = x ++ more in
-          let rest_long : length rest_bytes ≡ 512 * rest.count = omega (arith, length-append x more, size, long, is_count) in
-          let test : (512 * n == length rest_bytes) ≡ (n == rest.count) = ap (λ (k : ℕ). 512 * n == k) rest_long ∙ same_test n rest.count in
-          let front : take (512 * n) rest_bytes ≡ x = take_at x more (512 * n) size in
-          let back : more ≡ drop (512 * n) rest_bytes = sym (drop_at x more (512 * n) size) in
-          let is_now : now ≡ new ++ whole (data_in_head s.session (waiting s.tasks) tag sent.count sent.bytes (512 * n == length rest_bytes))
-          (take (512 * n) rest_bytes) = part.output ∙ ap (λ (h : Head). new ++ whole h x) is_head
-          ∙ (λ i. new ++ whole (data_in_head s.session (waiting s.tasks) tag sent.count sent.bytes (sym test i)) (sym front i)) in
-          subst (λ (run_bytes : List ℕ). GaveUpTo s tag (unsent before run_bytes)
-          (unsent (record { count = sent.count + 1; bytes = sent.bytes + 512 * n }) more) old now) (sym (append_assoc g.bytes x more))
-          (gave_more s tag before (g.bytes ++ rest_bytes) rest_bytes sent old new (512 * n) now more (omega (arith, is_most, some))
-          (omega (arith, rest_long, more_left)) (omega (arith, is_n, is_most, rest_long)) is_now back (g.gave rest_bytes rest_long)));
+      bytes = [];
+      is_of = subst (λ (k : ℕ). IsPart source disk n n before.bytes k []) none (no_part source disk blocks n before.bytes (end - before.bytes) has);
+      low = omega arith;
+      high = low;
+      few = few;
+      front = take_all (length old) old (omega arith);
+      gave = λ more long. record {
+        written = refl;
+        count = refl;
+        carried = refl;
+        few = few;
+        front = take_all (length old) old (omega arith);
+      };
     }
 
-pub parts_all : (s : Machine) (tag : ℕ) (read : Read) (before sent : Sent) (rest : BlockRange) (old new : List ℕ) → rest.count ≡ 0
-    → PartsOut (reply s tag old new) read before sent rest → SendsSequence (reply s tag old new) read before sent
-parts_all s tag read before sent rest old new none g =
-    let all : g.done ≡ read.range.count = omega (arith, g.left, none) in
+same_test : (n at end left : ℕ) → at ≤ end → left ≡ end - at → (n == left) ≡ (at + n == end)
+same_test n at end left low is = grind (arith, nat_tests)
+
+-- what is a part from where the others end is behind them
+behind : (source : Source) (disk : Disk) (fm fa start at n : ℕ) (bytes : List ℕ) → start ≤ at → IsPart source disk fm fa at n bytes
+    → IsPart source disk fm fa (start + (at - start)) n bytes
+behind source disk fm fa start at n bytes low is =
+    let same : at ≡ start + (at - start) = omega (arith, low) in subst (λ (k : ℕ). IsPart source disk fm fa k n bytes) same is
+
+-- and with them goes on to its own end
+joined : (source : Source) (disk : Disk) (fb fm fa start at n : ℕ) (x y : List ℕ) → start ≤ at → fb ≤ fm → fm ≤ fa → IsPart source disk fb fm start (at - start) x
+    → IsPart source disk fm fa at n y → IsPart source disk fb fa start (at + n - start) (x ++ y)
+joined source disk fb fm fa start at n x y low up high p q =
+    let sum : (at - start) + n ≡ at + n - start = omega (arith, low) in
+    subst (λ (k : ℕ). IsPart source disk fb fa start k (x ++ y)) sum
+    (part_more source disk fb fm fa start (at - start) n x y up high p (behind source disk fm fa start at n y low q))
+
+pub parts_next : (s : Machine) (tag : ℕ) (source : Source) (disk mid : Disk) (fb fm fa n end : ℕ) (before sent : Sent) (head : Head)
+    (old new now : List ℕ) → 0 < s.session.held.initiator_max_recv → sent.bytes < end → n ≡ min s.session.held.initiator_max_recv (end - sent.bytes)
+    → head ≡ data_in_head s.session (waiting s.tasks) tag sent.count sent.bytes (sent.bytes + n == end) → mid ≡ disk
+    → SendsPart head (given source mid fm fa) sent.bytes n new now → fb ≤ fm → fm ≤ fa
+    → PartsOut (reply s tag old new) (given source disk fb fm) before sent end
+    → PartsOut (reply s tag old now) (given source disk fb fa) before (record { count = sent.count + 1; bytes = sent.bytes + n }) end
+parts_next s tag source disk mid fb fm fa n end before sent head old new now some left is_n is_head same part up high g =
+    let x : List ℕ = part.bytes in
+    let size : length x ≡ n = part_size source mid fm fa sent.bytes n x part.is_of in
+    record {
+      bytes = g.bytes ++ x;
+      is_of = joined source disk fb fm fa before.bytes sent.bytes n g.bytes x g.low up high g.is_of (on_disk source disk mid fm fa sent.bytes n x same part.is_of);
+      low = omega (arith, g.low);
+      high = omega (arith, is_n, left);
+      few = omega (arith, g.few, is_n, some, left);
+      front = front_kept old new (whole head x) now part.output g.front;
+      gave = λ more long.
+          (let rest : List ℕ = x ++ more in
+          let rest_long : length rest ≡ end - sent.bytes = omega (arith, length-append x more, size, long, is_n, left) in
+          let test : (n == length rest) ≡ (sent.bytes + n == end) = same_test n sent.bytes end (length rest) (omega (arith, left)) rest_long in
+          let front : take n rest ≡ x = take_at x more n size in
+          let back : more ≡ drop n rest = sym (drop_at x more n size) in
+          let is_now : now ≡ new ++ whole (data_in_head s.session (waiting s.tasks) tag sent.count sent.bytes (n == length rest)) (take n rest) =
+          part.output ∙ ap (λ (h : Head). new ++ whole h x) is_head
+          ∙ (λ i. new ++ whole (data_in_head s.session (waiting s.tasks) tag sent.count sent.bytes (sym test i)) (sym front i)) in
+          subst (λ (run_bytes : List ℕ). GaveUpTo s tag (unsent before run_bytes)
+          (unsent (record { count = sent.count + 1; bytes = sent.bytes + n }) more) old now) (sym (append_assoc g.bytes x more))
+          (gave_more s tag before (g.bytes ++ rest) rest sent old new n now more some (omega (arith, rest_long, left)) (omega (arith, is_n, rest_long))
+          is_now back (g.gave rest rest_long)));
+    }
+
+pub parts_all : (s : Machine) (tag : ℕ) (from : Given) (before sent : Sent) (end : ℕ) (old new : List ℕ) → end ≤ sent.bytes
+    → PartsOut (reply s tag old new) from before sent end → SendsSequence (reply s tag old new) from before sent end
+parts_all s tag from before sent end old new none g =
+    let all : sent.bytes ≡ end = omega (arith, g.high, none) in
     let last = g.gave [] (omega (arith, none)) in
     let same : g.bytes ++ [] ≡ g.bytes = append-nil g.bytes in
     record {
       bytes = g.bytes;
-      is_of = subst (λ (k : ℕ). WereRead read.disk read.range.first k read.before read.after g.bytes) all g.were;
+      is_of = subst (λ (k : ℕ). IsOf from before.bytes (k - before.bytes) g.bytes) all g.is_of;
       count = omega (arith, last.count, ap (λ (b : List ℕ). length (sequence_parts s.session.held b)) same);
-      carried = omega (arith, g.carried, all);
+      carried = all;
       few = g.few;
       output = sym (append-nil new) ∙ last.written ∙ ap (λ (b : List ℕ). old ++ canon (data_ins s.session (waiting s.tasks) tag before.count before.bytes
           (sequence_parts s.session.held b))) same;
@@ -138,28 +227,22 @@ parts_all s tag read before sent rest old new none g =
 
 -- ---- sequences
 
--- of the blocks those before the ones that are left went out
-pub record SequencesOut (to : Reply) (read : Read) (sent : Sent) (rest : BlockRange) : Type 0 where
+-- the bytes before those that are left went out
+pub record SequencesOut (to : Reply) (from : Given) (sent : Sent) : Type 0 where
   pub bytes : List ℕ
-  pub done : ℕ
-  pub first : rest.first ≡ read.range.first + done
-  pub left : done + rest.count ≡ read.range.count
-  pub were : WereRead read.disk read.range.first done read.before read.after bytes
-  pub carried : sent.bytes ≡ 512 * done
+  pub is_of : IsOf from 0 sent.bytes bytes
+  pub high : sent.bytes ≤ source_len from.source
   pub few : sent.count ≤ sent.bytes
   pub front : take (length to.old) to.new ≡ to.old
-  pub gave : (more : List ℕ) → length more ≡ 512 * rest.count
+  pub gave : (more : List ℕ) → length more ≡ source_len from.source - sent.bytes
       → GaveRuns to.machine to.tag (bytes ++ more) (unsent sent more) to.old to.new
 
-pub sequences_none : (s : Machine) (tag : ℕ) (disk : Disk) (range : BlockRange) (n : ℕ) (old new : List ℕ) → new ≡ old →
-    SequencesOut (reply s tag old new) (read_in disk range n n) (record { count = 0; bytes = 0 }) range
-sequences_none s tag disk range n old new same = record {
+pub sequences_none : (s : Machine) (tag : ℕ) (source : Source) (disk : Disk) (blocks n : ℕ) (old new : List ℕ) → HasPart source blocks 0 (source_len source)
+    → new ≡ old → SequencesOut (reply s tag old new) (given source disk n n) (record { count = 0; bytes = 0 })
+sequences_none s tag source disk blocks n old new has same = record {
   bytes = [];
-  done = 0;
-  first = omega arith;
-  left = omega arith;
-  were = none_read disk range.first n;
-  carried = omega arith;
+  is_of = no_part source disk blocks n 0 (source_len source) has;
+  high = omega arith;
   few = omega arith;
   front = ap (take (length old)) same ∙ take_all (length old) old (omega arith);
   gave = λ more long. record {
@@ -171,56 +254,55 @@ sequences_none s tag disk range n old new same = record {
   };
 }
 
-pub sequences_next : (s : Machine) (tag : ℕ) (disk mid : Disk) (range rest next : BlockRange) (fb fm fa n burst : ℕ) (sent after : Sent)
-    (old new now : List ℕ) → 512 * burst ≡ max_burst s.session.held → 0 < burst → 0 < s.session.held.initiator_max_recv → 0 < rest.count
-    → n ≡ min burst rest.count → mid ≡ disk → SendsSequence (reply s tag new now) (read_in mid (record { first = rest.first; count = n }) fm fa) sent after
-    → next.first ≡ rest.first + n → next.count + n ≡ rest.count → fb ≤ fm → fm ≤ fa → SequencesOut (reply s tag old new) (read_in disk range fb fm) sent rest
-    → SequencesOut (reply s tag old now) (read_in disk range fb fa) after next
-sequences_next s tag disk mid range rest next fb fm fa n burst sent after old new now is_burst some takes more_left is_n same run is_first is_count low high g =
+pub sequences_next : (s : Machine) (tag : ℕ) (source : Source) (disk mid : Disk) (fb fm fa n end : ℕ) (sent after : Sent) (old new now : List ℕ)
+    → 0 < max_burst s.session.held → 0 < s.session.held.initiator_max_recv → sent.bytes < source_len source
+    → n ≡ min (max_burst s.session.held) (source_len source - sent.bytes) → end ≡ sent.bytes + n → mid ≡ disk
+    → SendsSequence (reply s tag new now) (given source mid fm fa) sent after end → fb ≤ fm → fm ≤ fa
+    → SequencesOut (reply s tag old new) (given source disk fb fm) sent → SequencesOut (reply s tag old now) (given source disk fb fa) after
+sequences_next s tag source disk mid fb fm fa n end sent after old new now some takes left is_n is_end same run low high g =
     let x : List ℕ = run.bytes in
-    let size : length x ≡ 512 * n = run.is_of.size in
-    let at : rest.first ≡ range.first + g.done = g.first in
-    let here : WereRead disk (range.first + g.done) n fm fa x =
-    subst (λ (d : Disk). WereRead d (range.first + g.done) n fm fa x) same (subst (λ (k : ℕ). WereRead mid k n fm fa x) at run.is_of) in
-    let carried : after.bytes ≡ sent.bytes + 512 * n = run.carried in
+    let k : end - sent.bytes ≡ n = omega (arith, is_end) in
+    let here : IsPart source disk fm fa sent.bytes n x =
+    on_disk source disk mid fm fa sent.bytes n x same (subst (λ (m : ℕ). IsPart source mid fm fa sent.bytes m x) k run.is_of) in
+    let size : length x ≡ n = part_size source disk fm fa sent.bytes n x here in
+    let zero : sent.bytes ≡ 0 + sent.bytes = omega arith in
+    let reached : sent.bytes + n ≡ after.bytes = sym is_end ∙ sym run.carried in
+    let carried : after.bytes ≡ sent.bytes + n = sym reached in
     record {
       bytes = g.bytes ++ x;
-      done = g.done + n;
-      first = omega (arith, is_first, at);
-      left = omega (arith, g.left, is_count);
-      were = read_more disk range.first g.done n fb fm fa g.bytes x low high g.were here;
-      carried = omega (arith, g.carried, carried);
+      is_of = subst (λ (m : ℕ). IsPart source disk fb fa 0 m (g.bytes ++ x)) reached
+          (part_more source disk fb fm fa 0 sent.bytes n g.bytes x low high g.is_of (subst (λ (m : ℕ). IsPart source disk fm fa m n x) zero here));
+      high = omega (arith, carried, is_n, left);
       few = run.few;
       front = front_kept old new (canon (data_ins s.session (waiting s.tasks) tag sent.count sent.bytes (sequence_parts s.session.held x))) now run.output
           g.front;
       gave = λ more long.
-          (let rest_bytes : List ℕ = x ++ more in
-          let rest_long : length rest_bytes ≡ 512 * rest.count = omega (arith, length-append x more, size, long, is_count) in
-          let front : x ≡ take (512 * n) rest_bytes = sym (take_at x more (512 * n) size) in
-          let back : more ≡ drop (512 * n) rest_bytes = sym (drop_at x more (512 * n) size) in
-          let counted : after.count ≡ sent.count + length (sequence_parts s.session.held (take (512 * n) rest_bytes)) =
+          (let rest : List ℕ = x ++ more in
+          let rest_long : length rest ≡ source_len source - sent.bytes = omega (arith, length-append x more, size, long, carried, is_n, left) in
+          let front : x ≡ take n rest = sym (take_at x more n size) in
+          let back : more ≡ drop n rest = sym (drop_at x more n size) in
+          let counted : after.count ≡ sent.count + length (sequence_parts s.session.held (take n rest)) =
           run.count ∙ ap (λ (b : List ℕ). sent.count + length (sequence_parts s.session.held b)) front in
-          let is_bytes : after.bytes ≡ sent.bytes + length (take (512 * n) rest_bytes) =
-          carried ∙ ap (λ (k : ℕ). sent.bytes + k) (sym size ∙ ap length front) in
+          let is_bytes : after.bytes ≡ sent.bytes + length (take n rest) =
+          carried ∙ ap (λ (m : ℕ). sent.bytes + m) (sym size ∙ ap length front) in
           let is_now : now ≡ new ++ canon (data_ins s.session (waiting s.tasks) tag sent.count sent.bytes
-          (sequence_parts s.session.held (take (512 * n) rest_bytes))) =
+          (sequence_parts s.session.held (take n rest))) =
           run.output ∙ ap (λ (b : List ℕ). new ++ canon (data_ins s.session (waiting s.tasks) tag sent.count sent.bytes
           (sequence_parts s.session.held b))) front in
           subst (λ (all : List ℕ). GaveRuns s tag all (unsent after more) old now) (sym (append_assoc g.bytes x more))
-          (gave_run s tag (g.bytes ++ rest_bytes) rest_bytes sent after old new now more (512 * n) takes (omega (arith, is_burst, some))
-          (omega (arith, rest_long, more_left)) (omega (arith, is_n, is_burst, rest_long)) counted is_bytes run.few is_now back
-          (g.gave rest_bytes rest_long)));
+          (gave_run s tag (g.bytes ++ rest) rest sent after old new now more n takes some (omega (arith, rest_long, left)) (omega (arith, is_n, rest_long))
+          counted is_bytes run.few is_now back (g.gave rest rest_long)));
     }
 
-pub sequences_all : (s : Machine) (tag : ℕ) (read : Read) (sent : Sent) (rest : BlockRange) (old new : List ℕ) → rest.count ≡ 0
-    → SequencesOut (reply s tag old new) read sent rest → SendsRuns (reply s tag old new) read sent.count
-sequences_all s tag read sent rest old new none g =
-    let all : g.done ≡ read.range.count = omega (arith, g.left, none) in
+pub sequences_all : (s : Machine) (tag : ℕ) (from : Given) (sent : Sent) (old new : List ℕ) → source_len from.source ≤ sent.bytes
+    → SequencesOut (reply s tag old new) from sent → SendsData (reply s tag old new) from sent.count
+sequences_all s tag from sent old new none g =
+    let all : sent.bytes ≡ source_len from.source = omega (arith, g.high, none) in
     let last = g.gave [] (omega (arith, none)) in
     let same : g.bytes ++ [] ≡ g.bytes = append-nil g.bytes in
     record {
       bytes = g.bytes;
-      is_of = subst (λ (k : ℕ). WereRead read.disk read.range.first k read.before read.after g.bytes) all g.were;
+      is_of = subst (λ (k : ℕ). IsOf from 0 k g.bytes) all g.is_of;
       counted = omega (arith, last.count, ap (λ (b : List ℕ). length (data_in_parts s.session.held b)) same);
       output = sym (append-nil new) ∙ last.written ∙ ap (λ (b : List ℕ). old ++ canon (data_ins s.session (waiting s.tasks) tag 0 0
           (data_in_parts s.session.held b))) same;
@@ -228,17 +310,43 @@ sequences_all s tag read sent rest old new none g =
 
 -- ---- the answers
 
-pub answers_read : (protected : Bool) (s : Machine) (tag : ℕ) (order : Order) (disk now_disk : Disk) (range : BlockRange) (fb fa count : ℕ) (head : Head)
-    (old new now : List ℕ) → IsWhole disk order range → IsDisk disk → now_disk ≡ disk → fb ≤ fa
-    → SendsRuns (reply s tag old new) (read_in disk range fb fa) count
-    → head ≡ response_head s.session (waiting s.tasks) tag (good order (wanted_length order disk.count) []) count → now ≡ new ++ whole head []
+-- the data of a command and its response
+pub answers_sent : (s : Machine) (tag : ℕ) (outcome : Outcome) (from : Given) (count : ℕ) (head : Head) (old new now : List ℕ)
+    → SendsData (reply s tag old new) from count → head ≡ response_head s.session (waiting s.tasks) tag outcome count
+    → now ≡ new ++ whole head (sense_segment outcome.sense) → SendsAnswers (reply s tag old now) outcome from
+answers_sent s tag outcome from count head old new now out is_head is_now = record {
+  bytes = out.bytes;
+  is_of = out.is_of;
+  output = told_order s tag (record outcome { bytes = out.bytes }) out.bytes count head old new now refl out.counted out.output is_head is_now;
+}
+
+-- the outcome's own bytes were sent
+pub answers_own : (s : Machine) (tag : ℕ) (outcome : Outcome) (source : Source) (disk : Disk) (fb fa : ℕ) (old now : List ℕ)
+    → ((bytes : List ℕ) → IsPart source disk fb fa 0 (source_len source) bytes → (bytes ≡ outcome.bytes) × (fa ≡ fb))
+    → SendsAnswers (reply s tag old now) outcome (given source disk fb fa)
+    → (now ≡ old ++ canon (command_answers s.session (waiting s.tasks) tag outcome (data_in_parts s.session.held outcome.bytes))) × (fa ≡ fb)
+answers_own s tag outcome source disk fb fa old now own out =
+    let facts = own out.bytes out.is_of in (
+      out.output ∙ ap (λ (b : List ℕ). old ++ canon (command_answers s.session (waiting s.tasks) tag outcome (data_in_parts s.session.held b))) facts.0,
+      facts.1,
+    )
+
+-- a READ whose blocks were sent
+pub answers_read : (protected : Bool) (s : Machine) (tag : ℕ) (order : Order) (disk now_disk : Disk) (range : BlockRange) (fb fa : ℕ)
+    (old now : List ℕ) → IsWhole disk order range → IsDisk disk → now_disk ≡ disk → fb ≤ fa
+    → SendsAnswers (reply s tag old now) (good order (wanted_length order disk.count) []) (given (Blocks range) disk fb fa)
     → AnswersRead protected (reply s tag old now) order (store_of disk fb) (store_of now_disk fa)
-answers_read protected s tag order disk now_disk range fb fa count head old new now is is_disk same rises runs is_head is_now =
-    let outcome : Outcome = good order (wanted_length order disk.count) runs.bytes in
+answers_read protected s tag order disk now_disk range fb fa old now is is_disk same rises out =
+    let outcome : Outcome = good order (wanted_length order disk.count) out.bytes in
+    let first : range.first + 0 / 512 ≡ range.first = omega arith in
+    let count : 512 * range.count / 512 ≡ range.count = omega arith in
+    let were : WereRead disk range.first range.count fb fa out.bytes =
+    subst (λ (k : ℕ). WereRead disk k range.count fb fa out.bytes) first
+    (subst (λ (k : ℕ). WereRead disk (range.first + 0 / 512) k fb fa out.bytes) count out.is_of.2) in
     record {
       outcome = outcome;
-      executes = executed protected disk now_disk order range fb fa runs.bytes is is_disk same rises runs.is_of;
-      output = told_order s tag outcome runs.bytes count head old new now refl runs.counted runs.output is_head is_now;
+      executes = executed protected disk now_disk order range fb fa out.bytes is is_disk same rises were;
+      output = out.output;
     }
 
 -- a READ that failed

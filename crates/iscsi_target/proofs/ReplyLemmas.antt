@@ -15,7 +15,7 @@ use Rattle.iscsi_pdu.specs.declared.head.logout_request.LogoutRequest.{LogoutReq
 use Rattle.iscsi_stream.specs.Segment.{Segment, segment_bytes}
 use Rattle.iscsi_stream.specs.Stream.{Message}
 use Rattle.iscsi_login.specs.declared.stage.Stage.{Stage}
-use Rattle.iscsi_login.specs.Key.{IsWithin}
+use Rattle.iscsi_text.specs.Negotiated.{IsWithin}
 use Rattle.iscsi_login.specs.Negotiation.{IsInRange, max_recv_range}
 use Rattle.iscsi_login.specs.Held.{IsHeld}
 use Rattle.iscsi_login.specs.Answer.{max_recv_key}

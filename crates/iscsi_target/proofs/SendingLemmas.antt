@@ -11,10 +11,10 @@ use Rattle.iscsi_pdu.specs.declared.head.Head.{Head}
 use Rattle.iscsi_pdu.specs.declared.head.Head.TheVariants.{DataIn}
 use Rattle.iscsi_stream.specs.Segment.{segment_bytes}
 use Rattle.iscsi_stream.specs.Stream.{Message}
-use Rattle.iscsi_login.specs.declared.key.NegKey.TheVariants as keys
-use Rattle.iscsi_login.specs.declared.preferences.Answered.{Answered}
-use Rattle.iscsi_login.specs.declared.preferences.Answered.TheVariants as answered
-use Rattle.iscsi_login.specs.Key.{rule_of}
+use Rattle.iscsi_text.specs.declared.negotiated.NegKey.TheVariants as keys
+use Rattle.iscsi_text.specs.declared.negotiated.Answered.{Answered}
+use Rattle.iscsi_text.specs.declared.negotiated.Answered.TheVariants as answered
+use Rattle.iscsi_text.specs.Negotiated.{rule_of}
 use Rattle.iscsi_login.specs.Negotiation.{Allows, IsInRange}
 use Rattle.iscsi_login.specs.Held.{Held, IsHeld, held_value, number_of, max_burst}
 use Rattle.iscsi_target_session.specs.Configured.{Settings}

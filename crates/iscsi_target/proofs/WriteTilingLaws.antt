@@ -1,5 +1,5 @@
 -- Writes over steps: what came tiles what is due, and R2Ts are modest.
-use Rattle.std.proofs.Common.{◌≡◌, not, ◌≤◌, ◌⊎◌, inl, inr, ℕ, zero, suc, ◌+◌, ◌*◌, List, [], ◌∷◌, ◌++◌, Bool, true, false, length, Option, Some, None, refl}
+use Rattle.std.proofs.Common.{◌≡◌, not, ◌≤◌, ◌⊎◌, inl, inr, ℕ, zero, suc, ◌+◌, List, [], ◌∷◌, ◌++◌, Bool, true, false, length, Option, Some, None, refl}
 use Rattle.std.proofs.Common.{sym, ap, ◌∙◌, subst, arith, map, lt-ltb}
 use Rattle.std.specs.Prelude.{◌==◌, nat_lt, ◌&&◌, ◌||◌, if◌then◌else◌}
 use Rattle.std.specs.List.{AllByRecursion}
@@ -16,7 +16,7 @@ use Rattle.scsi_unit.specs.LogicalUnit.{LogicalUnit}
 use Rattle.iscsi_pdu.specs.declared.head.scsi_command.ScsiCommand.{ScsiCommand as Command}
 use Rattle.iscsi_stream.specs.Segment.{segment_bytes}
 use Rattle.iscsi_stream.specs.Stream.{Message}
-use Rattle.iscsi_login.specs.declared.key.NegKey.TheVariants as keys
+use Rattle.iscsi_text.specs.declared.negotiated.NegKey.TheVariants as keys
 use Rattle.iscsi_login.specs.Held.{Held, first_burst, is_on, unasked}
 use Rattle.iscsi_target_session.specs.Configured.{Settings}
 use Rattle.iscsi_target_session.specs.Session.{Session, Reply, message}

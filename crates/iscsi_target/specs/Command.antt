@@ -12,7 +12,7 @@ use Rattle.iscsi_pdu.specs.declared.head.Head.{Head}
 use Rattle.iscsi_pdu.specs.declared.head.Head.TheVariants as heads
 use Rattle.iscsi_stream.specs.Segment.{segment_bytes}
 use Rattle.iscsi_stream.specs.Stream.{Message}
-use Rattle.iscsi_login.specs.declared.key.NegKey.TheVariants as keys
+use Rattle.iscsi_text.specs.declared.negotiated.NegKey.TheVariants as keys
 use Rattle.iscsi_login.specs.Held.{Held, is_on, unasked}
 use Rattle.iscsi_target_session.specs.Session.{Session, message, max_cmd_sn_with}
 use Rattle.iscsi_target.specs.Write.{Write}

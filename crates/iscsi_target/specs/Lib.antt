@@ -16,4 +16,5 @@ pub mod Reads
 pub mod Laws
 pub mod Access
 pub mod Inside
+pub mod Arrival
 pub mod Alike

@@ -21,7 +21,7 @@ use Rattle.iscsi_stream.specs.Segment.{Segment, Bytes, Text, segment_bytes}
 use Rattle.iscsi_stream.specs.Stream.{Message}
 use Rattle.iscsi_login.specs.declared.phase.Phase.{Phase}
 use Rattle.iscsi_login.specs.declared.phase.Phase.TheVariants as phases
-use Rattle.iscsi_login.specs.declared.stage.Session.{Session as SessionType}
+use Rattle.iscsi_text.specs.declared.negotiated.Session.{Session as SessionType}
 use Rattle.iscsi_login.specs.Held.{first_burst}
 use Rattle.iscsi_login.specs.Stage.{is_closed_phase}
 use Rattle.iscsi_target_session.specs.Session.{Session, Reply, limit}

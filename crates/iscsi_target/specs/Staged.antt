@@ -1,6 +1,8 @@
 -- What a program keeps of a write. No reader of its contract needs these.
 use Rattle.std.specs.Prelude.{◌≡◌, ℕ, ◌+◌, ◌≤◌, true, List, length}
 use Rattle.scsi_disk.specs.Plan.{is_write, taken_length}
+use Rattle.scsi_disk.specs.Found.{IsFound}
+use Rattle.scsi_disk.specs.declared.found.Found.{Found}
 use Rattle.scsi_disk.specs.declared.order.Order.{Order}
 use Rattle.iscsi_target.specs.Write.{Write}
 use Rattle.iscsi_target.specs.Transfer.{received}
@@ -13,10 +15,12 @@ CountsR2ts total received r2t_count Nothing = r2t_count ≤ received
 CountsR2ts total received r2t_count (Unsolicited data_sn) = r2t_count ≤ received
 CountsR2ts total received r2t_count (Solicited tag data_sn end) = (end ≤ total) × (r2t_count ≤ end)
 
--- What is kept of a write: a WRITE that takes n bytes, no more of them, and what is due.
-pub record IsStaged (order : Order) (total : ℕ) (bytes : List ℕ) (due : Due)
+-- What is kept of a write: a WRITE of which this was found, that takes n bytes, no more of them, and
+-- what is due.
+pub record IsStaged (order : Order) (found : Found) (total : ℕ) (bytes : List ℕ) (due : Due)
     (r2t_count : ℕ) : Type 0 where
   pub is_write : is_write order.cdb ≡ true
+  pub found_is : IsFound order found
   pub total_is : total ≡ taken_length order
   pub fits : length bytes ≤ total
   pub counted_r2ts : CountsR2ts total (length bytes) r2t_count due

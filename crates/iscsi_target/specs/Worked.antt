@@ -1,7 +1,8 @@
 -- Words of worked sessions: bytes by hex text, the PDUs that an initiator sends, the session that
 -- they begin in, and what is stated of them.
-use Rattle.std.specs.Prelude.{◌≡◌, ℕ, ◌+◌, ◌-◌, ◌*◌, ◌==◌, nat_le, Bool, true, false, not, List, [], ◌∷◌, ◌++◌, filter, replicate, Option, Some, None, if◌then◌else◌, codes}
+use Rattle.std.specs.Prelude.{◌≡◌, ℕ, ◌+◌, ◌-◌, ◌*◌, ◌==◌, nat_le, Bool, true, false, not, List, [], ◌∷◌, ◌++◌, filter, map, replicate, Option, Some, None, if◌then◌else◌, codes}
 use Rattle.scsi_cdb.specs.declared.cdb.Cdb.{Cdb}
+use Rattle.iscsi_text.specs.Key.{is_among, known_keys}
 use Rattle.scsi_disk.specs.Disk.{Disk, zeros}
 use Rattle.iscsi_pdu.specs.declared.head.Head.TheVariants as heads
 use Rattle.iscsi_pdu.specs.declared.head.login_request.LoginRequest.{LoginRequest}
@@ -10,9 +11,9 @@ use Rattle.iscsi_stream.specs.Segment.{Bytes, segment_of}
 use Rattle.iscsi_stream.specs.Stream.{Message}
 use Rattle.iscsi_stream.specs.Canonical.{canon}
 use Rattle.iscsi_login.specs.declared.phase.Phase.TheVariants as phases
-use Rattle.iscsi_login.specs.declared.stage.Session.TheVariants as session_types
+use Rattle.iscsi_text.specs.declared.negotiated.Session.TheVariants as session_types
 use Rattle.iscsi_login.specs.declared.stage.Stage.TheVariants as stages
-use Rattle.iscsi_login.specs.declared.preferences.Answered.TheVariants as answered
+use Rattle.iscsi_text.specs.declared.negotiated.Answered.TheVariants as answered
 use Rattle.iscsi_login.specs.Held.{Held}
 use Rattle.iscsi_login.specs.Negotiation.{standard}
 use Rattle.iscsi_target_session.specs.Configured.{Settings, no_extras}
@@ -194,13 +195,11 @@ told = opening
 abbrev pub blank : Disk
 blank = zeros 2048
 
--- which keys the two texts give, of the numbers, the booleans, the lists and the other keys
+-- which of the known keys the two texts give
 abbrev pub keys_given : List Bool
-keys_given =
-    false ∷ true ∷ false ∷ false ∷ false ∷ false ∷ false ∷ true ∷ false
-    ∷ true ∷ false ∷ false ∷ false ∷ true ∷ false
-    ∷ true ∷ false ∷ true
-    ∷ true ∷ true ∷ false ∷ false ∷ false ∷ true ∷ false ∷ false ∷ false ∷ []
+keys_given = map (is_among (codes "InitiatorName" ∷ codes "SessionType" ∷ codes "TargetName"
+    ∷ codes "AuthMethod" ∷ codes "HeaderDigest" ∷ codes "IFMarker" ∷ codes "InitialR2T"
+    ∷ codes "MaxBurstLength" ∷ codes "MaxRecvDataSegmentLength" ∷ [])) known_keys
 
 -- what the target holds after the two texts
 abbrev pub agreed : Held

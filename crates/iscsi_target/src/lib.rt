@@ -4,6 +4,8 @@
 mod alike;
 mod due;
 mod fault;
+mod incoming;
+mod intake;
 mod kept;
 pub mod laws;
 mod machine;

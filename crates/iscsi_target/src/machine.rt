@@ -11,11 +11,13 @@ ghost use Rattle.iscsi_target.specs.Machine.{is_closed};
 ghost use Rattle.iscsi_target.specs.Asking.{asks_at, has_cache};
 ghost use Rattle.iscsi_target.specs.Inside.{Leaves};
 
+mod arriving;
 mod data_in;
 mod dispatch;
 mod judging;
 mod reads;
 mod scsi_command;
+mod source;
 mod writes;
 
 use crate::tasks::{Tasks, asks_head};

@@ -1,12 +1,13 @@
 //! The write that is open.
 
-ghost use Rattle.std.specs.Prelude.{◌≡◌, ◌<◌, ◌≤◌, ◌^◌, ◌+◌, ◌-◌, ◌==◌, ◌&&◌, true, false, length, min, IfOk, OnErr, IsTrue};
+ghost use Rattle.std.specs.Prelude.{◌≡◌, ◌<◌, ◌≤◌, ◌^◌, ◌+◌, ◌-◌, ◌==◌, ◌&&◌, if◌then◌else◌, true, false, length, min, IfOk, OnErr, IsTrue};
 ghost use Rattle.iscsi_target.specs.Staged.{with_r2t_for};
 ghost use Rattle.iscsi_target.specs.Transfer.{received, is_whole, is_idle, is_in_sequence, with_data, joined_write, continued};
+ghost use Rattle.iscsi_target.specs.declared.due.Due.TheVariants.{Nothing};
 
 use crate::due::Due;
 use iscsi_pdu::{DataOut, RESERVED_TAG};
-use scsi_disk::Order;
+use scsi_disk::{Found, Order};
 use std::alloc::AllocError;
 use std::marker::Model;
 
@@ -19,6 +20,8 @@ pub struct OpenWrite {
     pub immediate: bool,
     /// What the command orders of the disk.
     pub order: Order,
+    /// What was found of the order when the write was opened.
+    pub found: Found,
     /// How many bytes it takes.
     pub total: u32,
     /// The bytes that came.
@@ -30,7 +33,8 @@ pub struct OpenWrite {
 }
 
 impl Model for OpenWrite {
-    ghost use Rattle.std.specs.Prelude.{[]};
+    ghost use Rattle.std.specs.Prelude.{[], ◌≤◌};
+    ghost use Rattle.std.specs.Vec.{vec_capacity};
     ghost use Rattle.iscsi_target.specs.Write.{Write};
     ghost use Rattle.iscsi_target.specs.Transfer.{with_piece};
     ghost use Rattle.iscsi_target.specs.Staged.{IsStaged};
@@ -48,7 +52,9 @@ impl Model for OpenWrite {
       r2t_count = w.r2t_count;
     } };
 
-    ghost invariant = { λ w. IsStaged w.order w.total w.data.items w.due w.r2t_count };
+    // There is room for all bytes.
+    ghost invariant = { λ w. IsStaged w.order w.found w.total w.data.items w.due w.r2t_count
+        × (w.total ≤ vec_capacity w.data) };
 }
 
 impl OpenWrite {
@@ -120,12 +126,17 @@ impl OpenWrite {
             return Ok(false);
         }
         self.data.extend_from_slice(bytes)?;
-        self.due = if head.is_final {
-            Due::Nothing
-        } else {
-            continued(self.due)
-        };
+        self.due = due_after(self.due, head);
         Ok(true)
+    }
+
+    /// Whether a Data-Out with `n` bytes is due; `first_burst` bytes may come unasked.
+    pub fn is_due(&self, first_burst: u32, head: &DataOut, len: u32) -> bool
+        ensures { result ≡ is_in_sequence first_burst self.now head.now (received self.now + len)
+            self.now.due }
+    {
+        let reached = u64::from(self.received()) + u64::from(len);
+        self.is_in_sequence(first_burst, head, reached)
     }
 
     // Whether the Data-Out, with which `n` bytes have come, is one of the sequence that is due.
@@ -159,6 +170,17 @@ impl OpenWrite {
             && head.now.buffer_offset == received self.now) }
     {
         head.data_sn == data_sn && head.buffer_offset == self.received()
+    }
+}
+
+/// What is due after a Data-Out that was due.
+pub fn due_after(due: Due, head: &DataOut) -> Due
+    ensures { result ≡ (if head.now.is_final then Nothing else continued due) }
+{
+    if head.is_final {
+        Due::Nothing
+    } else {
+        continued(due)
     }
 }
 

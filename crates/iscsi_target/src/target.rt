@@ -2,26 +2,26 @@
 //! taken.
 
 ghost use Rattle.std.specs.Prelude.{◌≡◌, ◌⊎◌, ◌++◌, ℕ, List, false, true, IfOk, IfErr, OnOk, OnErr};
-ghost use Rattle.iscsi_stream.specs.Framing.{Takes, is_ready, stopped};
+ghost use Rattle.iscsi_stream.specs.Framing.{is_ready};
 ghost use Rattle.iscsi_target_session.specs.Session.{limit};
-ghost use Rattle.iscsi_target.specs.State.{closed};
 ghost use Rattle.iscsi_target.specs.Machine.{is_closed};
 ghost use Rattle.iscsi_target.specs.Feed.{scene, beginning, opening_connection, Feeds, FeedsNext, Fed, FedNext, Finishes, HasAnswered};
 ghost use Rattle.iscsi_target_session.specs.Configured.{Settings};
 ghost use Rattle.scsi_disk.specs.Disk.{Disk};
 ghost use Rattle.scsi_disk.specs.Lasting.{Lasts};
-ghost use Rattle.iscsi_target.specs.Asking.{NoneNextAsks, NoneReadyAsks, NotesAsking, SomeNextAsks, SomeReadyAsks, has_cache};
-ghost use Rattle.iscsi_target.specs.Crash.{CrashesFed, CrashesNext, CrashesReady};
-ghost use Rattle.iscsi_target.specs.Inside.{connection, store_of, target_fault, AnswersReady, ShutsReady, RestFails, TakesOne, FailsOne};
+ghost use Rattle.iscsi_target.specs.Asking.{NoneNextAsks, NotesAsking, SomeNextAsks, has_cache};
+ghost use Rattle.iscsi_target.specs.Crash.{CrashesFed, CrashesNext};
+ghost use Rattle.iscsi_target.specs.Inside.{store_of, TakesOne, FailsOne};
 
 use crate::fault::TargetFault;
+use crate::intake::Intake;
 use crate::machine::Machine;
 use iscsi_login::{Params, Phase, Session as SessionType, Stage};
 use iscsi_pdu::LOGIN_SEGMENT;
-use iscsi_stream::{Framer, StreamFault};
-use iscsi_target_session::{Config, Received};
+use iscsi_stream::Framer;
+use iscsi_target_session::Config;
 use scsi_disk::BlockStore;
-use std::alloc::{AllocError, Global};
+use std::alloc::Global;
 use std::marker::Model;
 
 /// A target's session: it takes the bytes of an initiator and appends its answers.
@@ -33,8 +33,7 @@ use std::marker::Model;
 /// | `Closed` | each call returns `Closed` |
 #[derive(Drop)]
 pub struct Target {
-    machine: Machine,
-    framer: Framer,
+    intake: Intake,
 }
 
 impl Model for Target {
@@ -45,10 +44,10 @@ impl Model for Target {
 
     ghost Value = { Connection };
 
-    ghost view = { λ t. record { machine = t.machine; framing = t.framer } };
+    ghost view = { λ t. t.intake };
 
-    ghost invariant = { λ t. (t.framer.limit ≡ limit t.machine.session.settings)
-        × (is_ready t.framer ≡ false) };
+    ghost invariant = { λ t. (t.intake.framing.limit ≡ limit t.intake.machine.session.settings)
+        × (is_ready t.intake.framing ≡ false) };
 }
 
 impl Target {
@@ -57,9 +56,9 @@ impl Target {
         ensures opening { result ≡ opening_connection config first_statsn }
     {
         let limit = config.preferences().max_recv.max(LOGIN_SEGMENT);
+        let machine = Machine::new(alloc, config, first_statsn);
         Target {
-            machine: Machine::new(alloc, config, first_statsn),
-            framer: Framer::new(alloc, limit),
+            intake: Intake::new(machine, Framer::new(alloc, limit)),
         }
     }
 
@@ -99,10 +98,10 @@ impl Target {
             piece.now (store_of (S.disk store.new) (S.failures store.new))
             (S.kept store.old) (S.kept store.new) }
     {
-        if self.machine.is_closed() {
+        if self.intake.is_closed() {
             return Err(TargetFault::Closed);
         }
-        feed_all(&mut self.machine, &mut self.framer, piece, store, out)
+        feed_all(&mut self.intake, piece, store, out)
     }
 
     /// Takes bytes of a piece up to the end of one PDU, and answers that PDU. Returns how many bytes
@@ -167,31 +166,31 @@ impl Target {
         // Over a disk without a write cache nothing is noted.
         ensures plain { has_cache self.old.machine ≡ false → asks.new ≡ asks.old }
     {
-        if self.machine.is_closed() {
+        if self.intake.is_closed() {
             return Err(TargetFault::Closed);
         }
-        feed_once(&mut self.machine, &mut self.framer, piece, store, out, asks)
+        feed_once(&mut self.intake, piece, store, out, asks)
     }
 
     /// Whether the disk has a write cache.
     pub fn has_cache(&self) -> bool
         ensures cache { result ≡ has_cache self.now.machine }
     {
-        self.machine.has_cache()
+        self.intake.machine().has_cache()
     }
 
     /// What the session holds of its login (RFC 7143, section 13).
     pub fn params(&self) -> &Params
         ensures held { result.now ≡ self.now.machine.session.held }
     {
-        self.machine.params()
+        self.intake.machine().params()
     }
 
     /// What the session is doing.
     pub fn phase(&self) -> Phase
         ensures phase { result ≡ self.now.machine.session.phase }
     {
-        self.machine.phase()
+        self.intake.phase()
     }
 
     /// The initiator's name, as the first text of the login gave it; empty before. With the ISID it
@@ -199,7 +198,7 @@ impl Target {
     pub fn initiator_name(&self) -> &[u8]
         ensures name { result.now ≡ self.now.machine.session.initiator_name }
     {
-        self.machine.initiator_name()
+        self.intake.machine().initiator_name()
     }
 
     /// The CmdSN that the next numbered request is to have (ExpCmdSN; RFC 7143, section 4.2.2.1). It
@@ -207,14 +206,14 @@ impl Target {
     pub fn expected_command(&self) -> u32
         ensures number { result ≡ self.now.machine.session.exp_cmd_sn }
     {
-        self.machine.expected_command()
+        self.intake.machine().expected_command()
     }
 
     /// The ISID of the first Login Request; zero before (RFC 7143, section 11.12.5).
     pub fn isid(&self) -> [u8; 6]
         ensures isid { result ≡ self.now.machine.session.isid }
     {
-        self.machine.isid()
+        self.intake.machine().isid()
     }
 
     /// Whether the session is normal, as it is until the first text of the login says otherwise, or
@@ -222,7 +221,7 @@ impl Target {
     pub fn session_type(&self) -> SessionType
         ensures session_type { result ≡ self.now.machine.session.session_type }
     {
-        self.machine.session_type()
+        self.intake.machine().session_type()
     }
 
     /// Where the login is: security at first, then the stage of the first request that isn't
@@ -231,7 +230,7 @@ impl Target {
     pub fn stage(&self) -> Stage
         ensures stage { result ≡ self.now.machine.session.stage }
     {
-        self.machine.stage()
+        self.intake.machine().stage()
     }
 
     /// Ends the stream. Returns `Stream` with `Truncated` where it ends within a PDU, which closes
@@ -239,87 +238,82 @@ impl Target {
     pub fn finish(&mut self) -> Result<(), TargetFault>
         ensures finishes { Finishes self.old result self.new }
     {
-        if self.machine.is_closed() {
+        if self.intake.is_closed() {
             return Err(TargetFault::Closed);
         }
-        match self.framer.finish() {
+        match self.intake.finish() {
             Ok(()) => Ok(()),
-            Err(fault) => {
-                self.machine.close();
-                Err(TargetFault::Stream(fault))
-            }
+            Err(fault) => Err(TargetFault::Stream(fault)),
         }
     }
 }
 
 // Takes a piece of the stream in a session that isn't closed.
 fn feed_all<S: BlockStore>(
-    machine: &mut Machine,
-    framer: &mut Framer,
+    intake: &mut Intake,
     piece: &[u8],
     store: &mut S,
     out: &mut Vec<u8>,
 ) -> Result<Phase, TargetFault>
-    requires limit { framer.old.limit ≡ limit machine.old.session.settings }
-    requires unready { is_ready framer.old ≡ false }
-    requires live { is_closed machine.old ≡ false }
-    ensures fed { Feeds S.protected (scene (connection machine.old framer.old)
+    requires limit { intake.old.framing.limit ≡ limit intake.old.machine.session.settings }
+    requires unready { is_ready intake.old.framing ≡ false }
+    requires live { is_closed intake.old.machine ≡ false }
+    ensures fed { Feeds S.protected (scene intake.old
         (store_of (S.disk store.old) (S.failures store.old)) out.old.items) piece.now result
-        (scene (connection machine.new framer.new)
+        (scene intake.new
         (store_of (S.disk store.new) (S.failures store.new)) out.new.items) }
-    ensures limit { framer.new.limit ≡ limit machine.new.session.settings }
-    ensures unready { is_ready framer.new ≡ false }
-    ensures crash { CrashesFed S.protected (connection machine.old framer.old)
+    ensures limit { intake.new.framing.limit ≡ limit intake.new.machine.session.settings }
+    ensures unready { is_ready intake.new.framing ≡ false }
+    ensures crash { CrashesFed S.protected intake.old
         (store_of (S.disk store.old) (S.failures store.old)) piece.now
         (store_of (S.disk store.new) (S.failures store.new)) (S.kept store.old) (S.kept store.new) }
 {
     let mut rest = piece;
     let mut asks = false;
     while !rest.is_empty() {
-        let (taken, broken) = feed_one(machine, framer, rest, store, out, &mut asks)?;
+        let (taken, broken) = feed_one(intake, rest, store, out, &mut asks)?;
         rest = &rest[taken..];
-        let phase = machine.phase();
+        let phase = intake.phase();
         if let Some(rule) = broken {
             return Err(TargetFault::Protocol(rule));
         }
-        if machine.is_closed() {
+        if intake.is_closed() {
             return Ok(phase);
         }
     }
-    Ok(machine.phase())
+    Ok(intake.phase())
 }
 
 // Takes bytes of a piece up to the end of one PDU in a session that isn't closed, and answers it.
 fn feed_once<S: BlockStore>(
-    machine: &mut Machine,
-    framer: &mut Framer,
+    intake: &mut Intake,
     piece: &[u8],
     store: &mut S,
     out: &mut Vec<u8>,
     asks: &mut bool,
 ) -> Result<(usize, Phase), TargetFault>
-    requires limit { framer.old.limit ≡ limit machine.old.session.settings }
-    requires unready { is_ready framer.old ≡ false }
-    requires live { is_closed machine.old ≡ false }
-    ensures fed { FeedsNext S.protected (scene (connection machine.old framer.old)
+    requires limit { intake.old.framing.limit ≡ limit intake.old.machine.session.settings }
+    requires unready { is_ready intake.old.framing ≡ false }
+    requires live { is_closed intake.old.machine ≡ false }
+    ensures fed { FeedsNext S.protected (scene intake.old
         (store_of (S.disk store.old) (S.failures store.old)) out.old.items) piece.now result
-        (scene (connection machine.new framer.new)
+        (scene intake.new
         (store_of (S.disk store.new) (S.failures store.new)) out.new.items) }
-    ensures limit { framer.new.limit ≡ limit machine.new.session.settings }
-    ensures unready { is_ready framer.new ≡ false }
-    ensures crash { CrashesNext S.protected (connection machine.old framer.old)
+    ensures limit { intake.new.framing.limit ≡ limit intake.new.machine.session.settings }
+    ensures unready { is_ready intake.new.framing ≡ false }
+    ensures crash { CrashesNext S.protected intake.old
         piece.now (S.disk store.old)
         (S.disk store.new) (S.kept store.old) (S.kept store.new) }
-    ensures asks { NotesAsking S.protected (scene (connection machine.old framer.old)
+    ensures asks { NotesAsking S.protected (scene intake.old
         (store_of (S.disk store.old) (S.failures store.old)) out.old.items) piece.now result
-        (scene (connection machine.new framer.new)
+        (scene intake.new
         (store_of (S.disk store.new) (S.failures store.new)) out.new.items) asks.old asks.new }
     ensures only { asks.new ≡ true
-        → (asks.old ≡ true) ⊎ SomeNextAsks machine.old framer.old piece.now }
-    ensures plain { has_cache machine.old ≡ false → asks.new ≡ asks.old }
+        → (asks.old ≡ true) ⊎ SomeNextAsks intake.old.machine intake.old.framing piece.now }
+    ensures plain { has_cache intake.old.machine ≡ false → asks.new ≡ asks.old }
 {
-    let (taken, broken) = feed_one(machine, framer, piece, store, out, asks)?;
-    let phase = machine.phase();
+    let (taken, broken) = feed_one(intake, piece, store, out, asks)?;
+    let phase = intake.phase();
     match broken {
         Some(rule) => Err(TargetFault::Protocol(rule)),
         None => Ok((taken, phase)),
@@ -329,131 +323,39 @@ fn feed_once<S: BlockStore>(
 // Takes bytes up to the end of a PDU, and answers it if it is whole. Says how many bytes, and which
 // rule was broken. A fault closes the session.
 fn feed_one<S: BlockStore>(
-    machine: &mut Machine,
-    framer: &mut Framer,
+    intake: &mut Intake,
     piece: &[u8],
     store: &mut S,
     out: &mut Vec<u8>,
     asks: &mut bool,
 ) -> Result<(usize, Option<u8>), TargetFault>
-    requires limit { framer.old.limit ≡ limit machine.old.session.settings }
-    requires unready { is_ready framer.old ≡ false }
-    requires live { is_closed machine.old ≡ false }
+    requires limit { intake.old.framing.limit ≡ limit intake.old.machine.session.settings }
+    requires unready { is_ready intake.old.framing ≡ false }
+    requires live { is_closed intake.old.machine ≡ false }
     ensures ok { IfOk result (λ done. TakesOne S.protected
-        (scene (connection machine.old framer.old)
+        (scene intake.old
         (store_of (S.disk store.old) (S.failures store.old)) out.old.items) piece.now done.0 done.1
-        (scene (connection machine.new framer.new)
+        (scene intake.new
         (store_of (S.disk store.new) (S.failures store.new)) out.new.items)) }
     ensures err { IfErr result (λ fault. FailsOne S.protected
-        (scene (connection machine.old framer.old)
+        (scene intake.old
         (store_of (S.disk store.old) (S.failures store.old)) out.old.items) piece.now fault
-        (scene (connection machine.new framer.new)
+        (scene intake.new
         (store_of (S.disk store.new) (S.failures store.new)) out.new.items)) }
-    ensures limit { framer.new.limit ≡ limit machine.new.session.settings }
-    ensures unready { is_ready framer.new ≡ false }
-    ensures crash { CrashesNext S.protected (connection machine.old framer.old)
+    ensures limit { intake.new.framing.limit ≡ limit intake.new.machine.session.settings }
+    ensures unready { is_ready intake.new.framing ≡ false }
+    ensures crash { CrashesNext S.protected intake.old
         piece.now (S.disk store.old)
         (S.disk store.new) (S.kept store.old) (S.kept store.new) }
-    ensures noted { OnOk result (has_cache machine.old ≡ true → asks.new ≡ false → asks.old ≡ false) }
-    ensures none { IfOk result (λ done. has_cache machine.old ≡ true → asks.new ≡ false
-        → NoneNextAsks machine.old framer.old piece.now done.0) }
+    ensures noted { OnOk result (has_cache intake.old.machine ≡ true → asks.new ≡ false → asks.old ≡ false) }
+    ensures none { IfOk result (λ done. has_cache intake.old.machine ≡ true → asks.new ≡ false
+        → NoneNextAsks intake.old.machine intake.old.framing piece.now done.0) }
     ensures only { asks.new ≡ true
-        → (asks.old ≡ true) ⊎ SomeNextAsks machine.old framer.old piece.now }
-    ensures plain { has_cache machine.old ≡ false → asks.new ≡ asks.old }
+        → (asks.old ≡ true) ⊎ SomeNextAsks intake.old.machine intake.old.framing piece.now }
+    ensures plain { has_cache intake.old.machine ≡ false → asks.new ≡ asks.old }
 {
-    let taken = take_bytes(machine, framer, piece)?;
-    note_asking(machine, framer, asks);
-    let broken = answer_ready(machine, framer, store, out)?;
+    let taken = intake.take_bytes(piece)?;
+    intake.note_asking(asks);
+    let broken = intake.answer_ready(store, out)?;
     Ok((taken, broken))
-}
-
-// Notes whether a command that may be executed for the PDU that is ready asks that what was written
-// lasts, over a disk with a write cache.
-fn note_asking(machine: &Machine, framer: &Framer, asks: &mut bool)
-    ensures noted { has_cache machine.now ≡ true → asks.new ≡ false → asks.old ≡ false }
-    ensures none { has_cache machine.now ≡ true → asks.new ≡ false → NoneReadyAsks machine.now framer.now }
-    ensures only { asks.new ≡ true → (asks.old ≡ true) ⊎ SomeReadyAsks machine.now framer.now }
-    ensures plain { has_cache machine.now ≡ false → asks.new ≡ asks.old }
-{
-    if !machine.has_cache() {
-        return;
-    }
-    if let Some(pdu) = framer.pdu() {
-        if machine.asks(&pdu.head) {
-            *asks = true;
-        }
-    }
-}
-
-// Takes bytes up to the end of a PDU. A fault closes the session.
-fn take_bytes(
-    machine: &mut Machine,
-    framer: &mut Framer,
-    piece: &[u8],
-) -> Result<usize, TargetFault>
-    ensures ok { IfOk result (λ n. Takes framer.old piece.now n framer.new) }
-    ensures kept { OnOk result (machine.new ≡ machine.old) }
-    ensures err { IfErr result (RestFails framer.old piece.now) }
-    ensures shut { OnErr result (machine.new ≡ closed machine.old) }
-    ensures stopped { OnErr result (framer.new ≡ stopped framer.old) }
-{
-    match framer.feed(piece) {
-        Ok(taken) => Ok(taken),
-        Err(fault) => {
-            machine.close();
-            Err(stream_fault(fault))
-        }
-    }
-}
-
-// A stream's `NoMemory` is the target's own.
-fn stream_fault(fault: StreamFault) -> TargetFault
-    ensures { result ≡ target_fault fault }
-{
-    match fault {
-        StreamFault::NoMemory => TargetFault::NoMemory,
-        _ => TargetFault::Stream(fault),
-    }
-}
-
-// Answers the PDU that is ready, if one is, and frees the framer for the next one. Returns the rule
-// that it broke, if it broke one. Being out of memory closes the session.
-fn answer_ready<S: BlockStore>(
-    machine: &mut Machine,
-    framer: &mut Framer,
-    store: &mut S,
-    out: &mut Vec<u8>,
-) -> Result<Option<u8>, AllocError>
-    requires limit { framer.old.limit ≡ limit machine.old.session.settings }
-    requires live { is_closed machine.old ≡ false }
-    ensures ok { IfOk result (λ rule. AnswersReady S.protected
-        (scene (connection machine.old framer.old)
-        (store_of (S.disk store.old) (S.failures store.old)) out.old.items) rule
-        (scene (connection machine.new framer.new)
-        (store_of (S.disk store.new) (S.failures store.new)) out.new.items)) }
-    ensures err { OnErr result (ShutsReady S.protected (scene (connection machine.old framer.old)
-        (store_of (S.disk store.old) (S.failures store.old)) out.old.items)
-        (scene (connection machine.new framer.new)
-        (store_of (S.disk store.new) (S.failures store.new)) out.new.items)) }
-    ensures crash { CrashesReady S.protected (connection machine.old framer.old) (S.disk store.old)
-        (S.disk store.new) (S.kept store.old) (S.kept store.new) }
-{
-    let Some(pdu) = framer.pdu() else {
-        return Ok(None);
-    };
-    let received = Received {
-        pdu,
-        continued: framer.continued(),
-    };
-    match machine.answer_pdu(&received, store, out) {
-        Ok(broken) => {
-            framer.take();
-            Ok(broken)
-        }
-        Err(error) => {
-            machine.close();
-            framer.take();
-            Err(error)
-        }
-    }
 }

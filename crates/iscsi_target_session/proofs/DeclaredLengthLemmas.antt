@@ -5,10 +5,10 @@ use Rattle.std.specs.Option.{IfSome}
 use Rattle.iscsi_text.specs.Text.{Pairs, values_of}
 use Rattle.iscsi_text.specs.Value.{Typed}
 use Rattle.iscsi_text.specs.Value as values
-use Rattle.iscsi_login.specs.declared.stage.Session.{Session}
+use Rattle.iscsi_text.specs.declared.negotiated.Session.{Session}
 use Rattle.iscsi_login.specs.declared.preferences.Preferences.{Preferences}
-use Rattle.iscsi_login.specs.declared.preferences.Answered.TheVariants.{Number, Reject}
-use Rattle.iscsi_login.specs.Key.{IsWithin}
+use Rattle.iscsi_text.specs.declared.negotiated.Answered.TheVariants.{Number, Reject}
+use Rattle.iscsi_text.specs.Negotiated.{IsWithin}
 use Rattle.iscsi_login.specs.Negotiation.{IsInRange, max_recv_range}
 use Rattle.iscsi_login.specs.Held.{Held, IsHeld}
 use Rattle.iscsi_login.specs.Answer.{DeclaresWell, IsLengthOrNone, max_recv_key, first_number, declared_max_recv, target_holds}

@@ -3,12 +3,12 @@ use Rattle.std.proofs.Common.{◌<◌, ◌≤◌, ◌+◌, ◌++◌, length, tak
 use Rattle.std.proofs.Common.{sym, ap, ◌∙◌}
 use Rattle.std.specs.Prelude.{slice_get, is_some, not, ◌&&◌, ◌||◌, slice_set}
 use Rattle.std.proofs.lemmas.List.{drop_more, drop_all, take_all, take_more_set, append-nil}
-use Rattle.iscsi_text.specs.Key.{target_address}
+use Rattle.iscsi_text.specs.Key.{known_keys, target_address}
 use Rattle.std.specs.Str.{bytes_eq}
 use Rattle.iscsi_text.specs.Value.{Typed}
 use Rattle.iscsi_text.specs.Text.{Pairs}
 use Rattle.iscsi_text.specs.Reading.{has_key}
-use Rattle.iscsi_target_session.specs.LoginText.{first_value, value_for, known_keys, repeats_key, seen_with}
+use Rattle.iscsi_target_session.specs.LoginText.{first_value, value_for, repeats_key, seen_with}
 
 pub first_is : (vs : List Typed) → slice_get vs 0 ≡ first_value vs
 first_is [] = refl
@@ -31,12 +31,12 @@ again_by : (keys : List (List ℕ)) (seen : List Bool) (n : ℕ) (ps : Pairs) �
     || repeats_key (drop (n + 1) keys) (drop (n + 1) seen) ps
 again_by keys seen n ps lt lt' = λ i. repeats_key (drop_more keys n [] lt i) (drop_more seen n false lt' i) ps
 
-pub again_found : (seen : List Bool) (n : ℕ) (ps : Pairs) → n < 27 → length seen ≡ 27 → repeated (get_or seen n false) (get_or known_keys n []) ps ≡ true
+pub again_found : (seen : List Bool) (n : ℕ) (ps : Pairs) → n < length known_keys → length seen ≡ length known_keys → repeated (get_or seen n false) (get_or known_keys n []) ps ≡ true
     → repeats_key (drop n known_keys) (drop n seen) ps ≡ true
 again_found seen n ps lt size found = again_by known_keys seen n ps lt (omega (arith, lt, size))
     ∙ ap (λ (b : Bool). b || repeats_key (drop (n + 1) known_keys) (drop (n + 1) seen) ps) found
 
-pub again_more : (seen : List Bool) (n : ℕ) (ps : Pairs) → n < 27 → length seen ≡ 27 → repeated (get_or seen n false) (get_or known_keys n []) ps ≡ false
+pub again_more : (seen : List Bool) (n : ℕ) (ps : Pairs) → n < length known_keys → length seen ≡ length known_keys → repeated (get_or seen n false) (get_or known_keys n []) ps ≡ false
     → repeats_key (drop (n + 1) known_keys) (drop (n + 1) seen) ps ≡ repeats_key (drop n known_keys) (drop n seen) ps
 again_more seen n ps lt size not_found = sym (again_by known_keys seen n ps lt (omega (arith, lt, size))
     ∙ ap (λ (b : Bool). b || repeats_key (drop (n + 1) known_keys) (drop (n + 1) seen) ps) not_found)
@@ -45,7 +45,7 @@ seen_by : (keys : List (List ℕ)) (seen : List Bool) (n : ℕ) (ps : Pairs) →
     → seen_with (drop n keys) (drop n seen) ps ≡ (get_or seen n false || has_key (get_or keys n []) ps) ∷ seen_with (drop (n + 1) keys) (drop (n + 1) seen) ps
 seen_by keys seen n ps lt lt' = λ i. seen_with (drop_more keys n [] lt i) (drop_more seen n false lt' i) ps
 
-pub seen_more : (seen now next : List Bool) (n : ℕ) (ps : Pairs) (b : Bool) → n < 27 → length seen ≡ 27 → length now ≡ 27 → b
+pub seen_more : (seen now next : List Bool) (n : ℕ) (ps : Pairs) (b : Bool) → n < length known_keys → length seen ≡ length known_keys → length now ≡ length known_keys → b
     ≡ (get_or seen n false || has_key (get_or known_keys n []) ps)
     → take n now ++ seen_with (drop n known_keys) (drop n seen) ps ≡ seen_with known_keys seen ps
     → take (n + 1) (slice_set now n b) ++ seen_with (drop (n + 1) known_keys) (drop (n + 1) seen) ps ≡ seen_with known_keys seen ps
@@ -55,7 +55,7 @@ seen_more seen now next n ps b lt size size' is before =
     ∙ ap (λ (x : Bool). take n now ++ x ∷ seen_with (drop (n + 1) known_keys) (drop (n + 1) seen) ps) is
     ∙ ap (λ (x : List Bool). take n now ++ x) (sym (seen_by known_keys seen n ps lt (omega (arith, lt, size)))) ∙ before
 
-pub seen_all : (seen now : List Bool) (n : ℕ) (ps : Pairs) → 27 ≤ n → length now ≡ 27 → take n now ++ seen_with (drop n known_keys) (drop n seen) ps
+pub seen_all : (seen now : List Bool) (n : ℕ) (ps : Pairs) → length known_keys ≤ n → length now ≡ length known_keys → take n now ++ seen_with (drop n known_keys) (drop n seen) ps
     ≡ seen_with known_keys seen ps → now ≡ seen_with known_keys seen ps
 seen_all seen now n ps le size h =
     sym (append-nil now) ∙ ap (λ (x : List Bool). x ++ []) (sym (take_all n now (omega (arith, le, size))))

@@ -27,7 +27,8 @@ use Rattle.iscsi_target_session.specs.Session.{Session, Reply, shut, ended, coun
 use Rattle.scsi_disk.specs.Plan.{first_of}
 use Rattle.iscsi_pdu.specs.Rules.{kind_not_due}
 use Rattle.iscsi_target_session.specs.declared.status.Status.{Status}
-use Rattle.iscsi_target_session.specs.LoginText.{initiator_error, authentication_failure, unsupported_version, session_does_not_exist, out_of_resources, is_operational, known_keys, seen_with, session_for, answer_pairs, held_after, text_refusals, initiator_for}
+use Rattle.iscsi_text.specs.Key.{known_keys}
+use Rattle.iscsi_target_session.specs.LoginText.{initiator_error, authentication_failure, unsupported_version, session_does_not_exist, out_of_resources, is_operational, seen_with, session_for, answer_pairs, held_after, text_refusals, initiator_for}
 
 -- ---- stages
 

@@ -1,20 +1,20 @@
 -- What a login text declares, why it is refused, and what answers it (RFC 7143, sections 6.3,
 -- 11.13.5 and 13).
-use Rattle.std.specs.Prelude.{ℕ, Bool, true, false, not, ◌&&◌, ◌||◌, nat_lt, if◌then◌else◌, List, [], ◌∷◌, ◌++◌, length, Option, Some, None, is_none, is_some, unwrap_or, codes}
+use Rattle.std.specs.Prelude.{ℕ, Bool, true, false, not, ◌&&◌, ◌||◌, nat_lt, if◌then◌else◌, List, [], ◌∷◌, length, Option, Some, None, is_none, is_some, unwrap_or, codes}
 use Rattle.std.specs.Str.{bytes_eq}
-use Rattle.iscsi_text.specs.Key.{number_keys, boolean_keys, items_keys, plain_keys, target_address}
+use Rattle.iscsi_text.specs.Key.{known_keys, target_address}
 use Rattle.iscsi_text.specs.Value.{Typed}
 use Rattle.iscsi_text.specs.Value as values
 use Rattle.iscsi_text.specs.Text.{Pairs, values_of}
 use Rattle.iscsi_text.specs.Canonical.{canonical_text}
 use Rattle.iscsi_text.specs.Reading.{has_key, is_empty}
-use Rattle.iscsi_login.specs.declared.stage.Session.{Session as SessionType}
-use Rattle.iscsi_login.specs.declared.stage.Session.TheVariants as sessions
+use Rattle.iscsi_text.specs.declared.negotiated.Session.{Session as SessionType}
+use Rattle.iscsi_text.specs.declared.negotiated.Session.TheVariants as sessions
 use Rattle.iscsi_login.specs.declared.stage.Stage.{Stage}
 use Rattle.iscsi_login.specs.declared.stage.Stage.TheVariants as stages
-use Rattle.iscsi_login.specs.declared.key.NegKey.TheVariants as keys
-use Rattle.iscsi_login.specs.declared.preferences.Answered.{Answered}
-use Rattle.iscsi_login.specs.declared.preferences.Answered.TheVariants as answers
+use Rattle.iscsi_text.specs.declared.negotiated.NegKey.TheVariants as keys
+use Rattle.iscsi_text.specs.declared.negotiated.Answered.{Answered}
+use Rattle.iscsi_text.specs.declared.negotiated.Answered.TheVariants as answers
 use Rattle.iscsi_login.specs.declared.preferences.Preferences.{Preferences}
 use Rattle.iscsi_login.specs.Negotiation.{result_of, in_range, max_recv_range}
 use Rattle.iscsi_login.specs.Held.{Held}
@@ -75,10 +75,6 @@ first_value (value ∷ vs) = Some value
 -- The value that a text has of a key, if it has one (section 6.1).
 abbrev pub value_for : List ℕ → Pairs → Option Typed
 value_for key pairs = first_value (values_of key pairs)
-
--- The known keys, in an order of their own (section 13).
-abbrev pub known_keys : List (List ℕ)
-known_keys = number_keys ++ boolean_keys ++ items_keys ++ plain_keys
 
 -- A known key that may stand once was seen before, and stands again (section 6.2).
 abbrev pub repeats_key : List (List ℕ) → List Bool → Pairs → Bool

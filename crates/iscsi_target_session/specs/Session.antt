@@ -1,15 +1,16 @@
 -- The session of a target between two PDUs, but for its commands: its login, its numbers and what is
 -- held (RFC 7143, section 4.2). The definitions below also say what a message does that no command
 -- needs (section 4.2).
-use Rattle.std.specs.Prelude.{ℕ, ◌+◌, ◌-◌, ◌^◌, ◌%◌, Bool, false, List, [], ◌∷◌, Option, None, replicate}
+use Rattle.std.specs.Prelude.{ℕ, ◌+◌, ◌-◌, ◌^◌, ◌%◌, Bool, false, List, [], ◌∷◌, Option, None, map, replicate}
+use Rattle.iscsi_text.specs.Key.{known_keys}
 use Rattle.iscsi_pdu.specs.Serial.{next_sn}
 use Rattle.iscsi_pdu.specs.declared.head.Head.{Head}
 use Rattle.iscsi_stream.specs.Segment.{Bytes}
 use Rattle.iscsi_stream.specs.Stream.{Message}
 use Rattle.iscsi_login.specs.declared.phase.Phase.{Phase}
 use Rattle.iscsi_login.specs.declared.phase.Phase.TheVariants as phases
-use Rattle.iscsi_login.specs.declared.stage.Session.{Session as SessionType}
-use Rattle.iscsi_login.specs.declared.stage.Session.TheVariants as session_types
+use Rattle.iscsi_text.specs.declared.negotiated.Session.{Session as SessionType}
+use Rattle.iscsi_text.specs.declared.negotiated.Session.TheVariants as session_types
 use Rattle.iscsi_login.specs.declared.stage.Stage.{Stage}
 use Rattle.iscsi_login.specs.declared.stage.Stage.TheVariants as stages
 use Rattle.iscsi_login.specs.Held.{Held, defaults, longest_taken}
@@ -44,7 +45,11 @@ pub record Session : Type 0 where
   pub exp_cmd_sn : ℕ
   pub stat_sn : ℕ
 
--- A session in which nothing came: none of the 27 known keys was seen (section 6.3).
+-- None of the known keys was seen (section 6.3).
+abbrev pub none_seen : List Bool
+none_seen = map (λ key. false) known_keys
+
+-- A session in which nothing came: none of the known keys was seen (section 6.3).
 abbrev pub opening_session : Settings → ℕ → Session
 opening_session settings first_stat_sn = record {
   settings = settings;
@@ -52,7 +57,7 @@ opening_session settings first_stat_sn = record {
   stage = stages.Security;
   begun = false;
   gathered = [];
-  seen_keys = replicate 27 false;
+  seen_keys = none_seen;
   has_text = false;
   has_operational_text = false;
   progress = progress.Unasked;

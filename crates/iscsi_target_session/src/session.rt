@@ -23,6 +23,7 @@ use iscsi_login::{Params, Phase, Stage};
 use iscsi_pdu::rule::PROTOCOL_ERROR;
 use iscsi_pdu::{Head, Reject};
 use iscsi_stream::{canonical_head, write_pdu};
+use iscsi_text::KNOWN_KEYS;
 use scsi_unit::LogicalUnit;
 use std::alloc::{AllocError, Global};
 use std::marker::Model;
@@ -40,7 +41,7 @@ pub struct Session {
     stage: Stage,
     begun: bool,
     gathered: Vec<u8>,
-    seen_keys: [bool; 27],
+    seen_keys: [bool; KNOWN_KEYS],
     has_text: bool,
     has_operational_text: bool,
     progress: Progress,
@@ -87,7 +88,7 @@ impl Session {
             stage: Stage::Security,
             begun: false,
             gathered: Vec::new(alloc),
-            seen_keys: [false; 27],
+            seen_keys: [false; KNOWN_KEYS],
             has_text: false,
             has_operational_text: false,
             progress: Progress::Unasked,

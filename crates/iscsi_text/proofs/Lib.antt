@@ -4,6 +4,7 @@ pub mod ReadingLemmas
 pub mod DigitLemmas
 pub mod FaultLemmas
 pub mod KeyLemmas
+pub mod KnownKeyLemmas
 pub mod MeaningLemmas
 pub mod OrderLemmas
 pub mod PairLemmas

@@ -1,12 +1,14 @@
 -- What functions on pairs and bytes see (RFC 7143, section 6.1). Of these public contracts name
 -- `shown`, `all_shown` and `Extends`.
 use Rattle.std.specs.Prelude.{◌≡◌, ◌≢◌, ℕ, ◌-◌, Bool, true, false, List, [], ◌∷◌, ◌++◌, length, map, Option}
+use Rattle.std.specs.Borrow.{Bor}
 use Rattle.std.specs.Option.{MatchOption, option_map}
 use Rattle.std.specs.List.{flat_map, AllByRecursion}
 use Rattle.std.specs.Str.{bytes_eq}
 use Rattle.std.specs.Ordering.{nat_cmp, match_ordering}
 use Rattle.std.specs.Cmp.Lexicographic.{slice_cmp}
 use Rattle.iscsi_text.specs.declared.fault.TextFault.{TextFault}
+use Rattle.iscsi_text.specs.declared.key.KeyKind.{KeyKind}
 use Rattle.iscsi_text.specs.declared.pair.Pair.{Pair}
 use Rattle.iscsi_text.specs.Key.{target_address}
 use Rattle.iscsi_text.specs.Value.{Typed, typed}
@@ -17,7 +19,11 @@ use Rattle.iscsi_text.specs.Fault.{IsFaulty, place_of}
 abbrev pub shown : Pair → List ℕ × Typed
 shown p = (p.key.now, typed p.value)
 
--- The same of each (section 6.1).
+-- A row of the known keys, wherever its name lies in memory (section 6.1).
+abbrev pub row_shown : Bor (List ℕ) × KeyKind → List ℕ × KeyKind
+row_shown row = (row.0.now, row.1)
+
+-- The pairs, wherever their bytes lie in memory (section 6.1).
 abbrev pub all_shown : List Pair → Pairs
 all_shown pairs = map shown pairs
 

@@ -1,9 +1,11 @@
 -- Keys, and the kinds of value that the known ones have (RFC 7143, sections 6.1 and 13).
-use Rattle.std.specs.Prelude.{Bool, ◌≡◌, ℕ, ◌≤◌, ◌⊎◌, List, [], ◌∷◌, length, All, slice_index, Option, Some, None, if◌then◌else◌, codes}
+use Rattle.std.specs.Prelude.{Bool, ◌≡◌, ℕ, ◌≤◌, ◌⊎◌, List, [], ◌∷◌, ◌++◌, length, map, find, All, slice_index, Option, codes}
+use Rattle.std.specs.Option.{option_map}
 use Rattle.std.specs.List.{list_any}
 use Rattle.std.specs.Str.{bytes_eq}
 use Rattle.iscsi_text.specs.declared.key.KeyKind.{KeyKind}
-use Rattle.iscsi_text.specs.declared.key.KeyKind.TheVariants.{Number, Boolean, Items, Plain}
+use Rattle.iscsi_text.specs.declared.key.KeyKind.TheVariants.{Number, Boolean, Plain}
+use Rattle.iscsi_text.specs.Negotiated.{name_of, rule_of, kind_by, all_keys}
 
 -- A letter of ASCII (section 6.1).
 abbrev pub IsLetter : ℕ → Type 0
@@ -29,36 +31,33 @@ pub record IsKey (key : List ℕ) : Type 0 where
 abbrev pub is_among : List (List ℕ) → List ℕ → Bool
 is_among names key = list_any (λ name. bytes_eq name key) names
 
--- Keys with a numerical value (section 13).
-abbrev pub number_keys : List (List ℕ)
-number_keys = codes "MaxConnections" ∷ codes "MaxBurstLength" ∷ codes "FirstBurstLength"
-    ∷ codes "DefaultTime2Wait" ∷ codes "DefaultTime2Retain" ∷ codes "MaxOutstandingR2T"
-    ∷ codes "ErrorRecoveryLevel" ∷ codes "MaxRecvDataSegmentLength"
-    ∷ codes "TargetPortalGroupTag" ∷ []
-
--- Keys with a boolean value (section 13; the markers' keys are of RFC 3720, appendix A).
-abbrev pub boolean_keys : List (List ℕ)
-boolean_keys = codes "InitialR2T" ∷ codes "ImmediateData" ∷ codes "DataPDUInOrder"
-    ∷ codes "DataSequenceInOrder" ∷ codes "IFMarker" ∷ codes "OFMarker" ∷ []
-
--- Keys with a list of values (sections 13.1 and 12.1).
-abbrev pub items_keys : List (List ℕ)
-items_keys = codes "HeaderDigest" ∷ codes "DataDigest" ∷ codes "AuthMethod" ∷ []
-
 -- The only key that may stand more than once in a text (section 13.8).
 abbrev pub target_address : List ℕ
 target_address = codes "TargetAddress"
 
--- Known keys whose values have no further form here (section 13).
-abbrev pub plain_keys : List (List ℕ)
-plain_keys = codes "InitiatorName" ∷ codes "TargetName" ∷ codes "InitiatorAlias"
-    ∷ codes "TargetAlias" ∷ target_address ∷ codes "SessionType"
-    ∷ codes "IFMarkInt" ∷ codes "OFMarkInt" ∷ codes "SendTargets" ∷ []
+-- The known keys that aren't negotiated, each with the kind of its value (section 13; the markers'
+-- keys are of RFC 3720, appendix A).
+abbrev pub declared : List (List ℕ × KeyKind)
+declared = (codes "MaxRecvDataSegmentLength", Number) ∷ (codes "TargetPortalGroupTag", Number)
+    ∷ (codes "IFMarker", Boolean) ∷ (codes "OFMarker", Boolean)
+    ∷ (codes "InitiatorName", Plain) ∷ (codes "TargetName", Plain)
+    ∷ (codes "InitiatorAlias", Plain) ∷ (codes "TargetAlias", Plain)
+    ∷ (target_address, Plain) ∷ (codes "SessionType", Plain)
+    ∷ (codes "IFMarkInt", Plain) ∷ (codes "OFMarkInt", Plain)
+    ∷ (codes "SendTargets", Plain) ∷ []
+
+-- The known keys, each with the kind of its value (section 13).
+abbrev pub known : List (List ℕ × KeyKind)
+known = map (λ key. (name_of key, kind_by (rule_of key))) all_keys ++ declared
+
+-- The names of the known keys (section 13).
+abbrev pub known_keys : List (List ℕ)
+known_keys = map name_of all_keys ++ map (λ key. key.0) declared
+
+-- The kind that the first key of this name has; case counts (section 6.1).
+abbrev pub kind_in : List (List ℕ × KeyKind) → List ℕ → Option KeyKind
+kind_in keys name = option_map (λ key. key.1) (find (λ key. bytes_eq key.0 name) keys)
 
 -- The kind of value that a known key has, and none for an unknown key (section 13).
 unfoldable pub kind_of : List ℕ → Option KeyKind
-kind_of key =
-    if is_among number_keys key then Some Number else (
-    if is_among boolean_keys key then Some Boolean else (
-    if is_among items_keys key then Some Items else (
-    if is_among plain_keys key then Some Plain else None)))
+kind_of name = kind_in known name

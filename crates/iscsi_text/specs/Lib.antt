@@ -1,4 +1,5 @@
 pub mod Numeral
+pub mod Negotiated
 pub mod Key
 pub mod Value
 pub mod Text

@@ -1,14 +1,17 @@
 -- What is known of an order that is planned to take or to give.
 use Rattle.std.proofs.Common.{◌≡◌, ℕ, zero, suc, ◌+◌, ◌-◌, ◌*◌, ◌/◌, ◌<◌, ◌≤◌, Bool, true, false, cond, min, List, [], ◌∷◌, ◌++◌, length, take, Option, Some}
 use Rattle.std.proofs.Common.{None, refl, sym, ◌∙◌, ap, arith, zero-add, add-zero}
-use Rattle.std.proofs.lemmas.List.{append_assoc, take-append-le, length-append}
+use Rattle.std.proofs.lemmas.List.{append_assoc, take-append-le, length-append, length-take}
 use Rattle.std.specs.List.{AllByRecursion}
 use borrow.Author.Tests.{ltb-false}
 use Rattle.scsi_cdb.specs.declared.sense.Sense.{Sense}
 use Rattle.scsi_disk.specs.declared.order.Order.{Order}
 use Rattle.scsi_disk.specs.declared.order.Plan.TheVariants.{Refuse, Take, Give}
 use Rattle.scsi_disk.specs.Disk.{Disk, IsDisk, joined, blocks_from}
-use Rattle.scsi_disk.specs.Effect.{wanted_data}
+use Rattle.scsi_disk.specs.declared.order.Plan.{Plan}
+use Rattle.scsi_disk.specs.declared.reading.BlockRange.{BlockRange}
+use Rattle.scsi_disk.specs.Effect.{good, outcome_by, wanted_data}
+use Rattle.scsi_disk.specs.Found.{Names}
 use Rattle.scsi_disk.specs.Plan.{transfer, taken_length, is_write, is_read, first_of, refusals, first_refusal, plan_by, plan_of, wanted_length, expected_length}
 
 -- where nothing is refused, each test was false
@@ -50,12 +53,12 @@ pub taken : (order : Order) (blocks n : ℕ) → plan_of order blocks ≡ Take n
 taken order blocks n p = taken_by order blocks n (first_refusal order blocks) refl p
 
 -- where the data of one block go to each, those are taken
-pub takes_one : (order : Order) (blocks n : ℕ) → IsTaken order blocks n → order.same ≡ true → n ≡ 512
-takes_one order blocks n taken same = let one : n ≡ 512 = rw same at taken.length in one
+pub takes_one : (order : Order) → order.same ≡ true → taken_length order ≡ 512
+takes_one order same = rw same refl
 
 -- else those of all blocks
-pub takes_all : (order : Order) (blocks n : ℕ) → IsTaken order blocks n → order.same ≡ false → n ≡ 512 * (transfer order.cdb).count
-takes_all order blocks n taken same = let all : n ≡ 512 * (transfer order.cdb).count = rw same at taken.length in all
+pub takes_all : (order : Order) → order.same ≡ false → taken_length order ≡ 512 * (transfer order.cdb).count
+takes_all order same = rw same refl
 
 given_by : (order : Order) (blocks n : ℕ) (r : Option Sense) → first_refusal order blocks ≡ r → plan_by r order blocks ≡ Give n → IsGiven order blocks n
 given_by order blocks n (Some sense) e p = absurd (let h : Refuse sense ≡ Give n = p in cc)
@@ -70,6 +73,14 @@ given_by order blocks n None e p = record {
 
 pub given : (order : Order) (blocks n : ℕ) → plan_of order blocks ≡ Give n → IsGiven order blocks n
 given order blocks n p = given_by order blocks n (first_refusal order blocks) refl p
+
+none_if : (order : Order) (blocks : ℕ) (r : Option Sense) → first_refusal order blocks ≡ r → ((sense : Sense) → plan_of order blocks ≡ Refuse sense → ⊥) → r ≡ None
+none_if order blocks None e none = refl
+none_if order blocks (Some sense) e none = absurd (none sense (ap (λ (r : Option Sense). plan_by r order blocks) e))
+
+-- where the plan is no refusal, there is no reason for one
+pub not_refused : (order : Order) (blocks : ℕ) → ((sense : Sense) → plan_of order blocks ≡ Refuse sense → ⊥) → first_refusal order blocks ≡ None
+not_refused order blocks none = none_if order blocks (first_refusal order blocks) refl none
 
 -- ---- the front of some blocks
 
@@ -92,17 +103,21 @@ length-joined size block first (suc c) h =
     length-append (block first) (joined block (first + 1) c) ∙ (let e : length (block first) + length (joined block (first + 1) c)
     ≡ size * suc c = omega arith in e)
 
+-- a front needs only the blocks that have it
+front_of : (block : ℕ → List ℕ) (first few count n : ℕ) → few ≤ count → n ≤ length (joined block first few) → take n (joined block first few) ≡ take n (joined block first count)
+front_of block first few count n less covers =
+    let all : few + (count - few) ≡ count = omega (arith, less) in
+    sym (ap (λ k. take n (joined block first k)) (sym all) ∙ ap (take n) (joined-add block first few (count - few))
+    ∙ take-append-le n (joined block first few) (joined block (first + few) (count - few)) covers)
+
 -- a front needs only the blocks that it reaches into
 pub front-joined : (disk : Disk) (first count n : ℕ) → IsDisk disk → first + count ≤ disk.count → n ≤ 512 * count
     → take n (joined disk.block first ((n + 511) / 512)) ≡ take n (joined disk.block first count)
 front-joined disk first count n is inside fits =
     let c = (n + 511) / 512 in
     let few : (n + 511) / 512 ≤ count = omega arith in
-    let all : (n + 511) / 512 + (count - (n + 511) / 512) ≡ count = omega arith in
     let long = length-joined 512 disk.block first ((n + 511) / 512) (λ k low high. is.inside k (omega arith)) in
-    let covers : n ≤ length (joined disk.block first ((n + 511) / 512)) = omega arith in
-    sym (ap (λ k. take n (joined disk.block first k)) (sym all) ∙ ap (take n) (joined-add disk.block first ((n + 511) / 512) (count - (n + 511) / 512))
-    ∙ take-append-le n (joined disk.block first ((n + 511) / 512)) (joined disk.block (first + (n + 511) / 512) (count - (n + 511) / 512)) covers)
+    front_of disk.block first ((n + 511) / 512) count n few (omega arith)
 
 -- what a READ gives is the front of the blocks that it names
 pub read_gives : (disk : Disk) (order : Order) (n : ℕ) → IsDisk disk → plan_of order disk.count ≡ Give n → is_read order.cdb ≡ true
@@ -111,3 +126,19 @@ read_gives disk order n is p reads =
     let facts = given order disk.count n p in
     let most : n ≤ 512 * (transfer order.cdb).count = rw reads at facts.most in
     rw reads (front-joined disk (transfer order.cdb).first (transfer order.cdb).count n is facts.names.inside most)
+
+-- a READ of these blocks would give them
+pub read_wants : (order : Order) (blocks : ℕ) (range : BlockRange) → is_read order.cdb ≡ true → Names order blocks range → wanted_length order blocks ≡ 512 * range.count
+read_wants order blocks range reads names = rw reads (ap (λ n. 512 * n) (sym names.count))
+
+-- and the front of them is what it gives
+pub gives_front : (disk : Disk) (order : Order) (range : BlockRange) (n : ℕ) (bytes : List ℕ) → is_read order.cdb ≡ true → Names order disk.count range → n ≤ 512 * range.count
+    → length bytes ≡ n → bytes ≡ take n (blocks_from disk range.first ((n + 511) / 512)) → good order (512 * range.count) bytes ≡ outcome_by (Give n) disk order
+gives_front disk order range n bytes reads names most size is =
+    let named = transfer order.cdb in
+    let few : (n + 511) / 512 ≤ named.count = omega (arith, names.count, most) in
+    let covers : n ≤ length (blocks_from disk range.first ((n + 511) / 512)) =
+    omega (arith, length-take n (blocks_from disk range.first ((n + 511) / 512)), ap length is, size) in
+    ap (good order (512 * range.count)) is
+    ∙ rw (reads, names.first, names.count) (ap (good order (512 * named.count))
+    (front_of disk.block named.first ((n + 511) / 512) named.count n few (rw names.first at covers)))

@@ -1,16 +1,18 @@
 //! What an order does to a store, and its answer.
 
-ghost use Rattle.std.specs.Prelude.{◌≡◌, ◌+◌, ◌*◌, ◌/◌, ◌<◌, ◌≤◌, ◌^◌, length as size, take as front, OnOk, OnErr, IfOk, IsOk, IsErr, IsErrOf, IsTrue};
+ghost use Rattle.std.specs.Prelude.{◌≡◌, ◌+◌, ◌*◌, ◌/◌, ◌<◌, ◌≤◌, ◌^◌, length as size, min, true, take as front, OnOk, OnErr, IfOk, IsOk, IsErr, IsErrOf};
 ghost use Rattle.std.specs.List.{repeat};
 ghost use Rattle.scsi_disk.specs.Disk.{Tells, IsOldOrNew, blocks_from, written};
 ghost use Rattle.scsi_disk.specs.Lasting.{Adds, Lasts, Within};
-ghost use Rattle.scsi_disk.specs.Plan.{transfer, is_read, parameter_data, wanted_length, plan_of};
-ghost use Rattle.scsi_disk.specs.Effect.{Effect, IsSupplied, IsSuppliedBy, Executes, block_data, effect, residual_of, good, given, check, HasOtherData, wanted_data, disk_by, outcome_by};
+ghost use Rattle.scsi_disk.specs.Plan.{transfer, is_read, taken_length, expected_length, plan_of};
+ghost use Rattle.scsi_disk.specs.Found.{IsFound, Names, plan_by_work};
+ghost use Rattle.scsi_disk.specs.declared.found.Work.TheVariants.{Read, Write};
+ghost use Rattle.scsi_disk.specs.Effect.{Effect, IsSupplied, IsSuppliedBy, Executes, block_data, effect, residual_of, good, given, check, HasOtherData, disk_by, outcome_by};
 
+use crate::found::{Found, Work};
 use crate::order::{Order, Outcome, Plan};
-use crate::planning::{
-    expected_length, is_read, is_write, parameter_data, plan, transfer_of, wanted_length,
-};
+use crate::planning::expected_length;
+use crate::reading::BlockRange;
 use crate::store::{BlockStore, StoreFault};
 use scsi_cdb::{Bytes, Residual, Sense};
 use std::alloc::{AllocError, Global};
@@ -81,7 +83,7 @@ fn read_front<S: BlockStore>(
     first: u64,
     length: u32,
 ) -> Result<Vec<u8>, StoreFault>
-    requires { 512 * first + 512 * ((length + 511) / 512) ≤ 512 * (S.disk store.old).count }
+    requires { first + (length + 511) / 512 ≤ (S.disk store.old).count }
     ensures ok { IfOk result (λ v. S.failures store.new ≡ S.failures store.old → v.items
         ≡ front length (blocks_from (S.disk store.old) first ((length + 511) / 512))) }
     ensures size { IfOk result (λ v. size v.items ≡ length) }
@@ -93,63 +95,54 @@ fn read_front<S: BlockStore>(
     ensures tells { Tells (S.disk store.old).tells (S.failures store.old) (S.failures store.new)
         (S.untold store.old) (S.untold store.new) result }
 {
-    let length = length as usize;
-    let mut bytes = vec![in alloc; 0u8; 512 * ((length + 511) / 512)]?;
-    store.read(first, &mut bytes)?;
-    bytes.truncate(length);
+    let mut bytes = Vec::new(alloc);
+    store.read_onto(first, length.div_ceil(512), &mut bytes)?;
+    bytes.truncate(length as usize);
     Ok(bytes)
 }
 
-/// Gives the data of an order that is planned to give `n` bytes.
-#[tactic(auto, using(crate::proofs::PlanLemmas::given))]
+/// Gives the data of a READ of these blocks.
 fn give<S: BlockStore>(
     alloc: Global,
     order: &Order,
-    length: u32,
+    range: BlockRange,
     store: &mut S,
 ) -> Result<Outcome, StoreFault>
-    requires { plan_of order.now (S.disk store.old).count ≡ Plan.Give length }
+    requires reads { is_read order.now.cdb ≡ true }
+    requires names { Names order.now (S.disk store.old).count range }
     ensures ok { IfOk result (λ outcome. S.failures store.new ≡ S.failures store.old
-        → outcome ≡ outcome_by (Plan.Give length) (S.disk store.old) order.now) }
-    ensures untold { IfOk result (λ outcome. S.failures store.old < S.failures store.new
-        → IsTrue (is_read order.now.cdb)
-        × HasOtherData (S.disk store.old) order.now length outcome) }
+        → outcome ≡ outcome_by (plan_by_work order.now (Read range)) (S.disk store.old) order.now) }
+    ensures untold { IfOk result (HasOtherData (S.disk store.old) order.now
+        (min (512 * range.count) (expected_length order.now))) }
     ensures disk { S.disk store.new ≡ S.disk store.old }
     ensures kept { Within (S.kept store.old) (S.kept store.new) }
     ensures lasts { S.failures store.new ≡ S.failures store.old
         → Lasts (S.synced store.old) (S.disk store.old) (S.kept store.old)
         → Lasts (S.synced store.new) (S.disk store.new) (S.kept store.new) }
-    ensures device { IsErrOf result StoreFault.Device → IsTrue (is_read order.now.cdb) }
     ensures tells { Tells (S.disk store.old).tells (S.failures store.old) (S.failures store.new)
         (S.untold store.old) (S.untold store.new) result }
 {
-    let blocks = store.blocks();
-    let wanted = wanted_length(order, blocks);
-    if is_read(&order.cdb) {
-        let bytes = read_front(alloc, store, transfer_of(&order.cdb).first, length)?;
-        return Ok(Outcome::good(order, wanted, bytes));
-    }
-    let bytes = match parameter_data(order, blocks) {
-        Some(data) => Vec::from_slice(alloc, &data.as_slice()[..length as usize])?,
-        None => Vec::new(alloc),
-    };
+    let wanted = 512 * range.count;
+    let length = wanted.min(expected_length(order));
+    let bytes = read_front(alloc, store, range.first, length)?;
     Ok(Outcome::good(order, wanted, bytes))
 }
 
-/// Writes the data of an order that is planned to take `n` bytes.
+/// Writes the data of a WRITE to these blocks.
 fn take<S: BlockStore>(
     alloc: Global,
     order: &Order,
     bytes: &[u8],
-    length: u32,
+    range: BlockRange,
     store: &mut S,
 ) -> Result<Outcome, StoreFault>
-    requires planned { plan_of order.now (S.disk store.old).count ≡ Plan.Take length }
-    requires supplied { size bytes.now ≡ length }
-    ensures ok { IfOk result
-        (λ outcome. outcome ≡ outcome_by (Plan.Take length) (S.disk store.old) order.now) }
+    requires names { Names order.now (S.disk store.old).count range }
+    requires supplied { size bytes.now ≡ taken_length order.now }
+    ensures ok { IfOk result (λ outcome.
+        outcome ≡ outcome_by (plan_by_work order.now (Write range)) (S.disk store.old) order.now) }
     ensures written { OnOk result (S.failures store.new ≡ S.failures store.old
-        → S.disk store.new ≡ disk_by (Plan.Take length) (S.disk store.old) order.now bytes.now) }
+        → S.disk store.new
+        ≡ disk_by (plan_by_work order.now (Write range)) (S.disk store.old) order.now bytes.now) }
     ensures lasts { S.failures store.new ≡ S.failures store.old
         → Lasts (S.synced store.old) (S.disk store.old) (S.kept store.old)
         → Lasts (S.synced store.new) (S.disk store.new) (S.kept store.new) }
@@ -163,14 +156,13 @@ fn take<S: BlockStore>(
     ensures tells { Tells (S.disk store.old).tells (S.failures store.old) (S.failures store.new)
         (S.untold store.old) (S.untold store.new) result }
 {
-    let named = transfer_of(&order.cdb);
     if order.same {
-        let all = repeated(alloc, bytes, named.count)?;
-        store.write(named.first, &all)?;
+        let all = repeated(alloc, bytes, range.count)?;
+        store.write(range.first, &all)?;
     } else {
-        store.write(named.first, bytes)?;
+        store.write(range.first, bytes)?;
     }
-    Ok(Outcome::good(order, length, Vec::new(alloc)))
+    Ok(Outcome::good(order, bytes.len() as u32, Vec::new(alloc)))
 }
 
 /// The bytes of a block `n` times, at most 4 MiB of them.
@@ -247,8 +239,8 @@ pub fn execute<S: BlockStore>(
     ensures err { OnErr result (S.disk store.new ≡ S.disk store.old) }
     ensures err_failures { OnErr result (S.failures store.new ≡ S.failures store.old) }
 {
-    let planned = plan(order, store.blocks());
-    execute_planned(alloc, order, planned, bytes, store)
+    let found = Found::of(order, store.blocks());
+    execute_found(alloc, order, &found, bytes, store)
 }
 
 /// Executes an order on a store by its plan, for a caller that made the plan. What it does, and
@@ -275,18 +267,48 @@ pub fn execute_planned<S: BlockStore>(
     ensures err { OnErr result (S.disk store.new ≡ S.disk store.old) }
     ensures err_failures { OnErr result (S.failures store.new ≡ S.failures store.old) }
 {
-    match planned {
-        Plan::Refuse(sense) => Ok(Outcome::check_condition(alloc, order, sense)),
-        Plan::Take(length) => {
+    let found = Found::by_plan(order, planned, store.blocks());
+    execute_found(alloc, order, &found, bytes, store)
+}
+
+/// Executes an order from what was found of it, on a store of as many blocks. What it does, and what
+/// comes of a failure, is as with `execute`.
+pub fn execute_found<S: BlockStore>(
+    alloc: Global,
+    order: &Order,
+    found: &Found,
+    bytes: &[u8],
+    store: &mut S,
+) -> Result<Outcome, AllocError>
+    requires found { IsFound order.now found.now }
+    requires blocks { found.now.blocks ≡ (S.disk store.old).count }
+    requires supplied { IsSupplied (S.disk store.old).count order.now bytes.now }
+    ensures ok { IfOk result (λ outcome. Executes S.protected (S.failures store.old)
+        (S.failures store.new)
+        (S.disk store.old) order.now bytes.now
+        (record { disk = S.disk store.new; outcome = outcome })) }
+    ensures count { (S.disk store.new).count ≡ (S.disk store.old).count }
+    ensures lasts { S.failures store.new ≡ S.failures store.old
+        → Lasts (S.synced store.old) (S.disk store.old) (S.kept store.old)
+        → Lasts (S.synced store.new) (S.disk store.new) (S.kept store.new) }
+    ensures crash { Adds (effect S.protected (S.disk store.old) order.now bytes.now).disk
+        (S.kept store.old) (S.kept store.new) }
+    ensures err { OnErr result (S.disk store.new ≡ S.disk store.old) }
+    ensures err_failures { OnErr result (S.failures store.new ≡ S.failures store.old) }
+{
+    match &found.work {
+        Work::Refuse(sense) => Ok(Outcome::check_condition(alloc, order, *sense)),
+        Work::Tell(data) => Outcome::given(alloc, order, data.as_slice()),
+        Work::Read(range) => {
+            let answer = give(alloc, order, *range, store);
+            settled(alloc, order, answer, Sense::ReadError)
+        }
+        Work::Write(range) => {
             if store.is_protected() {
                 return Ok(Outcome::check_condition(alloc, order, Sense::WriteProtected));
             }
-            let answer = take(alloc, order, bytes, length, store);
+            let answer = take(alloc, order, bytes, *range, store);
             settled(alloc, order, answer, Sense::WriteError)
-        }
-        Plan::Give(length) => {
-            let answer = give(alloc, order, length, store);
-            settled(alloc, order, answer, Sense::ReadError)
         }
     }
 }

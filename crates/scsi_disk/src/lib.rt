@@ -4,6 +4,7 @@
 
 mod execution;
 mod fail_at;
+mod found;
 pub mod laws;
 mod memory;
 mod order;
@@ -14,13 +15,14 @@ mod running;
 mod sparse;
 mod store;
 
-pub use execution::{execute, execute_planned};
+pub use execution::{execute, execute_found, execute_planned};
 pub use fail_at::FailAt;
+pub use found::{Found, Work};
 pub use memory::{MemoryStore, read_blocks, write_blocks};
 pub use order::{Order, Outcome, Plan};
 pub use planning::{LONGEST_TRANSFER, plan};
 pub use read_only::ReadOnly;
-pub use reading::{BlockRange, failed_read, read_outcome, whole_blocks};
+pub use reading::{BlockRange, failed_read};
 pub use running::run_orders;
 pub use sparse::{MOST_BLOCKS, SparseStore};
 pub use store::{BlockStore, StoreFault};

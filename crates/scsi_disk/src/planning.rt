@@ -1,9 +1,12 @@
 //! What an order leads to, before a block is touched (SPC-4 and SBC-3).
 
-ghost use Rattle.std.specs.Prelude.{◌≡◌, ◌+◌, ◌*◌, ◌-◌, ◌<◌, ◌≤◌, ◌||◌, ◌&&◌, ◌==◌, not, nat_lt, is_none, option_map, IfNone, length, take};
-ghost use Rattle.scsi_disk.specs.Plan.{transfer, synchronized, taken_length, is_write, is_read, is_unknown, is_standard_inquiry, parameter_data, first_refusal, expected_length, wanted_length, plan_of};
+ghost use Rattle.std.specs.Prelude.{◌≡◌, ◌+◌, ◌*◌, ◌-◌, ◌<◌, ◌≤◌, ◌||◌, ◌&&◌, ◌==◌, not, nat_lt, is_none, is_some, option_map, bit_and, None, length, take};
+ghost use Rattle.scsi_disk.specs.Plan.{transfer, synchronized, taken_length, is_write, is_read, is_unknown, is_standard_inquiry, parameter_data, first_refusal, expected_length, plan_of};
+ghost use Rattle.scsi_disk.specs.Found.{IsFound, blocks_of};
 
+use crate::found::{Found, Work};
 use crate::order::{Order, Plan};
+use crate::reading::BlockRange;
 use arrayvec::ArrayVec;
 use scsi_cdb::{Cdb, Sense, capacity10, capacity16, inquiry_bytes, report_luns, vpd_bytes};
 
@@ -13,7 +16,7 @@ pub const LONGEST_TRANSFER: u32 = 8192;
 /// RDPROTECT or WRPROTECT, in the options of a READ or WRITE (SBC-3).
 const PROTECTION: u8 = 0xe0;
 
-/// The blocks that a READ or a WRITE names, with its options, and none of another command.
+/// The blocks that a command names, with its options.
 #[derive(Clone, Copy)]
 pub(crate) struct Transfer {
     /// The first block.
@@ -24,60 +27,47 @@ pub(crate) struct Transfer {
     pub options: u8,
 }
 
-/// What a command names of the blocks.
-pub(crate) fn transfer_of(cdb: &Cdb) -> Transfer
-    ensures { result ≡ transfer cdb.now }
+/// No blocks.
+const NO_BLOCKS: Transfer = Transfer {
+    first: 0,
+    count: 0,
+    options: 0,
+};
+
+/// The blocks that a READ or a WRITE names; another command names none.
+fn transfer_of(cdb: &Cdb) -> Option<Transfer>
+    ensures named { blocks_of result ≡ transfer cdb.now }
+    ensures kind { is_some result ≡ (is_read cdb.now || is_write cdb.now) }
 {
     match cdb {
-        Cdb::Read10(t) | Cdb::Write10(t) => Transfer {
+        Cdb::Read10(t) | Cdb::Write10(t) => Some(Transfer {
             first: u64::from(t.logical_block_address),
             count: u32::from(t.blocks),
             options: t.options,
-        },
-        Cdb::Read16(t) | Cdb::Write16(t) => Transfer {
+        }),
+        Cdb::Read16(t) | Cdb::Write16(t) => Some(Transfer {
             first: t.logical_block_address,
             count: t.blocks,
             options: t.options,
-        },
+        }),
         Cdb::TestUnitReady { .. }
         | Cdb::Inquiry { .. }
         | Cdb::Capacity10 { .. }
         | Cdb::SyncCache10(_)
         | Cdb::Capacity16 { .. }
         | Cdb::ReportLuns { .. }
-        | Cdb::Unknown(_) => Transfer {
-            first: 0,
-            count: 0,
-            options: 0,
-        },
+        | Cdb::Unknown(_) => None,
     }
 }
 
-/// The blocks that a SYNCHRONIZE CACHE names, and none of another command.
-fn synchronized_by(cdb: &Cdb) -> Transfer
-    ensures { result ≡ synchronized cdb.now }
+/// Whether a SYNCHRONIZE CACHE names blocks past the last one of `n`.
+fn flushes_past(cdb: &Cdb, blocks: u64) -> bool
+    ensures { result ≡ nat_lt blocks ((synchronized cdb.now).first + (synchronized cdb.now).count) }
 {
-    match cdb {
-        Cdb::SyncCache10(s) => Transfer {
-            first: u64::from(s.logical_block_address),
-            count: u32::from(s.blocks),
-            options: s.options,
-        },
-        Cdb::TestUnitReady { .. }
-        | Cdb::Inquiry { .. }
-        | Cdb::Capacity10 { .. }
-        | Cdb::Read10(_)
-        | Cdb::Write10(_)
-        | Cdb::Read16(_)
-        | Cdb::Write16(_)
-        | Cdb::Capacity16 { .. }
-        | Cdb::ReportLuns { .. }
-        | Cdb::Unknown(_) => Transfer {
-            first: 0,
-            count: 0,
-            options: 0,
-        },
-    }
+    let Cdb::SyncCache10(named) = cdb else {
+        return false;
+    };
+    blocks < u64::from(named.logical_block_address) + u64::from(named.blocks)
 }
 
 /// WRITE(10) or WRITE(16).
@@ -87,11 +77,13 @@ pub(crate) fn is_write(cdb: &Cdb) -> bool
     matches!(cdb, Cdb::Write10(_) | Cdb::Write16(_))
 }
 
-/// READ(10) or READ(16).
-pub(crate) fn is_read(cdb: &Cdb) -> bool
-    ensures { result ≡ is_read cdb.now }
-{
-    matches!(cdb, Cdb::Read10(_) | Cdb::Read16(_))
+impl Order {
+    /// It is a WRITE, which alone takes data.
+    pub fn is_write(&self) -> bool
+        ensures { result ≡ is_write self.now.cdb }
+    {
+        is_write(&self.cdb)
+    }
 }
 
 /// A block of no known command.
@@ -116,6 +108,17 @@ impl Transfer {
         match self.first.checked_add(u64::from(self.count)) {
             Some(end) => blocks < end,
             None => true,
+        }
+    }
+
+    /// The blocks alone.
+    fn range(&self) -> BlockRange
+        ensures first { result.first ≡ self.now.first }
+        ensures count { result.count ≡ self.now.count }
+    {
+        BlockRange {
+            first: self.first,
+            count: self.count,
         }
     }
 }
@@ -181,12 +184,14 @@ pub(crate) fn parameter_data(order: &Order, blocks: u64) -> Option<ArrayVec<u8, 
     }
 }
 
-/// The first reason to refuse an order, in the order of the list of reasons.
-fn refusal(order: &Order, blocks: u64) -> Option<Sense>
+/// The first reason to refuse an order that names these blocks, in the order of the list of reasons.
+/// It has data of its own, or asks for a page or a report that there is not.
+fn refusal(order: &Order, named: Option<Transfer>, has_data: bool, blocks: u64) -> Option<Sense>
+    requires named { blocks_of named ≡ transfer order.now.cdb }
+    requires data { has_data ≡ not (is_none (parameter_data order.now blocks)) }
     ensures { result ≡ first_refusal order.now blocks }
 {
     let cdb = &order.cdb;
-    let transfer = transfer_of(cdb);
     if is_unknown(cdb) {
         return Some(Sense::InvalidCode);
     }
@@ -196,37 +201,34 @@ fn refusal(order: &Order, blocks: u64) -> Option<Sense>
     if order.read && order.write || order.write && !is_write(cdb) {
         return Some(Sense::InvalidField);
     }
-    if transfer.options & PROTECTION != 0
-        || parameter_data(order, blocks).is_none()
-        || transfer.count > LONGEST_TRANSFER
-    {
+    // A command that names no blocks has no reason of these.
+    let transfer = named.unwrap_or(NO_BLOCKS);
+    if transfer.options & PROTECTION != 0 || !has_data || transfer.count > LONGEST_TRANSFER {
         return Some(Sense::InvalidField);
     }
     if transfer.ends_past(blocks) {
         return Some(Sense::OutOfRange);
     }
     if is_write(cdb)
-        && (order.expected != taken_length(order)
+        && (order.expected != taken_length(order, transfer.count)
             || !order.write && (order.same || transfer.count > 0))
     {
         return Some(Sense::InvalidField);
     }
-    if synchronized_by(cdb).ends_past(blocks) {
+    if flushes_past(cdb, blocks) {
         return Some(Sense::OutOfRange);
     }
     None
 }
 
-/// How many bytes a WRITE takes: those of its blocks, or those of one, which go to each.
-fn taken_length(order: &Order) -> u32
-    requires { (transfer order.now.cdb).count ≤ 8192 }
+/// How many bytes a WRITE of `n` blocks takes: those of its blocks, or those of one, which go to
+/// each.
+fn taken_length(order: &Order, count: u32) -> u32
+    requires few { count ≤ 8192 }
+    requires named { count ≡ (transfer order.now.cdb).count }
     ensures { result ≡ taken_length order.now }
 {
-    if order.same {
-        512
-    } else {
-        512 * transfer_of(&order.cdb).count
-    }
+    if order.same { 512 } else { 512 * count }
 }
 
 /// What the initiator expects, which a residual is counted from: nothing, where it names no
@@ -242,17 +244,89 @@ pub(crate) fn expected_length(order: &Order) -> u32
     }
 }
 
-/// How many bytes a command would give to an initiator that expects enough.
-pub(crate) fn wanted_length(order: &Order, blocks: u64) -> u32
-    requires { (transfer order.now.cdb).count ≤ 8192 }
-    ensures { result ≡ wanted_length order.now blocks }
-{
-    if is_read(&order.cdb) {
-        return 512 * transfer_of(&order.cdb).count;
+impl Found {
+    /// What is found of an order, on a disk of `n` blocks.
+    pub fn of(order: &Order, blocks: u64) -> Found
+        ensures is { IsFound order.now result }
+        ensures blocks { result.blocks ≡ blocks }
+    {
+        let transfer = transfer_of(&order.cdb);
+        let data = parameter_data(order, blocks);
+        match refusal(order, transfer, data.is_some(), blocks) {
+            Some(sense) => Found {
+                blocks,
+                work: Work::Refuse(sense),
+            },
+            None => Found::unrefused(order, transfer, data, blocks),
+        }
     }
-    match parameter_data(order, blocks) {
-        Some(data) => data.len() as u32,
-        None => 0,
+
+    /// The same by the plan of the order, where that is made.
+    pub(crate) fn by_plan(order: &Order, planned: Plan, blocks: u64) -> Found
+        requires planned { planned ≡ plan_of order.now blocks }
+        ensures is { IsFound order.now result }
+        ensures blocks { result.blocks ≡ blocks }
+    {
+        match planned {
+            Plan::Refuse(sense) => Found {
+                blocks,
+                work: Work::Refuse(sense),
+            },
+            Plan::Take(_) | Plan::Give(_) => {
+                let data = parameter_data(order, blocks);
+                Found::unrefused(order, transfer_of(&order.cdb), data, blocks)
+            }
+        }
+    }
+
+    /// What is found of an order that is not refused, by the blocks that it names and the data that
+    /// it gives.
+    fn unrefused(
+        order: &Order,
+        named: Option<Transfer>,
+        told: Option<ArrayVec<u8, 36>>,
+        blocks: u64,
+    ) -> Found
+        requires named { blocks_of named ≡ transfer order.now.cdb }
+        requires kind { is_some named ≡ (is_read order.now.cdb || is_write order.now.cdb) }
+        requires data { option_map (λ v. v.items) told ≡ parameter_data order.now blocks }
+        requires unrefused { first_refusal order.now blocks ≡ None }
+        ensures is { IsFound order.now result }
+        ensures blocks { result.blocks ≡ blocks }
+    {
+        let work = match named {
+            Some(transfer) if is_write(&order.cdb) => Work::Write(transfer.range()),
+            Some(transfer) => Work::Read(transfer.range()),
+            None => match told {
+                Some(told) => Work::Tell(told),
+                None => Work::Tell(ArrayVec::new()),
+            },
+        };
+        Found { blocks, work }
+    }
+
+    /// Finds anew, where it is not of a disk of `n` blocks.
+    pub fn renew(&mut self, order: &Order, blocks: u64)
+        requires { IsFound order.now self.old }
+        ensures is { IsFound order.now self.new }
+        ensures blocks { self.new.blocks ≡ blocks }
+    {
+        if self.blocks != blocks {
+            *self = Found::of(order, blocks);
+        }
+    }
+
+    /// The plan of the order of which it was found.
+    pub fn plan(&self, order: &Order) -> Plan
+        requires is { IsFound order.now self.now }
+        ensures { result ≡ plan_of order.now self.now.blocks }
+    {
+        match &self.work {
+            Work::Refuse(sense) => Plan::Refuse(*sense),
+            Work::Write(range) => Plan::Take(taken_length(order, range.count)),
+            Work::Read(range) => Plan::Give((512 * range.count).min(expected_length(order))),
+            Work::Tell(data) => Plan::Give((data.len() as u32).min(expected_length(order))),
+        }
     }
 }
 
@@ -276,11 +350,5 @@ pub(crate) fn wanted_length(order: &Order, blocks: u64) -> u32
 pub fn plan(order: &Order, blocks: u64) -> Plan
     ensures { result ≡ plan_of order.now blocks }
 {
-    if let Some(sense) = refusal(order, blocks) {
-        return Plan::Refuse(sense);
-    }
-    if is_write(&order.cdb) {
-        return Plan::Take(taken_length(order));
-    }
-    Plan::Give(wanted_length(order, blocks).min(expected_length(order)))
+    Found::of(order, blocks).plan(order)
 }

@@ -1,13 +1,15 @@
 //! READs of whole blocks, whose data a caller takes from the store itself.
 
-ghost use Rattle.std.specs.Prelude.{◌≡◌, ℕ, [], IfOk, IsOk};
+ghost use Rattle.std.specs.Prelude.{◌≡◌, [], IfOk, IsOk, IsSome};
 ghost use Rattle.scsi_disk.specs.Plan.{plan_of, wanted_length};
+ghost use Rattle.scsi_disk.specs.Found.{IsFound};
 ghost use Rattle.scsi_disk.specs.Effect.{good, check};
 ghost use Rattle.scsi_disk.specs.Reading.{whole_blocks};
 ghost use Rattle.scsi_cdb.specs.declared.sense.Sense.TheVariants.{ReadError};
 
-use crate::order::{Order, Outcome, Plan};
-use crate::planning::{is_read, transfer_of, wanted_length};
+use crate::found::{Found, Work};
+use crate::order::{Order, Outcome};
+use crate::planning::expected_length;
 use crate::store::StoreFault;
 use scsi_cdb::Sense;
 use std::alloc::{AllocError, Global};
@@ -21,28 +23,40 @@ pub struct BlockRange {
     pub count: u32,
 }
 
-/// The blocks that an order gives by its plan, where it is a READ that gives whole ones. A caller
-/// may read them by `BlockStore::read_onto`, in as many parts as it likes, and answer by
-/// `read_outcome` or `failed_read` in place of `execute_planned`.
-pub fn whole_blocks(order: &Order, planned: Plan) -> Option<BlockRange>
-    ensures { result ≡ whole_blocks order.now planned }
-{
-    match planned {
-        Plan::Give(length) if is_read(&order.cdb) && length % 512 == 0 => Some(BlockRange {
-            first: transfer_of(&order.cdb).first,
+impl Found {
+    /// The blocks that the order of which it was found gives, where it is a READ that gives whole
+    /// ones. A caller may read them by `BlockStore::read_onto`, in as many parts as it likes, and
+    /// answer by `read_outcome` or `failed_read` in place of `execute_found`.
+    pub fn whole_blocks(&self, order: &Order) -> Option<BlockRange>
+        requires { IsFound order.now self.now }
+        ensures { result ≡ whole_blocks order.now (plan_of order.now self.now.blocks) }
+    {
+        let Work::Read(range) = &self.work else {
+            return None;
+        };
+        let length = (512 * range.count).min(expected_length(order));
+        if length % 512 != 0 {
+            return None;
+        }
+        Some(BlockRange {
+            first: range.first,
             count: length / 512,
-        }),
-        _ => None,
+        })
     }
-}
 
-/// The outcome of a READ whose blocks were read, on a disk of `n` blocks: GOOD. Its data, which
-/// the caller has, are left out.
-pub fn read_outcome(alloc: Global, order: &Order, blocks: u64) -> Outcome
-    requires { (length : ℕ) × (plan_of order.now blocks ≡ Plan.Give length) }
-    ensures { result ≡ good order.now (wanted_length order.now blocks) [] }
-{
-    Outcome::good(order, wanted_length(order, blocks), Vec::new(alloc))
+    /// The outcome of the order of which it was found, a READ whose blocks were read: GOOD. Its data,
+    /// which the caller has, are left out.
+    pub fn read_outcome(&self, alloc: Global, order: &Order) -> Outcome
+        requires found { IsFound order.now self.now }
+        requires gives { IsSome (whole_blocks order.now (plan_of order.now self.now.blocks)) }
+        ensures { result ≡ good order.now (wanted_length order.now self.now.blocks) [] }
+    {
+        let wanted = match &self.work {
+            Work::Read(range) => 512 * range.count,
+            Work::Refuse(_) | Work::Write(_) | Work::Tell(_) => 0,
+        };
+        Outcome::good(order, wanted, Vec::new(alloc))
+    }
 }
 
 /// The outcome of a READ whose blocks could not be read for this fault: CHECK CONDITION with

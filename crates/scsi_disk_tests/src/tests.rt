@@ -6,8 +6,8 @@ ghost use Rattle.scsi_disk.specs.Runs.{AreSupplied};
 
 use scsi_cdb::{Bytes, Cdb, Residual, Sense};
 use scsi_disk::{
-    BlockRange, BlockStore, FailAt, MOST_BLOCKS, MemoryStore, Order, Outcome, Plan, ReadOnly,
-    SparseStore, StoreFault, execute, failed_read, plan, read_outcome, run_orders, whole_blocks,
+    BlockRange, BlockStore, FailAt, Found, MOST_BLOCKS, MemoryStore, Order, Outcome, Plan,
+    ReadOnly, SparseStore, StoreFault, execute, failed_read, plan, run_orders,
 };
 use std::alloc::{AllocError, Global};
 use std::fmt::Debug;
@@ -1026,7 +1026,7 @@ fn range_of(range: &Option<(u64, u32)>) -> Option<BlockRange> {
 }
 
 fn check_whole(rt: &impl Abort, order: &Order, want: &Option<(u64, u32)>, name: &str) {
-    let found = whole_blocks(order, plan(order, 2048));
+    let found = Found::of(order, 2048).whole_blocks(order);
     same(rt, &found, &range_of(want), &name);
 }
 
@@ -1040,10 +1040,11 @@ fn whole_blocks_of_reads(rt: HostRuntime) {
 #[test]
 fn outcomes_of_read_blocks(rt: HostRuntime) {
     let order = order_of(READ_8, Data::Reads(8192));
-    let Plan::Give(_) = plan(&order, 2048) else {
-        panic!(&rt; "a read of 8 blocks has data")
+    let found = Found::of(&order, 2048);
+    let Some(_) = found.whole_blocks(&order) else {
+        panic!(&rt; "a read of 8 blocks gives whole ones")
     };
-    let done = read_outcome(rt.alloc(), &order, 2048);
+    let done = found.read_outcome(rt.alloc(), &order);
     check_outcome(&rt, "read", &done, None, b"", Residual::Under(4096));
     let failed = failed_read(rt.alloc(), &order, StoreFault::Device).expect(&rt, "an outcome");
     let sense = Some(Sense::ReadError);

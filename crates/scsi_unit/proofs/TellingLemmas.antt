@@ -1,5 +1,5 @@
 -- What a unit tells of itself is no answer to a READ or a WRITE.
-use Rattle.std.proofs.Common.{◌≡◌, ℕ, Bool, true, false, Option, Some, None, refl}
+use Rattle.std.proofs.Common.{◌≡◌, ℕ, true, Option, Some, None, refl}
 use Rattle.std.specs.Prelude.{◌==◌, ◌||◌, option_map, unwrap_or}
 use Rattle.std.proofs.lemmas.Bool.{false≢true}
 use Rattle.scsi_cdb.specs.declared.cdb.Cdb.{Cdb}

@@ -1,5 +1,5 @@
 -- The data of MODE SENSE (SPC-4, sections 6.11, 6.12, 7.5.5 and 7.5.8; SBC-3, section 6.4.5).
-use Rattle.std.specs.Prelude.{ℕ, ◌+◌, Bool, not, ◌==◌, ◌&&◌, ◌||◌, if◌then◌else◌, List, [], ◌∷◌, ◌++◌, length, replicate, Option, Some, None}
+use Rattle.std.specs.Prelude.{ℕ, ◌+◌, Bool, not, ◌==◌, ◌&&◌, ◌||◌, if◌then◌else◌, List, ◌∷◌, ◌++◌, length, replicate, Option, Some, None}
 use Rattle.scsi_cdb.specs.Layout.{bits_at, number_at}
 use Rattle.scsi_unit.specs.LogicalUnit.{LogicalUnit}
 

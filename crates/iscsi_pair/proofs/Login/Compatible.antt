@@ -9,8 +9,8 @@ use Rattle.iscsi_text.specs.Value as values
 use Rattle.iscsi_text.specs.Text.{Pairs}
 use Rattle.iscsi_text.specs.Reading.{is_empty, in_order}
 use Rattle.iscsi_text.specs.Canonical.{canonical_text}
-use Rattle.iscsi_login.specs.declared.stage.Session.{Session}
-use Rattle.iscsi_login.specs.declared.stage.Session.TheVariants as sessions
+use Rattle.iscsi_text.specs.declared.negotiated.Session.{Session}
+use Rattle.iscsi_text.specs.declared.negotiated.Session.TheVariants as sessions
 use Rattle.iscsi_login.specs.declared.stage.Stage.{Stage}
 use Rattle.iscsi_login.specs.declared.stage.Stage.TheVariants as stages
 use Rattle.iscsi_login.specs.declared.offers.Auth.{Auth}
@@ -29,7 +29,9 @@ use Rattle.iscsi_target_session.specs.Configured.{is_allowed}
 use Rattle.iscsi_target_session.specs.declared.status.Status.{Status}
 use Rattle.iscsi_target_session.specs.Session.{Session as TargetSession}
 use Rattle.scsi_disk.specs.Plan.{first_of}
-use Rattle.iscsi_target_session.specs.LoginText.{answer_pairs, is_normal, session_for, text_refusals, known_keys, repeats_key, seen_with, value_for, is_name}
+use Rattle.iscsi_text.specs.Key.{known_keys}
+use Rattle.iscsi_target_session.specs.Session.{none_seen}
+use Rattle.iscsi_target_session.specs.LoginText.{answer_pairs, is_normal, session_for, text_refusals, repeats_key, seen_with, value_for, is_name}
 use Rattle.iscsi_target_session.specs.LoginText.{session_in, names_target, demands_authentication, is_bad_length, name_in}
 
 -- ---- what a target reads in an offer
@@ -62,13 +64,13 @@ says_single sessions.Discovery o e =
 
 -- the keys of the second text are not those of the first
 pub second_gives : (session : Session) (o : Proposal) → o.session ≡ session
-    → repeats_key known_keys (seen_with known_keys (replicate 27 false) (in_order (security_offers o))) (in_order (operational_offers o)) ≡ false
+    → repeats_key known_keys (seen_with known_keys none_seen (in_order (security_offers o))) (in_order (operational_offers o)) ≡ false
 second_gives sessions.Normal o e = ap (λ (s : Session). repeats_key known_keys
-    (seen_with known_keys (replicate 27 false) (in_order (security_offers (record o { session = s })))) (in_order (operational_offers o))) e ∙ refl
+    (seen_with known_keys none_seen (in_order (security_offers (record o { session = s })))) (in_order (operational_offers o))) e ∙ refl
 second_gives sessions.Discovery o e = ap (λ (s : Session). repeats_key known_keys
-    (seen_with known_keys (replicate 27 false) (in_order (security_offers (record o { session = s })))) (in_order (operational_offers o))) e ∙ refl
+    (seen_with known_keys none_seen (in_order (security_offers (record o { session = s })))) (in_order (operational_offers o))) e ∙ refl
 
-first_gives : (pairs : Pairs) → repeats_key known_keys (replicate 27 false) pairs ≡ false
+first_gives : (pairs : Pairs) → repeats_key known_keys none_seen pairs ≡ false
 first_gives pairs = refl
 
 -- authentication isn't demanded
@@ -204,7 +206,7 @@ asks_for sessions.Discovery e o pairs is t s name =
     let n : is_normal (session_for e pairs) ≡ false = ap is_normal (session_is e pairs o.session t s.session ∙ is) in
     (inl n, inl n)
 
-pub first_text : (e : TargetSession) (o : Proposal) (pairs : Pairs) → e.has_text ≡ false → e.seen_keys ≡ replicate 27 false → IsName o.initiator →
+pub first_text : (e : TargetSession) (o : Proposal) (pairs : Pairs) → e.has_text ≡ false → e.seen_keys ≡ none_seen → IsName o.initiator →
     SaysWho o pairs
     → (o.session ≡ sessions.Discovery) ⊎ (o.target ≡ e.settings.name) → demands_authentication e.settings.preferences (value_for (codes "AuthMethod") pairs)
     ≡ false

@@ -9,9 +9,9 @@ use Rattle.iscsi_text.specs.Reading.{in_order}
 use Rattle.iscsi_text.proofs.OrderLemmas.{values_in_order, in_order_is, all_in_order}
 use Rattle.iscsi_text.proofs.PairLemmas.{key_cases, values_of-same, values_of-other}
 use Rattle.iscsi_text.proofs.WithoutLemmas.{meaning_kept, left_out}
-use Rattle.iscsi_login.specs.declared.key.NegKey.TheVariants as keys
+use Rattle.iscsi_text.specs.declared.negotiated.NegKey.TheVariants as keys
 use Rattle.iscsi_login.specs.declared.preferences.Preferences.{Preferences}
-use Rattle.iscsi_login.specs.declared.stage.Session.{Session as SessionType}
+use Rattle.iscsi_text.specs.declared.negotiated.Session.{Session as SessionType}
 use Rattle.iscsi_login.specs.Negotiation.{IsInRange}
 use Rattle.iscsi_login.specs.Answer.{answer, answer_to}
 use Rattle.iscsi_login.proofs.AnswerLemmas.{answers_of_key}

@@ -14,7 +14,7 @@ use Rattle.iscsi_pdu.specs.declared.head.login_response.LoginResponse.{LoginResp
 use Rattle.iscsi_stream.specs.declared.logins.Logins.{Logins}
 use Rattle.iscsi_login.specs.declared.phase.Phase.TheVariants as phases
 use Rattle.iscsi_login.specs.Check.{bad_key, IsOffer}
-use Rattle.iscsi_login.specs.Key.{IsWithin}
+use Rattle.iscsi_text.specs.Negotiated.{IsWithin}
 use Rattle.iscsi_login.proofs.JudgementLemmas.{good_is_taken}
 use Rattle.iscsi_login.proofs.TextAgreementLaw.{good_answer}
 use Rattle.iscsi_login.proofs.OfferMeaningLaw.{security_is_offer, operational_is_offer, single_is_offer}
@@ -23,7 +23,7 @@ use Rattle.iscsi_stream.specs.Stream.{Message}
 use Rattle.iscsi_stream.proofs.ReadyLemmas.{apart}
 use Rattle.iscsi_login.specs.declared.stage.Stage.{Stage}
 use Rattle.iscsi_login.specs.declared.stage.Stage.TheVariants as stages
-use Rattle.iscsi_login.specs.declared.stage.Session.TheVariants as sessions
+use Rattle.iscsi_text.specs.declared.negotiated.Session.TheVariants as sessions
 use Rattle.iscsi_login.specs.declared.offers.Auth.TheVariants as auths
 use Rattle.iscsi_login.specs.declared.preferences.Preferences.{Preferences}
 use Rattle.iscsi_login.specs.Negotiation.{IsInRange, max_recv_range}
@@ -41,7 +41,9 @@ use Rattle.iscsi_target_session.specs.Configured as target_settings
 use Rattle.iscsi_target_session.specs.Session as target_session
 use Rattle.iscsi_target.specs.State as target
 use Rattle.scsi_disk.specs.Plan.{first_of}
-use Rattle.iscsi_target_session.specs.LoginText.{known_keys, repeats_key, seen_with, text_refusals, answer_pairs, negotiated_as, declared_tag, declared_length}
+use Rattle.iscsi_text.specs.Key.{known_keys}
+use Rattle.iscsi_target_session.specs.Session.{none_seen}
+use Rattle.iscsi_target_session.specs.LoginText.{repeats_key, seen_with, text_refusals, answer_pairs, negotiated_as, declared_tag, declared_length}
 use Rattle.iscsi_target_session.specs.Login as login
 use Rattle.iscsi_target_session.specs.Login.{request_refusals, is_same_stage, stage_named, stage_asked, is_move, numbered, entered, gather, text_answered}
 use Rattle.iscsi_target_session.specs.Login.{text_ending}
@@ -62,13 +64,13 @@ use Rattle.iscsi_pdu.specs.Serial.{next_sn}
 -- the target has no text yet
 pub record HasNone (c : Opening) (i : initiator.Machine) (t : target.Machine) : Type 0 where
   pub none : t.session.has_text ≡ false
-  pub seen_keys : t.session.seen_keys ≡ replicate 27 false
+  pub seen_keys : t.session.seen_keys ≡ none_seen
   pub stage : i.stage ≡ c.initiator.start
 
 -- it has the text of the security stage
 pub record HasFirst (c : Opening) (i : initiator.Machine) (t : target.Machine) : Type 0 where
   pub one : t.session.has_text ≡ true
-  pub seen_keys : t.session.seen_keys ≡ seen_with known_keys (replicate 27 false) (in_order (security_offers c.initiator.proposal))
+  pub seen_keys : t.session.seen_keys ≡ seen_with known_keys none_seen (in_order (security_offers c.initiator.proposal))
   pub start : c.initiator.start ≡ stages.Security
   pub stage : i.stage ≡ stages.Operational
 
@@ -529,8 +531,8 @@ next_suited c i t disk h g answer there s is hs number =
         | inl f ↦ inr (record {
           one = refl;
           seen_keys = ap (λ (x : List Bool). seen_with known_keys x (offered i)) (same.seen_keys ∙ f.seen_keys)
-              ∙ ap (λ (x : Stage). seen_with known_keys (replicate 27 false) (in_order (offers_at i.settings.proposal i.settings.start x))) is
-              ∙ ap (λ (x : initiator.Settings). seen_with known_keys (replicate 27 false) (in_order (security_offers x.proposal))) there;
+              ∙ ap (λ (x : Stage). seen_with known_keys none_seen (in_order (offers_at i.settings.proposal i.settings.start x))) is
+              ∙ ap (λ (x : initiator.Settings). seen_with known_keys none_seen (in_order (security_offers x.proposal))) there;
           start = sym f.stage ∙ is;
           stage = k.stage;
         })

@@ -12,19 +12,19 @@ use Rattle.iscsi_text.specs.Value.{Typed, Number, Boolean, Items, Plain, Odd, va
 use Rattle.iscsi_text.specs.Text.{Pairs, key_le}
 use Rattle.iscsi_text.specs.Canonical.{canonical_text, pair_text}
 use Rattle.iscsi_text.proofs.NumeralLemmas.{canonical_is}
-use Rattle.iscsi_login.specs.declared.key.NegKey.{NegKey}
-use Rattle.iscsi_login.specs.declared.key.NegKey.TheVariants as keys
-use Rattle.iscsi_login.specs.declared.stage.Session.{Session}
-use Rattle.iscsi_login.specs.declared.stage.Session.TheVariants as sessions
+use Rattle.iscsi_text.specs.declared.negotiated.NegKey.{NegKey}
+use Rattle.iscsi_text.specs.declared.negotiated.NegKey.TheVariants as keys
+use Rattle.iscsi_text.specs.declared.negotiated.Session.{Session}
+use Rattle.iscsi_text.specs.declared.negotiated.Session.TheVariants as sessions
 use Rattle.iscsi_login.specs.declared.offers.Auth.{Auth}
 use Rattle.iscsi_login.specs.declared.offers.Auth.TheVariants as auths
-use Rattle.iscsi_login.specs.declared.preferences.Answered.{Answered}
-use Rattle.iscsi_login.specs.declared.preferences.Answered.TheVariants as answers
+use Rattle.iscsi_text.specs.declared.negotiated.Answered.{Answered}
+use Rattle.iscsi_text.specs.declared.negotiated.Answered.TheVariants as answers
 use Rattle.iscsi_login.specs.declared.preferences.Preferences.{Preferences}
-use Rattle.iscsi_login.specs.Key.{name_of, rule_of, key_named, is_irrelevant, operational_keys}
-use Rattle.iscsi_login.specs.declared.key.Range.{Range}
-use Rattle.iscsi_login.specs.declared.key.Rule.{Rule}
-use Rattle.iscsi_login.specs.declared.key.Rule.TheVariants as rules
+use Rattle.iscsi_text.specs.Negotiated.{name_of, rule_of, key_named, is_irrelevant, operational_keys}
+use Rattle.iscsi_text.specs.declared.negotiated.Range.{Range}
+use Rattle.iscsi_text.specs.declared.negotiated.Rule.{Rule}
+use Rattle.iscsi_text.specs.declared.negotiated.Rule.TheVariants as rules
 use Rattle.iscsi_login.specs.Negotiation.{IsInRange, has_none, preference, in_range, value_of, chosen, result_of, word, answered_value}
 use Rattle.iscsi_login.specs.Answer.{answer_to, answer_value, answers_to, other_answer, answered_no, rejected, pairs_with, declarations, answer, max_recv_key}
 use Rattle.iscsi_login.specs.Answer.{tag_key}

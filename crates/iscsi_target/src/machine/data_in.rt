@@ -1,73 +1,95 @@
 //! The data that commands return (RFC 7143, section 11.7).
 
-ghost use Rattle.std.specs.Prelude.{◌≡◌, ◌<◌, ◌≤◌, ◌^◌, ◌+◌, ◌++◌, length, take, IfOk};
+ghost use Rattle.std.specs.Prelude.{◌≡◌, ◌<◌, ◌≤◌, ◌-◌, ◌^◌, IfOk};
 ghost use Rattle.iscsi_pdu.specs.Meaning.{Fits};
-ghost use Rattle.iscsi_stream.specs.Canonical.{canon};
+ghost use Rattle.iscsi_login.specs.Held.{max_burst};
 ghost use Rattle.iscsi_target.specs.State.{waiting};
-ghost use Rattle.iscsi_target.specs.Execution.{data_in_parts, sequence_parts, data_in_head, data_ins};
+ghost use Rattle.iscsi_target.specs.Execution.{data_in_head};
+ghost use Rattle.iscsi_target.specs.Inside.{store_of};
+ghost use Rattle.iscsi_target.specs.Reads.{CanBeCut, HasPart, ReadsOnto, SendsData, SendsSequence, given, reply, source_len};
 
 use super::Machine;
+use super::source::Source;
 use iscsi_pdu::{DataIn, Head, RESERVED_TAG};
-use iscsi_stream::write_pdu;
-use std::alloc::AllocError;
+use scsi_disk::{BlockStore, StoreFault};
+
+/// How many bytes a header has.
+const HEADER_LEN: usize = 48;
 
 impl Machine {
     // Data in sequences of MaxBurstLength bytes. Returns how many Data-In PDUs were sent.
-    pub(super) fn send_data_in(
+    pub(super) fn send_data_in<S: BlockStore>(
         &self,
         tag: u32,
-        bytes: &[u8],
+        source: &Source<'_>,
+        store: &mut S,
         out: &mut Vec<u8>,
-    ) -> Result<u32, AllocError>
-        requires { length bytes.now < 2 ^ 32 }
-        ensures ok { IfOk result (λ count. (count ≡ length (data_in_parts self.now.session.held bytes.now))
-            × (out.new.items ≡ out.old.items
-            ++ canon (data_ins self.now.session (waiting self.now.tasks) tag 0 0 (data_in_parts self.now.session.held bytes.now)))) }
-        ensures front { take (length out.old.items) out.new.items ≡ out.old.items }
+    ) -> Result<u32, StoreFault>
+        requires segment { CanBeCut source.now self.now.session.held.initiator_max_recv }
+        requires burst { CanBeCut source.now (max_burst self.now.session.held) }
+        requires has { HasPart source.now (S.disk store.old).count 0 (source_len source.now) }
+        requires short { source_len source.now < 2 ^ 32 }
+        ensures ok { IfOk result (SendsData (reply self.now tag out.old.items out.new.items)
+            (given source.now (S.disk store.old) (S.failures store.old) (S.failures store.new))) }
+        ensures reads { ReadsOnto (store_of (S.disk store.old) (S.failures store.old))
+            (store_of (S.disk store.new) (S.failures store.new))
+            (S.kept store.old) (S.kept store.new) out.old.items out.new.items result }
     {
-        let burst = self.max_burst() as usize;
+        let total = source.len();
+        let burst = self.max_burst();
+        out.reserve(self.room_for(total))?;
         let mut sent = Sent { count: 0, bytes: 0 };
-        let mut rest = bytes;
-        while !rest.is_empty() {
-            let len = burst.min(rest.len());
-            sent = self.send_sequence(tag, sent, &rest[..len], out)?;
-            rest = &rest[len..];
+        while sent.bytes < total {
+            let end = sent.bytes + burst.min(total - sent.bytes);
+            sent = self.send_sequence(tag, source, sent, end, store, out)?;
         }
         Ok(sent.count)
     }
 
-    // A sequence of data in parts, each of at most what the initiator takes in one segment.
-    fn send_sequence(
+    // The data up to an end as one sequence, in parts of at most what the initiator takes in one
+    // segment.
+    fn send_sequence<S: BlockStore>(
         &self,
         tag: u32,
+        source: &Source<'_>,
         before: Sent,
-        run: &[u8],
+        end: u32,
+        store: &mut S,
         out: &mut Vec<u8>,
-    ) -> Result<Sent, AllocError>
-        requires short { before.bytes + length run.now < 2 ^ 32 }
+    ) -> Result<Sent, StoreFault>
+        requires segment { CanBeCut source.now self.now.session.held.initiator_max_recv }
+        requires within { before.bytes ≤ end }
+        requires has { HasPart source.now (S.disk store.old).count before.bytes
+            (end - before.bytes) }
         requires count { before.count ≤ before.bytes }
         ensures most { 0 < self.now.session.held.initiator_max_recv }
-        ensures ok { IfOk result (λ sent.
-            (sent.count ≡ before.count + length (sequence_parts self.now.session.held run.now))
-            × (sent.bytes ≡ before.bytes + length run.now) × (sent.count ≤ sent.bytes)
-            × (out.new.items ≡ out.old.items ++ canon
-            (data_ins self.now.session (waiting self.now.tasks) tag before.count before.bytes (sequence_parts self.now.session.held run.now)))) }
-        ensures front { take (length out.old.items) out.new.items ≡ out.old.items }
+        ensures ok { IfOk result (λ sent. SendsSequence
+            (reply self.now tag out.old.items out.new.items)
+            (given source.now (S.disk store.old) (S.failures store.old) (S.failures store.new))
+            before sent end) }
+        ensures reads { ReadsOnto (store_of (S.disk store.old) (S.failures store.old))
+            (store_of (S.disk store.new) (S.failures store.new))
+            (S.kept store.old) (S.kept store.new) out.old.items out.new.items result }
     {
-        let most = self.max_segment() as usize;
+        let most = self.max_segment();
         let mut sent = before;
-        let mut rest = run;
-        while !rest.is_empty() {
-            let len = most.min(rest.len());
-            let head = self.data_in(tag, sent, len == rest.len());
-            write_pdu(&head, &rest[..len], out)?;
+        while sent.bytes < end {
+            let len = most.min(end - sent.bytes);
+            let head = self.data_in(tag, sent, sent.bytes + len == end);
+            source.append_part(&head, sent.bytes, len, store, out)?;
             sent = Sent {
                 count: sent.count + 1,
-                bytes: sent.bytes + len as u32,
+                bytes: sent.bytes + len,
             };
-            rest = &rest[len..];
         }
         Ok(sent)
+    }
+
+    // At least the length of `n` bytes in Data-In PDUs, and of a response.
+    fn room_for(&self, bytes: u32) -> usize {
+        let segments = bytes / self.max_segment();
+        let sequences = bytes / self.max_burst();
+        bytes as usize + HEADER_LEN * (segments as usize + sequences as usize + 2)
     }
 
     // The head of a Data-In behind others.

@@ -120,7 +120,7 @@ impl Machine {
     }
 
     // Whether a segment of `n` bytes is longer than the target declared.
-    fn is_too_long(&self, len: usize) -> bool
+    pub(super) fn is_too_long(&self, len: usize) -> bool
         ensures { result ≡ nat_lt self.now.session.held.target_max_recv len }
     {
         len > self.session.held().target_max_recv as usize

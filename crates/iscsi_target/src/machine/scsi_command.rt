@@ -1,25 +1,27 @@
 //! SCSI commands, and what they answer (RFC 7143, sections 11.3 and 11.4).
 
-ghost use Rattle.std.specs.Prelude.{◌≡◌, ◌∷◌, ◌≢◌, ◌<◌, ◌≤◌, ◌^◌, ◌+◌, ◌++◌, ℕ, [], length, take, OnOk, OnErr, IfOk};
+ghost use Rattle.std.specs.Prelude.{◌≡◌, ◌∷◌, ◌≢◌, ◌<◌, ◌≤◌, ◌^◌, ◌++◌, ℕ, [], length, OnOk, OnErr, IfOk};
+ghost use Rattle.scsi_disk.specs.Disk.{IsDisk};
 ghost use Rattle.scsi_disk.specs.Plan.{plan_of};
-ghost use Rattle.iscsi_pdu.specs.Meaning.{Fits};
+ghost use Rattle.scsi_disk.specs.Found.{IsFound};
 ghost use Rattle.iscsi_login.specs.Held.{first_burst, is_on, max_burst};
 ghost use Rattle.iscsi_stream.specs.Canonical.{canon};
 ghost use Rattle.iscsi_target.specs.State.{unit_of, waiting};
-ghost use Rattle.iscsi_target.specs.Execution.{data_in_parts, sequence_parts, data_in_head, data_ins, command_answers, execute};
+ghost use Rattle.iscsi_target.specs.Execution.{data_in_parts, command_answers, execute};
 ghost use Rattle.iscsi_target.specs.Command.{order_of, order_said, breaks_burst_rules, scsi_command};
 ghost use Rattle.iscsi_target.specs.Crash.{Crashes};
+ghost use Rattle.iscsi_target.specs.Reads.{CanBeCut, HasPart, IsRead, ReadsOnto, SendsAnswers, given, reply, source_len};
 ghost use Rattle.iscsi_target.specs.Inside.{Handles, LedTo, moment, store_of};
 ghost use Rattle.iscsi_target.specs.Queue.{TakePlaces};
 
 use super::Machine;
+use super::source::Source;
 use crate::scsi_response::{append_response, response_head};
 use iscsi_login::{Answered, NegKey};
+use iscsi_pdu::ScsiCommand;
 use iscsi_pdu::rule::DATA_OUT_OF_ORDER;
-use iscsi_pdu::{DataIn, Head, RESERVED_TAG, ScsiCommand};
-use iscsi_stream::write_pdu;
 use iscsi_target_session::Received;
-use scsi_disk::{BlockStore, Order, Outcome, Plan, execute_planned, plan};
+use scsi_disk::{BlockStore, Found, Order, Outcome, Plan, StoreFault, execute_found};
 use std::alloc::{AllocError, Global};
 
 impl Machine {
@@ -47,11 +49,11 @@ impl Machine {
             return self.reject_and_close(DATA_OUT_OF_ORDER, received, out);
         }
         let order = self.order_of(command);
-        let planned = plan(&order, store.blocks());
-        match planned {
-            Plan::Take(total) => self.open(command, total, bytes, store, out),
+        let found = Found::of(&order, store.blocks());
+        match found.plan(&order) {
+            Plan::Take(total) => self.open(command, found, total, bytes, store, out),
             Plan::Refuse(_) | Plan::Give(_) => {
-                self.execute_order(command.initiator_task_tag, order, planned, store, out)
+                self.execute_order(command.initiator_task_tag, order, &found, store, out)
             }
         }
     }
@@ -116,16 +118,20 @@ impl Machine {
         self.session.held().first_burst()
     }
 
-    // Executes an order that takes no data, by its plan: its data go out, and its response.
+    // Executes an order that takes no data, from what was found of it: its data go out, and its
+    // response.
     fn execute_order<S: BlockStore>(
         &mut self,
         tag: u32,
         order: Order,
-        planned: Plan,
+        found: &Found,
         store: &mut S,
         out: &mut Vec<u8>,
     ) -> Result<Option<u8>, AllocError>
-        requires planned { planned ≡ plan_of order (S.disk store.old).count }
+        requires disk { IsDisk (S.disk store.old) }
+        requires few { (S.disk store.old).count < 2 ^ 64 }
+        requires found { IsFound order found.now }
+        requires blocks { found.now.blocks ≡ (S.disk store.old).count }
         requires gives { (n : ℕ) → plan_of order (S.disk store.old).count ≢ Plan.Take n }
         ensures handles { Handles S.protected
             (λ device. execute device self.old (S.disk store.old) tag order []) result
@@ -134,11 +140,11 @@ impl Machine {
         ensures crash { Crashes S.protected []
             (S.disk store.old) (S.disk store.new) (S.kept store.old) (S.kept store.new) }
     {
-        if let Some(range) = self.blocks_to_send(&order, planned) {
-            return self.execute_read(tag, &order, range, store, out);
+        if let Some(range) = self.blocks_to_send(&order, found) {
+            return self.execute_read(tag, &order, found, range, store, out);
         }
-        let outcome = self.outcome_of(*out.allocator(), order, planned, store)?;
-        self.send_outcome(tag, &outcome, out)?;
+        let outcome = self.outcome_of(*out.allocator(), order, found, store)?;
+        self.send_outcome(tag, &outcome, store, out)?;
         self.count();
         Ok(None)
     }
@@ -149,10 +155,11 @@ impl Machine {
         &self,
         alloc: Global,
         order: Order,
-        planned: Plan,
+        found: &Found,
         store: &mut S,
     ) -> Result<Outcome, AllocError>
-        requires planned { planned ≡ plan_of order (S.disk store.old).count }
+        requires found { IsFound order found.now }
+        requires blocks { found.now.blocks ≡ (S.disk store.old).count }
         requires gives { (n : ℕ) → plan_of order (S.disk store.old).count ≢ Plan.Take n }
         ensures ok { IfOk result (LedTo S.protected (unit_of self.now.session) order
             (store_of (S.disk store.old) (S.failures store.old))
@@ -162,45 +169,65 @@ impl Machine {
         ensures crash { Crashes S.protected []
             (S.disk store.old) (S.disk store.new) (S.kept store.old) (S.kept store.new) }
     {
-        let blocks = store.blocks();
         if let Some(unit) = self.session.unit() {
-            if let Some(told) = unit.outcome(alloc, &order, blocks)? {
+            if let Some(told) = unit.outcome(alloc, &order, found.blocks)? {
                 return Ok(told);
             }
         }
-        execute_planned(alloc, &order, planned, &[], store)
+        execute_found(alloc, &order, found, &[], store)
     }
 
     // The data of an outcome, and the response.
-    fn send_outcome(&self, tag: u32, outcome: &Outcome, out: &mut Vec<u8>) -> Result<(), AllocError>
-        requires { length outcome.now.bytes < 2 ^ 32 }
-        ensures ok { OnOk result (out.new.items ≡ out.old.items ++ canon
-            (command_answers self.now.session (waiting self.now.tasks) tag outcome.now (data_in_parts self.now.session.held outcome.now.bytes))) }
-        ensures err { OnErr result (out.new.items ≡ out.old.items) }
-    {
-        let start = out.len();
-        let sent = self.append_outcome(tag, outcome, out);
-        if sent.is_err() {
-            out.truncate(start);
-        }
-        sent
-    }
-
-    // The same, but a front may stand where memory ran out.
-    fn append_outcome(
+    fn send_outcome<S: BlockStore>(
         &self,
         tag: u32,
         outcome: &Outcome,
+        store: &mut S,
         out: &mut Vec<u8>,
     ) -> Result<(), AllocError>
         requires { length outcome.now.bytes < 2 ^ 32 }
         ensures ok { OnOk result (out.new.items ≡ out.old.items ++ canon
             (command_answers self.now.session (waiting self.now.tasks) tag outcome.now (data_in_parts self.now.session.held outcome.now.bytes))) }
-        ensures front { take (length out.old.items) out.new.items ≡ out.old.items }
+        ensures failures { OnOk result (S.failures store.new ≡ S.failures store.old) }
+        ensures err { OnErr result (out.new.items ≡ out.old.items) }
+        ensures read { IsRead (store_of (S.disk store.old) (S.failures store.old))
+            (store_of (S.disk store.new) (S.failures store.new))
+            (S.kept store.old) (S.kept store.new) }
     {
-        let count = self.send_data_in(tag, outcome.bytes.as_slice(), out)?;
+        let start = out.len();
+        let source = Source::Bytes(outcome.bytes.as_slice());
+        let Ok(()) = self.append_answers(tag, outcome, &source, store, out) else {
+            out.truncate(start);
+            return Err(AllocError);
+        };
+        Ok(())
+    }
+
+    // The data of a command from their source, and its response. A front of them may stand where a
+    // read failed or memory ran out.
+    pub(super) fn append_answers<S: BlockStore>(
+        &self,
+        tag: u32,
+        outcome: &Outcome,
+        source: &Source<'_>,
+        store: &mut S,
+        out: &mut Vec<u8>,
+    ) -> Result<(), StoreFault>
+        requires segment { CanBeCut source.now self.now.session.held.initiator_max_recv }
+        requires burst { CanBeCut source.now (max_burst self.now.session.held) }
+        requires has { HasPart source.now (S.disk store.old).count 0 (source_len source.now) }
+        requires short { source_len source.now < 2 ^ 32 }
+        ensures ok { OnOk result (SendsAnswers (reply self.now tag out.old.items out.new.items)
+            outcome.now (given source.now (S.disk store.old) (S.failures store.old)
+            (S.failures store.new))) }
+        ensures reads { ReadsOnto (store_of (S.disk store.old) (S.failures store.old))
+            (store_of (S.disk store.new) (S.failures store.new))
+            (S.kept store.old) (S.kept store.new) out.old.items out.new.items result }
+    {
+        let count = self.send_data_in(tag, source, store, out)?;
         let head = response_head(self.numbers(), tag, outcome, count);
-        append_response(&head, outcome.sense, out)
+        append_response(&head, outcome.sense, out)?;
+        Ok(())
     }
 }
 

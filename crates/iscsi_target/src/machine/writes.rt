@@ -2,13 +2,14 @@
 
 ghost use Rattle.std.specs.Prelude.{◌≡◌, [], ◌∷◌, ◌<◌, ◌≤◌, ◌^◌, ℕ, length, IfOk, true, false};
 ghost use Rattle.scsi_disk.specs.Disk.{Disk};
-ghost use Rattle.scsi_disk.specs.Plan.{plan_of};
+ghost use Rattle.scsi_disk.specs.Plan.{plan_of, is_write, taken_length};
+ghost use Rattle.scsi_disk.specs.Found.{IsFound};
 ghost use Rattle.iscsi_pdu.specs.Meaning.{Fits};
 ghost use Rattle.iscsi_stream.specs.Pieces.{data_of};
 ghost use Rattle.iscsi_stream.specs.Segment.{segment_bytes};
 ghost use Rattle.iscsi_target.specs.State.{unit_of, waiting};
 ghost use Rattle.iscsi_target.specs.Execution.{execute};
-ghost use Rattle.iscsi_target.specs.Transfer.{is_whole, is_idle, desired};
+ghost use Rattle.iscsi_target.specs.Transfer.{is_whole, is_idle, desired, with_piece};
 ghost use Rattle.iscsi_target.specs.Command.{order_of, r2t_head, led_by, send_r2t, proceed, opened, breaks_rules, task_of};
 ghost use Rattle.iscsi_target.specs.Machine.{data_out};
 ghost use Rattle.iscsi_target.specs.Crash.{Crashes, commands_by};
@@ -25,17 +26,18 @@ use iscsi_pdu::rule::DATA_OUT_OF_ORDER;
 use iscsi_pdu::{DataOut, Head, ReadyToTransfer, ScsiCommand};
 use iscsi_stream::write_pdu;
 use iscsi_target_session::Received;
-use scsi_disk::{BlockStore, Order, Plan, execute, plan};
+use scsi_disk::{BlockStore, Found, Order, Plan, execute_found};
 use std::alloc::{AllocError, Global};
 
 /// The most that a response takes: a header, the sense data behind their length, padding.
 const RESPONSE_LEN: usize = 71;
 
 impl Machine {
-    // Opens a write of `n` bytes, with its immediate data.
+    // Opens a write of `n` bytes, of which this was found, with its immediate data.
     pub(super) fn open<S: BlockStore>(
         &mut self,
         command: &ScsiCommand,
+        found: Found,
         total: u32,
         bytes: &[u8],
         store: &mut S,
@@ -43,6 +45,7 @@ impl Machine {
     ) -> Result<Option<u8>, AllocError>
         requires plan { plan_of (order_of (unit_of self.old.session) command.now)
             (S.disk store.old).count ≡ Plan.Take total }
+        requires found { IsFound (order_of (unit_of self.old.session) command.now) found }
         requires fits { length bytes.now ≤ total }
         requires places { TakePlaces self.old.tasks }
         requires room { length self.old.tasks < 9 }
@@ -56,7 +59,13 @@ impl Machine {
             (S.disk store.old) (S.disk store.new) (S.kept store.old) (S.kept store.new) }
     {
         let order = self.order_of(command);
-        let write = opened(*out.allocator(), command, order, total, bytes)?;
+        // Where all the data came with the command, they are written from where they lie.
+        if bytes.len() == total as usize {
+            let tag = command.initiator_task_tag;
+            let mut found = found;
+            return self.execute_write(tag, &order, &mut found, bytes, store, out);
+        }
+        let write = opened(*out.allocator(), command, order, found, total, bytes)?;
         self.proceed(write, store, out)
     }
 
@@ -77,8 +86,16 @@ impl Machine {
         ensures crash { Crashes S.protected ((write.order, data_of write.pieces) ∷ [])
             (S.disk store.old) (S.disk store.new) (S.kept store.old) (S.kept store.new) }
     {
+        let mut write = write;
         if write.is_whole() {
-            return self.execute_write(&write, store, out);
+            return self.execute_write(
+                write.initiator_task_tag,
+                &write.order,
+                &mut write.found,
+                &write.data,
+                store,
+                out,
+            );
         }
         if write.is_idle() {
             return self.send_r2t(write, out);
@@ -87,25 +104,32 @@ impl Machine {
         Ok(None)
     }
 
-    // Executes a write whose bytes are all there, and sends its response. The room for the response
-    // is there before a block changes, so that a call that is out of memory changes none.
+    // Executes a write whose bytes are all there, from what was found when it was opened, and sends
+    // its response. The room for the response is there before a block changes, so that a call that
+    // is out of memory changes none.
     fn execute_write<S: BlockStore>(
         &mut self,
-        write: &OpenWrite,
+        tag: u32,
+        order: &Order,
+        found: &mut Found,
+        bytes: &[u8],
         store: &mut S,
         out: &mut Vec<u8>,
     ) -> Result<Option<u8>, AllocError>
-        requires { is_whole write.now ≡ true }
+        requires write { is_write order.now.cdb ≡ true }
+        requires whole { length bytes.now ≡ taken_length order.now }
+        requires found { IsFound order.now found.old }
         ensures handles { Handles S.protected (λ device. execute device self.old (S.disk store.old)
-            write.now.initiator_task_tag write.now.order write.now.pieces) result
+            tag order.now (with_piece [] 0 bytes.now)) result
             (moment self.old (store_of (S.disk store.old) (S.failures store.old)) out.old.items)
             (moment self.new (store_of (S.disk store.new) (S.failures store.new)) out.new.items) }
-        ensures crash { Crashes S.protected ((write.now.order, data_of write.now.pieces) ∷ [])
+        ensures crash { Crashes S.protected ((order.now, bytes.now) ∷ [])
             (S.disk store.old) (S.disk store.new) (S.kept store.old) (S.kept store.new) }
     {
         out.reserve(RESPONSE_LEN)?;
-        let outcome = execute(*out.allocator(), &write.order, &write.data, store)?;
-        let head = response_head(self.numbers(), write.initiator_task_tag, &outcome, 0);
+        found.renew(order, store.blocks());
+        let outcome = execute_found(*out.allocator(), order, found, bytes, store)?;
+        let head = response_head(self.numbers(), tag, &outcome, 0);
         let Ok(()) = append_response(&head, outcome.sense, out) else {
             unreachable!()
         };
@@ -186,7 +210,8 @@ impl Machine {
         self.work_off(store, out)
     }
 
-    // The task of a request that has to wait, on a disk of `n` blocks.
+    // The task of a request that has to wait, on a disk of `n` blocks. A WRITE is planned here, and
+    // any other command when its turn comes.
     pub(super) fn task(
         &self,
         received: &Received<'_>,
@@ -200,9 +225,13 @@ impl Machine {
         let alloc = *out.allocator();
         if let Head::ScsiCommand(command) = &received.pdu.head {
             let order = self.order_of(command);
-            if let Plan::Take(total) = plan(&order, blocks) {
-                let write = opened(alloc, command, order, total, received.pdu.bytes)?;
-                return Ok(Task::Data(write));
+            if order.is_write() {
+                let found = Found::of(&order, blocks);
+                if let Plan::Take(total) = found.plan(&order) {
+                    let bytes = received.pdu.bytes;
+                    let write = opened(alloc, command, order, found, total, bytes)?;
+                    return Ok(Task::Data(write));
+                }
             }
         }
         Ok(Task::Request(Kept::copy(alloc, received)?))
@@ -215,10 +244,12 @@ fn opened(
     alloc: Global,
     command: &ScsiCommand,
     order: Order,
+    found: Found,
     total: u32,
     bytes: &[u8],
 ) -> Result<OpenWrite, AllocError>
     requires plan { (count : ℕ) × (plan_of order count ≡ Plan.Take total) }
+    requires found { IsFound order found }
     requires fits { length bytes.now ≤ total }
     ensures { IfOk result (λ write. write ≡ opened command.now order total bytes.now) }
 {
@@ -228,6 +259,7 @@ fn opened(
         initiator_task_tag: command.initiator_task_tag,
         immediate: command.immediate,
         order,
+        found,
         total,
         data,
         due: if command.is_final {

@@ -4,20 +4,20 @@
 ghost use Rattle.std.specs.Prelude.{◌≡◌, ◌<◌, ◌≤◌, not, ◌&&◌, ◌||◌, [], slice_index_or, false, None, Some, is_none, IfSome, IfOk, length, codes};
 ghost use Rattle.std.specs.Option.{option_map};
 ghost use Rattle.std.specs.Str.{bytes_eq};
-ghost use Rattle.iscsi_text.specs.Key.{target_address};
+ghost use Rattle.iscsi_text.specs.Key.{known_keys, target_address};
 ghost use Rattle.iscsi_text.specs.Value.{Plain, typed};
 ghost use Rattle.iscsi_text.specs.Canonical.{canonical_text};
 ghost use Rattle.iscsi_text.specs.Reading.{has_key};
 ghost use Rattle.iscsi_login.specs.Answer.{DeclaresWell, max_recv_key};
 ghost use Rattle.scsi_disk.specs.Plan.{first_of};
 ghost use Rattle.iscsi_target_session.specs.Configured.{is_allowed};
-ghost use Rattle.iscsi_target_session.specs.LoginText.{known_keys, repeats_key, seen_with, is_name, name_in, initiator_for, value_for, is_bad_length, session_named, session_in, session_for, negotiated_as, is_normal, names_target, demands_authentication, declared_tag, declared_length, answer_pairs, text_refusals};
+ghost use Rattle.iscsi_target_session.specs.LoginText.{repeats_key, seen_with, is_name, name_in, initiator_for, value_for, is_bad_length, session_named, session_in, session_for, negotiated_as, is_normal, names_target, demands_authentication, declared_tag, declared_length, answer_pairs, text_refusals};
 
 use super::Session;
 use crate::status::Status;
 use iscsi_login::{Answered, NegKey, Session as SessionType, Stage, declares_well, result};
 use iscsi_pdu::LOGIN_SEGMENT;
-use iscsi_text::{Text, Value};
+use iscsi_text::{KNOWN_KEYS, Text, Value, known_key};
 use std::alloc::{AllocError, Global};
 
 impl Session {
@@ -209,48 +209,11 @@ fn has_bad_length(text: &Text<'_>) -> bool
     !declares_well(text)
 }
 
-// The known key at this place: those with numbers, booleans, lists and plain values, each in the
-// order of the standard; none past the 27 that there are.
-fn known_key(n: usize) -> &'static [u8]
-    ensures { result.now ≡ slice_index_or known_keys n [] }
-{
-    match n {
-        0 => b"MaxConnections",
-        1 => b"MaxBurstLength",
-        2 => b"FirstBurstLength",
-        3 => b"DefaultTime2Wait",
-        4 => b"DefaultTime2Retain",
-        5 => b"MaxOutstandingR2T",
-        6 => b"ErrorRecoveryLevel",
-        7 => b"MaxRecvDataSegmentLength",
-        8 => b"TargetPortalGroupTag",
-        9 => b"InitialR2T",
-        10 => b"ImmediateData",
-        11 => b"DataPDUInOrder",
-        12 => b"DataSequenceInOrder",
-        13 => b"IFMarker",
-        14 => b"OFMarker",
-        15 => b"HeaderDigest",
-        16 => b"DataDigest",
-        17 => b"AuthMethod",
-        18 => b"InitiatorName",
-        19 => b"TargetName",
-        20 => b"InitiatorAlias",
-        21 => b"TargetAlias",
-        22 => b"TargetAddress",
-        23 => b"SessionType",
-        24 => b"IFMarkInt",
-        25 => b"OFMarkInt",
-        26 => b"SendTargets",
-        _ => b"",
-    }
-}
-
 // Whether a known key that may stand once was seen before, and stands again.
-fn repeats_key(seen: &[bool; 27], text: &Text<'_>) -> bool
+fn repeats_key(seen: &[bool; KNOWN_KEYS], text: &Text<'_>) -> bool
     ensures { result ≡ repeats_key known_keys seen.now text.now }
 {
-    for n in 0..27 {
+    for n in 0..KNOWN_KEYS {
         if is_repeated(seen[n], text, known_key(n)) {
             return true;
         }
@@ -267,11 +230,11 @@ fn is_repeated(was: bool, text: &Text<'_>, key: &[u8]) -> bool
 }
 
 /// Of each known key, whether it was seen before or stands in this text.
-pub fn seen_with(seen: &[bool; 27], text: &Text<'_>) -> [bool; 27]
+pub fn seen_with(seen: &[bool; KNOWN_KEYS], text: &Text<'_>) -> [bool; KNOWN_KEYS]
     ensures { result ≡ seen_with known_keys seen.now text.now }
 {
     let mut now = *seen;
-    for n in 0..27 {
+    for n in 0..KNOWN_KEYS {
         now[n] = is_seen(seen[n], text, known_key(n));
     }
     now

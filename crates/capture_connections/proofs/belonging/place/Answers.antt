@@ -1,5 +1,5 @@
 -- The map compares ends by `==`, which is that they are the same.
-use Rattle.std.proofs.Common.{rules, ◌≡◌, ℕ, Bool, Some, if◌then◌else◌, subst}
+use Rattle.std.proofs.Common.{rules, ◌≡◌, Bool, Some, if◌then◌else◌, subst}
 use Rattle.std.specs.HashMap.{get}
 use Rattle.capture_connections.specs.Belonging.{owner_at}
 use Rattle.capture_connections.specs.contracts.ends.EndsPartialEq.TheImpl.{eq-value}

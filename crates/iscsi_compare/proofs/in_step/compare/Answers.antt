@@ -1,4 +1,3 @@
-use Rattle.std.proofs.Common.{◌≡◌, ℕ}
 use Rattle.std.specs.Prelude.{Ok}
 use Rattle.iscsi_compare.specs.declared.verdict.Verdict.TheVariants as verdict
 use Rattle.iscsi_compare.specs.Comparing.{Input, Gave}

@@ -1,4 +1,4 @@
-use Rattle.std.proofs.Common.{◌≡◌, [], ◌∷◌, refl}
+use Rattle.std.proofs.Common.{[], ◌∷◌, refl}
 use Rattle.iscsi_stream.specs.Framing.{message_of}
 use Rattle.iscsi_stream.proofs.ReadyLemmas.{unready_if}
 use Rattle.iscsi_explain.proofs.Passing.{pass_none, pass_one}

@@ -1,4 +1,4 @@
-use Rattle.std.proofs.Common.{[], take}
+use Rattle.std.proofs.Common.{take}
 use Rattle.std.proofs.lemmas.Result.{err_from_is_err_and}
 use Rattle.iscsi_explain.proofs.Reading.{at_start, read_more, writes_on, is_done}
 use Rattle.iscsi_explain.proofs.stream.show_in_form.Goals as goal

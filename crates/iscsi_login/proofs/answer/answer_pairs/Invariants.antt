@@ -5,5 +5,5 @@ use Rattle.iscsi_text.specs.Inside.{all_shown}
 use Rattle.iscsi_login.specs.Answer.{answers_to, declarations}
 use Rattle.iscsi_login.proofs.answer.answer_pairs.Given as goal
 
-abbrev pub invariant-loop-n : goal.invariant-loop-n
-invariant-loop-n l = Arranges (declarations l.fn.tag l.fn.max_recv ++ flat_map (answers_to l.session l.preferences) (take l.n l.text)) (all_shown l.pairs.items)
+abbrev pub invariant-loop-offered : goal.invariant-loop-offered
+invariant-loop-offered l = Arranges (declarations l.fn.tag l.fn.max_recv ++ flat_map (answers_to l.session l.preferences) (take l.offered-index l.text)) (all_shown l.pairs.items)

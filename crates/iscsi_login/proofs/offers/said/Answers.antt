@@ -1,7 +1,7 @@
 use Rattle.std.proofs.Common.{◌≡◌, ◌-◌, length, take, sym, ap, ◌∙◌}
 use Rattle.std.proofs.lemmas.List.{take-map, length-map}
 use Rattle.iscsi_text.specs.Inside.{shown, all_shown}
-use Rattle.iscsi_login.specs.declared.stage.Session.TheVariants.{Discovery}
+use Rattle.iscsi_text.specs.declared.negotiated.Session.TheVariants.{Discovery}
 use Rattle.iscsi_login.specs.Inside.{said}
 use Rattle.iscsi_login.proofs.offers.said.Goals as goal
 

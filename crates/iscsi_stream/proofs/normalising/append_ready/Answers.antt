@@ -16,11 +16,11 @@ returns-in_default-clause-ok c = (
 
 pub returns-clause-ok : goal.returns-clause-ok
 returns-clause-ok c =
-    let h = c.in-Some.pdu.head in
-    let d = c.in-Some.pdu.bytes.now in
+    let h = c.in-Some.head.now in
+    let d = c.in-Some.bytes.now in
     let means = c.in-Some.ensures.means in
     let ready = c.in-Some.ensures.ready.0 refl in
-    let flag = c.continued.ensures.value h d ready means in
+    let flag = c.continues-continued.ensures in
     let done = c.in_ok-append_pdu.ensures.ok in
     let bytes = done.0 in
     let n = c.append_pdu.new.out.ok.0 in

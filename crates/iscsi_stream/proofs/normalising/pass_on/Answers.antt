@@ -1,12 +1,29 @@
-use Rattle.std.proofs.Common.{◌<◌, length, refl, sym, ap, arith}
+use Rattle.std.proofs.Common.{◌<◌, length, take, refl, sym, ap, arith}
 use Rattle.std.proofs.lemmas.Bool.{eqb-false}
 use Rattle.std.proofs.lemmas.List.{length-drop, take_rest}
 use Rattle.std.proofs.lemmas.Result.{err_from_is_err_and}
-use Rattle.iscsi_stream.proofs.PassingLemmas.{passed_none, passed_more, passed_part, feed_stops, takes_some}
+use Rattle.iscsi_stream.specs.Framing.{holding}
+use Rattle.iscsi_stream.proofs.PassingLemmas.{passed_none, passed_more, passed_part, feed_stops, takes_some, bare_taken}
 use Rattle.iscsi_stream.proofs.normalising.pass_on.Goals as goal
 
 pub loop-rest-init : goal.loop-rest-init
 loop-rest-init c = passed_none c.args.form c.args.piece.now c.args.framer.now c.args.out.now.items c.args.counts.now c.requires.unready
+
+pub returns-in_err-append_bare-clause-appended : goal.returns-in_err-append_bare-clause-appended
+returns-in_err-append_bare-clause-appended c = passed_part c.args.form c.args.piece.now c.loop-rest.rest.now c.args.framer.now c.loop-rest.framer
+    c.args.out.now.items c.loop-rest.out.items c.append_bare.new.out.items c.args.counts.now c.loop-rest.counts c.loop-rest.invariant c.requires.limit
+    c.in_err-append_bare.ensures.err
+
+pub loop-rest-preserved-in-Ok : goal.loop-rest-preserved-in-Ok
+loop-rest-preserved-in-Ok c =
+    let rest = c.loop-rest.rest.now in
+    let bare = c.in-Some.ensures in
+    let taken = bare_taken c.loop-rest.framer rest c.in-Ok.head _ (bare.live refl) (bare.empty refl) (bare.whole refl)
+    (rw (bare.header, c.in-Ok.is) at c.read_head-read.ensures.means) (rw bare.header at bare.none) in
+    passed_more c.args.form c.args.piece.now rest c.args.framer.now c.loop-rest.framer (holding c.loop-rest.framer (take 48 rest)) c.append_bare.new.framer
+    c.args.out.now.items c.loop-rest.out.items c.append_bare.new.out.items
+    c.args.counts.now c.loop-rest.counts c.append_bare.new.counts 48 _ c.loop-rest.invariant
+    taken.0 (c.in_ok-append_bare.ensures.ok (take 48 rest) taken.1)
 
 pub returns-in_err-taken-clause-appended : goal.returns-in_err-taken-clause-appended
 returns-in_err-taken-clause-appended c = passed_part c.args.form c.args.piece.now c.loop-rest.rest.now c.args.framer.now c.loop-rest.framer c.args.out.now.items
@@ -14,7 +31,7 @@ returns-in_err-taken-clause-appended c = passed_part c.args.form c.args.piece.no
 
 pub returns-in_err-taken-clause-err : goal.returns-in_err-taken-clause-err
 returns-in_err-taken-clause-err c =
-    let p = err_from_is_err_and c.from_residual.result c.from_residual.ensures.1 in
+    let p = err_from_is_err_and c.from_residual-in_err-taken.result c.from_residual-in_err-taken.ensures.1 in
     rw (p.1, p.2) (feed_stops c.in_err-taken.field-0.0 c.args.form c.args.piece.now c.loop-rest.rest.now c.args.framer.now c.loop-rest.framer
     c.args.out.now.items c.loop-rest.out.items c.args.counts.now c.loop-rest.counts c.loop-rest.invariant c.requires.limit c.in_err-taken.ensures.err)
 

@@ -5,14 +5,14 @@ use Rattle.std.proofs.lemmas.List.{length-drop, take_rest}
 use Rattle.std.proofs.lemmas.Result.{err_from_is_err_and}
 use Rattle.iscsi_stream.proofs.PassingLemmas.{takes_some}
 use Rattle.iscsi_target.specs.Feed.{scene, Connection, Store}
-use Rattle.iscsi_target.specs.Inside.{connection, store_of}
+use Rattle.iscsi_target.specs.Inside.{store_of}
 use Rattle.iscsi_target.proofs.PassedLemmas.{crashes_none, crashes_on, crashes_failed}
 use Rattle.iscsi_target.proofs.FeedInvariant.{GoesUpTo, fed_none, fed_one, ends_failed, ends_broken, ends_closed, ends_live}
 use Rattle.iscsi_target.proofs.target.feed_all.Goals as goal
 
 pub loop-rest-init : goal.loop-rest-init
 loop-rest-init g c =
-    let old : Connection = connection c.args.machine.now c.args.framer.now in
+    let old : Connection = c.args.intake.now in
     let before : Store = store_of (g.S.BlockStore.disk c.args.store.now) (g.S.BlockStore.failures c.args.store.now) in (
       fed_none g.S.BlockStore.protected old before c.args.out.now.items c.args.piece.now c.requires.unready c.requires.live,
       crashes_none g.S.BlockStore.protected old before c.args.piece.now (g.S.BlockStore.kept c.args.store.now),
@@ -20,11 +20,11 @@ loop-rest-init g c =
 
 pub returns-in_err-taken-clause-fed : goal.returns-in_err-taken-clause-fed
 returns-in_err-taken-clause-fed g c =
-    let old : Connection = connection c.args.machine.now c.args.framer.now in
+    let old : Connection = c.args.intake.now in
     let before : Store = store_of (g.S.BlockStore.disk c.args.store.now) (g.S.BlockStore.failures c.args.store.now) in
-    let now : Connection = connection c.loop-rest.machine c.loop-rest.framer in
+    let now : Connection = c.loop-rest.intake in
     let mid : Store = store_of (g.S.BlockStore.disk c.loop-rest.store) (g.S.BlockStore.failures c.loop-rest.store) in
-    let new : Connection = connection c.feed_one.new.machine c.feed_one.new.framer in
+    let new : Connection = c.feed_one.new.intake in
     let after : Store = store_of (g.S.BlockStore.disk c.feed_one.new.store) (g.S.BlockStore.failures c.feed_one.new.store) in
     let out : List ℕ = c.args.out.now.items in
     let piece : List ℕ = c.args.piece.now in
@@ -35,11 +35,11 @@ returns-in_err-taken-clause-fed g c =
 
 pub returns-in-Some-clause-fed : goal.returns-in-Some-clause-fed
 returns-in-Some-clause-fed g c =
-    let old : Connection = connection c.args.machine.now c.args.framer.now in
+    let old : Connection = c.args.intake.now in
     let before : Store = store_of (g.S.BlockStore.disk c.args.store.now) (g.S.BlockStore.failures c.args.store.now) in
-    let now : Connection = connection c.loop-rest.machine c.loop-rest.framer in
+    let now : Connection = c.loop-rest.intake in
     let mid : Store = store_of (g.S.BlockStore.disk c.loop-rest.store) (g.S.BlockStore.failures c.loop-rest.store) in
-    let new : Connection = connection c.feed_one.new.machine c.feed_one.new.framer in
+    let new : Connection = c.feed_one.new.intake in
     let after : Store = store_of (g.S.BlockStore.disk c.feed_one.new.store) (g.S.BlockStore.failures c.feed_one.new.store) in
     let out : List ℕ = c.args.out.now.items in
     let piece : List ℕ = c.args.piece.now in
@@ -52,11 +52,11 @@ returns-in-Some-clause-fed g c =
 
 pub returns-then-is_closed-clause-fed : goal.returns-then-is_closed-clause-fed
 returns-then-is_closed-clause-fed g c =
-    let old : Connection = connection c.args.machine.now c.args.framer.now in
+    let old : Connection = c.args.intake.now in
     let before : Store = store_of (g.S.BlockStore.disk c.args.store.now) (g.S.BlockStore.failures c.args.store.now) in
-    let now : Connection = connection c.loop-rest.machine c.loop-rest.framer in
+    let now : Connection = c.loop-rest.intake in
     let mid : Store = store_of (g.S.BlockStore.disk c.loop-rest.store) (g.S.BlockStore.failures c.loop-rest.store) in
-    let new : Connection = connection c.feed_one.new.machine c.feed_one.new.framer in
+    let new : Connection = c.feed_one.new.intake in
     let after : Store = store_of (g.S.BlockStore.disk c.feed_one.new.store) (g.S.BlockStore.failures c.feed_one.new.store) in
     let out : List ℕ = c.args.out.now.items in
     let piece : List ℕ = c.args.piece.now in
@@ -72,17 +72,17 @@ pub loop-rest-smaller : goal.loop-rest-smaller
 loop-rest-smaller g c =
     let some : 0 < length c.loop-rest.rest.now = omega (arith, eqb-false (length c.loop-rest.rest.now) 0 (sym c.loop-rest-test.ensures)) in
     let taken = c.in_ok-taken.ensures.ok.takes in
-    let one = takes_some c.loop-rest.framer c.loop-rest.rest.now c.in_ok-taken.taken c.in_ok-taken.ensures.ok.framing c.loop-rest.invariant.0.fed.answered.ready
+    let one = takes_some c.loop-rest.intake.framing c.loop-rest.rest.now c.in_ok-taken.taken c.in_ok-taken.ensures.ok.framing c.loop-rest.invariant.0.fed.answered.ready
     taken some in
     omega (arith, ap length (take_rest c.loop-rest.rest.now c.in_ok-taken.taken), length-drop c.in_ok-taken.taken c.loop-rest.rest.now, taken.bound, one, some)
 
 pub loop-rest-preserved : goal.loop-rest-preserved
 loop-rest-preserved g c =
-    let old : Connection = connection c.args.machine.now c.args.framer.now in
+    let old : Connection = c.args.intake.now in
     let before : Store = store_of (g.S.BlockStore.disk c.args.store.now) (g.S.BlockStore.failures c.args.store.now) in
-    let now : Connection = connection c.loop-rest.machine c.loop-rest.framer in
+    let now : Connection = c.loop-rest.intake in
     let mid : Store = store_of (g.S.BlockStore.disk c.loop-rest.store) (g.S.BlockStore.failures c.loop-rest.store) in
-    let new : Connection = connection c.feed_one.new.machine c.feed_one.new.framer in
+    let new : Connection = c.feed_one.new.intake in
     let after : Store = store_of (g.S.BlockStore.disk c.feed_one.new.store) (g.S.BlockStore.failures c.feed_one.new.store) in
     let out : List ℕ = c.args.out.now.items in
     let piece : List ℕ = c.args.piece.now in
@@ -102,9 +102,9 @@ loop-rest-preserved g c =
 
 pub returns-clause-fed : goal.returns-clause-fed
 returns-clause-fed g c =
-    let old : Connection = connection c.args.machine.now c.args.framer.now in
+    let old : Connection = c.args.intake.now in
     let before : Store = store_of (g.S.BlockStore.disk c.args.store.now) (g.S.BlockStore.failures c.args.store.now) in
-    let now : Connection = connection c.loop-rest.machine c.loop-rest.framer in
+    let now : Connection = c.loop-rest.intake in
     let mid : Store = store_of (g.S.BlockStore.disk c.loop-rest.store) (g.S.BlockStore.failures c.loop-rest.store) in
     let out : List ℕ = c.args.out.now.items in
     let piece : List ℕ = c.args.piece.now in
@@ -114,11 +114,11 @@ returns-clause-fed g c =
 
 pub returns-in_err-taken-clause-crash : goal.returns-in_err-taken-clause-crash
 returns-in_err-taken-clause-crash g c =
-    let old : Connection = connection c.args.machine.now c.args.framer.now in
+    let old : Connection = c.args.intake.now in
     let before : Store = store_of (g.S.BlockStore.disk c.args.store.now) (g.S.BlockStore.failures c.args.store.now) in
-    let now : Connection = connection c.loop-rest.machine c.loop-rest.framer in
+    let now : Connection = c.loop-rest.intake in
     let mid : Store = store_of (g.S.BlockStore.disk c.loop-rest.store) (g.S.BlockStore.failures c.loop-rest.store) in
-    let new : Connection = connection c.feed_one.new.machine c.feed_one.new.framer in
+    let new : Connection = c.feed_one.new.intake in
     let after : Store = store_of (g.S.BlockStore.disk c.feed_one.new.store) (g.S.BlockStore.failures c.feed_one.new.store) in
     crashes_failed g.S.BlockStore.protected old before c.args.out.now.items c.args.piece.now c.loop-rest.rest.now now mid c.loop-rest.out.items
     c.in_err-taken.field-0.0 new after
@@ -127,11 +127,11 @@ returns-in_err-taken-clause-crash g c =
 
 pub returns-in-Some-clause-crash : goal.returns-in-Some-clause-crash
 returns-in-Some-clause-crash g c =
-    let old : Connection = connection c.args.machine.now c.args.framer.now in
+    let old : Connection = c.args.intake.now in
     let before : Store = store_of (g.S.BlockStore.disk c.args.store.now) (g.S.BlockStore.failures c.args.store.now) in
-    let now : Connection = connection c.loop-rest.machine c.loop-rest.framer in
+    let now : Connection = c.loop-rest.intake in
     let mid : Store = store_of (g.S.BlockStore.disk c.loop-rest.store) (g.S.BlockStore.failures c.loop-rest.store) in
-    let new : Connection = connection c.feed_one.new.machine c.feed_one.new.framer in
+    let new : Connection = c.feed_one.new.intake in
     let after : Store = store_of (g.S.BlockStore.disk c.feed_one.new.store) (g.S.BlockStore.failures c.feed_one.new.store) in
     crashes_on g.S.BlockStore.protected old before c.args.out.now.items c.args.piece.now c.loop-rest.rest.now now mid c.loop-rest.out.items c.in_ok-taken.taken
     c.in_ok-taken.broken new after c.feed_one.new.out.items (g.S.BlockStore.kept c.args.store.now) (g.S.BlockStore.kept c.loop-rest.store)
@@ -139,11 +139,11 @@ returns-in-Some-clause-crash g c =
 
 pub returns-then-is_closed-clause-crash : goal.returns-then-is_closed-clause-crash
 returns-then-is_closed-clause-crash g c =
-    let old : Connection = connection c.args.machine.now c.args.framer.now in
+    let old : Connection = c.args.intake.now in
     let before : Store = store_of (g.S.BlockStore.disk c.args.store.now) (g.S.BlockStore.failures c.args.store.now) in
-    let now : Connection = connection c.loop-rest.machine c.loop-rest.framer in
+    let now : Connection = c.loop-rest.intake in
     let mid : Store = store_of (g.S.BlockStore.disk c.loop-rest.store) (g.S.BlockStore.failures c.loop-rest.store) in
-    let new : Connection = connection c.feed_one.new.machine c.feed_one.new.framer in
+    let new : Connection = c.feed_one.new.intake in
     let after : Store = store_of (g.S.BlockStore.disk c.feed_one.new.store) (g.S.BlockStore.failures c.feed_one.new.store) in
     crashes_on g.S.BlockStore.protected old before c.args.out.now.items c.args.piece.now c.loop-rest.rest.now now mid c.loop-rest.out.items c.in_ok-taken.taken
     c.in_ok-taken.broken new after c.feed_one.new.out.items (g.S.BlockStore.kept c.args.store.now) (g.S.BlockStore.kept c.loop-rest.store)

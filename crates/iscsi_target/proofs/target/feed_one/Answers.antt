@@ -15,20 +15,20 @@ pub returns-clause-ok : goal.returns-clause-ok
 returns-clause-ok g c =
     let before : Store = store_of (g.S.BlockStore.disk c.args.store.now) (g.S.BlockStore.failures c.args.store.now) in
     let after : Store = store_of (g.S.BlockStore.disk c.answer_ready.new.store) (g.S.BlockStore.failures c.answer_ready.new.store) in
-    let new : Connection = connection c.answer_ready.new.machine c.answer_ready.new.framer in
+    let new : Connection = c.answer_ready.new.self in
     record {
-      framing = c.take_bytes.new.framer;
+      framing = c.take_bytes.new.self.framing;
       takes = c.in_ok-taken.ensures.ok;
-      answers = subst (λ (m : Machine). AnswersReady g.S.BlockStore.protected (scene (connection m c.take_bytes.new.framer) before c.args.out.now.items)
+      answers = subst (λ (m : Machine). AnswersReady g.S.BlockStore.protected (scene (connection m c.take_bytes.new.self.framing) before c.args.out.now.items)
           c.in_ok-broken.broken (scene new after c.answer_ready.new.out.items))
           c.in_ok-taken.ensures.kept c.in_ok-broken.ensures.ok;
     }
 
 pub returns-clause-limit : goal.returns-clause-limit
 returns-clause-limit g c =
-    let old : Connection = connection c.args.machine.now c.args.framer.now in
+    let old : Connection = c.args.intake.now in
     let before : Store = store_of (g.S.BlockStore.disk c.args.store.now) (g.S.BlockStore.failures c.args.store.now) in
-    let new : Connection = connection c.answer_ready.new.machine c.answer_ready.new.framer in
+    let new : Connection = c.answer_ready.new.self in
     let after : Store = store_of (g.S.BlockStore.disk c.answer_ready.new.store) (g.S.BlockStore.failures c.answer_ready.new.store) in
     let out : List ℕ = c.args.out.now.items in
     let piece : List ℕ = c.args.piece.now in
@@ -40,9 +40,9 @@ returns-clause-limit g c =
 
 pub returns-clause-unready : goal.returns-clause-unready
 returns-clause-unready g c =
-    let old : Connection = connection c.args.machine.now c.args.framer.now in
+    let old : Connection = c.args.intake.now in
     let before : Store = store_of (g.S.BlockStore.disk c.args.store.now) (g.S.BlockStore.failures c.args.store.now) in
-    let new : Connection = connection c.answer_ready.new.machine c.answer_ready.new.framer in
+    let new : Connection = c.answer_ready.new.self in
     let after : Store = store_of (g.S.BlockStore.disk c.answer_ready.new.store) (g.S.BlockStore.failures c.answer_ready.new.store) in
     let out : List ℕ = c.args.out.now.items in
     let piece : List ℕ = c.args.piece.now in
@@ -59,39 +59,39 @@ returns-in_err-broken-clause-limit g c =
 
 pub returns-in_err-broken-clause-crash : goal.returns-in_err-broken-clause-crash
 returns-in_err-broken-clause-crash g c =
-    subst (λ (m : Machine). CrashesNext g.S.BlockStore.protected (connection m c.args.framer.now) c.args.piece.now (g.S.BlockStore.disk c.args.store.now)
+    subst (λ (m : Machine). CrashesNext g.S.BlockStore.protected (connection m c.args.intake.now.framing) c.args.piece.now (g.S.BlockStore.disk c.args.store.now)
     (g.S.BlockStore.disk c.answer_ready.new.store) (g.S.BlockStore.kept c.args.store.now)
     (g.S.BlockStore.kept c.answer_ready.new.store)) c.in_ok-taken.ensures.kept
-    (next_by g.S.BlockStore.protected (connection c.take_bytes.new.machine c.args.framer.now) c.args.piece.now c.in_ok-taken.taken c.take_bytes.new.framer
+    (next_by g.S.BlockStore.protected (connection c.take_bytes.new.self.machine c.args.intake.now.framing) c.args.piece.now c.in_ok-taken.taken c.take_bytes.new.self.framing
     (g.S.BlockStore.disk c.args.store.now) (g.S.BlockStore.disk c.answer_ready.new.store) (g.S.BlockStore.kept c.args.store.now)
     (g.S.BlockStore.kept c.answer_ready.new.store)
     c.in_ok-taken.ensures.ok c.answer_ready.ensures.crash)
 
 pub returns-clause-crash : goal.returns-clause-crash
 returns-clause-crash g c =
-    subst (λ (m : Machine). CrashesNext g.S.BlockStore.protected (connection m c.args.framer.now) c.args.piece.now (g.S.BlockStore.disk c.args.store.now)
+    subst (λ (m : Machine). CrashesNext g.S.BlockStore.protected (connection m c.args.intake.now.framing) c.args.piece.now (g.S.BlockStore.disk c.args.store.now)
     (g.S.BlockStore.disk c.answer_ready.new.store) (g.S.BlockStore.kept c.args.store.now)
     (g.S.BlockStore.kept c.answer_ready.new.store)) c.in_ok-taken.ensures.kept
-    (next_by g.S.BlockStore.protected (connection c.take_bytes.new.machine c.args.framer.now) c.args.piece.now c.in_ok-taken.taken c.take_bytes.new.framer
+    (next_by g.S.BlockStore.protected (connection c.take_bytes.new.self.machine c.args.intake.now.framing) c.args.piece.now c.in_ok-taken.taken c.take_bytes.new.self.framing
     (g.S.BlockStore.disk c.args.store.now) (g.S.BlockStore.disk c.answer_ready.new.store) (g.S.BlockStore.kept c.args.store.now)
     (g.S.BlockStore.kept c.answer_ready.new.store)
     c.in_ok-taken.ensures.ok c.answer_ready.ensures.crash)
 
 pub returns-clause-none : goal.returns-clause-none
 returns-clause-none g c = λ cache quiet framing takes head segment ready means.
-    (let same : framing ≡ c.take_bytes.new.framer = takes.gathered ∙ sym c.in_ok-taken.ensures.ok.gathered in
-    let kept : c.take_bytes.new.machine ≡ c.args.machine.now = c.in_ok-taken.ensures.kept in
-    let none : NoneReadyAsks c.take_bytes.new.machine c.take_bytes.new.framer =
+    (let same : framing ≡ c.take_bytes.new.self.framing = takes.gathered ∙ sym c.in_ok-taken.ensures.ok.gathered in
+    let kept : c.take_bytes.new.self.machine ≡ c.args.intake.now.machine = c.in_ok-taken.ensures.kept in
+    let none : NoneReadyAsks c.take_bytes.new.self.machine c.take_bytes.new.self.framing =
     c.note_asking.ensures.none (ap has_cache kept ∙ cache) quiet in
     subst (λ (m : Machine). NoneReadyAsks m framing) kept
-    (subst (λ (v : Framing). NoneReadyAsks c.take_bytes.new.machine v) (sym same) none) head segment ready means)
+    (subst (λ (v : Framing). NoneReadyAsks c.take_bytes.new.self.machine v) (sym same) none) head segment ready means)
 
 pub returns-clause-only : goal.returns-clause-only
 returns-clause-only g c = λ noted.
-    some_next c.args.machine.now c.take_bytes.new.machine c.args.framer.now c.take_bytes.new.framer c.args.piece.now c.in_ok-taken.taken c.args.asks.now
+    some_next c.args.intake.now.machine c.take_bytes.new.self.machine c.args.intake.now.framing c.take_bytes.new.self.framing c.args.piece.now c.in_ok-taken.taken c.args.asks.now
     c.in_ok-taken.ensures.ok c.in_ok-taken.ensures.kept (c.note_asking.ensures.only noted)
 
 pub returns-in_err-broken-clause-only : goal.returns-in_err-broken-clause-only
 returns-in_err-broken-clause-only g c = λ noted.
-    some_next c.args.machine.now c.take_bytes.new.machine c.args.framer.now c.take_bytes.new.framer c.args.piece.now c.in_ok-taken.taken c.args.asks.now
+    some_next c.args.intake.now.machine c.take_bytes.new.self.machine c.args.intake.now.framing c.take_bytes.new.self.framing c.args.piece.now c.in_ok-taken.taken c.args.asks.now
     c.in_ok-taken.ensures.ok c.in_ok-taken.ensures.kept (c.note_asking.ensures.only noted)

@@ -1,19 +1,16 @@
-use Rattle.std.proofs.Common.{◌≡◌, ◌+◌, ◌/◌, true, sym, ap, ◌∙◌, take}
-use Rattle.scsi_disk.specs.declared.planning.Transfer.{Transfer}
+use Rattle.std.proofs.Common.{◌≡◌, ◌+◌, ◌*◌, ◌/◌, ℕ, min, take, arith, ◌∙◌, ap}
 use Rattle.scsi_disk.specs.Disk.{blocks_from}
-use Rattle.scsi_disk.specs.Effect.{good}
-use Rattle.scsi_disk.specs.Plan.{is_read, wanted_length}
-use Rattle.scsi_disk.proofs.PlanLemmas.{read_gives}
+use Rattle.scsi_disk.specs.Plan.{expected_length}
+use Rattle.scsi_disk.proofs.PlanLemmas.{gives_front}
 use Rattle.scsi_disk.proofs.execution.give.Goals as goal
 
-pub returns-then-is_read-clause-ok : goal.returns-then-is_read-clause-ok
-returns-then-is_read-clause-ok g c = λ same.
+pub returns-clause-ok : goal.returns-clause-ok
+returns-clause-ok g c = λ same.
     let disk = g.S.BlockStore.disk c.args.store.now in
-    let order = c.args.order.now in
-    let n = c.args.length in
-    let reads : is_read order.cdb ≡ true = sym c.is_read.ensures ∙ c.if-is_read.true in
-    let wanted = c.wanted_length-wanted.ensures ∙ ap (wanted_length order) c.blocks-blocks.ensures.count in
-    let items = c.in_ok-bytes.ensures.ok same
-    ∙ ap (λ (e : Transfer). take n (blocks_from disk e.first ((n + 511) / 512))) c.transfer_of.ensures
-    ∙ read_gives disk order n c.blocks-blocks.ensures.disk c.requires reads in
-    c.good.ensures ∙ ap (λ w. good order w c.in_ok-bytes.bytes.items) wanted ∙ ap (λ t. good order (wanted_length order disk.count) t) items
+    let range = c.args.range in
+    let n : ℕ = min (512 * range.count) (expected_length c.args.order.now) in
+    let length : c.min-length.result ≡ n = c.min-length.ensures ∙ ap (min (512 * range.count)) c.expected_length.ensures in
+    c.good.ensures
+    ∙ gives_front disk c.args.order.now range n c.in_ok-bytes.bytes.items c.requires.reads c.requires.names (omega arith)
+    (c.in_ok-bytes.ensures.size ∙ length)
+    (c.in_ok-bytes.ensures.ok same ∙ ap (λ (k : ℕ). take k (blocks_from disk range.first ((k + 511) / 512))) length)

@@ -1,9 +1,11 @@
-use Rattle.std.proofs.Common.{ℕ, List, ◌≡◌, ◌++◌, [], refl, subst, sym, rules}
+use Rattle.std.proofs.Common.{ℕ, ◌≡◌, ◌++◌, ◌∙◌, [], refl, subst, sym, rules, arith}
 use Rattle.iscsi_stream.specs.Canonical.{canon}
-use Rattle.scsi_disk.specs.Effect.{Effect}
+use Rattle.scsi_disk.specs.Disk.{Disk}
+use Rattle.scsi_disk.specs.Effect.{Effect, Executes}
 use Rattle.scsi_disk.specs.declared.order.Outcome.{Outcome}
 use Rattle.iscsi_target.specs.State.{waiting}
 use Rattle.iscsi_target.specs.Execution.{command_answers, data_in_parts}
+use Rattle.iscsi_target.proofs.CrashLemmas.{read_behind}
 use Rattle.iscsi_target.proofs.ServingLemmas.{order_serves, on_err}
 use Rattle.iscsi_target.proofs.machine.Machine.execute_order.Goals as goal
 
@@ -15,23 +17,41 @@ returns-in_err-send_outcome-clause-handles g c = record {
   ok = search rules;
   err = on_err c.from_residual-in_err-send_outcome.result (record {
     machine = refl;
-    rises = c.in_ok-outcome.ensures.ok.executes.rises;
-    disk_is = c.outcome_of.ensures.disk;
+    rises = omega (arith, c.in_ok-outcome.ensures.ok.executes.rises, c.send_outcome.ensures.read.rises);
+    disk_is = c.send_outcome.ensures.read.disk ∙ c.outcome_of.ensures.disk;
     unwritten = c.in_err-send_outcome.ensures.err;
   });
 }
 
+pub returns-in_err-send_outcome-clause-crash : goal.returns-in_err-send_outcome-clause-crash
+returns-in_err-send_outcome-clause-crash g c =
+    read_behind g.S.BlockStore.protected [] (g.S.BlockStore.disk c.args.store.now) (g.S.BlockStore.disk c.outcome_of.new.store)
+    (g.S.BlockStore.disk c.send_outcome.new.store) (g.S.BlockStore.kept c.args.store.now) (g.S.BlockStore.kept c.outcome_of.new.store)
+    (g.S.BlockStore.kept c.send_outcome.new.store) c.outcome_of.ensures.crash c.send_outcome.ensures.read.disk c.send_outcome.ensures.read.kept
+
 pub returns-clause-handles : goal.returns-clause-handles
 returns-clause-handles g c = record {
-  ok = let fa : ℕ = g.S.BlockStore.failures c.outcome_of.new.store in
-      let now = g.S.BlockStore.disk c.outcome_of.new.store in
+  ok = let protected = g.S.BlockStore.protected in
+      let fb : ℕ = g.S.BlockStore.failures c.args.store.now in
+      let fa : ℕ = g.S.BlockStore.failures c.send_outcome.new.store in
+      let disk = g.S.BlockStore.disk c.args.store.now in
+      let now = g.S.BlockStore.disk c.send_outcome.new.store in
       let led = c.in_ok-outcome.ensures.ok in
       let s = c.args.self.now in
       let e : Effect = record { disk = now; outcome = led.given } in
-      order_serves g.S.BlockStore.protected (g.S.BlockStore.failures c.args.store.now) fa c.args.tag s
-      (g.S.BlockStore.disk c.args.store.now) c.args.order [] e
-      c.count.new.self now c.args.out.now.items c.send_outcome.new.out.items led.executes c.count.ensures refl
+      let executes : Executes protected fb fa disk c.args.order [] e =
+      subst (λ (d : Disk). Executes protected fb fa disk c.args.order [] (record { disk = d; outcome = led.given })) (sym c.send_outcome.ensures.read.disk)
+      (subst (λ (n : ℕ). Executes protected fb n disk c.args.order [] (record { disk = g.S.BlockStore.disk c.outcome_of.new.store; outcome = led.given }))
+      (sym c.in_ok-send_outcome.ensures.failures) led.executes) in
+      order_serves protected fb fa c.args.tag s disk c.args.order [] e
+      c.count.new.self now c.args.out.now.items c.send_outcome.new.out.items executes c.count.ensures refl
       (subst (λ (o : Outcome). c.send_outcome.new.out.items ≡ c.args.out.now.items ++ canon (command_answers s.session (waiting s.tasks) c.args.tag o
       (data_in_parts s.session.held o.bytes))) led.is c.in_ok-send_outcome.ensures.ok);
   err = search rules;
 }
+
+pub returns-clause-crash : goal.returns-clause-crash
+returns-clause-crash g c =
+    read_behind g.S.BlockStore.protected [] (g.S.BlockStore.disk c.args.store.now) (g.S.BlockStore.disk c.outcome_of.new.store)
+    (g.S.BlockStore.disk c.send_outcome.new.store) (g.S.BlockStore.kept c.args.store.now) (g.S.BlockStore.kept c.outcome_of.new.store)
+    (g.S.BlockStore.kept c.send_outcome.new.store) c.outcome_of.ensures.crash c.send_outcome.ensures.read.disk c.send_outcome.ensures.read.kept

@@ -1,4 +1,6 @@
-use Rattle.std.proofs.Common.{◌≡◌, List, refl, sym, ap, ◌∙◌, rules}
+use Rattle.std.proofs.Common.{◌≡◌, ℕ, List, [], refl, sym, ap, ◌∙◌, rules}
+use Rattle.iscsi_target.specs.Transfer.{with_piece}
+use Rattle.iscsi_target.specs.Write.{Write}
 use Rattle.iscsi_target.specs.State.{Machine}
 use Rattle.std.proofs.Common.{◌∷◌}
 use Rattle.iscsi_target.specs.declared.tasks.Task.{Task}
@@ -14,9 +16,13 @@ pub returns-then-is_whole-clause-handles : goal.returns-then-is_whole-clause-han
 returns-then-is_whole-clause-handles g c = record {
   ok = serves_if g.S.BlockStore.protected c.execute_write.result (g.S.BlockStore.failures c.args.store.now) (g.S.BlockStore.failures c.execute_write.new.store)
       (λ (d : Device). proceed d c.args.self.now (g.S.BlockStore.disk c.args.store.now) c.args.write)
-      (λ (d : Device). execute d c.args.self.now (g.S.BlockStore.disk c.args.store.now) c.args.write.initiator_task_tag c.args.write.order c.args.write.pieces)
+      (λ (d : Device). execute d c.args.self.now (g.S.BlockStore.disk c.args.store.now) c.write.inside.initiator_task_tag c.write.inside.order
+      (with_piece [] 0 c.deref.result.now))
       c.execute_write.new.self (g.S.BlockStore.disk c.execute_write.new.store) c.args.out.now.items c.execute_write.new.out.items
-      (λ (d : Device). proceeds_whole d c.args.self.now (g.S.BlockStore.disk c.args.store.now) c.args.write (sym c.is_whole.ensures ∙ c.if-is_whole.true))
+      (λ (d : Device). ap (λ (bytes : List ℕ). execute d c.args.self.now (g.S.BlockStore.disk c.args.store.now) c.write.inside.initiator_task_tag
+      c.write.inside.order (with_piece [] 0 bytes)) c.deref.ensures.value
+      ∙ ap (λ (w : Write). execute d c.args.self.now (g.S.BlockStore.disk c.args.store.now) w.initiator_task_tag w.order w.pieces) c.write.view_is
+      ∙ proceeds_whole d c.args.self.now (g.S.BlockStore.disk c.args.store.now) c.args.write (sym c.is_whole.ensures ∙ c.if-is_whole.true))
       c.execute_write.ensures.handles.ok;
   err = search rules;
 }

@@ -1,17 +1,52 @@
-use Rattle.std.proofs.Common.{◌<◌, ℕ, min, length, sym, ap, ◌∙◌, arith}
-use Rattle.std.proofs.lemmas.Bool.{eqb-false}
-use Rattle.std.proofs.lemmas.List.{take_rest}
+use Rattle.std.proofs.Common.{◌≡◌, ◌<◌, ◌+◌, ◌-◌, ℕ, min, ap, ◌∙◌, refl, subst, arith}
 use Rattle.iscsi_login.specs.Held.{max_burst}
-use Rattle.iscsi_target.proofs.DataInSequenceLemmas.{gave_run}
+use Rattle.iscsi_target.specs.Reads.{HasPart, given, source_len}
+use Rattle.iscsi_target.proofs.ReadPartLemmas.{part_left, sequences_all, sequences_next, sequences_none}
 use Rattle.iscsi_target.proofs.machine.Machine.send_data_in.Goals as goal
 
-pub loop-rest-preserved : goal.loop-rest-preserved
-loop-rest-preserved c =
-    let rest = c.loop-rest.rest.now in
-    let n : ℕ = c.min-len.result in
-    let some : 0 < length rest = omega (arith, eqb-false (length rest) 0 (sym c.loop-rest-test.ensures)) in
-    let burst : 0 < max_burst c.args.self.now.session.held = omega (arith, c.max_burst-burst.ensures.value, c.max_burst-burst.ensures.some) in
-    gave_run c.args.self.now c.args.tag c.args.bytes.now rest c.loop-rest.sent c.in_ok-sent.sent c.args.out.now.items c.loop-rest.out.items
-    c.send_sequence.new.out.items _ n c.in_ok-sent.ensures.most burst some
-    (c.min-len.ensures ∙ ap (λ (k : ℕ). min k (length rest)) c.max_burst-burst.ensures.value)
-    c.in_ok-sent.ensures.ok.0 c.in_ok-sent.ensures.ok.1 c.in_ok-sent.ensures.ok.2 c.in_ok-sent.ensures.ok.3 (take_rest rest n) c.loop-rest.invariant
+pub loop-sent-init : goal.loop-sent-init
+loop-sent-init g c =
+    let disk = g.S.BlockStore.disk c.args.store.now in
+    let source = c.args.source.now in
+    let all : source_len source ≡ source_len source - 0 = omega arith in
+    record {
+      sequences = sequences_none c.args.self.now c.args.tag source disk disk.count (g.S.BlockStore.failures c.args.store.now) c.args.out.now.items
+          c.reserve.new.self.items c.requires.has c.reserve.ensures.items;
+      left = subst (λ (n : ℕ). HasPart source disk.count 0 n) all c.requires.has;
+      disk = refl;
+      kept = λ n bytes was. was;
+      rises = omega arith;
+    }
+
+pub loop-sent-preserved : goal.loop-sent-preserved
+loop-sent-preserved g c =
+    let disk = g.S.BlockStore.disk in
+    let failures = g.S.BlockStore.failures in
+    let source = c.args.source.now in
+    let so_far = c.loop-sent.invariant in
+    let reads = c.send_sequence.ensures.reads in
+    let held = c.args.self.now.session.held in
+    let at = c.loop-sent.sent.bytes in
+    let below : at < source_len source = omega (arith, c.loop-sent-test.true, c.len-total.ensures) in
+    let some : 0 < max_burst held = omega (arith, c.max_burst-burst.ensures.value, c.max_burst-burst.ensures.some) in
+    let is_n : c.min.result ≡ min (max_burst held) (source_len source - at) =
+    c.min.ensures ∙ ap (λ (k : ℕ). min k (c.len-total.result - at)) c.max_burst-burst.ensures.value
+    ∙ ap (λ (k : ℕ). min (max_burst held) (k - at)) c.len-total.ensures in
+    let reached : at + c.min.result ≡ c.in_ok-sent.sent.bytes = omega (arith, c.in_ok-sent.ensures.ok.carried) in
+    record {
+      sequences = sequences_next c.args.self.now c.args.tag source (disk c.args.store.now) (disk c.loop-sent.store) (failures c.args.store.now)
+          (failures c.loop-sent.store) (failures c.send_sequence.new.store) c.min.result (at + c.min.result) c.loop-sent.sent c.in_ok-sent.sent
+          c.args.out.now.items c.loop-sent.out.items c.send_sequence.new.out.items some c.in_ok-sent.ensures.most below is_n refl so_far.disk
+          c.in_ok-sent.ensures.ok so_far.rises reads.read.rises so_far.sequences;
+      left = subst (λ (n : ℕ). HasPart source (disk c.args.store.now).count n (source_len source - n)) reached
+          (part_left source (disk c.args.store.now).count at (source_len source) (max_burst held) c.min.result c.requires.burst (omega (arith, below)) is_n so_far.left);
+      disk = reads.read.disk ∙ so_far.disk;
+      kept = λ n bytes is. so_far.kept n bytes (reads.read.kept n bytes is);
+      rises = omega (arith, so_far.rises, reads.read.rises);
+    }
+
+pub returns-clause-ok : goal.returns-clause-ok
+returns-clause-ok g c =
+    let failures = g.S.BlockStore.failures in
+    sequences_all c.args.self.now c.args.tag (given c.args.source.now (g.S.BlockStore.disk c.args.store.now) (failures c.args.store.now) (failures c.loop-sent.store))
+    c.loop-sent.sent c.args.out.now.items c.loop-sent.out.items (omega (arith, c.loop-sent-test.false, c.len-total.ensures)) c.loop-sent.invariant.sequences

@@ -1,19 +1,45 @@
-use Rattle.std.proofs.Common.{◌<◌, ℕ, ◌++◌, min, length, take, sym, ap, ◌∙◌, arith}
-use Rattle.std.proofs.lemmas.Bool.{eqb-false}
-use Rattle.std.proofs.lemmas.List.{take_rest}
-use Rattle.iscsi_pdu.specs.Meaning.{whole}
-use Rattle.iscsi_pdu.specs.declared.head.Head.{Head}
-use Rattle.iscsi_target.proofs.DataInSequenceLemmas.{gave_more}
+use Rattle.std.proofs.Common.{◌≡◌, ◌<◌, ◌-◌, ℕ, min, ap, ◌∙◌, refl, arith}
+use Rattle.iscsi_target.specs.Reads.{given}
+use Rattle.iscsi_target.proofs.ReadPartLemmas.{part_left, parts_all, parts_next, parts_none}
 use Rattle.iscsi_target.proofs.machine.Machine.send_sequence.Goals as goal
 
-pub loop-rest-preserved : goal.loop-rest-preserved
-loop-rest-preserved c =
-    let rest = c.loop-rest.rest.now in
-    let n : ℕ = c.min-len.result in
-    let some : 0 < length rest = omega (arith, eqb-false (length rest) 0 (sym c.loop-rest-test.ensures)) in
-    let most : 0 < c.args.self.now.session.held.initiator_max_recv = omega (arith, c.max_segment-most.ensures.value, c.max_segment-most.ensures.some) in
-    gave_more c.args.self.now c.args.tag c.args.before c.args.run.now rest c.loop-rest.sent c.args.out.now.items c.loop-rest.out.items n
-    c.write_pdu.new.out.items _ most some
-    (c.min-len.ensures ∙ ap (λ (k : ℕ). min k (length rest)) c.max_segment-most.ensures.value)
-    (c.in_ok-write_pdu.ensures.ok ∙ ap (λ (h : Head). c.loop-rest.out.items ++ whole h (take n rest)) c.data_in-head.ensures.head)
-    (take_rest rest n) c.loop-rest.invariant
+pub loop-sent-init : goal.loop-sent-init
+loop-sent-init g c =
+    let disk = g.S.BlockStore.disk c.args.store.now in
+    record {
+      parts = parts_none c.args.self.now c.args.tag c.args.source.now disk disk.count (g.S.BlockStore.failures c.args.store.now) c.args.end c.args.before
+          c.args.out.now.items c.requires.count c.requires.within c.requires.has;
+      left = c.requires.has;
+      disk = refl;
+      kept = λ n bytes was. was;
+      rises = omega arith;
+    }
+
+pub loop-sent-preserved : goal.loop-sent-preserved
+loop-sent-preserved g c =
+    let disk = g.S.BlockStore.disk in
+    let failures = g.S.BlockStore.failures in
+    let so_far = c.loop-sent.invariant in
+    let reads = c.append_part.ensures.reads in
+    let held = c.args.self.now.session.held in
+    let below : c.loop-sent.sent.bytes < c.args.end = omega (arith, c.loop-sent-test.true) in
+    let some : 0 < held.initiator_max_recv = omega (arith, c.max_segment-most.ensures.value, c.max_segment-most.ensures.some) in
+    let is_n : c.min-len.result ≡ min held.initiator_max_recv (c.args.end - c.loop-sent.sent.bytes) =
+    c.min-len.ensures ∙ ap (λ (k : ℕ). min k (c.args.end - c.loop-sent.sent.bytes)) c.max_segment-most.ensures.value in
+    record {
+      parts = parts_next c.args.self.now c.args.tag c.args.source.now (disk c.args.store.now) (disk c.loop-sent.store) (failures c.args.store.now)
+          (failures c.loop-sent.store) (failures c.append_part.new.store) c.min-len.result c.args.end c.args.before c.loop-sent.sent c.data_in-head.result
+          c.args.out.now.items c.loop-sent.out.items c.append_part.new.out.items some below is_n c.data_in-head.ensures.head so_far.disk
+          c.in_ok-append_part.ensures.ok so_far.rises reads.read.rises so_far.parts;
+      left = part_left c.args.source.now (disk c.args.store.now).count c.loop-sent.sent.bytes c.args.end held.initiator_max_recv c.min-len.result
+          c.requires.segment (omega (arith, below)) is_n so_far.left;
+      disk = reads.read.disk ∙ so_far.disk;
+      kept = λ n bytes is. so_far.kept n bytes (reads.read.kept n bytes is);
+      rises = omega (arith, so_far.rises, reads.read.rises);
+    }
+
+pub returns-clause-ok : goal.returns-clause-ok
+returns-clause-ok g c =
+    let failures = g.S.BlockStore.failures in
+    parts_all c.args.self.now c.args.tag (given c.args.source.now (g.S.BlockStore.disk c.args.store.now) (failures c.args.store.now) (failures c.loop-sent.store))
+    c.args.before c.loop-sent.sent c.args.end c.args.out.now.items c.loop-sent.out.items (omega (arith, c.loop-sent-test.false)) c.loop-sent.invariant.parts

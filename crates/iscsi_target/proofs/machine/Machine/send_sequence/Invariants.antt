@@ -1,9 +1,23 @@
-use Rattle.std.proofs.Common.{length}
-use Rattle.iscsi_target.proofs.DataInSequenceLemmas.{unsent, GaveUpTo}
+use Rattle.std.proofs.Common.{◌≡◌, ◌≤◌, ◌-◌}
+use Rattle.scsi_disk.specs.Lasting.{Within}
+use Rattle.iscsi_target.specs.Reads.{HasPart, given, reply}
+use Rattle.iscsi_target.proofs.ReadPartLemmas.{PartsOut}
 use Rattle.iscsi_target.proofs.machine.Machine.send_sequence.Given as goal
 
-abbrev pub invariant-loop-rest : goal.invariant-loop-rest
-invariant-loop-rest l = GaveUpTo l.self l.fn.tag (unsent l.fn.before l.run) (unsent l.sent l.rest) l.initial.out.items l.out.items
+-- The parts of the bytes before those that are left went out.
+abbrev pub invariant-loop-sent : goal.invariant-loop-sent
+invariant-loop-sent g l =
+    let disk = g.S.BlockStore.disk in
+    let failures = g.S.BlockStore.failures in
+    let kept = g.S.BlockStore.kept in
+    record {
+      parts : PartsOut (reply l.self l.fn.tag l.fn.out.items l.out.items)
+          (given l.fn.source (disk l.fn.store) (failures l.fn.store) (failures l.store)) l.fn.before l.sent l.fn.end;
+      left : HasPart l.fn.source (disk l.fn.store).count l.sent.bytes (l.fn.end - l.sent.bytes);
+      disk : disk l.store ≡ disk l.fn.store;
+      kept : Within (kept l.fn.store) (kept l.store);
+      rises : failures l.fn.store ≤ failures l.store;
+    }
 
-abbrev pub decreases-loop-rest : goal.decreases-loop-rest
-decreases-loop-rest l = length l.rest
+abbrev pub decreases-loop-sent : goal.decreases-loop-sent
+decreases-loop-sent g l = l.fn.end - l.sent.bytes

@@ -1,14 +1,14 @@
 use Rattle.std.proofs.Common.{subst, sym}
 use Rattle.iscsi_target.specs.Feed.{Connection, HasAnswered, beginning}
-use Rattle.iscsi_target.specs.Inside.{connection, store_of}
+use Rattle.iscsi_target.specs.Inside.{store_of}
 use Rattle.iscsi_target.proofs.StreamingLemmas.{goes_on}
 use Rattle.iscsi_target.proofs.target.Target.feed.Goals as goal
 
 pub returns-clause-stream : goal.returns-clause-stream
 returns-clause-stream g c = λ settings n disk stream works live h.
-    goes_on g.S.BlockStore.protected settings n disk stream (connection c.self.inside.machine c.self.inside.framer)
+    goes_on g.S.BlockStore.protected settings n disk stream c.self.inside.intake
     (store_of (g.S.BlockStore.disk c.args.store.now) (g.S.BlockStore.failures c.args.store.now)) c.args.out.now.items c.args.piece.now c.feed_all.result
-    (connection c.feed_all.new.machine c.feed_all.new.framer) (store_of (g.S.BlockStore.disk c.feed_all.new.store)
+    c.feed_all.new.intake (store_of (g.S.BlockStore.disk c.feed_all.new.store)
     (g.S.BlockStore.failures c.feed_all.new.store)) c.feed_all.new.out.items c.feed_all.ensures.fed works live
     (subst (λ (o : Connection). HasAnswered g.S.BlockStore.protected (beginning settings n disk) stream o
     (g.S.BlockStore.disk c.args.store.now) c.args.out.now.items)

@@ -1,5 +1,6 @@
 use Rattle.std.proofs.Common.{◌≡◌, drop}
-use Rattle.iscsi_target_session.specs.LoginText.{known_keys, repeats_key}
+use Rattle.iscsi_text.specs.Key.{known_keys}
+use Rattle.iscsi_target_session.specs.LoginText.{repeats_key}
 use Rattle.iscsi_target_session.proofs.session.login_text.repeats_key.Given as goal
 
 abbrev pub invariant-loop-n : goal.invariant-loop-n

@@ -1,4 +1,3 @@
-use Rattle.arrayvec.specs.ArrayVec.{ArrayVec}
 use Rattle.iscsi_stream.proofs.LineLemmas.{kept}
 use Rattle.iscsi_stream.proofs.lines.writing.Line.put.Goals as goal
 
