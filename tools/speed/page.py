@@ -23,9 +23,10 @@ PAGE = TOP / "docs/SPEED.md"
 # A command, and the sections of its tables in their order; none where it writes its own, and "" where each table has the
 # section of its heading.
 TOOLS = [
-    ("tools/speed/run.py --seconds 0.5", ""),
-    ("tools/speed/targets.py --write", None),
-    ("tools/speed/targets.py --grow --write", None),
+    ("tools/speed/run.py --seconds 0.3", ""),
+    ("tools/speed/targets.py --deep --seconds 0.2 --range 16M --write", None),
+    ("tools/speed/profile.py --write", None),
+    ("tools/speed/targets.py --grow --seconds 0.2 --write", None),
     ("tools/replay/speed.py", ["Jobs done again"]),
     ("tools/many_sessions/run.py --figures", ["Several sessions at a time"]),
     ("tools/lasting/run.py --costs --seconds 0.5", ["A disk that lasts"]),
