@@ -37,10 +37,9 @@ def rows(text, heading, wanted):
     section = re.search(rf"^## {re.escape(heading)}\n(.*?)(?=^## |\Z)", text, re.M | re.S)
     found = []
     for table in re.findall(r"(?:^\|.*\n)+", section.group(1) if section else "", re.M):
-        lines = [[cell.strip() for cell in line.strip("|\n ").split("|")] for line in table.splitlines()]
-        titles = [title.strip() for title in table.splitlines()[0][1:].rstrip("|").split("|")]
+        titles, _, *lines = [[cell.strip() for cell in line.split("|")[1:-1]] for line in table.splitlines()]
         if set(wanted) <= set(titles):
-            found = [dict(zip(titles, [cell.strip() for cell in line[1:].rstrip("|").split("|")])) for line in table.splitlines()[2:]]
+            found = [dict(zip(titles, line)) for line in lines]
     return found
 
 
