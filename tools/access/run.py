@@ -207,7 +207,7 @@ def notes_each_byte(service):
 
 
 def keeps_its_size(service):
-    """10,000 logins with a wrong secret leave memory, descriptors and seats as they were."""
+    """10,000 logins with a wrong secret leave memory, descriptors and slots as they were."""
     def look():
         held = open(f"/proc/{service.pid()}/status").read()
         return int(held.split("VmRSS:")[1].split()[0]), len(os.listdir(f"/proc/{service.pid()}/fd"))
@@ -232,8 +232,8 @@ def keeps_its_size(service):
     return (well and after[0] <= before[0] + 64 and after[1] == before[1] and statuses == [0] * 64) or (well, before, after, statuses)
 
 
-def leaves_a_seat(service):
-    """Where those who have not logged in have all seats, each that knows a secret is served."""
+def leaves_a_slot(service):
+    """Where those who have not logged in have all slots, each that knows a secret is served."""
     first = f"AuthMethod=CHAP\0InitiatorName={OTHER}\0TargetName={BASE.NAME}\0".encode()
     peers = []
     for at in range(128):
@@ -280,7 +280,7 @@ def serves_qemu(service):
 
 
 CASES = [
-    asks_for_secrets, asks_whoever_skips, notes_each_byte, leaves_a_seat, serves_libiscsi, asks_who_discovers, serves_qemu, keeps_its_size,
+    asks_for_secrets, asks_whoever_skips, notes_each_byte, leaves_a_slot, serves_libiscsi, asks_who_discovers, serves_qemu, keeps_its_size,
 ]
 
 

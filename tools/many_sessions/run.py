@@ -209,7 +209,7 @@ def partial_write(program, room):
 
 
 def silent_peer(program, room):
-    """A peer says nothing, and its seat is freed; another one works before and after."""
+    """A peer says nothing, and its slot is freed; another one works before and after."""
     with Service(program, 2, "--at-once", "2", "--idle", "1") as service:
         with service.peer() as peer:
             began = time.monotonic()
@@ -270,7 +270,7 @@ def broken_rule(program, room):
 
 
 def unread_answers(program, room):
-    """A peer asks for much and reads nothing; another one works; its seat is freed by --idle."""
+    """A peer asks for much and reads nothing; another one works; its slot is freed by --idle."""
     with Service(program, 2, "--at-once", "2", "--idle", "3") as service:
         with service.peer() as peer:
             log_in(peer)

@@ -3,7 +3,8 @@
 
     tools/reach/reach.py            prints the tables
     tools/reach/reach.py --write    puts them into docs/TRUST.md, each between its two marks
-    tools/reach/reach.py --check    says which of them the page does not hold; the status is 1 if there is one
+    tools/reach/reach.py --check    says which of them the page does not hold, and which definition of `specs/inner`
+                                    a public clause reaches; the status is 1 if there is one
 
 It begins at a clause of a public function (PARTS), and follows the names that stand in it: through the imports of the
 file to the definitions of `specs/` and to the types of the code that these speak of, and from each to the names in its
@@ -56,7 +57,7 @@ PARTS = [
          says="`have_one_meaning` says yes exactly if two streams have one meaning"),
     Part("compare", "iscsi_compare", "compare", "same",
          says="`compare`, which holds one PDU of each, says that two streams are the same only if they have one meaning"),
-    Part("served alike", "iscsi_service", "serve_stream", "answered", unread=("answers_from",),
+    Part("served alike", "iscsi_serve", "serve_stream", "answered", unread=("answers_from",),
          says="what the program answers and stores depends on settings, blocks and meaning alone"),
     Part("alike", "iscsi_target", "answers_alike", "alike",
          says="a target answers two streams of one meaning with the same bytes and holds the same blocks"),
@@ -69,7 +70,7 @@ PARTS = [
     Part("comes about", "iscsi_pair", "serve_requests", "served",
          says="where memory holds, requests that any target takes are served so"),
     Part("feed", "iscsi_target", "feed", "fed", owner="Target", model="Target"),
-    Part("served", "iscsi_service", "serve_stream", "answered"),
+    Part("served", "iscsi_serve", "serve_stream", "answered"),
     Part("canonical form", "iscsi_target", "canonical_form"),
     Part("login", "iscsi_pair", "login_agreement"),
     Part("one disk", "iscsi_pair", "one_local_disk"),
@@ -188,7 +189,7 @@ class Workspace:
         self.imports = {}
         for crate in self.order:
             folder = TOP / "crates" / crate
-            for path in sorted(folder.glob("specs/*.antt")):
+            for path in sorted(folder.glob("specs/**/*.antt")):
                 for one in definitions_of(path):
                     for name in [one.name, *CONSTRUCTOR.findall(one.text)]:
                         self.names[one.file].setdefault(name, one)
@@ -210,8 +211,9 @@ class Workspace:
         if rest[0] == "declared":
             kind = [part for part in rest if part != "TheVariants"][-1]
             return self.types[crate].get(kind)
-        names = self.names[f"crates/{crate}/specs/{rest[0]}.antt"]
-        return names.get(rest[1] if len(rest) > 1 else name)
+        inner = rest[0] == "inner"
+        names = self.names[f"crates/{crate}/specs/{'/'.join(rest[:1 + inner])}.antt"]
+        return names.get(rest[1 + inner] if len(rest) > 1 + inner else name)
 
 
 class Imports:
@@ -237,7 +239,8 @@ class Imports:
 
     def imported(self, name):
         target = self.workspace.target(self.names[name], name)
-        if target is None:
+        # What a trait declares is no definition of ours.
+        if target is None and ".specs." in self.names[name] and ".declared." not in self.names[name]:
             sys.exit(f"reach: no definition of {name} of {self.names[name]}")
         return target
 
@@ -280,6 +283,58 @@ def reach(workspace, part):
                 if one.name not in part.unread:
                     waiting.append((one.file, one.text))
     return reached, modules
+
+
+# ---- what a reader has to believe
+
+CLAUSE = re.compile(r"[^{}]*?\b(?:requires|ensures)\s*\w*\s*{")
+IMPL = re.compile(r"^impl(?:<[^{]*?>)? (?:(\w+)(?:<[^{]*?>)? for )?(\w+)[^{]*{", re.M)
+
+
+def clauses_from(text, start):
+    """The clauses of the function whose name ends here."""
+    while found := CLAUSE.match(text, start):
+        start = braced(text, found.end() - 1)
+        yield text[found.end() - 1:start]
+
+
+def public_texts(crate):
+    """The clauses of what a crate makes public, and the values of its types: each with its file."""
+    lib = TOP / "crates" / crate / "src/lib.rt"
+    if not lib.exists():
+        return
+    said = without_comments(lib.read_text())
+    names = {name for use in re.findall(r"pub use ([^;]+);", said) for name in re.findall(r"\w+", use)}
+    modules = set(re.findall(r"pub mod (\w+);", said))
+    for path in sorted(lib.parent.glob("**/*.rt")):
+        text, file = without_comments(path.read_text()), str(path.relative_to(TOP))
+        is_public = path.stem in modules or path.parent.name in modules
+        blocks = [(one.start(), braced(text, one.end() - 1), one[1], one[2]) for one in IMPL.finditer(text)]
+        for one in re.finditer(r"pub fn (\w+)\b", text):
+            owner = next((kind for start, end, _, kind in blocks if start < one.start() < end), one[1])
+            if is_public or owner in names:
+                yield from ((file, clause) for clause in clauses_from(text, one.end()))
+        for start, end, trait, kind in blocks:
+            if is_public or kind in names or trait not in (None, "Model"):
+                block = text[start:end]
+                for one in re.finditer(r"ghost (?!use|invariant)\w+[^={]*= ({)", block):
+                    yield file, block[one.end() - 1:braced(block, one.end() - 1)]
+                for one in re.finditer(r"\bfn \w+\b", block) if trait not in (None, "Model") else ():
+                    yield from ((file, clause) for clause in clauses_from(block, one.end()))
+        for one in re.finditer(r"pub trait \w+[^{]*{", text):
+            yield file, text[one.end() - 1:braced(text, one.end() - 1)]
+
+
+def inner_reached(workspace):
+    """The definitions of `specs/inner` that a public clause reaches: there should be none."""
+    waiting, reached = [one for crate in workspace.order for one in public_texts(crate)], set()
+    while waiting:
+        file, text = waiting.pop()
+        for one in workspace.imports_of(file).used(text):
+            if isinstance(one, Definition) and one not in reached:
+                reached.add(one)
+                waiting.append((one.file, one.text))
+    return sorted(f"{one.file}: {one.name}" for one in reached if "/specs/inner/" in one.file)
 
 
 # ---- the tables
@@ -350,7 +405,7 @@ def matrix(workspace, reaches):
 def others(workspace, reaches):
     """The files of definitions that no part reaches."""
     reached = {one.file for definitions, _ in reaches for one in definitions}
-    files = in_order(workspace, {file for file in list(workspace.names) if workspace.names[file]} - reached)
+    files = in_order(workspace, {file for file in list(workspace.names) if workspace.names[file] and "/inner/" not in file} - reached)
     yield f"No part reaches: {', '.join(map(shown, files))}."
 
 
@@ -380,6 +435,8 @@ def main():
         PAGE.write_text(new)
     elif new != old:
         sys.exit("docs/TRUST.md: its figures are old: tools/reach/reach.py --write")
+    elif inner := inner_reached(workspace):
+        sys.exit("a public clause reaches what stands apart from it: " + ", ".join(inner))
 
 
 if __name__ == "__main__":

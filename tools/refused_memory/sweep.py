@@ -10,7 +10,7 @@ Each run ends as with ample memory, or with status 3, the line `memory`, and les
 PDUs or lines, of `answer` all answers to some first PDUs and to some first tasks of the next one, with `--hex` their
 digits without a line end, and nothing of a line of hex else or a text. The whole output is there with that line only
 where nothing is due to the last PDUs, or where none is due at all. A run that met no refusal ends as with ample memory,
-and that not for want of it. The scripts of `loop` are those of iscsi_service_tests, one of each command, one that writes
+and that not for want of it. The scripts of `loop` are those of iscsi_loop_tests, one of each command, one that writes
 in two extents of the sparse store, and one that is refused. The segment buffer is kept from PDU to PDU: a run over 1,000
 PDUs of 4,096 bytes ends well where each allocation is refused that a run over one does not ask for.
 
@@ -194,18 +194,18 @@ def texts():
 
 def named_lines():
     """The lines that have a name, by it."""
-    path = "iscsi_examples/src/logins.rt"
+    path = "iscsi_test_support/src/logins.rt"
     found = constants(path)
     return {name: found[word] for name, word in re.findall(r'"(\w+)" => Some\((\w+)\)', open(f"{TOP}/crates/{path}").read())}
 
 
 def pdu(line):
-    """The PDU of a line of a dialogue, as crates/iscsi_examples/src/line.rt says it."""
+    """The PDU of a line of a dialogue, as crates/iscsi_test_support/src/line.rt says it."""
     if line.startswith("@"):
         line = named_lines()[line[1:]]
     header, segment = bytes.fromhex(line[:107]), line[107:].strip()
     if segment == "@":
-        segment = f"'{constants('iscsi_examples/src/logins.rt')['OPERATIONAL']}"
+        segment = f"'{constants('iscsi_test_support/src/logins.rt')['OPERATIONAL']}"
     if segment.startswith("'"):
         text, _, more = segment[1:].partition("+")
         keys = "".join(f"K{number:03}=1|" for number in range(int(more or 0)))
@@ -259,9 +259,9 @@ def dialogues():
 
 
 def logged_out():
-    """What comes in the session of iscsi_service_tests that logs in and out, the lengths at which its answers may stop, and
+    """What comes in the session of iscsi_serve_tests that logs in and out, the lengths at which its answers may stop, and
     the answers."""
-    found = constants("iscsi_service_tests/src/tests/serving.rt")
+    found = constants("iscsi_serve_tests/src/tests/serving.rt")
     came, due = ([pdu(line) for line in unquoted(found[name]).split("\n")] for name in ("LOGOUT", "LOGOUT_ANSWERS"))
     return b"".join(came), {len(b"".join(due[:count])) for count in range(len(due))}, b"".join(due)
 

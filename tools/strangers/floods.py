@@ -74,7 +74,7 @@ def text(n):
 
 
 def entered(port, name, stop):
-    """A peer that has logged in, or None at the end. While all seats are taken, one that has not logged in makes room: it tries again."""
+    """A peer that has logged in, or None at the end. While all slots are taken, one that has not logged in makes room: it tries again."""
     while not stop.is_set():
         try:
             return BASE.login(port, name, KEYS)

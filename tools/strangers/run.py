@@ -84,10 +84,10 @@ def leave_at_once(port):
 class Service:
     """A service of some sessions at a time, started by these words, such as those of strace, before the program's own."""
 
-    def __init__(self, program, *words, before=(), seats=64, descriptors=()):
+    def __init__(self, program, *words, before=(), slots=64, descriptors=()):
         with socket.create_server(("127.0.0.1", 0)) as other:
             self.port = other.getsockname()[1]
-        words = ["serve", "--port", str(self.port), "--at-once", str(seats), *words]
+        words = ["serve", "--port", str(self.port), "--at-once", str(slots), *words]
         pipe = subprocess.PIPE
         self.process = subprocess.Popen([*before, program, *words], stdin=subprocess.DEVNULL, stdout=pipe, stderr=pipe,
                                         start_new_session=True, pass_fds=descriptors)
@@ -223,10 +223,10 @@ def wants_more_descriptors(program):
 
 
 def has_few_descriptors(program):
-    # Those that it is started with take what its seats want.
+    # Those that it is started with take what its slots want.
     given = [os.open("/dev/null", os.O_RDONLY) for _ in range(12)]
     before = ["prlimit", f"--nofile={max(given) + 20}", "--"]
-    with Service(program, "--blocks", "8", before=before, seats=max(given) + 13, descriptors=given) as service:
+    with Service(program, "--blocks", "8", before=before, slots=max(given) + 13, descriptors=given) as service:
         for descriptor in given:
             os.close(descriptor)
         strangers = []
@@ -254,7 +254,7 @@ def has_silent_strangers(program):
 
 
 def has_strangers_who_hold(program):
-    # More connections than seats, and more of them all the time: a login still gets a seat, and keeps it.
+    # More connections than slots, and more of them all the time: a login still gets a slot, and keeps it.
     with Service(program, "--blocks", "8") as service:
         held, guests = [service.connect() for _ in range(200)], []
         for at in range(10):
@@ -469,7 +469,7 @@ ROWS = [
     ("in turn: EMFILE", ends_in_turn),
     ("a pipe in place of an image", refuses_a_pipe),
     ("keepalive", asks_the_silent),
-    ("fewer descriptors than seats want", wants_more_descriptors),
+    ("fewer descriptors than slots want", wants_more_descriptors),
     ("descriptors that are taken", has_few_descriptors),
     ("64 silent connections", has_silent_strangers),
     ("strangers who hold on", has_strangers_who_hold),

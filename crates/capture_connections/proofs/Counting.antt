@@ -4,7 +4,8 @@ use Rattle.std.proofs.lemmas.Bool.{false≢true}
 use Rattle.std.proofs.Math.Nat.{max-le, le-max_left, le-max_right}
 use Rattle.std.specs.Prelude.{slice_get, Option, Some, None, IfSome, IsSome}
 use Rattle.capture_connections.specs.declared.connections.Connection.{Connection}
-use Rattle.capture_connections.specs.Waiting.{IsCounted, larger_at, waiting_at, waiting_in, waiting_in_all}
+use Rattle.capture_connections.specs.Waiting.{waiting_in, waiting_in_all}
+use Rattle.capture_connections.specs.inner.Waiting.{IsCounted, larger_at, connection_waiting}
 use Rattle.capture_connections.proofs.Places.{get_set_same, get_set_other, get_behind}
 
 some_none : (c : Connection) → Some c ≡ None → ⊥
@@ -25,7 +26,7 @@ all_same (x ∷ xs) (y ∷ ys) h =
 -- all are the same but one
 pub one_changed : (xs ys : List Connection) (n : ℕ)
     → ((k : ℕ) → k ≢ n → slice_get ys k ≡ slice_get xs k)
-    → waiting_in_all ys + waiting_at (slice_get xs n) ≡ waiting_in_all xs + waiting_at (slice_get ys n)
+    → waiting_in_all ys + connection_waiting (slice_get xs n) ≡ waiting_in_all xs + connection_waiting (slice_get ys n)
 one_changed [] [] n h = refl
 one_changed [] (y ∷ ys) zero h =
     omega (arith, all_same [] ys (λ k. h (suc k) (λ e. omega (arith, e))))
@@ -45,7 +46,7 @@ one_changed (x ∷ xs) (y ∷ ys) (suc n) h =
 -- the count after it
 pub counted : (result old : Option ℕ) (before after : ℕ) (xs ys : List Connection) (n : ℕ)
     → IsCounted old xs → IfSome result (λ m. IfSome old (λ all. m + before ≡ all + after) × IsSome old)
-    → before ≡ waiting_at (slice_get xs n) → after ≡ waiting_at (slice_get ys n)
+    → before ≡ connection_waiting (slice_get xs n) → after ≡ connection_waiting (slice_get ys n)
     → ((k : ℕ) → k ≢ n → slice_get ys k ≡ slice_get xs k) → IsCounted result ys
 counted None old before after xs ys n c r b a h = tt
 counted (Some m) None before after xs ys n c r b a h = absurd (false≢true r.1)
@@ -94,9 +95,9 @@ less_one list n old new lt is most less some =
     let some_at : 0 < larger_at (slice_get list n) = positive (larger_at (slice_get list n)) list most some in
     let P : Option Connection → Type 0 = λ o. 0 < larger_at o in
     let l : waiting_in new < waiting_in old = less (some_larger old (subst P is some_at)) in
-    let o : waiting_at (slice_get list n) ≡ waiting_in old = ap waiting_at is in
-    let s : waiting_at (slice_get (set list n new) n) ≡ waiting_in new =
-    ap waiting_at (get_set_same list n new lt) in
+    let o : connection_waiting (slice_get list n) ≡ waiting_in old = ap connection_waiting is in
+    let s : connection_waiting (slice_get (set list n new) n) ≡ waiting_in new =
+    ap connection_waiting (get_set_same list n new lt) in
     omega (arith, l, o, s, one_changed list (set list n new) n (λ k d. get_set_other list n k new d))
 
 -- no one is there in which most does

@@ -5,7 +5,7 @@ use Rattle.std.proofs.lemmas.List.{append_cancel_left}
 use Rattle.std.specs.Prelude.{slice_get, Some, None, Option, ◌==◌, ◌&&◌, if◌then◌else◌}
 use Rattle.std.specs.List.{AllByRecursion}
 use Rattle.tcp_streams.specs.Placing.{Numbered}
-use Rattle.tcp_streams.specs.Reassembly.{Taking, Takes, opening}
+use Rattle.tcp_streams.specs.Reassembly.{Taking, TakesSegment, opening_direction}
 use Rattle.tcp_streams.proofs.Answered.{AreTaken, none_taken, taken_more, all_taken}
 use Rattle.capture_connections.specs.declared.belonging.Last.{Last}
 use Rattle.capture_connections.specs.declared.belonging.Start.{Start}
@@ -18,12 +18,12 @@ use Rattle.capture_connections.specs.declared.half.Half.{Half}
 use Rattle.capture_connections.specs.declared.heard.Heard.{Heard}
 use Rattle.capture_connections.specs.declared.heard.Said.{Said}
 use Rattle.capture_connections.specs.Belonging.{start_after}
-use Rattle.capture_connections.specs.Directions.{AreDetermined, AreKnown, AreKnownFrom, Gathers, Advances, SaysSome, direction_of, half_at, has_some, if_of, if_some, sent_by, start_after_all, with_bytes}
-use Rattle.capture_connections.specs.Following.{Feeds, FeedsSome, HalfTakes, Hears, KeepsAll, KeepsAt, MayEnd, StepsAt, Table, given_up, lower_of, no_connections, numbered, opened, upper_of, waiting}
+use Rattle.capture_connections.specs.Directions.{AreDetermined, AreKnown, AreKnownFrom, GathersSide, TableAdvances, SaysSome, direction_of, half_at, has_some, if_of, if_some, sent_by, start_after_all, with_bytes}
+use Rattle.capture_connections.specs.Following.{DirectionStep, FeedsSome, HalfTakes, TableStep, KeepsConnections, KeepsConnectionAt, MayEnd, DirectionsStep, Table, direction_given_up, lower_of, no_connections, numbered_heard, direction_opened, upper_of, most_waiting_in_direction}
 use Rattle.capture_connections.specs.SameEnds.{same_ends}
 use Rattle.capture_connections.specs.Sides.{is_side}
 use Rattle.std.specs.Map.{lookup}
-use Rattle.capture_connections.specs.Private.{Known, known_after, known_of, own, owner_among}
+use Rattle.capture_connections.specs.Private.{KnownEnds, known_after, known_of, own, owner_among}
 use Rattle.capture_connections.proofs.Apart.{known_next}
 
 -- ---- lists of segments, one more at the end
@@ -39,11 +39,11 @@ if_some_append [] s xs ys = refl
 if_some_append (b ∷ bytes) s xs ys = refl
 
 bytes_more : (done : List Heard) (heard : Heard)
-    → with_bytes (done ++ heard ∷ []) ≡ with_bytes done ++ if_some heard.bytes.now (numbered heard) []
+    → with_bytes (done ++ heard ∷ []) ≡ with_bytes done ++ if_some heard.bytes.now (numbered_heard heard) []
 bytes_more [] heard = refl
 bytes_more (h ∷ done) heard =
-    ap (if_some h.bytes.now (numbered h)) (bytes_more done heard)
-    ∙ if_some_append h.bytes.now (numbered h) (with_bytes done) (if_some heard.bytes.now (numbered heard) [])
+    ap (if_some h.bytes.now (numbered_heard h)) (bytes_more done heard)
+    ∙ if_some_append h.bytes.now (numbered_heard h) (with_bytes done) (if_some heard.bytes.now (numbered_heard heard) [])
 
 -- ---- a direction, by its own segments
 
@@ -76,11 +76,11 @@ known_from : (start : Start) (direction : Option Taking) (segments : List Number
     → WasTaken start direction segments given → AreKnownFrom start segments given
 known_from Unknown None segments given w = w.1
 known_from (Bytes n) None segments given w =
-    let a : AreDetermined n [] [] = all_taken n [] [] (opening n waiting) (none_taken n waiting) in
+    let a : AreDetermined n [] [] = all_taken n [] [] (opening_direction n most_waiting_in_direction) (none_taken n most_waiting_in_direction) in
     subst (λ (s : List Numbered). AreDetermined n s given) (sym w.0)
     (subst (λ (g : List ℕ). AreDetermined n [] g) (sym w.1) a)
 known_from (Syn n) None segments given w =
-    let a : AreDetermined n [] [] = all_taken n [] [] (opening n waiting) (none_taken n waiting) in
+    let a : AreDetermined n [] [] = all_taken n [] [] (opening_direction n most_waiting_in_direction) (none_taken n most_waiting_in_direction) in
     subst (λ (s : List Numbered). AreDetermined n s given) (sym w.0)
     (subst (λ (g : List ℕ). AreDetermined n [] g) (sym w.1) a)
 known_from Unknown (Some taking) segments given w = absurd w.1
@@ -92,7 +92,7 @@ known_from (Syn n) (Some taking) segments given w =
 -- a segment with bytes was taken
 fed_some : (first : ℕ) (done : List Numbered) (s : Numbered) (old new : Taking)
     (given before more : List ℕ) → AreTaken first done given old
-    → Takes old s new before (before ++ more) → AreTaken first (done ++ s ∷ []) (given ++ more) new
+    → TakesSegment old s new before (before ++ more) → AreTaken first (done ++ s ∷ []) (given ++ more) new
 fed_some first done s old new given before more a t =
     let e : more ≡ t.more = append_cancel_left before more t.more t.given in
     taken_more first done s old new given (given ++ more) a (record {
@@ -120,23 +120,23 @@ not_unknown (Syn n) said some e = cc
 
 -- the first bytes of a stream
 first_fed : (start : Start) (s : Numbered) (new : Option Taking) (before more : List ℕ)
-    → (start ≡ Unknown → ⊥) → Feeds (opened None start) s new before (before ++ more)
+    → (start ≡ Unknown → ⊥) → DirectionStep (direction_opened None start) s new before (before ++ more)
     → WasTaken start new (s ∷ []) more
 first_fed Unknown s new before more known f = absurd (known refl)
 first_fed (Bytes n) s new before more known f =
     let a : AreTaken n (s ∷ []) more f.0 =
-    fed_some n [] s (opening n waiting) f.0 [] before more (none_taken n waiting) f.2 in
+    fed_some n [] s (opening_direction n most_waiting_in_direction) f.0 [] before more (none_taken n most_waiting_in_direction) f.2 in
     subst (λ (t : Option Taking). WasTaken (Bytes n) t (s ∷ []) more) (sym f.1) (n, refl, a)
 first_fed (Syn n) s new before more known f =
     let a : AreTaken n (s ∷ []) more f.0 =
-    fed_some n [] s (opening n waiting) f.0 [] before more (none_taken n waiting) f.2 in
+    fed_some n [] s (opening_direction n most_waiting_in_direction) f.0 [] before more (none_taken n most_waiting_in_direction) f.2 in
     subst (λ (t : Option Taking). WasTaken (Syn n) t (s ∷ []) more) (sym f.1) (n, refl, a)
 
 -- bytes of a direction, after what was taken of it
 fed : (start : Start) (said : Said) (direction : Option Taking) (done : List Numbered) (s : Numbered)
     (new : Option Taking) (given before more : List ℕ)
     → WasTaken start direction done given → (start_after start said ≡ Unknown → ⊥)
-    → Feeds (opened direction (start_after start said)) s new before (before ++ more)
+    → DirectionStep (direction_opened direction (start_after start said)) s new before (before ++ more)
     → WasTaken (start_after start said) new (done ++ s ∷ []) (given ++ more)
 fed start said None done s new given before more w known f =
     let a : WasTaken (start_after start said) new (s ∷ []) more =
@@ -166,7 +166,7 @@ fed_bytes : (bytes : List ℕ) (old : Half) (heard : Heard) (new : Half) (done :
     → new.start ≡ start_after old.start heard.said
     → FeedsSome old heard bytes new before (before ++ more)
     → WasTaken old.start old.direction done given
-    → WasTaken new.start new.direction (done ++ if_some bytes (numbered heard) []) (given ++ more)
+    → WasTaken new.start new.direction (done ++ if_some bytes (numbered_heard heard) []) (given ++ more)
 fed_bytes [] old heard new done given before more says starts f w =
     let e : more ≡ [] = nothing_more before more f.1 in
     let P : List ℕ → Type 0 = λ g. WasTaken new.start new.direction (done ++ []) (given ++ g) in
@@ -177,9 +177,9 @@ fed_bytes [] old heard new done given before more says starts f w =
     subst P (sym e) (subst Q (sym (append-nil done)) (subst R (sym (append-nil given))
     (subst S (sym starts) (subst T (sym f.0) (kept_on old.start heard.said old.direction done given w)))))
 fed_bytes (b ∷ bytes) old heard new done given before more says starts f w =
-    let P : Start → Type 0 = λ s. Feeds (opened old.direction s) (numbered heard) new.direction before (before ++ more) in
-    let Q : Start → Type 0 = λ s. WasTaken s new.direction (done ++ numbered heard ∷ []) (given ++ more) in
-    subst Q (sym starts) (fed old.start heard.said old.direction done (numbered heard) new.direction given
+    let P : Start → Type 0 = λ s. DirectionStep (direction_opened old.direction s) (numbered_heard heard) new.direction before (before ++ more) in
+    let Q : Start → Type 0 = λ s. WasTaken s new.direction (done ++ numbered_heard heard ∷ []) (given ++ more) in
+    subst Q (sym starts) (fed old.start heard.said old.direction done (numbered_heard heard) new.direction given
     before more w (not_unknown old.start heard.said says) (subst P starts f))
 
 -- a segment of a direction
@@ -197,8 +197,8 @@ of_one_more done given old heard new before more says takes is = λ followed.
           (fed_bytes heard.bytes.now old heard new (with_bytes done) given before more says takes.start f.1 w.1),
     )
 
-stopped_not : (old new : Half) → new ≡ given_up old → new.stop ≡ None → ⊥
-stopped_not old new e n = let g : (given_up old).stop ≡ None = sym (ap (λ (h : Half). h.stop) e) ∙ n in cc
+stopped_not : (old new : Half) → new ≡ direction_given_up old → new.stop ≡ None → ⊥
+stopped_not old new e n = let g : (direction_given_up old).stop ≡ None = sym (ap (λ (h : Half). h.stop) e) ∙ n in cc
 
 -- a direction that may be given up
 of_settled : (done : List Heard) (given : List ℕ) (old new : Half) → MayEnd old new
@@ -216,7 +216,7 @@ no_more done given old new e is =
     (subst (IsOfSegments done given) (sym e) is))
 
 settled_at : (side : Side) (done : List Heard) (given : List ℕ) (old new : Option Connection)
-    → KeepsAt old new → IsOfSegments done given (half_at side old)
+    → KeepsConnectionAt old new → IsOfSegments done given (half_at side old)
     → IsOfSegments done given (half_at side new)
 settled_at side done given None None k is = is
 settled_at side done given None (Some new) k is = absurd k
@@ -229,7 +229,7 @@ settled_at Upper done given (Some old) (Some new) k is = of_settled done given o
 -- the segments and the bytes of an end after a segment of its connection
 ends_more : (side by : Side) (done : List Heard) (given : List ℕ) (heard : Heard)
     (old : Option Connection) (new : Connection) (before more : List ℕ) → SaysSome heard
-    → StepsAt by (lower_of old) (upper_of old) heard new before (before ++ more)
+    → DirectionsStep by (lower_of old) (upper_of old) heard new before (before ++ more)
     → IsOfSegments done given (half_at side old)
     → IsOfSegments (done ++ (if is_side side by then heard ∷ [] else []))
     (given ++ (if is_side side by then more else [])) (half_at side (Some new))
@@ -245,7 +245,7 @@ ends_more Upper Lower done given heard old new before more says steps is =
 -- the direction is that of the connection, by cases on whether the segment belongs to it
 numbered_more : (b : Bool) (wanted : ℕ) (side : Side) (done : List Heard) (given : List ℕ) (old : Table)
     (heard : Heard) (number : ℕ) (taken : Table) (before more : List ℕ) → (number == wanted) ≡ b
-    → SaysSome heard → Hears old heard number taken before (before ++ more)
+    → SaysSome heard → TableStep old heard number taken before (before ++ more)
     → IsOfSegments done given (direction_of old wanted side)
     → IsOfSegments (done ++ (if b && is_side side heard.said.side then heard ∷ [] else []))
     (given ++ (if b && is_side side heard.said.side then more else [])) (direction_of taken wanted side)
@@ -268,7 +268,7 @@ numbered_more false wanted side done given old heard number taken before more e 
     (direction_of old wanted side) refl is)
 
 advanced : (wanted : ℕ) (side : Side) (done : List Heard) (given : List ℕ) (old : Table) (heard : Heard)
-    (number : ℕ) (new : Table) (more : List ℕ) → SaysSome heard → Advances old heard number new more
+    (number : ℕ) (new : Table) (more : List ℕ) → SaysSome heard → TableAdvances old heard number new more
     → IsOfSegments done given (direction_of old wanted side)
     → IsOfSegments
     (done ++ (if (number == wanted) && is_side side heard.said.side then heard ∷ [] else []))
@@ -294,7 +294,7 @@ sent_cond : (b : Bool) (side : Side) (heard : Heard) (rest : List Heard)
 sent_cond true side heard rest = sent_pick true (is_side side heard.said.side) heard (sent_by side rest) refl
 sent_cond false side heard rest = refl
 
-keeps_length : (a b : List Connection) → KeepsAll a b → length a ≡ length b
+keeps_length : (a b : List Connection) → KeepsConnections a b → length a ≡ length b
 keeps_length [] [] k = refl
 keeps_length [] (y ∷ b) k = absurd (k 0)
 keeps_length (x ∷ a) [] k = absurd (k 0)
@@ -302,9 +302,9 @@ keeps_length (x ∷ a) (y ∷ b) k = ap suc (keeps_length a b (λ n. k (suc n)))
 
 -- what is known after a segment
 known_advanced : (old : Table) (heard : Heard) (number : ℕ) (new : Table) (more : List ℕ)
-    → Advances old heard number new more → known_of new ≡ known_after (known_of old) heard
+    → TableAdvances old heard number new more → known_of new ≡ known_after (known_of old) heard
 known_advanced old heard number new more a =
-    let F : ℕ → List (Ends × Last) → Known =
+    let F : ℕ → List (Ends × Last) → KnownEnds =
     λ n l. record { count = n; last = λ ends. lookup (same_ends ends) l } in
     let e : length new.connections ≡ length a.taken.connections =
     sym (keeps_length a.taken.connections new.connections a.keeps) in
@@ -314,7 +314,7 @@ known_advanced old heard number new more a =
 
 pub gathered : (wanted : ℕ) (side : Side) (segments : List Heard) (old new : Table) (given : List ℕ)
     (done : List Heard) (had : List ℕ) → AllByRecursion SaysSome segments
-    → Gathers wanted side old segments new given
+    → GathersSide wanted side old segments new given
     → IsOfSegments done had (direction_of old wanted side)
     → IsOfSegments (done ++ sent_by side (own wanted (known_of old) segments)) (had ++ given)
     (direction_of new wanted side)
@@ -328,19 +328,19 @@ gathered wanted side (heard ∷ segments) old new given done had says g is =
     let pick : ℕ → List Heard =
     λ n. if (n == wanted) && is_side side heard.said.side then heard ∷ [] else [] in
     let some : List ℕ = if_of wanted side g.0 heard g.2 in
-    let sent : Known → List Heard = λ v. sent_by side (own wanted v segments) in
+    let sent : KnownEnds → List Heard = λ v. sent_by side (own wanted v segments) in
     let half : Half = direction_of new wanted side in
     let a : IsOfSegments (done ++ pick g.0) (had ++ some) (direction_of g.1 wanted side) =
     advanced wanted side done had old heard g.0 g.1 g.2 says.0 g.4 is in
     let b : IsOfSegments ((done ++ pick g.0) ++ sent (known_of g.1)) ((had ++ some) ++ g.3) half =
     gathered wanted side segments g.1 new g.3 (done ++ pick g.0) (had ++ some) says.1 g.5 a in
-    let after : Known = known_after (known_of old) heard in
+    let after : KnownEnds = known_after (known_of old) heard in
     let all : done ++ sent_by side (own wanted (known_of old) (heard ∷ segments))
     ≡ (done ++ pick g.0) ++ sent (known_of g.1) =
     ap (λ (l : List Heard). done ++ l) (sent_cond (owner == wanted) side heard (own wanted after segments))
     ∙ sym (append_assoc done (pick owner) (sent after))
     ∙ ap (λ (n : ℕ). (done ++ pick n) ++ sent after) (sym g.4.hears.belongs)
-    ∙ ap (λ (v : Known). (done ++ pick g.0) ++ sent v) (sym (known_advanced old heard g.0 g.1 g.2 g.4)) in
+    ∙ ap (λ (v : KnownEnds). (done ++ pick g.0) ++ sent v) (sym (known_advanced old heard g.0 g.1 g.2 g.4)) in
     let bytes : had ++ given ≡ (had ++ some) ++ g.3 =
     ap (λ (l : List ℕ). had ++ l) g.6 ∙ sym (append_assoc had some g.3) in
     let P : List Heard → Type 0 = λ l. IsOfSegments l ((had ++ some) ++ g.3) half in
@@ -354,7 +354,7 @@ none_heard wanted Upper = λ followed. (refl, (refl, refl))
 
 -- what a direction gave that is followed
 pub all_known : (wanted : ℕ) (side : Side) (segments : List Heard) (new : Table) (given : List ℕ)
-    → AllByRecursion SaysSome segments → Gathers wanted side no_connections segments new given
+    → AllByRecursion SaysSome segments → GathersSide wanted side no_connections segments new given
     → (direction_of new wanted side).stop ≡ None
     → AreKnown (sent_by side (own wanted (known_of no_connections) segments)) given
 all_known wanted side segments new given says g followed =

@@ -47,8 +47,8 @@ abbrev pub first_at : Side → ℕ → Said → Last
 first_at Lower number said = record { number = number; lower = start_of said; upper = Unknown }
 first_at Upper number said = record { number = number; lower = Unknown; upper = start_of said }
 
-abbrev pub first_of : ℕ → Said → Last
-first_of number said = first_at said.side number said
+abbrev pub last_from_first : ℕ → Said → Last
+last_from_first number said = first_at said.side number said
 
 -- the connection after one more of its segments
 abbrev pub joined_at : Side → Last → Said → Last
@@ -57,11 +57,12 @@ joined_at Lower last said =
 joined_at Upper last said =
     record { number = last.number; lower = last.lower; upper = start_after last.upper said }
 
-abbrev pub joined : Last → Said → Last
-joined last said = joined_at said.side last said
+abbrev pub last_with_segment : Last → Said → Last
+last_with_segment last said = joined_at said.side last said
 
 -- The connection that a segment belongs to, after it, where so many were before, and this was the last
 -- one with its ends.
 abbrev pub owner_at : ℕ → Option Last → Said → Last
-owner_at count None said = first_of count said
-owner_at count (Some last) said = if leaves last said then first_of count said else joined last said
+owner_at count None said = last_from_first count said
+owner_at count (Some last) said =
+    if leaves last said then last_from_first count said else last_with_segment last said

@@ -1,6 +1,6 @@
 -- The bytes of one direction of a connection, by the segments of a whole capture.
 use Rattle.std.specs.Prelude.{◌≡◌, ℕ, ◌==◌, ◌&&◌, Bool, true, false, if◌then◌else◌, List, [], ◌∷◌, ◌++◌, slice_get, Option}
-use Rattle.tcp_streams.specs.Pieces.{Piece, Determines}
+use Rattle.tcp_streams.specs.Pieces.{Piece, DeterminesBytes}
 use Rattle.tcp_streams.specs.Placing.{Numbered, ArePlaced}
 use Rattle.capture_connections.specs.declared.heard.Heard.{Heard}
 use Rattle.capture_connections.specs.declared.belonging.Start.{Start}
@@ -11,7 +11,7 @@ use Rattle.capture_connections.specs.declared.ends.Side.TheVariants.{Lower, Uppe
 use Rattle.capture_connections.specs.declared.half.Half.{Half}
 use Rattle.capture_connections.specs.Belonging.{start_after}
 use Rattle.capture_connections.specs.Sides.{is_side}
-use Rattle.capture_connections.specs.Following.{Hears, KeepsAll, Table, lower_of, numbered, upper_of}
+use Rattle.capture_connections.specs.Following.{TableStep, KeepsConnections, Table, lower_of, numbered_heard, upper_of}
 
 -- whether there are bytes
 abbrev pub has_some : List ℕ → Bool
@@ -42,12 +42,12 @@ if_some (byte ∷ bytes) segment segments = segment ∷ segments
 -- what the segments with bytes say, in their order
 abbrev pub with_bytes : List Heard → List Numbered
 with_bytes [] = []
-with_bytes (heard ∷ segments) = if_some heard.bytes.now (numbered heard) (with_bytes segments)
+with_bytes (heard ∷ segments) = if_some heard.bytes.now (numbered_heard heard) (with_bytes segments)
 
 -- The bytes are those that the segments determine, of a stream whose first byte has this number.
 abbrev pub AreDetermined : ℕ → List Numbered → List ℕ → Type 0
 AreDetermined first segments given = (pieces : List Piece) × ArePlaced first [] segments pieces
-    × Determines pieces given
+    × DeterminesBytes pieces given
 
 -- the same of a stream that begins so; of one that has not begun no byte is known
 abbrev pub AreKnownFrom : Start → List Numbered → List ℕ → Type 0
@@ -62,13 +62,13 @@ AreKnown segments given =
 
 -- A segment came, and these bytes of its direction are known more. After it directions in which
 -- bytes wait may be given up.
-pub record Advances (old : Table) (heard : Heard) (number : ℕ) (new : Table) (more : List ℕ)
+pub record TableAdvances (old : Table) (heard : Heard) (number : ℕ) (new : Table) (more : List ℕ)
     : Type 0 where
   pub taken : Table
   pub before : List ℕ
-  pub hears : Hears old heard number taken before (before ++ more)
+  pub hears : TableStep old heard number taken before (before ++ more)
   pub last : new.last ≡ taken.last
-  pub keeps : KeepsAll taken.connections new.connections
+  pub keeps : KeepsConnections taken.connections new.connections
 
 -- the bytes that came with a segment of the connection with this number, if they are of this end of
 -- the first
@@ -78,11 +78,11 @@ if_of wanted side number heard more =
 
 -- From one table to the other these segments came in turn. Of what was known more by each segment,
 -- these bytes are of this end of the connection with this number.
-abbrev pub Gathers : ℕ → Side → Table → List Heard → Table → List ℕ → Type 0
-Gathers wanted side old [] new given = (old ≡ new) × (given ≡ [])
-Gathers wanted side old (heard ∷ segments) new given =
+abbrev pub GathersSide : ℕ → Side → Table → List Heard → Table → List ℕ → Type 0
+GathersSide wanted side old [] new given = (old ≡ new) × (given ≡ [])
+GathersSide wanted side old (heard ∷ segments) new given =
     (number : ℕ) × (next : Table) × (more : List ℕ) × (rest : List ℕ)
-    × Advances old heard number next more × Gathers wanted side next segments new rest
+    × TableAdvances old heard number next more × GathersSide wanted side next segments new rest
     × (given ≡ if_of wanted side number heard more ++ rest)
 
 -- what an end of a connection is, if there is one

@@ -2,7 +2,7 @@
 use Rattle.std.specs.Prelude.{◌≡◌, ◌≢◌, ◌⊎◌, ◌<◌, ℕ, ◌+◌, max, length, slice_get, List, [], ◌∷◌, Option, Some, None, nat_lt, if◌then◌else◌}
 use Rattle.std.specs.Map.{lookup}
 use Rattle.tcp_streams.specs.Placing.{Numbered}
-use Rattle.tcp_streams.specs.Reassembly.{Taking, opening, Takes}
+use Rattle.tcp_streams.specs.Reassembly.{Taking, opening_direction, TakesSegment}
 use Rattle.capture_connections.specs.declared.heard.Heard.{Heard}
 use Rattle.capture_connections.specs.declared.belonging.Start.{Start}
 use Rattle.capture_connections.specs.declared.belonging.Start.TheVariants.{Unknown, Bytes, Syn}
@@ -18,8 +18,8 @@ use Rattle.capture_connections.specs.Belonging.{owner_at, start_after}
 use Rattle.capture_connections.specs.SameEnds.{same_ends}
 
 -- how much may wait in one direction
-abbrev pub waiting : ℕ
-waiting = 1048576
+abbrev pub most_waiting_in_direction : ℕ
+most_waiting_in_direction = 1048576
 
 -- a direction of which nothing was heard
 abbrev pub unheard : Half
@@ -35,28 +35,29 @@ unheard = record {
 }
 
 -- What was taken of a direction that begins so: it opens with its first bytes.
-abbrev pub opened : Option Taking → Start → Option Taking
-opened (Some taking) start = Some taking
-opened None Unknown = None
-opened None (Bytes first) = Some (opening first waiting)
-opened None (Syn first) = Some (opening first waiting)
+abbrev pub direction_opened : Option Taking → Start → Option Taking
+direction_opened (Some taking) start = Some taking
+direction_opened None Unknown = None
+direction_opened None (Bytes first) = Some (opening_direction first most_waiting_in_direction)
+direction_opened None (Syn first) = Some (opening_direction first most_waiting_in_direction)
 
 -- what a segment says, as a numbered list of bytes
-abbrev pub numbered : Heard → Numbered
-numbered heard = record { sequence = heard.said.first; bytes = heard.bytes.now }
+abbrev pub numbered_heard : Heard → Numbered
+numbered_heard heard = record { sequence = heard.said.first; bytes = heard.bytes.now }
 
 -- Of a direction of which so much was taken, these bytes are known more after the segment.
-abbrev pub Feeds : Option Taking → Numbered → Option Taking → List ℕ → List ℕ → Type 0
-Feeds None segment new before after = (new ≡ None) × (after ≡ before)
-Feeds (Some taking) segment new before after =
-    (taken : Taking) × (new ≡ Some taken) × Takes taking segment taken before after
+abbrev pub DirectionStep : Option Taking → Numbered → Option Taking → List ℕ → List ℕ → Type 0
+DirectionStep None segment new before after = (new ≡ None) × (after ≡ before)
+DirectionStep (Some taking) segment new before after =
+    (taken : Taking) × (new ≡ Some taken) × TakesSegment taking segment taken before after
 
 -- the same of a segment that may have no bytes
 abbrev pub FeedsSome : Half → Heard → List ℕ → Half → List ℕ → List ℕ → Type 0
 FeedsSome old heard [] new before after =
     (new.direction ≡ old.direction) × (after ≡ before)
 FeedsSome old heard (byte ∷ bytes) new before after =
-    Feeds (opened old.direction new.start) (numbered heard) new.direction before after
+    DirectionStep (direction_opened old.direction new.start) (numbered_heard heard) new.direction
+    before after
 
 -- A direction took a segment: the beginning of the direction is that of its own segments. As long
 -- as the direction is followed, the bytes that are known more are those that its own segments
@@ -78,17 +79,17 @@ upper_of None = unheard
 upper_of (Some connection) = connection.upper
 
 -- the same of the sender's direction, and of the other one
-abbrev pub StepsAt : Side → Half → Half → Heard → Connection → List ℕ → List ℕ → Type 0
-StepsAt Lower lower upper heard new before after =
+abbrev pub DirectionsStep : Side → Half → Half → Heard → Connection → List ℕ → List ℕ → Type 0
+DirectionsStep Lower lower upper heard new before after =
     HalfTakes lower heard new.lower before after × (new.upper ≡ upper)
-StepsAt Upper lower upper heard new before after =
+DirectionsStep Upper lower upper heard new before after =
     HalfTakes upper heard new.upper before after × (new.lower ≡ lower)
 
 -- A connection took one of its segments, which may be its first: the sender's direction took it, and
 -- the other one is as it was.
-abbrev pub Steps : Option Connection → Heard → Connection → List ℕ → List ℕ → Type 0
-Steps old heard new before after =
-    StepsAt heard.said.side (lower_of old) (upper_of old) heard new before after
+abbrev pub ConnectionStep : Option Connection → Heard → Connection → List ℕ → List ℕ → Type 0
+ConnectionStep old heard new before after =
+    DirectionsStep heard.said.side (lower_of old) (upper_of old) heard new before after
 
 -- The connections of a capture so far: of any two ends the last one with them, and all of them in the
 -- order of their first segments.
@@ -110,19 +111,20 @@ owner table heard =
     owner_at (length table.connections) (last_with table heard.ends) heard.said
 
 -- A segment came: the connection that it belongs to took it, and all others are as they were.
-pub record Hears (old : Table) (heard : Heard) (number : ℕ) (new : Table) (before after : List ℕ)
+pub record TableStep (old : Table) (heard : Heard) (number : ℕ) (new : Table)
+    (before after : List ℕ)
     : Type 0 where
   pub belongs : number ≡ (owner old heard).number
   pub last : (ends : Ends) → last_with new ends
       ≡ (if same_ends heard.ends ends then Some (owner old heard) else last_with old ends)
   pub count : length new.connections ≡ max (length old.connections) (number + 1)
   pub own : (connection : Connection) × (slice_get new.connections number ≡ Some connection)
-      × Steps (slice_get old.connections number) heard connection before after
+      × ConnectionStep (slice_get old.connections number) heard connection before after
   pub others : (k : ℕ) → k ≢ number → slice_get new.connections k ≡ slice_get old.connections k
 
 -- a direction that is given up for the byte that is missing: nothing is kept but that
-abbrev pub given_up : Half → Half
-given_up half = record half {
+abbrev pub direction_given_up : Half → Half
+direction_given_up half = record half {
   direction = None;
   stop = Some (Gap half.known half.waits_from);
   waiting = 0;
@@ -136,10 +138,10 @@ stop_at_end None half =
 
 -- A direction is as it was, or bytes waited in it and it is given up.
 abbrev pub MayEnd : Half → Half → Type 0
-MayEnd old new = (new ≡ old) ⊎ ((0 < old.waiting) × (new ≡ given_up old))
+MayEnd old new = (new ≡ old) ⊎ ((0 < old.waiting) × (new ≡ direction_given_up old))
 
 -- A connection is as it was, but that directions in which bytes waited may be given up.
-pub record Keeps (old new : Connection) : Type 0 where
+pub record KeepsConnection (old new : Connection) : Type 0 where
   pub ends : new.ends ≡ old.ends
   pub first : new.first ≡ old.first
   pub opener : new.opener ≡ old.opener
@@ -147,12 +149,12 @@ pub record Keeps (old new : Connection) : Type 0 where
   pub upper : MayEnd old.upper new.upper
 
 -- the same of the connection at a place, if there is one
-abbrev pub KeepsAt : Option Connection → Option Connection → Type 0
-KeepsAt None None = Unit {0}
-KeepsAt None (Some new) = ⊥
-KeepsAt (Some old) None = ⊥
-KeepsAt (Some old) (Some new) = Keeps old new
+abbrev pub KeepsConnectionAt : Option Connection → Option Connection → Type 0
+KeepsConnectionAt None None = Unit {0}
+KeepsConnectionAt None (Some new) = ⊥
+KeepsConnectionAt (Some old) None = ⊥
+KeepsConnectionAt (Some old) (Some new) = KeepsConnection old new
 
 -- Connections are as they were, but that directions in which bytes waited may be given up.
-abbrev pub KeepsAll : List Connection → List Connection → Type 0
-KeepsAll old new = (k : ℕ) → KeepsAt (slice_get old k) (slice_get new k)
+abbrev pub KeepsConnections : List Connection → List Connection → Type 0
+KeepsConnections old new = (k : ℕ) → KeepsConnectionAt (slice_get old k) (slice_get new k)

@@ -5,3 +5,4 @@ pub mod Following
 pub mod Private
 pub mod Directions
 pub mod Waiting
+pub mod inner

@@ -4,7 +4,7 @@ ghost use Rattle.std.specs.Prelude.{◌≡◌, OnOk, IfOk, IfErr, ℕ, Some, if�
 ghost use Rattle.std.specs.HashMap.{get};
 ghost use Rattle.capture_connections.specs.SameEnds.{same_ends};
 ghost use Rattle.capture_connections.specs.declared.ends.Ends.{Ends};
-ghost use Rattle.capture_connections.specs.Belonging.{begins_anew, first_of, joined, leaves, owner_at, start_after};
+ghost use Rattle.capture_connections.specs.Belonging.{begins_anew, last_from_first, last_with_segment, leaves, owner_at, start_after};
 ghost use Rattle.capture_connections.specs.declared.fault.ConnectionsFault.TheVariants.{NoMemory};
 
 use crate::ends::{Ends, Side};
@@ -79,7 +79,7 @@ impl Last {
 
     // The connection with this number, of which this is the first segment.
     fn first(number: usize, said: Said) -> Last
-        ensures { result ≡ first_of number said }
+        ensures { result ≡ last_from_first number said }
     {
         let start = Start::Unknown.after(said);
         match said.side {
@@ -98,7 +98,7 @@ impl Last {
 
     // The connection after one more of its segments.
     fn joined(self, said: Said) -> Last
-        ensures { result ≡ joined self said }
+        ensures { result ≡ last_with_segment self said }
     {
         match said.side {
             Side::Lower => Last {

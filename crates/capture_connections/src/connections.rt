@@ -1,9 +1,10 @@
 //! The connections of a capture.
 
 ghost use Rattle.std.specs.Prelude.{◌≡◌, ◌≢◌, ◌<◌, ◌≤◌, ◌+◌, ◌-◌, ◌^◌, ℕ, OnOk, IfOk, IfErr, IfSome, IsSome, length, max, min, slice_get, None, Some, [], ◌∷◌, ◌++◌};
-ghost use Rattle.capture_connections.specs.Following.{Hears, Keeps, KeepsAll, Steps, no_connections, unheard};
+ghost use Rattle.capture_connections.specs.Following.{TableStep, KeepsConnection, KeepsConnections, ConnectionStep, no_connections, unheard};
 ghost use Rattle.capture_connections.specs.Sides.{sent_at};
-ghost use Rattle.capture_connections.specs.Waiting.{larger_at, most_waiting, waiting_at, waiting_in, waiting_in_all};
+ghost use Rattle.capture_connections.specs.Waiting.{most_bytes_waiting, waiting_in, waiting_in_all};
+ghost use Rattle.capture_connections.specs.inner.Waiting.{larger_at, connection_waiting};
 ghost use Rattle.capture_connections.specs.declared.connections.Connection.{Connection};
 ghost use Rattle.capture_connections.specs.declared.fault.ConnectionsFault.TheVariants.{NoMemory};
 
@@ -53,7 +54,7 @@ impl Model for Connections {
 
     ghost view = { λ c. record { last = c.last.entries; connections = c.list.items } };
 
-    ghost use Rattle.capture_connections.specs.Waiting.{IsCounted};
+    ghost use Rattle.capture_connections.specs.inner.Waiting.{IsCounted};
 
     ghost invariant = { λ c. IsCounted c.waiting c.list.items };
 }
@@ -81,7 +82,7 @@ impl Connection {
         out: &mut Vec<u8>,
     ) -> Result<(), ConnectionsFault>
         requires { length heard.now.bytes.now < 2 ^ 32 }
-        ensures steps { OnOk result (Steps (Some self.old) heard.now self.new
+        ensures steps { OnOk result (ConnectionStep (Some self.old) heard.now self.new
             out.old.items out.new.items) }
         ensures fault { IfErr result (λ fault. fault ≡ NoMemory) }
     {
@@ -95,7 +96,7 @@ impl Connection {
     // Follows the direction no further in which more waits, if any does.
     #[tactic(auto, using(crate::proofs::Keeping::may_stay, crate::proofs::Keeping::may_end))]
     fn give_up(&mut self)
-        ensures keeps { Keeps self.old self.new }
+        ensures keeps { KeepsConnection self.old self.new }
         ensures less { 0 < waiting_in self.old → waiting_in self.new < waiting_in self.old }
     {
         if self.lower.waiting >= self.upper.waiting {
@@ -179,7 +180,7 @@ fn hear(
     ensures count { OnOk result (length list.new.items ≡ max (length list.old.items) (number + 1)) }
     ensures own { OnOk result ((connection : Connection)
         × (slice_get list.new.items number ≡ Some connection)
-        × Steps (slice_get list.old.items number) heard.now connection
+        × ConnectionStep (slice_get list.old.items number) heard.now connection
         out.old.items out.new.items) }
     ensures others { OnOk result ((k : ℕ) → k ≢ number →
         slice_get list.new.items k ≡ slice_get list.old.items k) }
@@ -205,7 +206,7 @@ fn hear_first(
     requires { length heard.now.bytes.now < 2 ^ 32 }
     ensures new { OnOk result ((connection : Connection)
         × (list.new.items ≡ list.old.items ++ connection ∷ [])
-        × Steps None heard.now connection out.old.items out.new.items) }
+        × ConnectionStep None heard.now connection out.old.items out.new.items) }
     ensures fault { IfErr result (λ fault. fault ≡ NoMemory) }
 {
     if list.len() >= MOST_CONNECTIONS {
@@ -244,7 +245,7 @@ impl Connections {
     /// After that do not use the connections: no clause says what they are.
     pub fn take(&mut self, heard: Heard<'_>, out: &mut Vec<u8>) -> Result<usize, ConnectionsFault>
         requires { length heard.bytes.now < 2 ^ 32 }
-        ensures hears { IfOk result (λ number. Hears self.old heard.entry number self.new
+        ensures hears { IfOk result (λ number. TableStep self.old heard.entry number self.new
             out.old.items out.new.items) }
         ensures fault { IfErr result (λ fault. fault ≡ NoMemory) }
     {
@@ -262,9 +263,10 @@ impl Connections {
     /// together than 64 MiB. If no more does, all stay as they are.
     pub fn keep_within(&mut self)
         ensures last { self.new.last ≡ self.old.last }
-        ensures keeps { KeepsAll self.old.connections self.new.connections }
-        ensures within { waiting_in_all self.new.connections ≤ most_waiting }
-        ensures kept { waiting_in_all self.old.connections ≤ most_waiting → self.new ≡ self.old }
+        ensures keeps { KeepsConnections self.old.connections self.new.connections }
+        ensures within { waiting_in_all self.new.connections ≤ most_bytes_waiting }
+        ensures kept { waiting_in_all self.old.connections ≤ most_bytes_waiting → self.new
+            ≡ self.old }
     {
         if let Some(waiting) = self.waiting {
             if waiting <= MOST_WAITING {
@@ -279,10 +281,11 @@ impl Connections {
 // much does.
 #[tactic(auto, using(crate::proofs::Keeping::keeps_same, crate::proofs::Keeping::keeps_then))]
 fn give_up_until_within(list: &mut Vec<Connection>) -> usize
-    ensures keeps { KeepsAll list.old.items list.new.items }
+    ensures keeps { KeepsConnections list.old.items list.new.items }
     ensures count { result ≡ waiting_in_all list.new.items }
-    ensures within { result ≤ most_waiting }
-    ensures kept { waiting_in_all list.old.items ≤ most_waiting → list.new.items ≡ list.old.items }
+    ensures within { result ≤ most_bytes_waiting }
+    ensures kept { waiting_in_all list.old.items ≤ most_bytes_waiting → list.new.items
+        ≡ list.old.items }
 {
     let mut waiting = waiting_in(list);
     while waiting > MOST_WAITING {
@@ -313,7 +316,7 @@ fn waiting_after(waiting: Option<usize>, before: usize, after: usize) -> Option<
 
 // How much waits in the connection with this number.
 fn waiting_of(list: &[Connection], number: usize) -> usize
-    ensures { result ≡ waiting_at (slice_get list.now number) }
+    ensures { result ≡ connection_waiting (slice_get list.now number) }
 {
     match list.get(number) {
         Some(connection) => connection.waiting(),
@@ -357,7 +360,7 @@ fn larger_in(list: &[Connection], number: usize) -> u32
 // Follows the direction no further in which most waits.
 #[tactic(auto, using(crate::proofs::Keeping::keeps_same, crate::proofs::Keeping::keeps_one))]
 fn give_up_most(list: &mut Vec<Connection>)
-    ensures keeps { KeepsAll list.old.items list.new.items }
+    ensures keeps { KeepsConnections list.old.items list.new.items }
     ensures less { 0 < waiting_in_all list.old.items
         → waiting_in_all list.new.items < waiting_in_all list.old.items }
 {

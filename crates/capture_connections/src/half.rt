@@ -1,7 +1,7 @@
 //! One direction of a connection, as far as it is followed.
 
 ghost use Rattle.std.specs.Prelude.{◌≡◌, ◌<◌, ◌^◌, OnOk, IfErr, IsSome, IsTrue, ◌↔◌, length, None, Some};
-ghost use Rattle.capture_connections.specs.Following.{HalfTakes, given_up, opened, stop_at_end, unheard};
+ghost use Rattle.capture_connections.specs.Following.{HalfTakes, direction_given_up, direction_opened, stop_at_end, unheard};
 ghost use Rattle.capture_connections.specs.declared.fault.ConnectionsFault.TheVariants.{NoMemory};
 
 use crate::belonging::Start;
@@ -96,7 +96,7 @@ impl Half {
 
     // Takes out what was taken so far; where that is nothing, and the stream begins, it opens.
     fn open(&mut self, alloc: Global) -> Option<Direction>
-        ensures opened { result ≡ opened self.old.direction self.old.start }
+        ensures opened { result ≡ direction_opened self.old.direction self.old.start }
         ensures taken { self.new ≡ record self.old { direction = None } }
     {
         match self.direction.take() {
@@ -169,7 +169,7 @@ impl Half {
 
     /// Follows the direction no further, since too much waits behind a missing byte.
     pub(crate) fn give_up(&mut self)
-        ensures given_up { self.new ≡ given_up self.old }
+        ensures given_up { self.new ≡ direction_given_up self.old }
     {
         self.stop_at(Stop::Gap(self.known, self.waits_from));
     }

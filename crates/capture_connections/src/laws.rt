@@ -3,17 +3,17 @@
 
 ghost use Rattle.std.specs.Prelude.{◌≡◌, ℕ, List, None, slice_get};
 ghost use Rattle.std.specs.List.{AllByRecursion};
-ghost use Rattle.capture_connections.specs.Directions.{AreKnown, Gathers, SaysSome, direction_of, sent_by};
+ghost use Rattle.capture_connections.specs.Directions.{AreKnown, GathersSide, SaysSome, direction_of, sent_by};
 ghost use Rattle.capture_connections.specs.Following.{Table, no_connections};
-ghost use Rattle.capture_connections.specs.Private.{Follows, Runs, known_of, own};
+ghost use Rattle.capture_connections.specs.Private.{ConnectionRuns, TableRuns, known_of, own};
 ghost use Rattle.capture_connections.specs.declared.ends.Side.{Side};
 ghost use Rattle.capture_connections.specs.declared.heard.Heard.{Heard};
 
 /// A connection's directions depend on its own segments alone, whatever else a capture has between
 /// them: each connection goes from its state before to its state after by these.
 pub fn connections_are_private()
-    ensures { (old new : Table) (segments : List Heard) → Runs old segments new → (k : ℕ)
-        → Follows (slice_get old.connections k) (own k (known_of old) segments)
+    ensures { (old new : Table) (segments : List Heard) → TableRuns old segments new → (k : ℕ)
+        → ConnectionRuns (slice_get old.connections k) (own k (known_of old) segments)
         (slice_get new.connections k) }
 {}
 
@@ -23,7 +23,7 @@ pub fn connections_are_private()
 pub fn directions_are_determined()
     ensures { (number : ℕ) (side : Side) (segments : List Heard) (new : Table) (given : List ℕ)
         → AllByRecursion SaysSome segments
-        → Gathers number side no_connections segments new given
+        → GathersSide number side no_connections segments new given
         → (direction_of new number side).stop ≡ None
         → AreKnown (sent_by side (own number (known_of no_connections) segments)) given }
 {}

@@ -2,10 +2,10 @@
 use Rattle.std.proofs.Common.{◌≡◌, ◌≢◌, ◌<◌, ◌≤◌, ℕ, zero, suc, ◌+◌, ◌-◌, List, length, true, false, ap, refl, ◌∙◌, arith, Ok}
 use Rattle.std.specs.Prelude.{None, Some, if◌then◌else◌, ◌==◌}
 use Rattle.capture_file.specs.declared.numbers.Order.TheVariants.{Big}
-use Rattle.capture_file.specs.Numbers.{number}
+use Rattle.capture_file.specs.Numbers.{ordered_number}
 use Rattle.capture_file.specs.Layers.{onward}
 use Rattle.capture_file.specs.Internet.{behind_extension, tcp_at}
-use Rattle.capture_file.specs.Links.{behind_kind, behind_tags, is_ip, is_tag}
+use Rattle.capture_file.specs.Links.{behind_kind, behind_tags, is_ip, is_vlan_tag}
 
 tag_one : (kinds at : ℕ) (packet : List ℕ)
     → behind_tags (suc kinds) at packet ≡ behind_kind at packet (behind_tags kinds (at + 4) packet)
@@ -25,7 +25,7 @@ tag_end n seen at packet h =
     ap (λ (k : ℕ). behind_tags k at packet) e
 
 pub tag_more : (n seen at : ℕ) (packet : List ℕ) → seen < n → at + 2 ≤ length packet
-    → is_ip (number Big 2 at packet) ≡ false → is_tag (number Big 2 at packet) ≡ true
+    → is_ip (ordered_number Big 2 at packet) ≡ false → is_vlan_tag (ordered_number Big 2 at packet) ≡ true
     → behind_tags (n - (seen + 1)) (at + 4) packet ≡ behind_tags (n - seen) at packet
 tag_more n seen at packet h there ip tag = grind (arith, tag_step n seen at packet h)
 

@@ -5,10 +5,9 @@ use Rattle.std.specs.Prelude.{ℕ, zero, suc, ◌+◌, ◌-◌, ◌*◌, ◌/◌
 use Rattle.capture_file.specs.declared.numbers.Order.TheVariants.{Big}
 use Rattle.capture_file.specs.declared.network.Address.{Address}
 use Rattle.capture_file.specs.declared.network.Address.TheVariants.{V4, V6}
-use Rattle.capture_file.specs.declared.network.Carried.{Carried}
 use Rattle.capture_file.specs.declared.fault.PacketFault.{PacketFault}
 use Rattle.capture_file.specs.declared.fault.PacketFault.TheVariants.{Fragment, Cut}
-use Rattle.capture_file.specs.Numbers.{number}
+use Rattle.capture_file.specs.Numbers.{ordered_number}
 use Rattle.capture_file.specs.Layers.{onward}
 
 -- What a packet has for TCP: both addresses, how many bytes, and those of them that were captured.
@@ -18,21 +17,6 @@ pub record Inside : Type 0 where
   pub size : ℕ
   pub bytes : List ℕ
 
--- what the code holds of it, with bytes in place of a slice
-abbrev pub inside_of : Carried → Inside
-inside_of c = record {
-  source = c.source;
-  destination = c.destination;
-  size = c.length;
-  bytes = c.bytes.now;
-}
-
--- what a call answers
-abbrev pub plain_carried : Result (Option Carried) PacketFault → Result (Option Inside) PacketFault
-plain_carried (Ok (Some c)) = Ok (Some (inside_of c))
-plain_carried (Ok None) = Ok None
-plain_carried (Err fault) = Err fault
-
 -- ---- IPv4
 
 -- the length of the header: words of four bytes
@@ -41,7 +25,8 @@ header_4 packet = slice_index packet 0 % 16 * 4
 
 -- the length of a packet that had so many bytes on the link; one over 65,535 bytes says 0
 abbrev pub total_4 : ℕ → List ℕ → ℕ
-total_4 original packet = if number Big 2 2 packet == 0 then original else number Big 2 2 packet
+total_4 original packet =
+    if ordered_number Big 2 2 packet == 0 then original else ordered_number Big 2 2 packet
 
 -- lengths that no receiver takes
 abbrev pub is_wrong_4 : ℕ → List ℕ → Bool
@@ -50,7 +35,7 @@ is_wrong_4 original packet = nat_lt (header_4 packet) 20
 
 -- a fragment: it has an offset (bits 1fff), or more fragments follow it (2000)
 abbrev pub is_fragment_4 : List ℕ → Bool
-is_fragment_4 packet = not (number Big 2 6 packet % 16384 == 0)
+is_fragment_4 packet = not (ordered_number Big 2 6 packet % 16384 == 0)
 
 -- what an IPv4 packet has for TCP, protocol 6; bytes behind its length are padding
 unfoldable pub inside_4 : ℕ → List ℕ → Result (Option Inside) PacketFault
@@ -71,7 +56,7 @@ inside_4 original packet =
 
 -- the length of a packet that had so many bytes on the link; one over 65,575 bytes says 0
 abbrev pub total_6 : ℕ → List ℕ → ℕ
-total_6 original packet = if number Big 2 4 packet == 0 then original else 40 + number Big 2 4 packet
+total_6 original packet = if ordered_number Big 2 4 packet == 0 then original else 40 + ordered_number Big 2 4 packet
 
 -- the extension headers that are read: hop-by-hop options (0), routing (43), fragment (44),
 -- destination options (60)
@@ -85,7 +70,8 @@ extension_size kind at packet = if kind == 44 then 8 else (slice_index packet (a
 
 -- the fragment header of a part of a packet: it has an offset (bits fff8), or more parts follow (0001)
 abbrev pub is_part : ℕ → ℕ → List ℕ → Bool
-is_part kind at packet = kind == 44 && not (bit_and (number Big 2 (at + 2) packet) 65529 == 0)
+is_part kind at packet =
+    kind == 44 && not (bit_and (ordered_number Big 2 (at + 2) packet) 65529 == 0)
 
 -- what follows an extension header of this type and place: the type of the next header, and its place
 unfoldable pub behind_extension : ℕ → ℕ → List ℕ → Result (Option (ℕ × ℕ)) PacketFault

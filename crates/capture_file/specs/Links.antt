@@ -5,22 +5,22 @@ use Rattle.std.specs.Prelude.{ℕ, zero, suc, ◌+◌, Bool, ◌==◌, ◌||◌,
 use Rattle.capture_file.specs.declared.numbers.Order.TheVariants.{Little, Big}
 use Rattle.capture_file.specs.declared.fault.PacketFault.{PacketFault}
 use Rattle.capture_file.specs.declared.fault.PacketFault.TheVariants.{Link, Cut}
-use Rattle.capture_file.specs.Numbers.{number}
+use Rattle.capture_file.specs.Numbers.{ordered_number}
 
 -- the EtherTypes of IPv4 and IPv6: 0800, 86dd
 unfoldable pub is_ip : ℕ → Bool
 is_ip kind = kind == 2048 || kind == 34525
 
 -- the EtherTypes of VLAN tags: 8100, 88a8, 9100
-unfoldable pub is_tag : ℕ → Bool
-is_tag kind = kind == 33024 || (kind == 34984 || kind == 37120)
+unfoldable pub is_vlan_tag : ℕ → Bool
+is_vlan_tag kind = kind == 33024 || (kind == 34984 || kind == 37120)
 
 -- behind the EtherType at this place, if it is one of IP; if it is one of a tag, where the rest says
 abbrev pub behind_kind : ℕ → List ℕ → Result (Option ℕ) PacketFault → Result (Option ℕ) PacketFault
 behind_kind at packet follows =
     if nat_lt (length packet) (at + 2) then Err Cut
-    else if is_ip (number Big 2 at packet) then Ok (Some (at + 2))
-    else if is_tag (number Big 2 at packet) then follows
+    else if is_ip (ordered_number Big 2 at packet) then Ok (Some (at + 2))
+    else if is_vlan_tag (ordered_number Big 2 at packet) then follows
     else Ok None
 
 -- behind the EtherType of IP, if it is one of the next so many; all before it are of tags, which have
@@ -33,14 +33,15 @@ behind_tags (suc kinds) at packet = behind_kind at packet (behind_tags kinds (at
 abbrev pub behind_cooked : ℕ → ℕ → List ℕ → Result (Option ℕ) PacketFault
 behind_cooked at header packet =
     if nat_lt (length packet) header then Err Cut
-    else if is_ip (number Big 2 at packet) then Ok (Some header)
+    else if is_ip (ordered_number Big 2 at packet) then Ok (Some header)
     else Ok None
 
 -- the protocol family of a loopback header: its four bytes in little-endian order, or in the other
 -- one if that makes more than 65,535
 abbrev pub family : List ℕ → ℕ
-family packet = if nat_lt 65535 (number Little 4 0 packet) then number Big 4 0 packet
-    else number Little 4 0 packet
+family packet =
+    if nat_lt 65535 (ordered_number Little 4 0 packet) then ordered_number Big 4 0 packet
+    else ordered_number Little 4 0 packet
 
 -- the protocol families of IPv4 (2) and IPv6 (24, 28, 30)
 abbrev pub is_ip_family : ℕ → Bool

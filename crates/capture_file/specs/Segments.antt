@@ -6,7 +6,7 @@ use Rattle.capture_file.specs.declared.packet.Packet.{Packet}
 use Rattle.capture_file.specs.declared.segment.Segment.{Segment}
 use Rattle.capture_file.specs.declared.fault.PacketFault.{PacketFault}
 use Rattle.capture_file.specs.declared.fault.PacketFault.TheVariants.{Cut}
-use Rattle.capture_file.specs.Numbers.{number}
+use Rattle.capture_file.specs.Numbers.{ordered_number}
 use Rattle.capture_file.specs.Layers.{onward}
 use Rattle.capture_file.specs.Links.{network_at}
 use Rattle.capture_file.specs.Internet.{Inside, inside}
@@ -61,10 +61,10 @@ tcp_segment c =
     else if nat_lt (header_tcp c.bytes) 20 || nat_lt c.size (header_tcp c.bytes) then Ok None
     else if nat_lt (length c.bytes) (header_tcp c.bytes) then Err Cut
     else Ok (Some (record {
-      source = record { address = c.source; port = number Big 2 0 c.bytes };
-      destination = record { address = c.destination; port = number Big 2 2 c.bytes };
-      sequence = number Big 4 4 c.bytes;
-      acknowledged = number Big 4 8 c.bytes;
+      source = record { address = c.source; port = ordered_number Big 2 0 c.bytes };
+      destination = record { address = c.destination; port = ordered_number Big 2 2 c.bytes };
+      sequence = ordered_number Big 4 4 c.bytes;
+      acknowledged = ordered_number Big 4 8 c.bytes;
       syn = flag 2 c.bytes;
       ack = flag 16 c.bytes;
       fin = flag 1 c.bytes;

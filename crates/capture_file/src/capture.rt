@@ -1,9 +1,9 @@
 //! A capture file, step by step.
 
 ghost use Rattle.std.specs.Prelude.{◌≤◌, ◌<◌, ◌≡◌, ◌≢◌, ◌^◌, length, IfOk, IfErr, IfSome, IfNone, OnErr};
-ghost use Rattle.capture_file.specs.Numbers.{number};
+ghost use Rattle.capture_file.specs.Numbers.{ordered_number};
 ghost use Rattle.capture_file.specs.declared.numbers.Order.{Order};
-ghost use Rattle.capture_file.specs.Blocks.{byte_order, opening_file, SectionStep, SectionFails, DescribeStep, BlockStep, BlockFails, BeginStep, BeginFails, StepAt, FailsAt};
+ghost use Rattle.capture_file.specs.Blocks.{byte_order, opening_file, SectionStep, SectionFails, DescribeStep, BlockStep, BlockFails, BeginStep, BeginFails, StepAt, FileFailsAt};
 ghost use Rattle.capture_file.specs.declared.fault.CaptureFault.TheVariants.{NoMemory};
 
 use crate::classic::record;
@@ -41,11 +41,11 @@ const SECTION: u32 = 0x0a0d_0d0a;
 const BYTE_ORDER: u32 = 0x1a2b_3c4d;
 
 impl Model for Capture {
-    ghost use Rattle.capture_file.specs.Numbers.{number};
+    ghost use Rattle.capture_file.specs.Numbers.{ordered_number};
     ghost use Rattle.capture_file.specs.declared.numbers.Order.{Order};
-    ghost use Rattle.capture_file.specs.Blocks.{byte_order, Reading};
+    ghost use Rattle.capture_file.specs.Blocks.{byte_order, FileReading};
 
-    ghost Value = { Reading };
+    ghost Value = { FileReading };
 
     ghost view = { λ c. record { kind = c.kind; interfaces = c.interfaces.items } };
 }
@@ -73,7 +73,7 @@ impl Capture {
     /// there is none for an interface more. A fault leaves the file as it was read so far.
     pub fn step<'a>(&mut self, bytes: &'a [u8]) -> Result<Step<'a>, CaptureFault>
         ensures ok { IfOk result (StepAt self.old bytes.now self.new) }
-        ensures err { IfErr result (FailsAt self.old bytes.now) }
+        ensures err { IfErr result (FileFailsAt self.old bytes.now) }
         ensures kept { OnErr result (self.new ≡ self.old) }
     {
         match self.kind {
@@ -193,8 +193,9 @@ impl Capture {
 // The order in which the third number of a section header is the one that tells it.
 fn section_order(bytes: &[u8]) -> Option<Order>
     requires { 12 ≤ length bytes.now }
-    ensures told { IfSome result (λ order. number order 4 8 bytes.now ≡ byte_order) }
-    ensures none { IfNone result ((order : Order) → number order 4 8 bytes.now ≢ byte_order) }
+    ensures told { IfSome result (λ order. ordered_number order 4 8 bytes.now ≡ byte_order) }
+    ensures none { IfNone result ((order : Order)
+        → ordered_number order 4 8 bytes.now ≢ byte_order) }
 {
     if u32_at(Order::Big, bytes, 8) == BYTE_ORDER {
         return Some(Order::Big);

@@ -1,7 +1,7 @@
 //! What the header of a link says is inside (the registry of LINKTYPE values; IEEE 802.3, 802.1Q).
 
 ghost use Rattle.std.specs.Prelude.{◌≡◌, ◌+◌, ◌≤◌};
-ghost use Rattle.capture_file.specs.Links.{network_at, behind_tags, behind_cooked, behind_family, is_ip, is_tag};
+ghost use Rattle.capture_file.specs.Links.{network_at, behind_tags, behind_cooked, behind_family, is_ip, is_vlan_tag};
 
 use crate::fault::PacketFault;
 use crate::numbers::{Order, u16_at, u32_at};
@@ -52,9 +52,9 @@ fn is_ip(kind: u16) -> bool
 }
 
 // The EtherTypes of VLAN tags.
-#[tactic(auto, unfolding(crate::specs::Links::is_tag))]
+#[tactic(auto, unfolding(crate::specs::Links::is_vlan_tag))]
 fn is_tag(kind: u16) -> bool
-    ensures { result ≡ is_tag kind }
+    ensures { result ≡ is_vlan_tag kind }
 {
     kind == 0x8100 || kind == 0x88a8 || kind == 0x9100
 }

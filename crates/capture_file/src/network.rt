@@ -2,7 +2,8 @@
 //! and 4).
 
 ghost use Rattle.std.specs.Prelude.{◌≡◌, ◌≤◌, min, length, slice_range};
-ghost use Rattle.capture_file.specs.Internet.{plain_carried, inside, inside_4, inside_6, tcp_at, behind_extension};
+ghost use Rattle.capture_file.specs.Internet.{inside, inside_4, inside_6, tcp_at, behind_extension};
+ghost use Rattle.capture_file.specs.inner.Internet.{plain_carried};
 
 use crate::fault::PacketFault;
 use crate::numbers::{Order, u16_at};

@@ -1,7 +1,7 @@
 //! Numbers in the order of their bytes.
 
 ghost use Rattle.std.specs.Prelude.{◌≡◌, ◌+◌, ◌≤◌, length};
-ghost use Rattle.capture_file.specs.Numbers.{number};
+ghost use Rattle.capture_file.specs.Numbers.{ordered_number};
 
 use byteorder::{BigEndian, ByteOrder, LittleEndian};
 
@@ -17,7 +17,7 @@ pub enum Order {
 /// The number in the two bytes from `at`.
 pub(crate) fn u16_at(order: Order, bytes: &[u8], at: usize) -> u16
     requires { at + 2 ≤ length bytes.now }
-    ensures { result ≡ number order 2 at bytes.now }
+    ensures { result ≡ ordered_number order 2 at bytes.now }
 {
     match order {
         Order::Little => LittleEndian::read_u16(&bytes[at..]),
@@ -28,7 +28,7 @@ pub(crate) fn u16_at(order: Order, bytes: &[u8], at: usize) -> u16
 /// The number in the four bytes from `at`.
 pub(crate) fn u32_at(order: Order, bytes: &[u8], at: usize) -> u32
     requires { at + 4 ≤ length bytes.now }
-    ensures { result ≡ number order 4 at bytes.now }
+    ensures { result ≡ ordered_number order 4 at bytes.now }
 {
     match order {
         Order::Little => LittleEndian::read_u32(&bytes[at..]),

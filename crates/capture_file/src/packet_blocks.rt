@@ -2,7 +2,7 @@
 //! appendix A).
 
 ghost use Rattle.std.specs.Prelude.{◌≡◌, ◌≢◌, [], ◌≤◌, length, IfOk, IfErr};
-ghost use Rattle.capture_file.specs.Numbers.{number};
+ghost use Rattle.capture_file.specs.Numbers.{ordered_number};
 ghost use Rattle.capture_file.specs.Records.{width_of, EnhancedStep, EnhancedFails, SimpleStep};
 
 use crate::fault::CaptureFault;
@@ -25,7 +25,7 @@ pub(crate) fn least(kind: u32) -> usize
 // The number of a block's interface: two bytes in an obsolete packet block, else four.
 fn interface_number(order: Order, kind: u32, block: &[u8]) -> u32
     requires { 32 ≤ length block.now }
-    ensures { result ≡ number order (width_of kind) 8 block.now }
+    ensures { result ≡ ordered_number order (width_of kind) 8 block.now }
 {
     if kind == 2 {
         u16_at(order, block, 8) as u32

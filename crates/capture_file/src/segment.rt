@@ -1,7 +1,7 @@
 //! The TCP segment of a packet.
 
 ghost use Rattle.std.specs.Prelude.{◌≡◌};
-ghost use Rattle.capture_file.specs.Internet.{inside_of};
+ghost use Rattle.capture_file.specs.inner.Internet.{inside_of};
 ghost use Rattle.capture_file.specs.Segments.{plain_segment, segment_in, tcp_segment};
 
 use crate::fault::PacketFault;

@@ -11,13 +11,13 @@ use Rattle.iscsi_text.specs.Numeral.{canonical_number}
 use Rattle.iscsi_text.specs.Reading.{number_in}
 use Rattle.iscsi_text.proofs.NumeralLemmas.{canonical_spells}
 use Rattle.iscsi_text.proofs.KeyLemmas.{bytes_eq_same, bytes_eq_other}
-use Rattle.iscsi_chap.specs.Response.{response}
+use Rattle.iscsi_chap.specs.Response.{chap_response}
 use Rattle.iscsi_chap.specs.Binary.{binary_of, binary_text}
 use Rattle.iscsi_chap.proofs.HexLemmas.{hex_back}
 use Rattle.iscsi_access.specs.Chap.{Account, Chap, allows}
 use Rattle.iscsi_access.specs.Exchange.{said_pairs, own_response, own_said, is_response, is_fair, account_named, passing}
-use Rattle.iscsi_access.specs.Initiator.{Credentials, Suits, challenge_pairs, response_to, response_by, is_proven, is_peer}
-use Rattle.iscsi_access.specs.Laws.{Completes}
+use Rattle.iscsi_access.specs.Initiator.{Credentials, SuitsCredentials, challenge_pairs, response_to, response_by, is_proven, is_peer}
+use Rattle.iscsi_access.specs.Laws.{CompletesExchange}
 use Rattle.iscsi_access.specs.declared.verdict.Said.TheVariants.{Nothing, Challenge, Response}
 use Rattle.iscsi_access.proofs.NumberLemmas.{read_is}
 
@@ -31,30 +31,30 @@ binary_back bytes are some = hex_back bytes are some
 
 -- the response that an account's secret gives is right
 rightly : (c : Chap) (initiator : List ℕ) (a : Account) → find (λ b. bytes_eq b.name a.name) c.accounts ≡ Some a → allows a.initiator initiator ≡ true
-    → is_response c initiator (account_named (Some a.name) c.accounts) (binary_of (binary_text (response c.identifier a.secret c.challenge))) ≡ true
+    → is_response c initiator (account_named (Some a.name) c.accounts) (binary_of (binary_text (chap_response c.identifier a.secret c.challenge))) ≡ true
 rightly c initiator a known allowed =
-    let due : List ℕ = response c.identifier a.secret c.challenge in
+    let due : List ℕ = chap_response c.identifier a.secret c.challenge in
     ap (λ (o : Option Account). is_response c initiator o (binary_of (binary_text due))) known
     ∙ ap (λ (o : Option (List ℕ)). is_response c initiator (Some a) o)
     (binary_back due (response_bytes c.identifier a.secret c.challenge) (response_some c.identifier a.secret c.challenge))
     ∙ rw (bytes_eq_same due due refl, allowed) refl
 
 -- the initiator answers the target's challenge
-answers : (c : Chap) (k : Credentials) → Suits c k → response_to k (said_pairs c Challenge)
+answers : (c : Chap) (k : Credentials) → SuitsCredentials c k → response_to k (said_pairs c Challenge)
     ≡ Some (challenge_pairs k k.peer ++ (codes "CHAP_N", values.Plain k.account.name)
-    ∷ (codes "CHAP_R", values.Plain (binary_text (response c.identifier k.account.secret c.challenge))) ∷ [])
+    ∷ (codes "CHAP_R", values.Plain (binary_text (chap_response c.identifier k.account.secret c.challenge))) ∷ [])
 answers c k s =
     ap (λ (o : Option ℕ). response_by k o (binary_of (binary_text c.challenge))) (number_back c.identifier s.asked.byte)
     ∙ ap (λ (o : Option (List ℕ)). response_by k (Some c.identifier) o) (binary_back c.challenge s.asked.bytes s.asked.some)
     ∙ rw (lt-ltb c.identifier 256 s.asked.byte, bytes_eq_other c.challenge k.challenge s.differ) refl
 
 -- a login that demands nothing of the target
-one_way : (c : Chap) (k : Credentials) → Suits c k → k.peer ≡ None → Completes c k
+one_way : (c : Chap) (k : Credentials) → SuitsCredentials c k → k.peer ≡ None → CompletesExchange c k
 one_way c k s alone = record {
   method = refl;
   algorithm = refl;
   reply = challenge_pairs k k.peer ++ (codes "CHAP_N", values.Plain k.account.name)
-      ∷ (codes "CHAP_R", values.Plain (binary_text (response c.identifier k.account.secret c.challenge))) ∷ [];
+      ∷ (codes "CHAP_R", values.Plain (binary_text (chap_response c.identifier k.account.secret c.challenge))) ∷ [];
   replies = answers c k s;
   said = Nothing;
   passes = rw alone (rw (rightly c k.initiator k.account s.known s.allowed) refl);
@@ -65,7 +65,7 @@ longer : (xs : List ℕ) → xs ≢ [] → 0 < length xs
 longer [] some = absurd (some refl)
 longer (x ∷ xs) some = omega arith
 
-fair : (c : Chap) (k : Credentials) → Suits c k → is_fair c k.identifier k.challenge ≡ true
+fair : (c : Chap) (k : Credentials) → SuitsCredentials c k → is_fair c k.identifier k.challenge ≡ true
 fair c k s = rw (
   lt-ltb k.identifier 256 s.asks.byte,
   lt-ltb 0 (length k.challenge) (longer k.challenge s.asks.some),
@@ -74,36 +74,36 @@ fair c k s = rw (
 ) refl
 
 -- the target answers the initiator's challenge
-own_says : (c : Chap) (k : Credentials) (own : Account) → Suits c k → c.own ≡ Some own
-    → own_said c (Some (canonical_number k.identifier)) (Some (binary_text k.challenge)) ≡ Some (Response (response k.identifier own.secret k.challenge))
+own_says : (c : Chap) (k : Credentials) (own : Account) → SuitsCredentials c k → c.own ≡ Some own
+    → own_said c (Some (canonical_number k.identifier)) (Some (binary_text k.challenge)) ≡ Some (Response (chap_response k.identifier own.secret k.challenge))
 own_says c k own s e =
     ap (λ (o : Option Account). own_response c o (number_in (canonical_number k.identifier)) (binary_of (binary_text k.challenge))) e
     ∙ ap (λ (o : Option ℕ). own_response c (Some own) o (binary_of (binary_text k.challenge))) (number_back k.identifier s.asks.byte)
     ∙ ap (λ (o : Option (List ℕ)). own_response c (Some own) (Some k.identifier) o) (binary_back k.challenge s.asks.bytes s.asks.some)
-    ∙ ap (λ (b : Bool). if b then Some (Response (response k.identifier own.secret k.challenge)) else None) (fair c k s)
+    ∙ ap (λ (b : Bool). if b then Some (Response (chap_response k.identifier own.secret k.challenge)) else None) (fair c k s)
 
 -- and so it is who it is demanded to be
 proves : (c : Chap) (k : Credentials) (own : Account) → c.own ≡ Some own
-    → is_proven k (Some own) (said_pairs c (Response (response k.identifier own.secret k.challenge))) ≡ true
+    → is_proven k (Some own) (said_pairs c (Response (chap_response k.identifier own.secret k.challenge))) ≡ true
 proves c k own e =
-    let due : List ℕ = response k.identifier own.secret k.challenge in
+    let due : List ℕ = chap_response k.identifier own.secret k.challenge in
     rw e (ap (λ (o : Option (List ℕ)). is_peer k own (Some own.name) o) (binary_back due (response_bytes k.identifier own.secret k.challenge)
     (response_some k.identifier own.secret k.challenge)) ∙ rw (bytes_eq_same own.name own.name refl, bytes_eq_same due due refl) refl)
 
 -- a login that demands the target to be someone
-both_ways : (c : Chap) (k : Credentials) (own : Account) → Suits c k → k.peer ≡ Some own → c.own ≡ Some own → Completes c k
+both_ways : (c : Chap) (k : Credentials) (own : Account) → SuitsCredentials c k → k.peer ≡ Some own → c.own ≡ Some own → CompletesExchange c k
 both_ways c k own s e f = record {
   method = refl;
   algorithm = refl;
   reply = challenge_pairs k k.peer ++ (codes "CHAP_N", values.Plain k.account.name)
-      ∷ (codes "CHAP_R", values.Plain (binary_text (response c.identifier k.account.secret c.challenge))) ∷ [];
+      ∷ (codes "CHAP_R", values.Plain (binary_text (chap_response c.identifier k.account.secret c.challenge))) ∷ [];
   replies = answers c k s;
-  said = Response (response k.identifier own.secret k.challenge);
+  said = Response (chap_response k.identifier own.secret k.challenge);
   passes = rw e (rw (rightly c k.initiator k.account s.known s.allowed) (ap passing (own_says c k own s f)));
   proven = rw e (proves c k own f);
 }
 
-pub completes : (c : Chap) (k : Credentials) → Suits c k → Completes c k
+pub completes : (c : Chap) (k : Credentials) → SuitsCredentials c k → CompletesExchange c k
 completes c k s = elim s.peer [
   | inl alone ↦ one_way c k s alone
   | inr both ↦ both_ways c k both.0 s both.1 both.2

@@ -5,10 +5,10 @@ use Rattle.std.specs.Str.{bytes_eq}
 use Rattle.std.proofs.lemmas.Bool.{and_parts}
 use Rattle.iscsi_text.specs.Text.{Pairs}
 use Rattle.iscsi_text.proofs.KeyLemmas.{same_key}
-use Rattle.iscsi_chap.specs.Response.{response}
+use Rattle.iscsi_chap.specs.Response.{chap_response}
 use Rattle.iscsi_access.specs.Chap.{Account, Chap, allows}
-use Rattle.iscsi_access.specs.Exchange.{judge, plain_of, binary_in, is_right, is_response, account_named, own_said, passing, stands, has_chap_key, has_more_than_algorithms, lists, value_for}
-use Rattle.iscsi_access.specs.Laws.{Answers}
+use Rattle.iscsi_access.specs.Exchange.{judge, plain_of, binary_in, is_right, is_response, account_named, own_said, passing, stands, has_chap_key, has_more_than_algorithms, lists, exchange_value}
+use Rattle.iscsi_access.specs.Laws.{AnswersChallenge}
 use Rattle.iscsi_access.specs.declared.verdict.Progress.{Progress}
 use Rattle.iscsi_access.specs.declared.verdict.Progress.TheVariants.{Unasked, Chosen, Challenged, Passed}
 use Rattle.iscsi_access.specs.declared.verdict.Said.{Said}
@@ -18,13 +18,13 @@ use Rattle.iscsi_access.specs.declared.verdict.Verdict.TheVariants.{Goes, Refuse
 
 right_by : (c : Chap) (initiator : List ℕ) (pairs : Pairs) (name : Option (List ℕ)) (account : Option Account) (given : Option (List ℕ))
     → plain_of (codes "CHAP_N") pairs ≡ name → account_named name c.accounts ≡ account → binary_in (plain_of (codes "CHAP_R") pairs) ≡ given
-    → is_response c initiator account given ≡ true → Answers c initiator pairs
+    → is_response c initiator account given ≡ true → AnswersChallenge c initiator pairs
 right_by c initiator pairs None None given n a g e = absurd cc
 right_by c initiator pairs None (Some account) given n a g e = absurd (cc a)
 right_by c initiator pairs (Some name) None given n a g e = absurd cc
 right_by c initiator pairs (Some name) (Some account) None n a g e = absurd cc
 right_by c initiator pairs (Some name) (Some account) (Some given) n a g e =
-    let due : List ℕ = response c.identifier account.secret c.challenge in
+    let due : List ℕ = chap_response c.identifier account.secret c.challenge in
     let both : (bytes_eq given due ≡ true) × (allows account.initiator initiator ≡ true) = and_parts (bytes_eq given due)
     (allows account.initiator initiator) e in
     record {
@@ -36,7 +36,7 @@ right_by c initiator pairs (Some name) (Some account) (Some given) n a g e =
       response = g ∙ ap Some (same_key given due both.0);
     }
 
-pub right_answers : (c : Chap) (initiator : List ℕ) (pairs : Pairs) → is_right c initiator pairs ≡ true → Answers c initiator pairs
+pub right_answers : (c : Chap) (initiator : List ℕ) (pairs : Pairs) → is_right c initiator pairs ≡ true → AnswersChallenge c initiator pairs
 right_answers c initiator pairs e =
     right_by c initiator pairs (plain_of (codes "CHAP_N") pairs) (account_named (plain_of (codes "CHAP_N") pairs) c.accounts)
     (binary_in (plain_of (codes "CHAP_R") pairs)) refl refl refl e
@@ -52,10 +52,10 @@ responded false false v said e = absurd (cc e)
 
 -- the end of the exchange comes by a right response, or has come
 pub passed_by : (c : Chap) (before : Progress) (initiator : List ℕ) (pairs : Pairs) (said : Said) → judge c before initiator pairs ≡ Goes Passed said
-    → (before ≡ Passed) ⊎ Answers c initiator pairs
-passed_by c Unasked initiator pairs said e = absurd (chosen_only (not (has_chap_key pairs) && lists (codes "CHAP") (value_for (codes "AuthMethod") pairs))
+    → (before ≡ Passed) ⊎ AnswersChallenge c initiator pairs
+passed_by c Unasked initiator pairs said e = absurd (chosen_only (not (has_chap_key pairs) && lists (codes "CHAP") (exchange_value (codes "AuthMethod") pairs))
     (Goes Chosen Method) said (λ f. absurd (cc f)) e)
-passed_by c Chosen initiator pairs said e = absurd (chosen_only (not (has_more_than_algorithms pairs) && lists (codes "5") (value_for (codes "CHAP_A") pairs))
+passed_by c Chosen initiator pairs said e = absurd (chosen_only (not (has_more_than_algorithms pairs) && lists (codes "5") (exchange_value (codes "CHAP_A") pairs))
     (Goes Challenged Challenge) said (λ f. absurd (cc f)) e)
 passed_by c Challenged initiator pairs said e = inr (right_answers c initiator pairs
     (responded (stands (codes "AuthMethod") pairs || stands (codes "CHAP_A") pairs) (is_right c initiator pairs)
@@ -73,13 +73,13 @@ passed_stays c initiator pairs p said e = rests (stands (codes "AuthMethod") pai
 
 -- the same of a verdict that is the one of the definition
 pub passed_verdict : (c : Chap) (before : Progress) (initiator : List ℕ) (pairs : Pairs) (verdict : Verdict) → verdict ≡ judge c before initiator pairs
-    → (said : Said) → verdict ≡ Goes Passed said → (before ≡ Passed) ⊎ Answers c initiator pairs
+    → (said : Said) → verdict ≡ Goes Passed said → (before ≡ Passed) ⊎ AnswersChallenge c initiator pairs
 passed_verdict c before initiator pairs verdict e said f = passed_by c before initiator pairs said (sym e ∙ f)
 
 -- the same of a call that gives this verdict, where the initiator has the challenge
 pub passed_result : {E : Type 0} (c : Chap) (before : Progress) (initiator : List ℕ) (pairs : Pairs) (r : Result Verdict E)
     → IfOk r (λ v. v ≡ judge c Challenged initiator pairs)
-    → before ≡ Challenged → IfOk r (λ v. (said : Said) → v ≡ Goes Passed said → (before ≡ Passed) ⊎ Answers c initiator pairs)
-passed_result c before initiator pairs (Ok v) e is = λ said f. subst (λ (p : Progress). (p ≡ Passed) ⊎ Answers c initiator pairs) (sym is)
+    → before ≡ Challenged → IfOk r (λ v. (said : Said) → v ≡ Goes Passed said → (before ≡ Passed) ⊎ AnswersChallenge c initiator pairs)
+passed_result c before initiator pairs (Ok v) e is = λ said f. subst (λ (p : Progress). (p ≡ Passed) ⊎ AnswersChallenge c initiator pairs) (sym is)
     (passed_verdict c Challenged initiator pairs v e said f)
 passed_result c before initiator pairs (Err x) e is = tt

@@ -30,11 +30,11 @@ abbrev pub IsSecret : List ℕ → Type 0
 IsSecret secret = (12 ≤ length secret) × (length secret ≤ 255)
 
 -- The account is of this name and secret, bound to no initiator; or the secret is none.
-abbrev pub Makes : List ℕ → List ℕ → Result Account ChapFault → Type 0
-Makes name secret (Ok account) =
+abbrev pub NewAccountPost : List ℕ → List ℕ → Result Account ChapFault → Type 0
+NewAccountPost name secret (Ok account) =
     IsSecret secret × (account ≡ record { name = name; secret = secret; initiator = None })
-Makes name secret (Err BadSecret) = ¬ IsSecret secret
-Makes name secret (Err SameSecret) = ⊥
+NewAccountPost name secret (Err BadSecret) = ¬ IsSecret secret
+NewAccountPost name secret (Err SameSecret) = ⊥
 
 -- One of the accounts has the secret.
 abbrev pub has_secret : List Account → List ℕ → Bool
@@ -46,13 +46,13 @@ AreApart accounts None = Unit {0}
 AreApart accounts (Some own) = has_secret accounts own.secret ≡ false
 
 -- The demand is of these, or the target's own secret is an initiator's.
-abbrev pub Demands : List Account → Option Account → ℕ → List ℕ → Result Chap ChapFault → Type 0
-Demands accounts own identifier challenge (Ok chap) = AreApart accounts own
+abbrev pub NewChapPost : List Account → Option Account → ℕ → List ℕ → Result Chap ChapFault → Type 0
+NewChapPost accounts own identifier challenge (Ok chap) = AreApart accounts own
     × (chap ≡ record {
       accounts = accounts;
       own = own;
       identifier = identifier;
       challenge = challenge;
     })
-Demands accounts own identifier challenge (Err SameSecret) = ¬ AreApart accounts own
-Demands accounts own identifier challenge (Err BadSecret) = ⊥
+NewChapPost accounts own identifier challenge (Err SameSecret) = ¬ AreApart accounts own
+NewChapPost accounts own identifier challenge (Err BadSecret) = ⊥

@@ -9,7 +9,7 @@ use Rattle.iscsi_text.specs.Value as values
 use Rattle.iscsi_text.specs.Text.{Pairs, values_of}
 use Rattle.iscsi_text.specs.Numeral.{canonical_number}
 use Rattle.iscsi_text.specs.Reading.{number_in}
-use Rattle.iscsi_chap.specs.Response.{response}
+use Rattle.iscsi_chap.specs.Response.{chap_response}
 use Rattle.iscsi_chap.specs.Binary.{binary_of, binary_text}
 use Rattle.iscsi_access.specs.Chap.{Account, Chap, allows}
 use Rattle.iscsi_access.specs.declared.verdict.Progress.{Progress}
@@ -22,12 +22,12 @@ use Rattle.iscsi_access.specs.declared.verdict.Verdict.TheVariants.{Refused, Goe
 -- ---- a text
 
 -- The value of a key, if it stands in the text.
-abbrev pub value_for : List ℕ → Pairs → Option Typed
-value_for key pairs = slice_get (values_of key pairs) 0
+abbrev pub exchange_value : List ℕ → Pairs → Option Typed
+exchange_value key pairs = slice_get (values_of key pairs) 0
 
 -- The key stands in the text.
 abbrev pub stands : List ℕ → Pairs → Bool
-stands key pairs = is_some (value_for key pairs)
+stands key pairs = is_some (exchange_value key pairs)
 
 -- The bytes of a value that is plain.
 abbrev pub plain_bytes : Option Typed → Option (List ℕ)
@@ -36,7 +36,7 @@ plain_bytes _ = None
 
 -- The plain value of a key, if it stands in the text.
 abbrev pub plain_of : List ℕ → Pairs → Option (List ℕ)
-plain_of key pairs = plain_bytes (value_for key pairs)
+plain_of key pairs = plain_bytes (exchange_value key pairs)
 
 -- The items between commas have this one.
 abbrev pub has_item : List ℕ → List ℕ → Bool
@@ -66,7 +66,7 @@ has_chap_key pairs =
 -- keys of CHAP come behind).
 abbrev pub on_method : Pairs → Verdict
 on_method pairs =
-    if not (has_chap_key pairs) && lists (codes "CHAP") (value_for (codes "AuthMethod") pairs)
+    if not (has_chap_key pairs) && lists (codes "CHAP") (exchange_value (codes "AuthMethod") pairs)
     then Goes Chosen Method
     else Refused
 
@@ -82,7 +82,7 @@ has_more_than_algorithms pairs =
 -- An algorithm is to be chosen: MD5, which is 5, where it is offered (section 12.1.3).
 abbrev pub on_algorithm : Pairs → Verdict
 on_algorithm pairs =
-    if not (has_more_than_algorithms pairs) && lists (codes "5") (value_for (codes "CHAP_A") pairs)
+    if not (has_more_than_algorithms pairs) && lists (codes "5") (exchange_value (codes "CHAP_A") pairs)
     then Goes Challenged Challenge
     else Refused
 
@@ -97,7 +97,7 @@ account_named (Some name) accounts = find (λ a. bytes_eq a.name name) accounts
 -- use the account.
 abbrev pub is_response : Chap → List ℕ → Option Account → Option (List ℕ) → Bool
 is_response c initiator (Some account) (Some given) =
-    bytes_eq given (response c.identifier account.secret c.challenge)
+    bytes_eq given (chap_response c.identifier account.secret c.challenge)
     && allows account.initiator initiator
 is_response c initiator _ _ = false
 
@@ -120,7 +120,7 @@ is_fair c identifier challenge =
 abbrev pub own_response : Chap → Option Account → Option ℕ → Option (List ℕ) → Option Said
 own_response c (Some own) (Some identifier) (Some challenge) =
     if is_fair c identifier challenge
-    then Some (Response (response identifier own.secret challenge))
+    then Some (Response (chap_response identifier own.secret challenge))
     else None
 own_response c _ _ _ = None
 

@@ -7,10 +7,10 @@ use Rattle.iscsi_text.specs.Value as values
 use Rattle.iscsi_text.specs.Text.{Pairs}
 use Rattle.iscsi_text.specs.Numeral.{canonical_number}
 use Rattle.iscsi_text.specs.Reading.{number_in}
-use Rattle.iscsi_chap.specs.Response.{response}
+use Rattle.iscsi_chap.specs.Response.{chap_response}
 use Rattle.iscsi_chap.specs.Binary.{binary_text}
 use Rattle.iscsi_access.specs.Chap.{Account, Chap, allows}
-use Rattle.iscsi_access.specs.Exchange.{value_for, stands, plain_of, lists, binary_in}
+use Rattle.iscsi_access.specs.Exchange.{exchange_value, stands, plain_of, lists, binary_in}
 
 -- As whom an initiator logs in, under its InitiatorName, and whom it demands the target to be, if it
 -- does.
@@ -43,28 +43,28 @@ response_by k (Some identifier) (Some challenge) =
     if nat_lt identifier 256 && not (bytes_eq challenge k.challenge)
     then Some (challenge_pairs k k.peer
     ++ (codes "CHAP_N", values.Plain k.account.name)
-    ∷ (codes "CHAP_R", values.Plain (binary_text (response identifier k.account.secret challenge)))
+    ∷ (codes "CHAP_R", values.Plain (binary_text (chap_response identifier k.account.secret challenge)))
     ∷ [])
     else None
 response_by k _ _ = None
 
 -- The number that a plain value spells.
-abbrev pub number_of : Option (List ℕ) → Option ℕ
-number_of None = None
-number_of (Some text) = number_in text
+abbrev pub spelled_number : Option (List ℕ) → Option ℕ
+spelled_number None = None
+spelled_number (Some text) = number_in text
 
 -- What answers a text with a challenge.
 abbrev pub response_to : Credentials → Pairs → Option Pairs
 response_to k pairs =
-    if lists (codes "5") (value_for (codes "CHAP_A") pairs)
-    then response_by k (number_of (plain_of (codes "CHAP_I") pairs))
+    if lists (codes "5") (exchange_value (codes "CHAP_A") pairs)
+    then response_by k (spelled_number (plain_of (codes "CHAP_I") pairs))
     (binary_in (plain_of (codes "CHAP_C") pairs))
     else None
 
 -- The response is the one that the peer's secret gives.
 abbrev pub is_peer : Credentials → Account → Option (List ℕ) → Option (List ℕ) → Bool
 is_peer k peer (Some name) (Some given) =
-    bytes_eq name peer.name && bytes_eq given (response k.identifier peer.secret k.challenge)
+    bytes_eq name peer.name && bytes_eq given (chap_response k.identifier peer.secret k.challenge)
 is_peer k peer _ _ = false
 
 -- The target has proved who it is, where the initiator demands that; else it says nothing of it.
@@ -82,7 +82,7 @@ pub record IsChallenge (identifier : ℕ) (challenge : List ℕ) : Type 0 where
 
 -- The target knows the account, which the initiator may use there, and is the peer that is demanded;
 -- both challenges are such, and differ.
-pub record Suits (c : Chap) (k : Credentials) : Type 0 where
+pub record SuitsCredentials (c : Chap) (k : Credentials) : Type 0 where
   pub known : find (λ a. bytes_eq a.name k.account.name) c.accounts ≡ Some k.account
   pub allowed : allows k.account.initiator k.initiator ≡ true
   pub peer : (k.peer ≡ None) ⊎ ((own : Account) × (k.peer ≡ Some own) × (c.own ≡ Some own))

@@ -6,13 +6,13 @@ use Rattle.iscsi_access.specs.declared.spoken.Words.{Words}
 use Rattle.iscsi_access.specs.declared.spoken.Words.TheVariants.{Nothing, Method, Challenge, Response}
 
 -- The pairs that these values make.
-abbrev pub pairs_of : Words → Pairs
-pairs_of Nothing = []
-pairs_of Method = (codes "AuthMethod", values.Items (codes "CHAP")) ∷ []
-pairs_of (Challenge identifier challenge) =
+abbrev pub word_pairs : Words → Pairs
+word_pairs Nothing = []
+word_pairs Method = (codes "AuthMethod", values.Items (codes "CHAP")) ∷ []
+word_pairs (Challenge identifier challenge) =
     (codes "CHAP_A", values.Plain (codes "5"))
     ∷ (codes "CHAP_C", values.Plain challenge.items)
     ∷ (codes "CHAP_I", values.Plain identifier.items) ∷ []
-pairs_of (Response name response) =
+word_pairs (Response name response) =
     (codes "CHAP_N", values.Plain name.now)
     ∷ (codes "CHAP_R", values.Plain response.items) ∷ []

@@ -2,7 +2,7 @@
 use Rattle.std.specs.Prelude.{◌≡◌, ℕ, true, List, find, Some, codes}
 use Rattle.std.specs.Str.{bytes_eq}
 use Rattle.iscsi_text.specs.Text.{Pairs}
-use Rattle.iscsi_chap.specs.Response.{response}
+use Rattle.iscsi_chap.specs.Response.{chap_response}
 use Rattle.iscsi_access.specs.Chap.{Account, Chap, allows}
 use Rattle.iscsi_access.specs.Exchange.{plain_of, binary_in, judge, said_pairs}
 use Rattle.iscsi_access.specs.Initiator.{Credentials, method_offer, algorithm_offer, response_to, is_proven}
@@ -14,17 +14,17 @@ use Rattle.iscsi_access.specs.declared.verdict.Verdict.TheVariants.{Goes}
 -- The text has the name of an account that an initiator of this name may use, and the response of
 -- its secret to the challenge: MD5 of the identifier, the secret and the challenge (RFC 1994, section
 -- 4.1).
-pub record Answers (c : Chap) (initiator : List ℕ) (pairs : Pairs) : Type 0 where
+pub record AnswersChallenge (c : Chap) (initiator : List ℕ) (pairs : Pairs) : Type 0 where
   pub name : List ℕ
   pub account : Account
   pub named : plain_of (codes "CHAP_N") pairs ≡ Some name
   pub known : find (λ a. bytes_eq a.name name) c.accounts ≡ Some account
   pub allowed : allows account.initiator initiator ≡ true
   pub response : binary_in (plain_of (codes "CHAP_R") pairs)
-      ≡ Some (response c.identifier account.secret c.challenge)
+      ≡ Some (chap_response c.identifier account.secret c.challenge)
 
 -- The three texts of the initiator lead to the end of the exchange, and so does the target's answer.
-pub record Completes (c : Chap) (k : Credentials) : Type 0 where
+pub record CompletesExchange (c : Chap) (k : Credentials) : Type 0 where
   pub method : judge c Unasked k.initiator method_offer ≡ Goes Chosen Method
   pub algorithm : judge c Chosen k.initiator algorithm_offer ≡ Goes Challenged Challenge
   pub reply : Pairs

@@ -2,7 +2,7 @@
 
 ghost use Rattle.std.specs.Prelude.{◌≡◌, ◌↔◌, IsTrue, IfOk, Some};
 ghost use Rattle.std.specs.Str.{bytes_eq};
-ghost use Rattle.iscsi_access.specs.Chap.{AreApart, Demands, Makes, allows, has_secret};
+ghost use Rattle.iscsi_access.specs.Chap.{AreApart, NewChapPost, NewAccountPost, allows, has_secret};
 
 use std::alloc::{AllocError, Global};
 use std::marker::Model;
@@ -52,7 +52,7 @@ impl Account {
     /// A secret of fewer than 12 bytes or of more than 255 is `BadSecret` (RFC 7143, section 9.2.1;
     /// that there are no more than 255 bytes is own rule).
     pub fn new(name: Vec<u8>, secret: Vec<u8>) -> Result<Account, ChapFault>
-        ensures makes { Makes name.items secret.items result }
+        ensures makes { NewAccountPost name.items secret.items result }
     {
         if secret.len() < FEWEST || secret.len() > MOST {
             return Err(ChapFault::BadSecret);
@@ -159,7 +159,7 @@ impl Chap {
         identifier: u8,
         challenge: [u8; 16],
     ) -> Result<Chap, ChapFault>
-        ensures demands { Demands accounts.items own identifier challenge result }
+        ensures demands { NewChapPost accounts.items own identifier challenge result }
     {
         if !are_apart(&accounts, &own) {
             return Err(ChapFault::SameSecret);

@@ -5,9 +5,9 @@ ghost use Rattle.std.specs.Option.{option_map};
 ghost use Rattle.std.specs.Str.{bytes_eq};
 ghost use Rattle.iscsi_text.specs.Reading.{number_in};
 ghost use Rattle.iscsi_chap.specs.Binary.{binary_of};
-ghost use Rattle.iscsi_chap.specs.Response.{response as due_response};
+ghost use Rattle.iscsi_chap.specs.Response.{chap_response as due_response};
 ghost use Rattle.iscsi_access.specs.Exchange.{on_method, on_algorithm, on_response, on_rest, is_right, own_said, own_response, judge};
-ghost use Rattle.iscsi_access.specs.Laws.{Answers};
+ghost use Rattle.iscsi_access.specs.Laws.{AnswersChallenge};
 ghost use Rattle.iscsi_access.specs.declared.verdict.Progress.TheVariants as steps;
 ghost use Rattle.iscsi_access.specs.declared.verdict.Said.{Said};
 ghost use Rattle.iscsi_access.specs.declared.verdict.Verdict.TheVariants.{Goes};
@@ -53,7 +53,7 @@ impl Chap {
             judge self.now progress initiator.now text.now) }
         // Only a right response passes; behind it the login stays passed.
         ensures passed { IfOk result (λ verdict. (said : Said) → verdict ≡ Goes steps.Passed said
-            → (progress ≡ steps.Passed) ⊎ Answers self.now initiator.now text.now) }
+            → (progress ≡ steps.Passed) ⊎ AnswersChallenge self.now initiator.now text.now) }
     {
         match progress {
             Progress::Unasked => Ok(on_method(text)),

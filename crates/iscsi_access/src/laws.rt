@@ -4,8 +4,8 @@ ghost use Rattle.std.specs.Prelude.{◌≡◌, ◌⊎◌, ℕ, List};
 ghost use Rattle.iscsi_text.specs.Text.{Pairs};
 ghost use Rattle.iscsi_access.specs.Chap.{Chap};
 ghost use Rattle.iscsi_access.specs.Exchange.{judge};
-ghost use Rattle.iscsi_access.specs.Initiator.{Credentials, Suits};
-ghost use Rattle.iscsi_access.specs.Laws.{Answers, Completes};
+ghost use Rattle.iscsi_access.specs.Initiator.{Credentials, SuitsCredentials};
+ghost use Rattle.iscsi_access.specs.Laws.{AnswersChallenge, CompletesExchange};
 ghost use Rattle.iscsi_access.specs.declared.verdict.Progress.{Progress};
 ghost use Rattle.iscsi_access.specs.declared.verdict.Said.{Said};
 ghost use Rattle.iscsi_access.specs.declared.verdict.Progress.TheVariants as progress;
@@ -18,11 +18,12 @@ pub fn passed_by_response()
     ensures passed { (c : Chap) (before : Progress) (initiator : List ℕ)
         (pairs : Pairs) (said : Said)
         → judge c before initiator pairs ≡ Goes progress.Passed said
-        → (before ≡ progress.Passed) ⊎ Answers c initiator pairs }
+        → (before ≡ progress.Passed) ⊎ AnswersChallenge c initiator pairs }
 {}
 
 /// Both ends with one secret complete the exchange: the initiator's texts are answered in turn, the
 /// last one passes, and the target has proved who it is where the initiator demands it.
 pub fn one_secret_completes()
-    ensures completes { (c : Chap) (k : Credentials) → Suits c k → Completes c k }
+    ensures completes { (c : Chap) (k : Credentials) → SuitsCredentials c k
+        → CompletesExchange c k }
 {}

@@ -4,7 +4,7 @@ ghost use Rattle.std.specs.Prelude.{◌≡◌, IsTrue};
 ghost use Rattle.std.specs.Option.{option_map};
 ghost use Rattle.iscsi_text.specs.Value.{typed};
 ghost use Rattle.iscsi_text.specs.Reading.{number_in};
-ghost use Rattle.iscsi_access.specs.Exchange.{value_for, stands, plain_of, has_item, lists, has_chap_key, has_more_than_algorithms};
+ghost use Rattle.iscsi_access.specs.Exchange.{exchange_value, stands, plain_of, has_item, lists, has_chap_key, has_more_than_algorithms};
 
 use iscsi_text::{Text, Value, read_number};
 
@@ -50,7 +50,7 @@ pub fn plain_of<'a>(text: &Text<'a>, key: &[u8]) -> Option<&'a [u8]>
 
 // Whether the list of a key has the item.
 pub fn lists(text: &Text<'_>, key: &[u8], item: &[u8]) -> bool
-    ensures { result ≡ lists item.now (value_for key.now text.now) }
+    ensures { result ≡ lists item.now (exchange_value key.now text.now) }
 {
     match value_for(text, key) {
         Some(Value::Items(bytes) | Value::Plain(bytes)) => has_item(bytes, item),
@@ -67,7 +67,7 @@ pub fn number_of(bytes: &[u8]) -> Option<u64>
 
 // The value of a key, if it stands in the text.
 fn value_for<'a>(text: &Text<'a>, key: &[u8]) -> Option<Value<'a>>
-    ensures { option_map typed result ≡ value_for key.now text.now }
+    ensures { option_map typed result ≡ exchange_value key.now text.now }
 {
     text.get(key, 0)
 }

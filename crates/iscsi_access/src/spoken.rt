@@ -3,7 +3,7 @@
 ghost use Rattle.std.specs.Prelude.{◌≡◌, IfOk};
 ghost use Rattle.iscsi_text.specs.Value.{Plain};
 ghost use Rattle.iscsi_text.specs.Numeral.{canonical_number};
-ghost use Rattle.iscsi_text.specs.Inside.{all_shown, shown};
+ghost use Rattle.iscsi_text.specs.Shown.{all_shown, shown};
 ghost use Rattle.iscsi_chap.specs.Binary.{binary_text};
 ghost use Rattle.iscsi_access.specs.Exchange.{said_pairs};
 
@@ -35,11 +35,11 @@ pub(crate) enum Words<'a> {
 
 impl<'a> Model for Spoken<'a> {
     ghost use Rattle.iscsi_text.specs.Text.{Pairs};
-    ghost use Rattle.iscsi_access.specs.Inside.{pairs_of};
+    ghost use Rattle.iscsi_access.specs.Inside.{word_pairs};
 
     ghost Value = { Pairs };
 
-    ghost view = { λ s. pairs_of s.words };
+    ghost view = { λ s. word_pairs s.words };
 }
 
 impl Chap {

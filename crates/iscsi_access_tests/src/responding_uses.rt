@@ -2,7 +2,7 @@
 
 ghost use Rattle.std.specs.Prelude.{◌≡◌, ◌↔◌, IfOk, IsTrue, Some};
 ghost use Rattle.iscsi_chap.specs.Binary.{binary_of};
-ghost use Rattle.iscsi_chap.specs.Response.{response as due_response};
+ghost use Rattle.iscsi_chap.specs.Response.{chap_response as due_response};
 
 use iscsi_chap::{is_equal, read_binary, response};
 use std::alloc::{AllocError, Global};

@@ -1,7 +1,7 @@
 //! What another program does with `iscsi_access`.
 
 ghost use Rattle.std.specs.Prelude.{◌≡◌, IfOk, IsTrue};
-ghost use Rattle.iscsi_access.specs.Laws.{Answers};
+ghost use Rattle.iscsi_access.specs.Laws.{AnswersChallenge};
 
 use iscsi_access::{Chap, Progress, Verdict};
 use iscsi_text::Text;
@@ -15,7 +15,7 @@ pub fn lets_in(
     text: &Text<'_>,
 ) -> Result<bool, AllocError>
     ensures answers { IfOk result (λ passed. IsTrue passed →
-        Answers chap.now initiator.now text.now) }
+        AnswersChallenge chap.now initiator.now text.now) }
 {
     match chap.judge(alloc, Progress::Challenged, initiator, text)? {
         Verdict::Goes {

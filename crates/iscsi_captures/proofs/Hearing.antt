@@ -8,16 +8,17 @@ use Rattle.iscsi_captures.specs.declared.captured.Wanted.{Wanted}
 use Rattle.capture_connections.specs.declared.ends.Side.{Side}
 use Rattle.capture_connections.specs.declared.heard.Heard.{Heard}
 use Rattle.capture_connections.specs.Sides.{is_side, other_side}
-use Rattle.iscsi_captures.specs.Meant.{HearsWanted, IsFor, IsMeant}
-use Rattle.capture_connections.specs.Following.{Hears, KeepsAll, Table}
-use Rattle.iscsi_captures.specs.Giving.{IfCut}
+use Rattle.iscsi_captures.specs.Meant.{HearsWanted, IsMeant}
+use Rattle.iscsi_captures.specs.inner.Meant.{IsFor}
+use Rattle.capture_connections.specs.Following.{TableStep, KeepsConnections, Table}
+use Rattle.iscsi_captures.specs.inner.Giving.{IfCut}
 use Rattle.iscsi_captures.specs.declared.fault.CapturesFault.{CapturesFault}
 use Rattle.iscsi_captures.specs.declared.fault.CapturesFault.TheVariants as faults
 
 -- a segment, and what is given up after it
 heard_so : (old : Table) (heard : Heard) (wanted : Wanted) (number : ℕ) (taken new : Table)
-    (more : List ℕ) (is : Bool) → Hears old heard number taken [] more → new.last ≡ taken.last
-    → KeepsAll taken.connections new.connections → IsFor new.connections number heard wanted is
+    (more : List ℕ) (is : Bool) → TableStep old heard number taken [] more → new.last ≡ taken.last
+    → KeepsConnections taken.connections new.connections → IsFor new.connections number heard wanted is
     → HearsWanted old heard wanted new (if is then more else [])
 heard_so old heard wanted number taken new more is hears last keeps for = record {
   number = number;
@@ -30,16 +31,16 @@ heard_so old heard wanted number taken new more is hears last keeps for = record
 
 -- of the direction that is wanted
 pub heard_wanted : (old : Table) (heard : Heard) (wanted : Wanted) (number : ℕ) (taken new : Table)
-    (more : List ℕ) → Hears old heard number taken [] more → new.last ≡ taken.last
-    → KeepsAll taken.connections new.connections → IsFor new.connections number heard wanted true
+    (more : List ℕ) → TableStep old heard number taken [] more → new.last ≡ taken.last
+    → KeepsConnections taken.connections new.connections → IsFor new.connections number heard wanted true
     → HearsWanted old heard wanted new more
 heard_wanted old heard wanted number taken new more hears last keeps for =
     heard_so old heard wanted number taken new more true hears last keeps for
 
 -- of another one
 pub heard_other : (old : Table) (heard : Heard) (wanted : Wanted) (number : ℕ) (taken new : Table)
-    (more : List ℕ) → Hears old heard number taken [] more → new.last ≡ taken.last
-    → KeepsAll taken.connections new.connections → IsFor new.connections number heard wanted false
+    (more : List ℕ) → TableStep old heard number taken [] more → new.last ≡ taken.last
+    → KeepsConnections taken.connections new.connections → IsFor new.connections number heard wanted false
     → HearsWanted old heard wanted new []
 heard_other old heard wanted number taken new more hears last keeps for =
     heard_so old heard wanted number taken new more false hears last keeps for
@@ -47,11 +48,11 @@ heard_other old heard wanted number taken new more hears last keeps for =
 -- the same, where nothing was kept before and nothing is kept
 pub heard_none : (old : Table) (heard : Heard) (wanted : Wanted) (number : ℕ) (taken new : Table)
     (before more given : List ℕ) (is : Bool) (list : List Connection) → before ≡ [] → given ≡ []
-    → is ≡ false → list ≡ new.connections → Hears old heard number taken before more
-    → new.last ≡ taken.last → KeepsAll taken.connections new.connections
+    → is ≡ false → list ≡ new.connections → TableStep old heard number taken before more
+    → new.last ≡ taken.last → KeepsConnections taken.connections new.connections
     → IsFor list number heard wanted is → HearsWanted old heard wanted new given
 heard_none old heard wanted number taken new before more given is list b g f l hears last keeps for =
-    let P : List ℕ → Type 0 = λ x. Hears old heard number taken x more in
+    let P : List ℕ → Type 0 = λ x. TableStep old heard number taken x more in
     let Q : List Connection → Type 0 = λ x. IsFor x number heard wanted false in
     let R : Bool → Type 0 = λ x. IsFor list number heard wanted x in
     subst (λ (x : List ℕ). HearsWanted old heard wanted new x) (sym g)
@@ -62,11 +63,11 @@ heard_none old heard wanted number taken new before more given is list b g f l h
 pub heard_all : (old : Table) (heard : Heard) (wanted : Wanted) (number : ℕ) (taken new : Table)
     (before more : List ℕ) (fault : CapturesFault) (at packet : ℕ) (list : List Connection)
     → before ≡ [] → fault ≡ faults.Cut at packet → list ≡ new.connections
-    → Hears old heard number taken before more → new.last ≡ taken.last
-    → KeepsAll taken.connections new.connections
+    → TableStep old heard number taken before more → new.last ≡ taken.last
+    → KeepsConnections taken.connections new.connections
     → IfCut fault (IsFor list number heard wanted true) → HearsWanted old heard wanted new more
 heard_all old heard wanted number taken new before more fault at packet list b f l hears last keeps for =
-    let P : List ℕ → Type 0 = λ x. Hears old heard number taken x more in
+    let P : List ℕ → Type 0 = λ x. TableStep old heard number taken x more in
     let Q : List Connection → Type 0 = λ x. IsFor x number heard wanted true in
     let R : CapturesFault → Type 0 = λ x. IfCut x (IsFor list number heard wanted true) in
     heard_wanted old heard wanted number taken new more (subst P b hears) last keeps

@@ -9,7 +9,8 @@ use Rattle.iscsi_captures.specs.declared.captured.End.TheVariants.{Initiator}
 use Rattle.capture_connections.specs.declared.connections.Connection.{Connection}
 use Rattle.capture_connections.specs.declared.ends.Side.{Side}
 use Rattle.iscsi_captures.specs.Meant.{IsMeant}
-use Rattle.iscsi_captures.specs.Listing.{AreLinesFrom, GoesOn, IsLineOf, Lists, WroteLines, line_front}
+use Rattle.iscsi_captures.specs.Listing.{AreLinesFrom, IsLineOf, ListPost, WroteLines, line_front}
+use Rattle.iscsi_captures.specs.inner.Listing.{TextGoesOn}
 use Rattle.iscsi_captures.specs.Giving.{IsFileFault}
 use Rattle.iscsi_captures.specs.declared.fault.CapturesFault.{CapturesFault}
 use Rattle.iscsi_captures.specs.declared.fault.CapturesFault.TheVariants as faults
@@ -47,12 +48,12 @@ lines_more from (d ∷ cs) lines c line are is =
     )
 
 -- a text that goes on twice
-pub goes_on : (a b c : List ℕ) → GoesOn a b → GoesOn b c → GoesOn a c
+pub goes_on : (a b c : List ℕ) → TextGoesOn a b → TextGoesOn b c → TextGoesOn a c
 goes_on a b c p q = (p.0 ++ q.0, q.1 ∙ ap (λ (x : List ℕ). x ++ q.0) p.1 ∙ append_assoc a p.0 q.0)
 
 -- and once more, if that is done
-pub goes_on_ok : {T E : Type 0} (a b c : List ℕ) (result : Result T E) → GoesOn a b
-    → OnOk result (GoesOn b c) → OnOk result (GoesOn a c)
+pub goes_on_ok : {T E : Type 0} (a b c : List ℕ) (result : Result T E) → TextGoesOn a b
+    → OnOk result (TextGoesOn b c) → OnOk result (TextGoesOn a c)
 goes_on_ok a b c (Ok done) p q = goes_on a b c p q
 goes_on_ok a b c (Err e) p q = tt
 
@@ -84,7 +85,7 @@ less_none bytes rest a b c some w more =
 -- all lines were written, and no read says that a write failed
 pub lists_all : (left : Option (List ℕ)) (result : Result (Unit {0}) CapturesFault)
     (old new : Option (List ℕ)) → IfErr result (IsFileFault left) → WroteLines old new
-    → Lists result old new
+    → ListPost result old new
 lists_all left (Ok done) old new h w = w
 lists_all left (Err faults.NoMemory) old new h w = inr w
 lists_all left (Err faults.Read) old new h w = w

@@ -11,7 +11,7 @@ use Rattle.iscsi_captures.specs.declared.fault.CapturesFault.TheVariants.{Read}
 use Rattle.capture_connections.specs.declared.heard.Heard.{Heard}
 use Rattle.iscsi_captures.specs.Meant.{HearsWanted}
 use Rattle.capture_connections.specs.Following.{Table}
-use Rattle.iscsi_captures.specs.Giving.{Adds, AddsSome, IsFaultOf, IsWhole, Listening, ReadsOn, WasRead}
+use Rattle.iscsi_captures.specs.Giving.{AddsWantedBytes, AddsSome, IsFaultOf, IsWhole, Listening, DirectionReadsOn, WasRead}
 
 -- ---- bytes that were read of a file
 
@@ -38,11 +38,11 @@ adds_one wanted old new heard given h =
     (heard ∷ [], (new, given, [], h, (refl, refl), sym (append-nil given)))
 
 adds_then : (wanted : Wanted) (xs ys : List Heard) (a b c : Table) (g h : List ℕ)
-    → Adds wanted a xs b g → Adds wanted b ys c h → Adds wanted a (xs ++ ys) c (g ++ h)
+    → AddsWantedBytes wanted a xs b g → AddsWantedBytes wanted b ys c h → AddsWantedBytes wanted a (xs ++ ys) c (g ++ h)
 adds_then wanted [] ys a b c g h p q =
     let e : h ≡ g ++ h = ap (λ (x : List ℕ). x ++ h) (sym p.1) in
-    let P : List ℕ → Type 0 = λ x. Adds wanted a ys c x in
-    let Q : Table → Type 0 = λ t. Adds wanted t ys c h in
+    let P : List ℕ → Type 0 = λ x. AddsWantedBytes wanted a ys c x in
+    let Q : Table → Type 0 = λ t. AddsWantedBytes wanted t ys c h in
     subst P e (subst Q (sym p.0) q)
 adds_then wanted (x ∷ xs) ys a b c g h p q = (
   p.0,
@@ -83,7 +83,7 @@ kept_fault None P = tt
 kept_fault (Some f) P = inl refl
 
 -- nothing was done
-pub reads_none : (a : Listening) → ReadsOn a a []
+pub reads_none : (a : Listening) → DirectionReadsOn a a []
 reads_none a = record {
   wanted = refl;
   read = read_none a.left;
@@ -112,7 +112,7 @@ ended_then a b P goes (inr p) = inr p
 
 -- one read on after another, where the first left a direction that goes on
 pub reads_then : (a b c : Listening) → b.ended ≡ false → b.fault ≡ None
-    → ReadsOn a b [] → ReadsOn b c [] → ReadsOn a c []
+    → DirectionReadsOn a b [] → DirectionReadsOn b c [] → DirectionReadsOn a c []
 reads_then a b c goes none p q =
     let P : Wanted → Type 0 = λ w. AddsSome w b.connections q.table q.more in
     let Q : Table → Type 0 = λ t. AddsSome a.wanted t q.table q.more in
@@ -139,7 +139,7 @@ not_true false e = refl
 pub reads_step : (b : Listening) (table : Table) (out : List ℕ) (more : Bool) (left : Option (List ℕ))
     → b.known ≡ [] → WasRead b.left left → AddsSome b.wanted b.connections table out
     → (more ≡ false → (out ≡ []) × IsAtEnd left × IsWhole table b.wanted)
-    → ReadsOn b (record b { connections = table; known = out; ended = not more; left = left }) []
+    → DirectionReadsOn b (record b { connections = table; known = out; ended = not more; left = left }) []
 reads_step b table out more left none read adds end = record {
   wanted = refl;
   read = read;
@@ -156,7 +156,7 @@ reads_step b table out more left none read adds end = record {
 pub reads_fault : (b : Listening) (table kept : Table) (out : List ℕ) (left : Option (List ℕ))
     (fault : CapturesFault) → b.known ≡ [] → WasRead b.left left
     → AddsSome b.wanted b.connections table out → IsFaultOf b.wanted.connection left fault
-    → ReadsOn b (record b { connections = kept; known = out; fault = Some fault; left = left }) []
+    → DirectionReadsOn b (record b { connections = kept; known = out; fault = Some fault; left = left }) []
 reads_fault b table kept out left fault none read adds is = record {
   wanted = refl;
   read = read;
@@ -176,8 +176,8 @@ or_read number left a None h = inr tt
 or_read number left a (Some f) h = h
 
 -- too many steps
-pub reads_long : (a b : Listening) → ReadsOn a b []
-    → ReadsOn a (record b { fault = Some (unwrap_or b.fault Read) }) []
+pub reads_long : (a b : Listening) → DirectionReadsOn a b []
+    → DirectionReadsOn a (record b { fault = Some (unwrap_or b.fault Read) }) []
 reads_long a b p = record {
   wanted = p.wanted;
   read = p.read;
@@ -191,8 +191,8 @@ reads_long a b p = record {
 }
 
 -- the first bytes that are known are given
-pub reads_give : (a b : Listening) (n : ℕ) (given : List ℕ) → ReadsOn a b []
-    → given ≡ take n b.known → ReadsOn a (record b { known = drop n b.known }) given
+pub reads_give : (a b : Listening) (n : ℕ) (given : List ℕ) → DirectionReadsOn a b []
+    → given ≡ take n b.known → DirectionReadsOn a (record b { known = drop n b.known }) given
 reads_give a b n given p e = record {
   wanted = p.wanted;
   read = p.read;

@@ -5,9 +5,9 @@ use Rattle.iscsi_captures.specs.declared.fault.CapturesFault.TheVariants as faul
 
 -- 1 if the capture is refused, 2 if it has no such connection, 3 for memory, and 4 for reading and
 -- writing
-abbrev pub fault_status : CapturesFault → ℕ
-fault_status faults.NoMemory = 3
-fault_status faults.Read = 4
-fault_status faults.Write = 4
-fault_status (faults.NoConnection connection) = 2
-fault_status _ = 1
+abbrev pub captures_exit_status : CapturesFault → ℕ
+captures_exit_status faults.NoMemory = 3
+captures_exit_status faults.Read = 4
+captures_exit_status faults.Write = 4
+captures_exit_status (faults.NoConnection connection) = 2
+captures_exit_status _ = 1

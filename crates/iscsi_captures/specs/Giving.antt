@@ -44,15 +44,17 @@ unread wanted left = record {
 
 -- From one table to the other these segments came in turn, and these bytes are known more of the
 -- direction that is wanted.
-abbrev pub Adds : Wanted → Table → List Heard → Table → List ℕ → Type 0
-Adds wanted old [] new given = (old ≡ new) × (given ≡ [])
-Adds wanted old (heard ∷ segments) new given = (next : Table) × (more : List ℕ) × (rest : List ℕ)
-    × HearsWanted old heard wanted next more × Adds wanted next segments new rest
+abbrev pub AddsWantedBytes : Wanted → Table → List Heard → Table → List ℕ → Type 0
+AddsWantedBytes wanted old [] new given = (old ≡ new) × (given ≡ [])
+AddsWantedBytes wanted old (heard ∷ segments) new given =
+    (next : Table) × (more : List ℕ) × (rest : List ℕ)
+    × HearsWanted old heard wanted next more × AddsWantedBytes wanted next segments new rest
     × (given ≡ more ++ rest)
 
 -- the same of some segments
 abbrev pub AddsSome : Wanted → Table → Table → List ℕ → Type 0
-AddsSome wanted old new given = (segments : List Heard) × Adds wanted old segments new given
+AddsSome wanted old new given =
+    (segments : List Heard) × AddsWantedBytes wanted old segments new given
 
 -- Some bytes of a file were read.
 abbrev pub WasRead : Option (List ℕ) → Option (List ℕ) → Type 0
@@ -84,10 +86,6 @@ IsFaultOf number left (faults.Long connection) = connection ≡ number
 IsFaultOf number left (faults.Begun connection) = connection ≡ number
 IsFaultOf number left _ = Unit {0}
 
--- the same, whatever the file has left
-abbrev pub IsDirectionFault : ℕ → CapturesFault → Type 0
-IsDirectionFault number fault = (left : Option (List ℕ)) → IsFaultOf number left fault
-
 -- the same, whichever direction is wanted
 abbrev pub IsFileFault : Option (List ℕ) → CapturesFault → Type 0
 IsFileFault left fault = (number : ℕ) → IsFaultOf number left fault
@@ -110,17 +108,12 @@ abbrev pub IsEndOf : Option (List ℕ) → Stood → Type 0
 IsEndOf left stood.End = IsAtEnd left
 IsEndOf left _ = Unit {0}
 
--- a fault of bytes that were not captured leaves the bytes before them
-abbrev pub IfCut : CapturesFault → Type 0 → Type 0
-IfCut (faults.Cut at packet) P = P
-IfCut _ P = Unit {0}
-
 -- ---- a read
 
 -- The direction was read on, and these bytes given: those that were known first, and then those that
 -- segments of the file add. It ends only with the file, and whole. It has a fault only for a reason,
 -- and keeps the first.
-pub record ReadsOn (old new : Listening) (given : List ℕ) : Type 0 where
+pub record DirectionReadsOn (old new : Listening) (given : List ℕ) : Type 0 where
   pub wanted : new.wanted ≡ old.wanted
   pub read : WasRead old.left new.left
   pub table : Table
@@ -134,7 +127,7 @@ pub record ReadsOn (old new : Listening) (given : List ℕ) : Type 0 where
       ⊎ IsFaultOf old.wanted.connection new.left fault)
 
 -- All was given, the file has ended, and there is no fault.
-pub record HasEnded (new : Listening) : Type 0 where
+pub record FileHasEnded (new : Listening) : Type 0 where
   pub given : new.known ≡ []
   pub ended : new.ended ≡ true
   pub whole : new.fault ≡ None

@@ -3,3 +3,4 @@ pub mod Meant
 pub mod Listing
 pub mod Written
 pub mod Giving
+pub mod inner

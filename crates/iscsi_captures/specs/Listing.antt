@@ -11,10 +11,6 @@ use Rattle.capture_connections.specs.Sides.{address_at, other_side, sent_at}
 use Rattle.iscsi_captures.specs.Meant.{IsMeant}
 use Rattle.iscsi_captures.specs.Written.{WroteLess}
 
--- the text goes on
-abbrev pub GoesOn : List ℕ → List ℕ → Type 0
-GoesOn old new = (more : List ℕ) × (new ≡ old ++ more)
-
 -- a line before its remarks: the number of a connection, its ends, and how many bytes of each of
 -- them are known, with this end first
 abbrev pub line_front : ℕ → Connection → Side → List ℕ
@@ -42,8 +38,8 @@ WroteLines old new = (connections : List Connection) × (lines : List ℕ)
 
 -- What is written of a capture, by how that ends: the lines of its connections. Where memory ran out
 -- this is nothing or all of them, and where a write failed a front that is not all.
-abbrev pub Lists : Result (Unit {0}) CapturesFault → Option (List ℕ) → Option (List ℕ) → Type 0
-Lists (Err faults.NoMemory) old new = Keeps old new ⊎ WroteLines old new
-Lists (Err faults.Write) old new = (connections : List Connection) × (lines : List ℕ)
+abbrev pub ListPost : Result (Unit {0}) CapturesFault → Option (List ℕ) → Option (List ℕ) → Type 0
+ListPost (Err faults.NoMemory) old new = Keeps old new ⊎ WroteLines old new
+ListPost (Err faults.Write) old new = (connections : List Connection) × (lines : List ℕ)
     × AreLinesFrom 0 connections lines × WroteLess old new lines
-Lists _ old new = WroteLines old new
+ListPost _ old new = WroteLines old new

@@ -1,11 +1,11 @@
 -- The direction of a capture that is wanted.
-use Rattle.std.specs.Prelude.{◌≡◌, ℕ, ◌==◌, ◌&&◌, Bool, List, slice_get, IfSome}
+use Rattle.std.specs.Prelude.{◌≡◌, ℕ, List, slice_get, IfSome}
 use Rattle.capture_connections.specs.declared.connections.Connection.{Connection}
 use Rattle.capture_connections.specs.declared.ends.Side.{Side}
 use Rattle.capture_connections.specs.declared.heard.Heard.{Heard}
-use Rattle.capture_connections.specs.Directions.{Advances, if_of}
+use Rattle.capture_connections.specs.Directions.{TableAdvances, if_of}
 use Rattle.capture_connections.specs.Following.{Table}
-use Rattle.capture_connections.specs.Sides.{is_side, other_side}
+use Rattle.capture_connections.specs.Sides.{other_side}
 use Rattle.iscsi_captures.specs.declared.captured.End.{End}
 use Rattle.iscsi_captures.specs.declared.captured.End.TheVariants.{Initiator, Target}
 use Rattle.iscsi_captures.specs.declared.captured.Wanted.{Wanted}
@@ -19,14 +19,6 @@ side_meant side Target = other_side side
 abbrev pub IsMeant : Connection → End → Side → Type 0
 IsMeant connection end side = IfSome connection.opener (λ opener. side ≡ side_meant opener end)
 
--- whether a segment of the connection with this number is of the direction that is wanted
-pub record IsFor (list : List Connection) (number : ℕ) (heard : Heard) (wanted : Wanted) (is : Bool)
-    : Type 0 where
-  pub side : Side
-  pub meant : number ≡ wanted.connection
-      → IfSome (slice_get list number) (λ c. IsMeant c wanted.end side)
-  pub is_it : is ≡ ((number == wanted.connection) && is_side side heard.said.side)
-
 -- A segment came, and these bytes are known more of the direction that is wanted; none, if it is of
 -- another one.
 pub record HearsWanted (old : Table) (heard : Heard) (wanted : Wanted) (new : Table)
@@ -34,7 +26,7 @@ pub record HearsWanted (old : Table) (heard : Heard) (wanted : Wanted) (new : Ta
   pub number : ℕ
   pub side : Side
   pub more : List ℕ
-  pub advances : Advances old heard number new more
+  pub advances : TableAdvances old heard number new more
   pub meant : number ≡ wanted.connection
       → IfSome (slice_get new.connections number) (λ c. IsMeant c wanted.end side)
   pub given_is : given ≡ if_of wanted.connection side number heard more

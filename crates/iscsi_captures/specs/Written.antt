@@ -3,8 +3,8 @@ use Rattle.std.specs.Prelude.{ℕ, ◌<◌, List, length, take, Option}
 use Rattle.std.specs.Io.KnownBytes.{Appends}
 
 -- Some bytes were written.
-abbrev pub Wrote : Option (List ℕ) → Option (List ℕ) → Type 0
-Wrote old new = (written : List ℕ) × Appends old new written
+abbrev pub WroteBytes : Option (List ℕ) → Option (List ℕ) → Type 0
+WroteBytes old new = (written : List ℕ) × Appends old new written
 
 -- A front of these bytes was written, and not all of them.
 abbrev pub WroteLess : Option (List ℕ) → Option (List ℕ) → List ℕ → Type 0

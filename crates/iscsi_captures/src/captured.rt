@@ -8,8 +8,10 @@ ghost use Rattle.std.specs.Io.{ReadsAtMost};
 ghost use Rattle.std.specs.Io.KnownBytes.{IsAtEnd, ReadConsumes};
 ghost use Rattle.capture_connections.specs.Following.{Table};
 ghost use Rattle.capture_connections.specs.Sides.{is_side};
-ghost use Rattle.iscsi_captures.specs.Giving.{AddsSome, HasEnded, IfCut, IsDirectionFault, IsFaultOf, IsWhole, ReadsOn, WasRead, unread};
-ghost use Rattle.iscsi_captures.specs.Meant.{HearsWanted, IsFor, IsMeant};
+ghost use Rattle.iscsi_captures.specs.Giving.{AddsSome, FileHasEnded, IsFaultOf, IsWhole, DirectionReadsOn, WasRead, unread};
+ghost use Rattle.iscsi_captures.specs.inner.Giving.{IfCut, IsDirectionFault};
+ghost use Rattle.iscsi_captures.specs.Meant.{HearsWanted, IsMeant};
+ghost use Rattle.iscsi_captures.specs.inner.Meant.{IsFor};
 ghost use Rattle.capture_connections.specs.declared.ends.Side.{Side};
 
 use crate::fault::CapturesFault;
@@ -121,7 +123,7 @@ impl<'a, R: Read> Captured<'a, R> {
     // Reads on if no byte is known, until one is or the direction ends. After 2^64 - 1 steps a read
     // counts as failed.
     fn advance(&mut self)
-        ensures reads { ReadsOn self.old self.new [] }
+        ensures reads { DirectionReadsOn self.old self.new [] }
         ensures stops { (0 < length self.new.known) ⊎ ((self.new.ended ≡ true) ⊎ IsSome self.new.fault) }
     {
         if self.given < self.out.len() {
@@ -152,9 +154,10 @@ impl<R: Read> Read for Captured<'_, R> {
     fn read(&mut self, buf: &mut [u8]) -> io::Result<usize>
         ensures bound { ReadsAtMost result buf.new }
         ensures bytes { ReadConsumes None None result buf.new }
-        ensures gives { IfOk result (λ n. ReadsOn self.old self.new (take n buf.new)) }
-        ensures ends { IfOk result (λ n. n ≡ 0 → 0 < length buf.old → HasEnded self.new) }
-        ensures fails { OnErr result (ReadsOn self.old self.new [] × IsSome self.new.fault) }
+        ensures gives { IfOk result (λ n. DirectionReadsOn self.old self.new (take n buf.new)) }
+        ensures ends { IfOk result (λ n. n ≡ 0 → 0 < length buf.old → FileHasEnded self.new) }
+        ensures fails { OnErr result (DirectionReadsOn self.old self.new []
+            × IsSome self.new.fault) }
     {
         self.advance();
         let count = self.give(buf);

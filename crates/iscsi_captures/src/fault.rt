@@ -2,7 +2,7 @@
 
 ghost use Rattle.std.specs.Prelude.{◌≡◌, ℕ};
 ghost use Rattle.iscsi_captures.specs.declared.fault.CapturesFault.TheVariants.{NoMemory};
-ghost use Rattle.iscsi_captures.specs.Faults.{fault_status};
+ghost use Rattle.iscsi_captures.specs.Faults.{captures_exit_status};
 
 use capture_connections::ConnectionsFault;
 use iscsi_stream::StreamFault;
@@ -92,7 +92,7 @@ impl CapturesFault {
     /// The exit status: 1 if the capture is refused, 2 if it has no such connection, 3 for memory,
     /// and 4 for reading and writing.
     pub fn status(&self) -> u8
-        ensures status { result ≡ fault_status self.now }
+        ensures status { result ≡ captures_exit_status self.now }
     {
         match self {
             CapturesFault::NoConnection { .. } => 2,

@@ -4,7 +4,7 @@
 ghost use Rattle.std.specs.Prelude.{ℕ, List, Result, IsOk, MatchResult, OnOk};
 ghost use Rattle.std.specs.Io.KnownBytes.{Appends};
 ghost use Rattle.iscsi_pdu.specs.Meaning.{AreBytes};
-ghost use Rattle.iscsi_stream.specs.Normalising.{IsCanonical, IsNormalised, Shows, WritesUntil};
+ghost use Rattle.iscsi_stream.specs.Normalising.{IsCanonical, IsNormalised, ShowPost, WritesUntil};
 ghost use Rattle.iscsi_stream.specs.Stream.{Message, StreamMeans};
 ghost use Rattle.iscsi_explain.specs.Showing.{AreEntries};
 ghost use Rattle.iscsi_stream.specs.declared.counts.Counts.{Counts};
@@ -46,7 +46,7 @@ pub fn show_captured<R: Read, W: Write>(
 ) -> Result<(), CapturesFault>
     ensures writes { (said : Result Counts ToolFault) × (bytes : List ℕ) × (written : List ℕ)
         × AreBytes bytes × Appends (W.contents w.old) (W.contents w.new) written
-        × Shows said bytes written × (IsOk result → IsOk said) }
+        × ShowPost said bytes written × (IsOk result → IsOk said) }
 {
     let said = show(alloc, captured, w);
     told(said, captured.fault(), captured.wanted())

@@ -1,6 +1,6 @@
 //! Both directions of a capture's connections, in the order of the capture.
 
-ghost use Rattle.iscsi_captures.specs.Written.{Wrote};
+ghost use Rattle.iscsi_captures.specs.Written.{WroteBytes};
 ghost use Rattle.iscsi_explain.specs.Showing.{AppendsSome};
 
 use crate::fault::CapturesFault;
@@ -31,7 +31,7 @@ pub fn show_capture<R: Read, W: Write>(
     source: &mut R,
     w: &mut W,
 ) -> Result<(), CapturesFault>
-    ensures moves { Wrote (W.contents w.old) (W.contents w.new) }
+    ensures moves { WroteBytes (W.contents w.old) (W.contents w.new) }
 {
     let mut file = CaptureFile::new(alloc)?;
     let mut stage = Stage::new(alloc, form, only);
@@ -75,7 +75,7 @@ impl Stage {
         source: &mut R,
         w: &mut W,
     ) -> Result<(), CapturesFault>
-        ensures moves { Wrote (W.contents w.old) (W.contents w.new) }
+        ensures moves { WroteBytes (W.contents w.old) (W.contents w.new) }
     {
         for turn in 0..u64::MAX {
             let more = self.step(file, source, w)?;
@@ -93,7 +93,7 @@ impl Stage {
         source: &mut R,
         w: &mut W,
     ) -> Result<bool, CapturesFault>
-        ensures moves { Wrote (W.contents w.old) (W.contents w.new) }
+        ensures moves { WroteBytes (W.contents w.old) (W.contents w.new) }
     {
         match file.step(source)? {
             Stood::End => return Ok(false),
@@ -206,7 +206,7 @@ fn heard_by(
 
 // Writes what was gathered.
 fn write_gathered<W: Write>(out: &mut Vec<u8>, w: &mut W) -> Result<(), CapturesFault>
-    ensures moves { Wrote (W.contents w.old) (W.contents w.new) }
+    ensures moves { WroteBytes (W.contents w.old) (W.contents w.new) }
 {
     if write_fully(w, out.as_slice()).is_err() {
         return Err(CapturesFault::Write);

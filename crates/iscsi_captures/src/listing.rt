@@ -3,7 +3,8 @@
 ghost use Rattle.std.specs.Prelude.{◌≡◌, ℕ, List, ◌++◌, Option, IfOk, IfErr, OnOk, OnErr, string_bytes};
 ghost use Rattle.std.specs.Io.KnownBytes.{Appends, IsAtEnd};
 ghost use Rattle.iscsi_captures.specs.Giving.{IsFileFault};
-ghost use Rattle.iscsi_captures.specs.Listing.{AreLinesFrom, GoesOn, IsLineOf, Lists};
+ghost use Rattle.iscsi_captures.specs.Listing.{AreLinesFrom, IsLineOf, ListPost};
+ghost use Rattle.iscsi_captures.specs.inner.Listing.{TextGoesOn};
 ghost use Rattle.iscsi_captures.specs.Written.{WroteLess};
 
 use crate::fault::CapturesFault;
@@ -26,7 +27,7 @@ pub fn list_connections<R: Read, W: Write>(
 ) -> Result<(), CapturesFault>
     ensures moves { (written : List ℕ)
         × Appends (W.contents w.old) (W.contents w.new) written }
-    ensures lists { Lists result (W.contents w.old) (W.contents w.new) }
+    ensures lists { ListPost result (W.contents w.old) (W.contents w.new) }
     ensures end { OnOk result (IsAtEnd (R.remaining source.new)) }
 {
     let mut connections = Connections::new(alloc);
@@ -143,7 +144,7 @@ fn write_remarks(
     sent: &Half,
     answered: &Half,
 ) -> Result<(), AllocError>
-    ensures { OnOk result (GoesOn (string_bytes line.old) (string_bytes line.new)) }
+    ensures { OnOk result (TextGoesOn (string_bytes line.old) (string_bytes line.new)) }
 {
     write_word(line, "login", sent.is_login())?;
     write_word(line, "begun", is_begun(connection))?;
@@ -157,7 +158,7 @@ fn write_remarks(
 
 // Appends a word, if it is to be said.
 fn write_word(line: &mut String, word: &str, is_said: bool) -> Result<(), AllocError>
-    ensures { OnOk result (GoesOn (string_bytes line.old) (string_bytes line.new)) }
+    ensures { OnOk result (TextGoesOn (string_bytes line.old) (string_bytes line.new)) }
 {
     if is_said {
         write!(line, " {word}")
@@ -168,7 +169,7 @@ fn write_word(line: &mut String, word: &str, is_said: bool) -> Result<(), AllocE
 
 // Appends which byte of a direction is missing, unless its capture was cut.
 fn write_gap(line: &mut String, end: &str, half: &Half) -> Result<(), AllocError>
-    ensures { OnOk result (GoesOn (string_bytes line.old) (string_bytes line.new)) }
+    ensures { OnOk result (TextGoesOn (string_bytes line.old) (string_bytes line.new)) }
 {
     match half.stopped() {
         Some(Stop::Gap(at, _)) if half.cut_in == 0 => write!(line, " gap {end} {at}"),
@@ -178,7 +179,7 @@ fn write_gap(line: &mut String, end: &str, half: &Half) -> Result<(), AllocError
 
 // Appends for which byte of a direction there are two values.
 fn write_conflict(line: &mut String, end: &str, half: &Half) -> Result<(), AllocError>
-    ensures { OnOk result (GoesOn (string_bytes line.old) (string_bytes line.new)) }
+    ensures { OnOk result (TextGoesOn (string_bytes line.old) (string_bytes line.new)) }
 {
     match half.stopped() {
         Some(Stop::Conflict(at, _)) => write!(line, " conflict {end} {at}"),
@@ -188,7 +189,7 @@ fn write_conflict(line: &mut String, end: &str, half: &Half) -> Result<(), Alloc
 
 // Appends how much of a direction is known, if not all of its bytes were captured.
 fn write_cut(line: &mut String, end: &str, half: &Half) -> Result<(), AllocError>
-    ensures { OnOk result (GoesOn (string_bytes line.old) (string_bytes line.new)) }
+    ensures { OnOk result (TextGoesOn (string_bytes line.old) (string_bytes line.new)) }
 {
     if half.cut_in == 0 {
         return Ok(());

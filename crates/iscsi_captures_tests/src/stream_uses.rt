@@ -2,9 +2,9 @@
 
 ghost use Rattle.std.specs.Prelude.{◌<◌, ◌^◌, ◌↔◌, ℕ, List, [], length, map, IfOk, IsTrue};
 ghost use Rattle.std.specs.List.{All};
-ghost use Rattle.tcp_streams.specs.Pieces.{Piece, Determines};
+ghost use Rattle.tcp_streams.specs.Pieces.{Piece, DeterminesBytes};
 ghost use Rattle.tcp_streams.specs.Placing.{ArePlaced};
-ghost use Rattle.tcp_streams.specs.Whole.{numbered};
+ghost use Rattle.tcp_streams.specs.Whole.{numbered_segment};
 
 use std::alloc::Global;
 use tcp_streams::{Segment, SegmentFault, reassemble};
@@ -13,7 +13,8 @@ use tcp_streams::{Segment, SegmentFault, reassemble};
 /// determine them. Up to 1 MiB may wait.
 pub fn stream_of(alloc: Global, first: u32, segments: &[Segment]) -> Result<Vec<u8>, SegmentFault>
     ensures { IfOk result (λ out. (pieces : List Piece)
-        × ArePlaced first [] (map numbered segments.now) pieces × Determines pieces out.items) }
+        × ArePlaced first [] (map numbered_segment segments.now) pieces
+        × DeterminesBytes pieces out.items) }
 {
     if !are_short(segments) {
         return Err(SegmentFault::Long);

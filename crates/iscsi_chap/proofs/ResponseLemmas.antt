@@ -6,7 +6,7 @@ use Rattle.std.proofs.Math.Nat.{mod-lt}
 use Rattle.hex.specs.Hex.{IsBytes}
 use Rattle.md5.specs.Md5.{md5, digest_bytes, hash_after, padded_message}
 use Rattle.md5.proofs.StandardFacts.{length-md5}
-use Rattle.iscsi_chap.specs.Response.{response, hashed}
+use Rattle.iscsi_chap.specs.Response.{chap_response, hashed}
 
 joined : (xs ys : List ℕ) → IsBytes xs → IsBytes ys → IsBytes (xs ++ ys)
 joined [] ys a b i = b i
@@ -28,10 +28,10 @@ unfolding digest_bytes
 digests h zero = none
 digests h (suc n) = joined (digest_bytes h n) (to_le_bytes w32 (slice_index h n)) (digests h n) (word (slice_index h n))
 
-pub response_bytes : (i : ℕ) (secret challenge : List ℕ) → IsBytes (response i secret challenge)
+pub response_bytes : (i : ℕ) (secret challenge : List ℕ) → IsBytes (chap_response i secret challenge)
 unfolding md5
 response_bytes i secret challenge = digests (hash_after (padded_message (hashed i secret challenge))
     (length (padded_message (hashed i secret challenge)) / 64)) 4
 
-pub response_some : (i : ℕ) (secret challenge : List ℕ) → response i secret challenge ≢ []
+pub response_some : (i : ℕ) (secret challenge : List ℕ) → chap_response i secret challenge ≢ []
 response_some i secret challenge e = let n : 0 ≡ 16 = sym (ap length e) ∙ length-md5 (hashed i secret challenge) in absurd (omega (arith, n))

@@ -7,5 +7,5 @@ abbrev pub hashed : ℕ → List ℕ → List ℕ → List ℕ
 hashed identifier secret challenge = identifier ∷ secret ++ challenge
 
 -- The response of algorithm 5, which is MD5 (RFC 7143, section 12.1.3).
-abbrev pub response : ℕ → List ℕ → List ℕ → List ℕ
-response identifier secret challenge = md5 (hashed identifier secret challenge)
+abbrev pub chap_response : ℕ → List ℕ → List ℕ → List ℕ
+chap_response identifier secret challenge = md5 (hashed identifier secret challenge)

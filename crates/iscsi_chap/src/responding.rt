@@ -1,14 +1,14 @@
 //! Responses, and whether two are one.
 
 ghost use Rattle.std.specs.Prelude.{◌≡◌, ◌↔◌, IsTrue};
-ghost use Rattle.iscsi_chap.specs.Response.{response};
+ghost use Rattle.iscsi_chap.specs.Response.{chap_response};
 
 use md5::{Digest as _, Md5};
 
 /// The response to a challenge: the MD5 digest of the identifier, the secret and the challenge (RFC
 /// 1994, section 4.1; algorithm 5 of RFC 7143, section 12.1.3).
 pub fn response(identifier: u8, secret: &[u8], challenge: &[u8]) -> [u8; 16]
-    ensures digest { result ≡ response identifier secret.now challenge.now }
+    ensures digest { result ≡ chap_response identifier secret.now challenge.now }
 {
     let mut hasher = Md5::new();
     hasher.update(&[identifier].as_slice());

@@ -6,7 +6,7 @@ use Rattle.iscsi_pdu.specs.declared.head.Head.TheVariants.{NopOut, ScsiCommand, 
 use Rattle.iscsi_pdu.specs.declared.head.Head.TheVariants.{ScsiResponse, TaskResponse, LoginResponse, TextResponse, DataIn, LogoutResponse, ReadyToTransfer}
 use Rattle.iscsi_pdu.specs.declared.head.Head.TheVariants.{AsyncMessage, Reject}
 use Rattle.iscsi_pdu.specs.Fields.{reserved_tag, is_tag}
-use Rattle.iscsi_pdu.specs.Meaning.{Fits}
+use Rattle.iscsi_pdu.specs.Meaning.{HeadFits}
 use Rattle.iscsi_compare.specs.SameJob.{Renumbering, shifted, renumbered}
 use Rattle.iscsi_compare.proofs.SerialStepLemmas.{same_tag}
 
@@ -17,7 +17,7 @@ is_some_mapped f (Some n) = refl
 same_transfer : (r : Renumbering) (n : ℕ) → is_tag (r.transfers.to n) ≡ is_tag n
 same_transfer r n = same_tag r.transfers reserved_tag n r.no_transfer
 
-pub fits_renumbered : (r : Renumbering) (h : Head) → Fits h → Fits (renumbered r h)
+pub fits_renumbered : (r : Renumbering) (h : Head) → HeadFits h → HeadFits (renumbered r h)
 unfolding renumbered
 fits_renumbered r (NopOut h) fits = record { filled = rw (same_transfer r h.target_transfer_tag) fits.filled; block = fits.block }
 fits_renumbered r (ScsiCommand h) fits = record { filled = fits.filled; block = fits.block }

@@ -8,7 +8,7 @@ use Rattle.iscsi_pdu.specs.declared.head.Head.TheVariants.{AsyncMessage, Reject}
 use Rattle.iscsi_pdu.specs.Fields.{reserved_tag, is_tag}
 use Rattle.iscsi_compare.specs.declared.same_job.numbers.Numbers.{Numbers}
 use Rattle.iscsi_compare.specs.SameJob.{Renumbering, shifted, renumbered}
-use Rattle.iscsi_compare.specs.SameJobNumbers.{numbers, with_numbers, renamed}
+use Rattle.iscsi_compare.specs.inner.SameJobNumbers.{numbers, with_numbers, renamed}
 use Rattle.iscsi_compare.proofs.RenamingLemmas.{identity, backward, chained}
 use Rattle.iscsi_compare.proofs.SerialStepLemmas.{shifted_none, shifted_twice, shifted_back, steps_back, same_tag, mapped_twice, mapped_same}
 

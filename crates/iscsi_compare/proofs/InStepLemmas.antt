@@ -9,15 +9,16 @@ use Rattle.iscsi_pdu.specs.Meaning.{Means, AreBytes}
 use Rattle.iscsi_stream.specs.Segment.{no_login}
 use Rattle.iscsi_stream.specs.Stream.{Message, longest_segment, ReadsAs}
 use Rattle.iscsi_stream.specs.Canonical.{canon, canonical_bytes}
-use Rattle.iscsi_stream.specs.Framing.{Framing, given_up, message_of, is_ready}
+use Rattle.iscsi_stream.specs.Framing.{Framing, pdu_given_up, message_of, is_ready}
 use Rattle.iscsi_stream.proofs.OneMeaningLaw.{AreBytes-front, canon_again, one_meaning}
 use Rattle.iscsi_compare.specs.declared.fault.Which.{Which}
 use Rattle.iscsi_compare.specs.declared.fault.Which.TheVariants.{First, Second}
 use Rattle.iscsi_compare.specs.declared.fault.CompareFault.{CompareFault}
 use Rattle.iscsi_compare.specs.declared.fault.CompareFault.TheVariants as fault
 use Rattle.iscsi_compare.specs.declared.side.Side.{Side}
-use Rattle.iscsi_compare.specs.Comparing.{Input, input_of, Gave, BeginsWith, GoesOn, Agree, Part, Fails}
-use Rattle.iscsi_compare.specs.Inside.{ReadTo, HasRead, IsOpen, ReadsOn, Stands, SideFails, FormIf, pending}
+use Rattle.iscsi_compare.specs.Comparing.{ReadInput, GaveInput, BeginsWithMessages, StreamGoesOn, AgreeAtEnds, Part, ComparisonFails}
+use Rattle.iscsi_compare.specs.inner.Comparing.{input_of}
+use Rattle.iscsi_compare.specs.inner.Inside.{PdusGivenUp, HasRead, IsOpen, SideReadsOn, SideHasRead, SideFails, FormIf, pending}
 use Rattle.iscsi_compare.proofs.SideLemmas.{read_given, reaches, begins, stands_at}
 
 -- ---- equal forms
@@ -28,15 +29,15 @@ canon-one m = flat_map-cons canonical_bytes m [] ∙ append-nil (canonical_bytes
 canon-push : (ms : List Message) (m : Message) → canon (ms ++ m ∷ []) ≡ canon ms ++ canonical_bytes m
 canon-push ms m = flat_map-append canonical_bytes ms (m ∷ []) ∙ ap (λ (x : List ℕ). canon ms ++ x) (canon-one m)
 
-form_again : (read : List ℕ) (ms : List Message) (v : Framing) (rest : List ℕ) (k : ℕ) → ReadTo read ms v rest k →
+form_again : (read : List ℕ) (ms : List Message) (v : Framing) (rest : List ℕ) (k : ℕ) → PdusGivenUp read ms v rest k →
     ReadsAs longest_segment no_login (canon ms) ms
 form_again read ms v rest k r =
     let x = reaches read ms v rest k r in
     canon_again longest_segment no_login r.taken.given ms (AreBytes-front r.taken.given (r.taken.rest ++ rest) (subst AreBytes x.whole r.bytes)) x.reads
 
 -- PDUs with one canonical form behind PDUs of the same meanings mean the same
-pub same_next : (read other : List ℕ) (ms : List Message) (m n : Message) (v w : Framing) (a b : List ℕ) (k l : ℕ) → ReadTo read (ms ++ m ∷ []) v a k →
-    ReadTo other (ms ++ n ∷ []) w b l
+pub same_next : (read other : List ℕ) (ms : List Message) (m n : Message) (v w : Framing) (a b : List ℕ) (k l : ℕ) → PdusGivenUp read (ms ++ m ∷ []) v a k →
+    PdusGivenUp other (ms ++ n ∷ []) w b l
     → canonical_bytes m ≡ canonical_bytes n → m ≡ n
 same_next read other ms m n v w a b k l p q e =
     let forms : canon (ms ++ m ∷ []) ≡ canon (ms ++ n ∷ []) = canon-push ms m ∙ ap (λ (x : List ℕ). canon ms ++ x) e ∙ sym (canon-push ms n) in
@@ -51,18 +52,18 @@ abbrev pub next_of : (some : Bool) (v : Framing) (form : List ℕ) → FormIf so
 next_of true v form f = Some (message_of v f.0 f.1)
 next_of false v form f = None
 
-pub has_read : (some : Bool) (side : Side) (x : Input) (ms : List Message) → Stands some side x ms → HasRead x.read ms side
+pub has_read : (some : Bool) (side : Side) (x : ReadInput) (ms : List Message) → SideHasRead some side x ms → HasRead x.read ms side
 has_read true side x ms r = r
 has_read false side x ms r = r.0
 
-goes_on : (some : Bool) (side : Side) (x : Input) (ms : List Message) (form : List ℕ) → Stands some side x ms → (f : FormIf some side.framer form) →
-    GoesOn x ms (next_of some side.framer form f)
+goes_on : (some : Bool) (side : Side) (x : ReadInput) (ms : List Message) (form : List ℕ) → SideHasRead some side x ms → (f : FormIf some side.framer form) →
+    StreamGoesOn x ms (next_of some side.framer form f)
 goes_on true side x ms form r f =
-    begins x.read (ms ++ message_of side.framer f.0 f.1 ∷ []) (given_up side.framer f.0)
+    begins x.read (ms ++ message_of side.framer f.0 f.1 ∷ []) (pdu_given_up side.framer f.0)
     (pending side) side.reads x.left (read_given x.read ms side.framer (pending side) side.reads f.0 f.1 r f.2)
 goes_on false side x ms form r f = r.1
 
-pub begun : (some : Bool) (side : Side) (x : Input) (ms : List Message) → Stands some side x ms → BeginsWith x ms
+pub begun : (some : Bool) (side : Side) (x : ReadInput) (ms : List Message) → SideHasRead some side x ms → BeginsWithMessages x ms
 begun some side x ms r = begins x.read ms side.framer (pending side) side.reads x.left (has_read some side x ms r)
 
 differ_next : (p q : Bool) (v w : Framing) (form other : List ℕ) (f : FormIf p v form) (g : FormIf q w other) → (p ≡ q → form ≡ other → ⊥) → next_of p v form f
@@ -74,7 +75,7 @@ differ_next true false v w form other f g differ e = absurd cc
 differ_next false true v w form other f g differ e = absurd cc
 differ_next false false v w form other f g differ e = differ refl (f ∙ sym g)
 
-part : (p q : Bool) (x y : Input) (ms : List Message) (first second : Side) (form other : List ℕ) → Stands p first x ms → Stands q second y ms →
+part : (p q : Bool) (x y : ReadInput) (ms : List Message) (first second : Side) (form other : List ℕ) → SideHasRead p first x ms → SideHasRead q second y ms →
     FormIf p first.framer form → FormIf q second.framer other
     → (p ≡ q → form ≡ other → ⊥) → Part x y first.framer.place second.framer.place
 part p q x y ms first second form other a b f g differ = record {
@@ -90,15 +91,16 @@ part p q x y ms first second form other a b f g differ = record {
 
 -- ---- faults
 
-first_fails : (e : CompareFault) (x y : Input) (ms : List Message) → SideFails e First x ms → BeginsWith y ms → Fails e x y
+first_fails : (e : CompareFault) (x y : ReadInput) (ms : List Message) → SideFails e First x ms → BeginsWithMessages y ms → ComparisonFails e x y
 first_fails fault.NoMemory x y ms fails begun = (ms, fails, begun)
 first_fails (fault.Stream First f) x y ms fails begun = (ms, fails.1, begun)
 first_fails (fault.Stream Second f) x y ms fails begun = (let no : Second ≡ First = fails.0 in absurd cc)
 first_fails (fault.Read First) x y ms fails begun = (ms, fails.1, begun)
 first_fails (fault.Read Second) x y ms fails begun = (let no : Second ≡ First = fails.0 in absurd cc)
 
-second_fails : (e : CompareFault) (x y : Input) (ms : List Message) (next : Option Message) → SideFails e Second y ms → BeginsWith x ms → GoesOn x ms next →
-    Fails e x y
+second_fails : (e : CompareFault) (x y : ReadInput) (ms : List Message) (next : Option Message) → SideFails e Second y ms → BeginsWithMessages x ms
+    → StreamGoesOn x ms next →
+    ComparisonFails e x y
 second_fails fault.NoMemory x y ms next fails begun goes = (ms, begun, fails)
 second_fails (fault.Stream Second f) x y ms next fails begun goes = (ms, next, goes, fails.1)
 second_fails (fault.Stream First f) x y ms next fails begun goes = (let no : First ≡ Second = fails.0 in absurd cc)
@@ -132,8 +134,9 @@ pub record InStep (before now : Streams) (first second : Side) : Type 0 where
   pub same : now.written ≡ before.written
 
 -- what the contract says of what was read
-abbrev pub Compared : (Input → Input → Type 0) → Option (List ℕ) → Option (List ℕ) → Option (List ℕ) → Option (List ℕ) → Type 0
-Compared Holds mine_old mine_new other_old other_new = (first : Input) × (second : Input) × Gave mine_old mine_new first × Gave other_old other_new second
+abbrev pub Compared : (ReadInput → ReadInput → Type 0) → Option (List ℕ) → Option (List ℕ) → Option (List ℕ) → Option (List ℕ) → Type 0
+Compared Holds mine_old mine_new other_old other_new =
+    (first : ReadInput) × (second : ReadInput) × GaveInput mine_old mine_new first × GaveInput other_old other_new second
     × Holds first second
 
 pub at_start : (a b : Option (List ℕ)) (first second : Side) (held : List ℕ) → HasRead [] [] first → HasRead [] [] second → IsOpen first → IsOpen second →
@@ -155,13 +158,13 @@ at_start a b first second held r s i j w u = record {
 }
 
 pub gave : (old mid new : Option (List ℕ)) (read piece : List ℕ) → Consumes old mid read → Consumes mid new piece → AreBytes (read ++ piece) →
-    Gave old new (input_of (read ++ piece) new)
+    GaveInput old new (input_of (read ++ piece) new)
 gave old mid new read piece p q bytes = record { bytes = bytes; consumed = Consumes-trans old mid new read piece p q; left_is = refl }
 
 -- the first stream has a fault
 pub first_stops : (e : CompareFault) (a b c d f : Option (List ℕ)) (first second : Side) (held now : List ℕ) →
     InStep (streams a d held) (streams b f now) first second →
-    ReadsOn first b c (SideFails e first.which) → Compared (Fails e) a c d f
+    SideReadsOn first b c (SideFails e first.which) → Compared (ComparisonFails e) a c d f
 first_stops e a b c d f first second held now step reads =
     let one = reads step.read step.ms step.has_read in
     let x = input_of (step.read ++ one.0) c in
@@ -175,10 +178,11 @@ first_stops e a b c d f first second held now step reads =
     )
 
 -- both went on
-pub onwards : (Holds : Input → Input → Type 0) (a b c d f h : Option (List ℕ)) (first second first_new second_new : Side) (held now : List ℕ) (p q : Bool) →
+pub onwards : (Holds : ReadInput → ReadInput → Type 0) (a b c d f h : Option (List ℕ)) (first second first_new second_new : Side) (held now : List ℕ)
+    (p q : Bool) →
     InStep (streams a d held) (streams b f now) first second
-    → ReadsOn first b c (Stands p first_new) → ReadsOn second f h (Stands q second_new)
-    → ((x y : Input) (ms : List Message) → Stands p first_new x ms → Stands q second_new y ms → Holds x y) → Compared Holds a c d h
+    → SideReadsOn first b c (SideHasRead p first_new) → SideReadsOn second f h (SideHasRead q second_new)
+    → ((x y : ReadInput) (ms : List Message) → SideHasRead p first_new x ms → SideHasRead q second_new y ms → Holds x y) → Compared Holds a c d h
 onwards Holds a b c d f h first second first_new second_new held now p q step reads others so =
     let one = reads step.read step.ms step.has_read in
     let two = others step.other_read step.ms step.other_has_read in
@@ -188,8 +192,8 @@ onwards Holds a b c d f h first second first_new second_new held now p q step re
 
 -- the second stream has a fault
 pub second_stops : (e : CompareFault) (a b c d f h : Option (List ℕ)) (first second first_new : Side) (held now form : List ℕ) (p : Bool) →
-    InStep (streams a d held) (streams b f now) first second → ReadsOn first b c (Stands p first_new)
-    → FormIf p first_new.framer form → ReadsOn second f h (SideFails e second.which) → Compared (Fails e) a c d h
+    InStep (streams a d held) (streams b f now) first second → SideReadsOn first b c (SideHasRead p first_new)
+    → FormIf p first_new.framer form → SideReadsOn second f h (SideFails e second.which) → Compared (ComparisonFails e) a c d h
 second_stops e a b c d f h first second first_new held now form p step reads formed others =
     let one = reads step.read step.ms step.has_read in
     let two = others step.other_read step.ms step.other_has_read in
@@ -204,16 +208,18 @@ second_stops e a b c d f h first second first_new held now form p step reads for
     )
 
 -- memory runs out
-pub memory_stops : (p q : Bool) (first second : Side) (x y : Input) (ms : List Message) → Stands p first x ms → Stands q second y ms → Fails fault.NoMemory x y
+pub memory_stops : (p q : Bool) (first second : Side) (x y : ReadInput) (ms : List Message) → SideHasRead p first x ms → SideHasRead q second y ms
+    → ComparisonFails fault.NoMemory x y
 memory_stops p q first second x y ms a b = (ms, begun p first x ms a, begun q second y ms b)
 
 pub they_part : (p q : Bool) (first second : Side) (form other : List ℕ) → FormIf p first.framer form → FormIf q second.framer other →
-    (p ≡ q → form ≡ other → ⊥) → (x y : Input) (ms : List Message) → Stands p first x ms
-    → Stands q second y ms → Part x y first.framer.place second.framer.place
+    (p ≡ q → form ≡ other → ⊥) → (x y : ReadInput) (ms : List Message) → SideHasRead p first x ms
+    → SideHasRead q second y ms → Part x y first.framer.place second.framer.place
 they_part p q first second form other f g differ x y ms a b = part p q x y ms first second form other a b f g differ
 
-pub they_agree : (p q : Bool) (first second : Side) → p ≡ false → q ≡ false → (x y : Input) (ms : List Message) → Stands p first x ms → Stands q second y ms →
-    Agree x y
+pub they_agree : (p q : Bool) (first second : Side) → p ≡ false → q ≡ false → (x y : ReadInput) (ms : List Message) → SideHasRead p first x ms
+    → SideHasRead q second y ms →
+    AgreeAtEnds x y
 they_agree true q first second e u x y ms a b = absurd cc
 they_agree false true first second e u x y ms a b = absurd cc
 they_agree false false first second e u x y ms a b = (ms, a.1, b.1)
@@ -234,7 +240,8 @@ same_given read other ms m n first second r s e =
 -- both gave up a PDU of one form
 pub one_more : (a b c d f h : Option (List ℕ)) (first second first_new second_new first_last second_last : Side) (held now form other : List ℕ) (p q : Bool) → p
     ≡ true → q ≡ true → InStep (streams a d held) (streams b f now) first second
-    → ReadsOn first b c (Stands p first_new) → ReadsOn second f h (Stands q second_new) → FormIf p first_new.framer form → FormIf q second_new.framer other →
+    → SideReadsOn first b c (SideHasRead p first_new) → SideReadsOn second f h (SideHasRead q second_new) → FormIf p first_new.framer form
+    → FormIf q second_new.framer other →
     form ≡ other
     → is_ready first_new.framer ≡ p → is_ready second_new.framer ≡ q → GivesUp first_new first_last → GivesUp second_new second_last
     → IsOpen first_last → IsOpen second_last → first_last.which ≡ first.which → second_last.which ≡ second.which →

@@ -6,13 +6,13 @@ use Rattle.std.specs.Cmp.Lexicographic.{slice_cmp}
 use Rattle.std.specs.BTreeMap.{BTreeMap}
 use Rattle.iscsi_pdu.specs.declared.head.Head.{Head}
 use Rattle.iscsi_pdu.specs.Fields.{is_tag}
-use Rattle.iscsi_pdu.specs.Meaning.{Fits}
+use Rattle.iscsi_pdu.specs.Meaning.{HeadFits}
 use Rattle.iscsi_compare.specs.declared.same_job.numbers.Numbers.{Numbers}
 use Rattle.iscsi_compare.specs.SameJob.{Renumbering, shifted, renumbered}
-use Rattle.iscsi_compare.specs.SameJobNumbers.{numbers, with_numbers, renamed}
-use Rattle.iscsi_compare.specs.SameJobLearning.{Carries, IsSteps, Known, IsLeft, Learns}
+use Rattle.iscsi_compare.specs.inner.SameJobNumbers.{numbers, with_numbers, renamed}
+use Rattle.iscsi_compare.specs.inner.SameJobLearning.{AgreesWithKnown, IsSteps, KnownNames, IsRenumberingLeft, LearnsAnswer}
 use Rattle.iscsi_compare.specs.declared.same_job.renaming.Renaming.{Renaming}
-use Rattle.iscsi_compare.specs.SameJobJudge.{Allows, IsSoundRenaming}
+use Rattle.iscsi_compare.specs.inner.SameJobJudge.{AllowsRenumbering, IsSoundRenaming}
 use Rattle.iscsi_compare.proofs.RenamingLemmas.{apart}
 use Rattle.iscsi_compare.proofs.HeadNumberLemmas.{renumbered_is, numbers_of, same_numbers}
 use Rattle.iscsi_compare.proofs.HeadFitLemmas.{fits_renumbered}
@@ -35,24 +35,28 @@ pub record Answers : Type 0 where
   pub status : Bool
 
 -- the nine facts, each over what the one before it left: the names after the first task, and the steps after the first and the second command
-pub record Nine (mine other : Numbers) (old new : Known) (a : Answers) : Type 0 where
+pub record Nine (mine other : Numbers) (old new : KnownNames) (a : Answers) : Type 0 where
   pub tasks : BTreeMap ℕ ℕ
   pub steps : Option ℕ
   pub last_steps : Option ℕ
-  pub task : Learns (Carries nat_cmp old.tasks) (Carries nat_cmp tasks) (λ f. f.to mine.task ≡ other.task) a.task
-  pub referenced_task : Learns (Carries nat_cmp tasks) (Carries nat_cmp new.tasks) (λ f. f.to mine.referenced_task ≡ other.referenced_task) a.referenced_task
-  pub transfer : Learns (Carries nat_cmp old.transfers) (Carries nat_cmp new.transfers) (λ f. f.to mine.transfer ≡ other.transfer) a.transfer
-  pub isid : Learns (Carries (slice_cmp nat_cmp) old.isids) (Carries (slice_cmp nat_cmp) new.isids) (λ f. option_map f.to mine.isid ≡ other.isid) a.isid
-  pub tsih : Learns (Carries nat_cmp old.tsihs) (Carries nat_cmp new.tsihs) (λ f. f.to mine.tsih ≡ other.tsih) a.tsih
-  pub command : Learns (IsSteps old.commands) (IsSteps steps) (λ n. option_map (shifted n) mine.command ≡ other.command) a.command
-  pub last_command : Learns (IsSteps steps) (IsSteps last_steps) (λ n. option_map (shifted n) mine.last_command ≡ other.last_command) a.last_command
-  pub referenced_command : Learns (IsSteps last_steps) (IsSteps new.commands) (λ n. (if is_tag mine.referenced_task then shifted n mine.referenced_command else
+  pub task : LearnsAnswer (AgreesWithKnown nat_cmp old.tasks) (AgreesWithKnown nat_cmp tasks) (λ f. f.to mine.task ≡ other.task) a.task
+  pub referenced_task : LearnsAnswer (AgreesWithKnown nat_cmp tasks) (AgreesWithKnown nat_cmp new.tasks)
+      (λ f. f.to mine.referenced_task ≡ other.referenced_task) a.referenced_task
+  pub transfer : LearnsAnswer (AgreesWithKnown nat_cmp old.transfers) (AgreesWithKnown nat_cmp new.transfers) (λ f. f.to mine.transfer ≡ other.transfer)
+      a.transfer
+  pub isid : LearnsAnswer (AgreesWithKnown (slice_cmp nat_cmp) old.isids) (AgreesWithKnown (slice_cmp nat_cmp) new.isids)
+      (λ f. option_map f.to mine.isid ≡ other.isid) a.isid
+  pub tsih : LearnsAnswer (AgreesWithKnown nat_cmp old.tsihs) (AgreesWithKnown nat_cmp new.tsihs) (λ f. f.to mine.tsih ≡ other.tsih) a.tsih
+  pub command : LearnsAnswer (IsSteps old.commands) (IsSteps steps) (λ n. option_map (shifted n) mine.command ≡ other.command) a.command
+  pub last_command : LearnsAnswer (IsSteps steps) (IsSteps last_steps) (λ n. option_map (shifted n) mine.last_command ≡ other.last_command) a.last_command
+  pub referenced_command : LearnsAnswer (IsSteps last_steps) (IsSteps new.commands)
+      (λ n. (if is_tag mine.referenced_task then shifted n mine.referenced_command else
       mine.referenced_command) ≡ other.referenced_command) a.referenced_command
-  pub status : Learns (IsSteps old.statuses) (IsSteps new.statuses) (λ n. option_map (shifted n) mine.status ≡ other.status) a.status
+  pub status : LearnsAnswer (IsSteps old.statuses) (IsSteps new.statuses) (λ n. option_map (shifted n) mine.status ≡ other.status) a.status
 
-pub learns_nine : (mine other : Numbers) (old new : Known) (a : Answers) (answer : Bool) → (n : Nine mine other old new a)
+pub learns_nine : (mine other : Numbers) (old new : KnownNames) (a : Answers) (answer : Bool) → (n : Nine mine other old new a)
     → answer ≡ (a.task && a.referenced_task && a.transfer && a.isid && a.tsih && a.command && a.last_command && a.referenced_command && a.status)
-    → Learns (IsLeft old) (IsLeft new) (λ r. renamed r mine ≡ other) answer
+    → LearnsAnswer (IsRenumberingLeft old) (IsRenumberingLeft new) (λ r. renamed r mine ≡ other) answer
 unfolding renamed
 learns_nine mine other old new a answer n is =
     let p8 : answer ≡ true → (a.task && a.referenced_task && a.transfer && a.isid && a.tsih && a.command && a.last_command && a.referenced_command) ≡ true =
@@ -127,7 +131,7 @@ said_numbers r g h e = sym (numbers_of r g) ∙ ap numbers e
 -- where the numbers are learnt, the heads are compared with the other's numbers in both
 pub learns_heads : (Old New : Renumbering → Type 0) (g h : Head) (same : Bool) → (same ≡ true → with_numbers g (numbers h) ≡ h) →
     (same ≡ false → with_numbers g (numbers h) ≡ h → ⊥)
-    → Learns Old New (λ r. renamed r (numbers g) ≡ numbers h) true → Learns Old New (λ r. renumbered r g ≡ h) same
+    → LearnsAnswer Old New (λ r. renamed r (numbers g) ≡ numbers h) true → LearnsAnswer Old New (λ r. renumbered r g ≡ h) same
 learns_heads Old New g h same alike different l = record {
   less = l.less;
   kept = λ r old e. l.kept r old (said_numbers r g h e);
@@ -136,8 +140,8 @@ learns_heads Old New g h same alike different l = record {
 }
 
 -- and where they are not, the heads differ
-pub learns_none : (Old New : Renumbering → Type 0) (g h : Head) → Learns Old New (λ r. renamed r (numbers g) ≡ numbers h) false →
-    Learns Old New (λ r. renumbered r g ≡ h) false
+pub learns_none : (Old New : Renumbering → Type 0) (g h : Head) → LearnsAnswer Old New (λ r. renamed r (numbers g) ≡ numbers h) false →
+    LearnsAnswer Old New (λ r. renumbered r g ≡ h) false
 learns_none Old New g h l = record {
   less = l.less;
   kept = λ r old e. l.kept r old (said_numbers r g h e);
@@ -146,7 +150,7 @@ learns_none Old New g h l = record {
 }
 
 -- some renumbering agrees with what is known
-pub some_left : (known : Renaming) → IsSoundRenaming known → (r : Renumbering) × Allows known r
+pub some_left : (known : Renaming) → IsSoundRenaming known → (r : Renumbering) × AllowsRenumbering known r
 some_left known s =
     let r : Renumbering = record {
       tasks = s.tasks.some.0;
@@ -171,14 +175,16 @@ some_left known s =
     )
 
 -- so the head with the other's numbers can be written where the numbers are learnt
-pub other_fits : (old new : Renaming) (g h : Head) → IsSoundRenaming new → Learns (Allows old) (Allows new) (λ r. renamed r (numbers g) ≡ numbers h) true →
-    Fits g → Fits (with_numbers g (numbers h))
+pub other_fits : (old new : Renaming) (g h : Head) → IsSoundRenaming new → LearnsAnswer (AllowsRenumbering old) (AllowsRenumbering new)
+    (λ r. renamed r (numbers g) ≡ numbers h) true →
+    HeadFits g → HeadFits (with_numbers g (numbers h))
 other_fits old new g h s l fits =
     let some = some_left new s in
-    subst Fits (sym (other_head some.0 g h (l.said refl some.0 some.1))) (fits_renumbered some.0 g fits)
+    subst HeadFits (sym (other_head some.0 g h (l.said refl some.0 some.1))) (fits_renumbered some.0 g fits)
 
-pub learns_at : (Old New : Renumbering → Type 0) (m m' n n' : Numbers) (b b' : Bool) → m ≡ m' → n ≡ n' → b ≡ b' → Learns Old New (λ r. renamed r m ≡ n) b →
-    Learns Old New (λ r. renamed r m' ≡ n') b'
+pub learns_at : (Old New : Renumbering → Type 0) (m m' n n' : Numbers) (b b' : Bool) → m ≡ m' → n ≡ n' → b ≡ b' → LearnsAnswer Old New (λ r. renamed r m ≡ n) b
+    →
+    LearnsAnswer Old New (λ r. renamed r m' ≡ n') b'
 learns_at Old New m m' n n' b b' e f a l =
-    subst (λ (x : Numbers). Learns Old New (λ r. renamed r x ≡ n') b') e (subst (λ (x : Numbers). Learns Old New (λ r. renamed r m ≡ x) b') f
-    (subst (Learns Old New (λ r. renamed r m ≡ n)) a l))
+    subst (λ (x : Numbers). LearnsAnswer Old New (λ r. renamed r x ≡ n') b') e (subst (λ (x : Numbers). LearnsAnswer Old New (λ r. renamed r m ≡ x) b') f
+    (subst (LearnsAnswer Old New (λ r. renamed r m ≡ n)) a l))

@@ -8,8 +8,8 @@ use Rattle.iscsi_stream.specs.Stream.{Message, message}
 use Rattle.iscsi_stream.specs.Framing.{Framing, is_ready, message_of}
 use Rattle.iscsi_compare.specs.declared.same_job.renaming.Renaming.{Renaming}
 use Rattle.iscsi_compare.specs.SameJob.{Renumbering, renumbered_message}
-use Rattle.iscsi_compare.specs.SameJobLearning.{Learns}
-use Rattle.iscsi_compare.specs.SameJobJudge.{Allows, NextIs, LearnsNext}
+use Rattle.iscsi_compare.specs.inner.SameJobLearning.{LearnsAnswer}
+use Rattle.iscsi_compare.specs.inner.SameJobJudge.{AllowsRenumbering, NextIs, LearnsNext}
 use Rattle.iscsi_compare.proofs.RenamingLemmas.{apart}
 
 next_some : (v : Framing) (h : Head) (d : List ℕ) → is_ready v ≡ true → Means v.held h d → NextIs (is_ready v) v (Some (message_of v h d))
@@ -25,8 +25,8 @@ unready_of false h = refl
 pub inside : {A : Type 0} (x y : A) → Some x ≡ Some y → x ≡ y
 inside x y e = cc
 
-learns_some : (Old New : Renumbering → Type 0) (m n : Message) (answer : Bool) → Learns Old New (λ r. renumbered_message r m ≡ n) answer →
-    Learns Old New (λ r. option_map (renumbered_message r) (Some m) ≡ Some n) answer
+learns_some : (Old New : Renumbering → Type 0) (m n : Message) (answer : Bool) → LearnsAnswer Old New (λ r. renumbered_message r m ≡ n) answer →
+    LearnsAnswer Old New (λ r. option_map (renumbered_message r) (Some m) ≡ Some n) answer
 learns_some Old New m n answer l = record {
   less = l.less;
   kept = λ r old e. l.kept r old (inside (renumbered_message r m) n e);
@@ -36,16 +36,18 @@ learns_some Old New m n answer l = record {
 
 pub both_next : (old new : Renaming) (v w : Framing) (g h : Head) (a b : List ℕ) (c d : Bool) {E : Type 0} (result : Result Bool E) → is_ready v ≡ true →
     is_ready w ≡ true → Means v.held g a → Means w.held h b
-    → c ≡ continues v.logins g → d ≡ continues w.logins h → IfOk result (Learns (Allows old) (Allows new)
+    → c ≡ continues v.logins g → d ≡ continues w.logins h → IfOk result (LearnsAnswer (AllowsRenumbering old) (AllowsRenumbering new)
     (λ r. renumbered_message r (message c g a) ≡ message d h b)) → IfOk result (LearnsNext old new v w)
 both_next old new v w g h a b c d (Ok answer) ready other_ready means other_means e f l = record {
   next = Some (message_of v g a);
   other_next = Some (message_of w h b);
   next_is = next_some v g a ready means;
   other_next_is = next_some w h b other_ready other_means;
-  learns = learns_some (Allows old) (Allows new) (message_of v g a) (message_of w h b) answer
-      (subst (λ (x : Bool). Learns (Allows old) (Allows new) (λ r. renumbered_message r (message x g a) ≡ message_of w h b) answer) e
-      (subst (λ (x : Bool). Learns (Allows old) (Allows new) (λ r. renumbered_message r (message c g a) ≡ message x h b) answer) f l));
+  learns = learns_some (AllowsRenumbering old) (AllowsRenumbering new) (message_of v g a) (message_of w h b) answer
+      (subst (λ (x : Bool). LearnsAnswer (AllowsRenumbering old) (AllowsRenumbering new) (λ r. renumbered_message r (message x g a) ≡ message_of w h b) answer)
+      e
+      (subst (λ (x : Bool). LearnsAnswer (AllowsRenumbering old) (AllowsRenumbering new) (λ r. renumbered_message r (message c g a) ≡ message x h b) answer) f
+      l));
 }
 both_next old new v w g h a b c d (Err x) ready other_ready means other_means e f l = tt
 

@@ -10,7 +10,7 @@ use Rattle.std.proofs.lemmas.Map.Views.{tells_apart}
 use Rattle.std.proofs.lemmas.Bool.{cases_Bool}
 use Rattle.std.specs.BTreeMap.{BTreeMap, get, IsEmpty, Updates}
 use Rattle.iscsi_compare.specs.SameJob.{OneToOne}
-use Rattle.iscsi_compare.specs.SameJobLearning.{Carries, IsFresh, IsSound, Joins}
+use Rattle.iscsi_compare.specs.inner.SameJobLearning.{AgreesWithKnown, IsFresh, IsSound, JoinsNames}
 
 pub apart : {P : Type 0} {b : Bool} → b ≡ true → b ≡ false → P
 apart p q = cc
@@ -112,8 +112,8 @@ forth cmp exact there back there' back' a b before none u w q v e =
 -- a renaming that has the pair too
 one_more : {K : Type 0} (cmp : K → K → Ordering) (o : IsTotalOrder cmp) (exact : CmpEqualImpliesEq cmp) (there back there' : BTreeMap K K) (a b : K) →
     IsSound cmp there back
-    → get cmp there a ≡ None → get cmp back b ≡ None → Updates cmp there there' a (Some b) → (f : OneToOne K) → Carries cmp there f →
-    Carries cmp there' (chained f (exchange cmp o exact (f.to a) b))
+    → get cmp there a ≡ None → get cmp back b ≡ None → Updates cmp there there' a (Some b) → (f : OneToOne K) → AgreesWithKnown cmp there f →
+    AgreesWithKnown cmp there' (chained f (exchange cmp o exact (f.to a) b))
 one_more cmp o exact there back there' a b s none none' u f carries q v e =
     elim (found cmp exact there there' a b q v u e) [
       | inl p ↦ ap (λ x. exchanged cmp (f.to a) b (f.to x)) (sym p.0) ∙ one cmp (f.to a) b (f.to a) (itself cmp o (f.to a)) ∙ p.1
@@ -130,7 +130,7 @@ one_more cmp o exact there back there' a b s none none' u f carries q v e =
 pub joins_new : {K : Type 0} (cmp : K → K → Ordering) → IsTotalOrder cmp → CmpEqualImpliesEq cmp → (there back there' back' : BTreeMap K K) (a b : K) →
     IsSound cmp there back
     → get cmp there a ≡ None → get cmp back b ≡ None → Updates cmp there there' a (Some b) → Updates cmp back back' b (Some a) →
-    Joins cmp there there' back' (λ f. f.to a ≡ b) true
+    JoinsNames cmp there there' back' (λ f. f.to a ≡ b) true
 joins_new cmp o exact there back there' back' a b s none none' u w = record {
   sound = record {
     forth = forth cmp exact there back there' back' a b s.forth none' u w;
@@ -150,7 +150,7 @@ joins_new cmp o exact there back there' back' a b s none none' u w = record {
 
 pub joins_taken : {K : Type 0} (cmp : K → K → Ordering) (there back : BTreeMap K K) (a b : K) → IsSound cmp there back → get cmp there a ≡ None →
     is_some (get cmp back b) ≡ true
-    → Joins cmp there there back (λ f. f.to a ≡ b) false
+    → JoinsNames cmp there there back (λ f. f.to a ≡ b) false
 joins_taken cmp there back a b s none taken =
     let x = some_of (get cmp back b) taken in
     record {
@@ -166,7 +166,7 @@ joins_taken cmp there back a b s none taken =
 
 pub joins_known : {K : Type 0} (cmp : K → K → Ordering) → IsTotalOrder cmp → CmpEqualImpliesEq cmp → (there back : BTreeMap K K) (a b x : K) (answer : Bool) →
     IsSound cmp there back
-    → get cmp there a ≡ Some x → answer ≡ is_eq (cmp x b) → Joins cmp there there back (λ f. f.to a ≡ b) answer
+    → get cmp there a ≡ Some x → answer ≡ is_eq (cmp x b) → JoinsNames cmp there there back (λ f. f.to a ≡ b) answer
 joins_known cmp o exact there back a b x answer s at is = record {
   sound = s;
   learns = record {
@@ -193,8 +193,8 @@ none_of (Some x) e = apart refl e
 
 -- a name that was joined with itself first stands for itself
 pub joined_itself : {K : Type 0} (cmp : K → K → Ordering) (old there back : BTreeMap K K) (a : K) (answer : Bool) → IsFresh cmp old →
-    Joins cmp old there back (λ f. f.to a ≡ a) answer
-    → (f : OneToOne K) → Carries cmp there f → f.to a ≡ a
+    JoinsNames cmp old there back (λ f. f.to a ≡ a) answer
+    → (f : OneToOne K) → AgreesWithKnown cmp there f → f.to a ≡ a
 joined_itself {K = K} cmp old there back a answer fresh j f carries =
     elim (cases_Bool answer) [
       | inl e ↦ j.learns.said e f carries

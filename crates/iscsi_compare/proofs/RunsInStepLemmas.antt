@@ -31,8 +31,8 @@ use Rattle.std.proofs.lemmas.List.{same_from_push, map_push, length_push, length
 use Rattle.iscsi_pdu.specs.declared.head.Head.{Head}
 use Rattle.iscsi_pdu.specs.Meaning.{IsHeader}
 use Rattle.iscsi_stream.specs.Segment.{no_login, continues, segment_of}
-use Rattle.iscsi_stream.specs.Stream.{pdu_len, Message, ReadsAs, after_all}
-use Rattle.iscsi_stream.specs.Framing.{Framing, length_at, is_whole, given_up, message_of, is_ready}
+use Rattle.iscsi_stream.specs.Stream.{pdu_len, Message, ReadsAs, logins_after_all}
+use Rattle.iscsi_stream.specs.Framing.{Framing, length_at, is_whole_pdu, pdu_given_up, message_of, is_ready}
 use Rattle.iscsi_stream.proofs.HeadLemmas.{means_of}
 use Rattle.iscsi_stream.proofs.SettledBytesLemmas.{is_whole-settled}
 use Rattle.iscsi_stream.proofs.ReadyLemmas.{is_whole-is, and_right}
@@ -43,11 +43,12 @@ use Rattle.iscsi_compare.specs.declared.fault.CompareFault.{CompareFault}
 use Rattle.iscsi_compare.specs.declared.fault.CompareFault.TheVariants as fault
 use Rattle.iscsi_compare.specs.declared.side.Side.{Side}
 use Rattle.iscsi_compare.specs.declared.same_job.renaming.Renaming.{Renaming}
-use Rattle.iscsi_compare.specs.Comparing.{Input, input_of, BeginsWith, GoesOn}
-use Rattle.iscsi_compare.specs.Inside.{ReadTo, HasRead, IsOpen, ReadsOn, Stands, SideFails, pending}
+use Rattle.iscsi_compare.specs.Comparing.{ReadInput, BeginsWithMessages, StreamGoesOn}
+use Rattle.iscsi_compare.specs.inner.Comparing.{input_of}
+use Rattle.iscsi_compare.specs.inner.Inside.{PdusGivenUp, HasRead, IsOpen, SideReadsOn, SideHasRead, SideFails, pending}
 use Rattle.iscsi_compare.specs.SameJob.{Renumbering, renumbered_message, SameJob}
-use Rattle.iscsi_compare.specs.SameJobLearning.{Learns}
-use Rattle.iscsi_compare.specs.SameJobJudge.{Allows, IsSoundRenaming, NextIs, LearnsNext}
+use Rattle.iscsi_compare.specs.inner.SameJobLearning.{LearnsAnswer}
+use Rattle.iscsi_compare.specs.inner.SameJobJudge.{AllowsRenumbering, IsSoundRenaming, NextIs, LearnsNext}
 use Rattle.iscsi_compare.specs.SameJobVerdict.{AgreeOnJob, PartFromJob, FailsInJob}
 use Rattle.iscsi_compare.proofs.SideLemmas.{read_given, begins, stands_at}
 use Rattle.iscsi_compare.proofs.InStepLemmas.{Compared, Streams, streams, GivesUp, gave, has_read, begun}
@@ -60,13 +61,13 @@ use Rattle.iscsi_compare.proofs.WholeRunsLaw.{same_count}
 
 -- what is known agrees with a renumbering exactly where it gives the one list from the other
 abbrev pub Knows : Renaming → List Message → List Message → Type 0
-Knows known ms ns = (r : Renumbering) → Allows known r ↔ (ns ≡ map (renumbered_message r) ms)
+Knows known ms ns = (r : Renumbering) → AllowsRenumbering known r ↔ (ns ≡ map (renumbered_message r) ms)
 
 pub same_job : (known : Renaming) (ms ns : List Message) → IsSoundRenaming known → Knows known ms ns → SameJob ms ns
 same_job known ms ns s k = let some = some_left known s in (some.0, (k some.0).0 some.1)
 
 pub knows_more : (old new : Renaming) (ms ns : List Message) (m n : Message) → Knows old ms ns →
-    Learns (Allows old) (Allows new) (λ r. option_map (renumbered_message r) (Some m) ≡ Some n) true
+    LearnsAnswer (AllowsRenumbering old) (AllowsRenumbering new) (λ r. option_map (renumbered_message r) (Some m) ≡ Some n) true
     → Knows new (ms ++ m ∷ []) (ns ++ n ∷ [])
 knows_more old new ms ns m n k l r = (
   λ allowed. ap (λ (x : List Message). x ++ n ∷ []) ((k r).0 (l.less r allowed))
@@ -83,7 +84,7 @@ too_short : (ms ns : List Message) (n : Message) → SameJob ms ns → SameJob (
 too_short ms ns n s t = omega (arith, same_count ms ns s, same_count (ms ++ []) (ns ++ n ∷ []) t, length_push ns n, ap length (append-nil ms))
 
 pub no_job : (old new : Renaming) (ms ns : List Message) (next other : Option Message) → SameJob ms ns → Knows old ms ns
-    → Learns (Allows old) (Allows new) (λ r. option_map (renumbered_message r) next ≡ other) false →
+    → LearnsAnswer (AllowsRenumbering old) (AllowsRenumbering new) (λ r. option_map (renumbered_message r) next ≡ other) false →
     SameJob (ms ++ option_to_list next) (ns ++ option_to_list other) → ⊥
 no_job old new ms ns (Some m) (Some n) s k l t =
     let both = same_from_push ns (map (renumbered_message t.0) ms) n (renumbered_message t.0 m) (t.1 ∙ map_push (renumbered_message t.0) ms m) in
@@ -94,25 +95,27 @@ no_job old new ms ns None None s k l t = l.none refl s.0 ((k s.0).1 s.1) refl
 
 -- ---- what stands next
 
-pub goes_on : (some : Bool) (side : Side) (x : Input) (ms : List Message) (next : Option Message) → Stands some side x ms → NextIs some side.framer next →
-    GoesOn x ms next
+pub goes_on : (some : Bool) (side : Side) (x : ReadInput) (ms : List Message) (next : Option Message) → SideHasRead some side x ms
+    → NextIs some side.framer next →
+    StreamGoesOn x ms next
 goes_on true side x ms next r f =
-    subst (GoesOn x ms) (sym f.3)
-    (begins x.read (ms ++ message_of side.framer f.0 f.1 ∷ []) (given_up side.framer f.0)
+    subst (StreamGoesOn x ms) (sym f.3)
+    (begins x.read (ms ++ message_of side.framer f.0 f.1 ∷ []) (pdu_given_up side.framer f.0)
     (pending side) side.reads x.left (read_given x.read ms side.framer (pending side) side.reads f.0 f.1 r f.2))
-goes_on false side x ms next r f = subst (GoesOn x ms) (sym f) r.1
+goes_on false side x ms next r f = subst (StreamGoesOn x ms) (sym f) r.1
 
 -- ---- faults
 
-first_fails : (e : CompareFault) (x y : Input) (ms ns : List Message) → SameJob ms ns → SideFails e First x ms → BeginsWith y ns → FailsInJob e x y
+first_fails : (e : CompareFault) (x y : ReadInput) (ms ns : List Message) → SameJob ms ns → SideFails e First x ms → BeginsWithMessages y ns → FailsInJob e x y
 first_fails fault.NoMemory x y ms ns s fails begun = (ms, ns, s, (fails, begun))
 first_fails (fault.Stream First f) x y ms ns s fails begun = (ms, ns, s, (fails.1, begun))
 first_fails (fault.Stream Second f) x y ms ns s fails begun = (let no : Second ≡ First = fails.0 in absurd cc)
 first_fails (fault.Read First) x y ms ns s fails begun = (ms, ns, s, (fails.1, begun))
 first_fails (fault.Read Second) x y ms ns s fails begun = (let no : Second ≡ First = fails.0 in absurd cc)
 
-second_fails : (e : CompareFault) (x y : Input) (ms ns : List Message) (next : Option Message) → SameJob ms ns → SideFails e Second y ns → BeginsWith x ms
-    → GoesOn x ms next → FailsInJob e x y
+second_fails : (e : CompareFault) (x y : ReadInput) (ms ns : List Message) (next : Option Message) → SameJob ms ns → SideFails e Second y ns
+    → BeginsWithMessages x ms
+    → StreamGoesOn x ms next → FailsInJob e x y
 second_fails fault.NoMemory x y ms ns next s fails begun goes = (ms, ns, s, (begun, fails))
 second_fails (fault.Stream Second f) x y ms ns next s fails begun goes = (ms, ns, s, (next, goes, fails.1))
 second_fails (fault.Stream First f) x y ms ns next s fails begun goes = (let no : First ≡ Second = fails.0 in absurd cc)
@@ -120,11 +123,12 @@ second_fails (fault.Read Second) x y ms ns next s fails begun goes = (ms, ns, s,
 second_fails (fault.Read First) x y ms ns next s fails begun goes = (let no : First ≡ Second = fails.0 in absurd cc)
 
 -- a PDU that is ready is the stream's next
-ready_next : (read : List ℕ) (ms : List Message) (v : Framing) (rest : List ℕ) (k : ℕ) (left : Option (List ℕ)) → ReadTo read ms v rest k → is_ready v ≡ true
-    → (next : Option Message) × GoesOn (input_of read left) ms next
+ready_next : (read : List ℕ) (ms : List Message) (v : Framing) (rest : List ℕ) (k : ℕ) (left : Option (List ℕ)) → PdusGivenUp read ms v rest k → is_ready v
+    ≡ true
+    → (next : Option Message) × StreamGoesOn (input_of read left) ms next
 ready_next read ms v rest k left r ready =
     let t = r.taken in
-    let is = is_whole-is t.rest (sym (ap is_whole t.held ∙ is_whole-settled t.rest) ∙ and_right (not v.failed) (is_whole v.held) ready) in
+    let is = is_whole-is t.rest (sym (ap is_whole_pdu t.held ∙ is_whole-settled t.rest) ∙ and_right (not v.failed) (is_whole_pdu v.held) ready) in
     let good = t.begun is.0 in
     let n = length_at t.rest in
     let segment = take n (drop 48 t.rest) in
@@ -133,20 +137,20 @@ ready_next read ms v rest k left r ready =
     let means = means_of t.rest good.0 segment header (is.1 ∙ ap pdu_len (sym size)) (ap (λ (j : ℕ). take j (drop 48 t.rest)) size) in
     let within : length segment ≤ v.limit = omega (arith, size, good.1.within) in
     let reads = reads_one_more v.limit no_login t.given ms t.rest good.0 segment t.reads means within in (
-      Some (record { head = good.0; segment = segment_of (continues (after_all no_login ms) good.0) good.0 segment }),
+      Some (record { head = good.0; segment = segment_of (continues (logins_after_all no_login ms) good.0) good.0 segment }),
       (
         t.given ++ t.rest,
         rest,
         record {
           whole = r.whole ∙ ap (λ (x : List ℕ). x ++ rest) t.whole;
           reads = subst (λ (limit : ℕ). ReadsAs limit no_login (t.given ++ t.rest)
-              (ms ++ record { head = good.0; segment = segment_of (continues (after_all no_login ms) good.0) good.0 segment } ∷ [])) r.limit reads;
+              (ms ++ record { head = good.0; segment = segment_of (continues (logins_after_all no_login ms) good.0) good.0 segment } ∷ [])) r.limit reads;
         },
       ),
     )
 
-next_exists : (p : Bool) (side : Side) (x : Input) (ms : List Message) → is_ready side.framer ≡ p → Stands p side x ms
-    → (next : Option Message) × GoesOn x ms next
+next_exists : (p : Bool) (side : Side) (x : ReadInput) (ms : List Message) → is_ready side.framer ≡ p → SideHasRead p side x ms
+    → (next : Option Message) × StreamGoesOn x ms next
 next_exists true side x ms ready r = ready_next x.read ms side.framer (pending side) side.reads x.left r ready
 next_exists false side x ms ready r = (None, r.1)
 
@@ -177,7 +181,8 @@ job_of a b c d first second known held now step = same_job known step.ms step.ns
 
 pub job_at_start : (a b : Option (List ℕ)) (first second : Side) (known : Renaming) (held : List ℕ) → HasRead [] [] first → HasRead [] [] second → IsOpen first
     → IsOpen second → first.which ≡ First
-    → second.which ≡ Second → IsSoundRenaming known → ((r : Renumbering) → Allows known r) → JobInStep (streams a b held) (streams a b held) first second known
+    → second.which ≡ Second → IsSoundRenaming known → ((r : Renumbering) → AllowsRenumbering known r)
+    → JobInStep (streams a b held) (streams a b held) first second known
 job_at_start a b first second known held r s i j w u sound all = record {
   read = [];
   other_read = [];
@@ -209,7 +214,7 @@ job_not_begun a b first second r s = (
 -- the first stream has a fault
 pub job_first_stops : (e : CompareFault) (a b c d f : Option (List ℕ)) (first second : Side) (known : Renaming) (held now : List ℕ) →
     JobInStep (streams a d held) (streams b f now) first second known
-    → ReadsOn first b c (SideFails e first.which) → Compared (FailsInJob e) a c d f
+    → SideReadsOn first b c (SideFails e first.which) → Compared (FailsInJob e) a c d f
 job_first_stops e a b c d f first second known held now step reads =
     let one = reads step.read step.ms step.has_read in
     let x = input_of (step.read ++ one.0) c in
@@ -225,7 +230,7 @@ job_first_stops e a b c d f first second known held now step reads =
 -- the second stream has a fault
 pub job_second_stops : (e : CompareFault) (a b c d f h : Option (List ℕ)) (first second first_new : Side) (known : Renaming) (held now : List ℕ) (p : Bool) →
     JobInStep (streams a d held) (streams b f now) first second known → is_ready first_new.framer ≡ p
-    → ReadsOn first b c (Stands p first_new) → ReadsOn second f h (SideFails e second.which) → Compared (FailsInJob e) a c d h
+    → SideReadsOn first b c (SideHasRead p first_new) → SideReadsOn second f h (SideFails e second.which) → Compared (FailsInJob e) a c d h
 job_second_stops e a b c d f h first second first_new known held now p step ready reads others =
     let one = reads step.read step.ms step.has_read in
     let two = others step.other_read step.ns step.other_has_read in
@@ -241,10 +246,12 @@ job_second_stops e a b c d f h first second first_new known held now p step read
     )
 
 -- both went on
-pub job_onwards : (Holds : Input → Input → Type 0) (a b c d f h : Option (List ℕ)) (first second first_new second_new : Side) (known : Renaming)
+pub job_onwards : (Holds : ReadInput → ReadInput → Type 0) (a b c d f h : Option (List ℕ)) (first second first_new second_new : Side) (known : Renaming)
     (held now : List ℕ) (p q : Bool)
-    → JobInStep (streams a d held) (streams b f now) first second known → ReadsOn first b c (Stands p first_new) → ReadsOn second f h (Stands q second_new)
-    → ((x y : Input) (ms ns : List Message) → SameJob ms ns → Knows known ms ns → Stands p first_new x ms → Stands q second_new y ns → Holds x y) →
+    → JobInStep (streams a d held) (streams b f now) first second known → SideReadsOn first b c (SideHasRead p first_new)
+    → SideReadsOn second f h (SideHasRead q second_new)
+    → ((x y : ReadInput) (ms ns : List Message) → SameJob ms ns → Knows known ms ns → SideHasRead p first_new x ms → SideHasRead q second_new y ns → Holds x y)
+    →
     Compared Holds a c d h
 job_onwards Holds a b c d f h first second first_new second_new known held now p q step reads others so =
     let one = reads step.read step.ms step.has_read in
@@ -259,8 +266,8 @@ job_onwards Holds a b c d f h first second first_new second_new known held now p
     )
 
 -- memory runs out
-pub job_memory : (p q : Bool) (first second : Side) (known : Renaming) (x y : Input) (ms ns : List Message) → SameJob ms ns → Knows known ms ns →
-    Stands p first x ms → Stands q second y ns → FailsInJob fault.NoMemory x y
+pub job_memory : (p q : Bool) (first second : Side) (known : Renaming) (x y : ReadInput) (ms ns : List Message) → SameJob ms ns → Knows known ms ns →
+    SideHasRead p first x ms → SideHasRead q second y ns → FailsInJob fault.NoMemory x y
 job_memory p q first second known x y ms ns s k a b = (ms, ns, s, (begun p first x ms a, begun q second y ns b))
 
 next_at : (v : Framing) (p : Bool) (next : Option Message) → is_ready v ≡ p → NextIs (is_ready v) v next → NextIs p v next
@@ -268,7 +275,7 @@ next_at v p next e n = subst (λ (b : Bool). NextIs b v next) e n
 
 pub job_parts : (p q : Bool) (first second : Side) (old new : Renaming) → is_ready first.framer ≡ p → is_ready second.framer ≡ q →
     LearnsNext old new first.framer second.framer false
-    → (x y : Input) (ms ns : List Message) → SameJob ms ns → Knows old ms ns → Stands p first x ms → Stands q second y ns →
+    → (x y : ReadInput) (ms ns : List Message) → SameJob ms ns → Knows old ms ns → SideHasRead p first x ms → SideHasRead q second y ns →
     PartFromJob x y first.framer.place second.framer.place
 job_parts p q first second old new e f l x y ms ns s k a b = record {
   ms = ms;
@@ -297,8 +304,8 @@ alike p q v w old new s e f l =
     both_alike (renumbered_message some.0) l.next l.other_next p q v w (l.learns.said refl some.0 some.1) (next_at v p l.next e l.next_is)
     (next_at w q l.other_next f l.other_next_is)
 
-pub job_agrees : (p q : Bool) (first second : Side) (known : Renaming) → p ≡ false → q ≡ false → (x y : Input) (ms ns : List Message) → SameJob ms ns →
-    Knows known ms ns → Stands p first x ms → Stands q second y ns
+pub job_agrees : (p q : Bool) (first second : Side) (known : Renaming) → p ≡ false → q ≡ false → (x y : ReadInput) (ms ns : List Message) → SameJob ms ns →
+    Knows known ms ns → SideHasRead p first x ms → SideHasRead q second y ns
     → AgreeOnJob x y
 job_agrees true q first second known e u x y ms ns s k a b = absurd cc
 job_agrees false true first second known e u x y ms ns s k a b = absurd cc
@@ -307,17 +314,19 @@ job_agrees false false first second known e u x y ms ns s k a b = (ms, ns, s, (a
 -- what is known of the PDUs that are given up
 knows_given : (old new : Renaming) (ms ns : List Message) (v w : Framing) (g h : Head) (a b : List ℕ) (next other : Option Message) → next
     ≡ Some (message_of v g a) → other ≡ Some (message_of w h b)
-    → Knows old ms ns → Learns (Allows old) (Allows new) (λ r. option_map (renumbered_message r) next ≡ other) true →
+    → Knows old ms ns → LearnsAnswer (AllowsRenumbering old) (AllowsRenumbering new) (λ r. option_map (renumbered_message r) next ≡ other) true →
     Knows new (ms ++ message_of v g a ∷ []) (ns ++ message_of w h b ∷ [])
 knows_given old new ms ns v w g h a b next other e f k l =
     knows_more old new ms ns (message_of v g a) (message_of w h b) k
-    (subst (λ (x : Option Message). Learns (Allows old) (Allows new) (λ r. option_map (renumbered_message r) x ≡ Some (message_of w h b)) true) e
-    (subst (λ (x : Option Message). Learns (Allows old) (Allows new) (λ r. option_map (renumbered_message r) next ≡ x) true) f l))
+    (subst (λ (x : Option Message). LearnsAnswer (AllowsRenumbering old) (AllowsRenumbering new)
+    (λ r. option_map (renumbered_message r) x ≡ Some (message_of w h b)) true) e
+    (subst (λ (x : Option Message). LearnsAnswer (AllowsRenumbering old) (AllowsRenumbering new) (λ r. option_map (renumbered_message r) next ≡ x) true) f l))
 
 -- both gave up a PDU
 pub job_one_more : (a b c d f h : Option (List ℕ)) (first second first_new second_new first_last second_last : Side) (old new : Renaming) (held now : List ℕ)
     (p q : Bool) → p ≡ true → q ≡ true
-    → JobInStep (streams a d held) (streams b f now) first second old → ReadsOn first b c (Stands p first_new) → ReadsOn second f h (Stands q second_new) →
+    → JobInStep (streams a d held) (streams b f now) first second old → SideReadsOn first b c (SideHasRead p first_new)
+    → SideReadsOn second f h (SideHasRead q second_new) →
     is_ready first_new.framer ≡ p → is_ready second_new.framer ≡ q
     → IsSoundRenaming new → LearnsNext old new first_new.framer second_new.framer true → GivesUp first_new first_last → GivesUp second_new second_last
     → IsOpen first_last → IsOpen second_last → first_last.which ≡ first.which → second_last.which ≡ second.which →

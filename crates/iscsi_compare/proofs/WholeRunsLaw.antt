@@ -9,12 +9,12 @@ use Rattle.iscsi_stream.proofs.OneMeaningLaw.{one_meaning}
 use Rattle.iscsi_compare.specs.declared.fault.Which.{Which}
 use Rattle.iscsi_compare.specs.declared.fault.Which.TheVariants.{First, Second}
 use Rattle.iscsi_compare.specs.declared.fault.CompareFault.TheVariants as fault
-use Rattle.iscsi_compare.specs.Comparing.{Input}
+use Rattle.iscsi_compare.specs.Comparing.{ReadInput}
 use Rattle.iscsi_compare.specs.SameJob.{renumbered_message, SameJob}
 use Rattle.iscsi_compare.specs.SameJobVerdict.{AgreeOnJob, PartFromJob, FailsInJob}
 use Rattle.iscsi_compare.proofs.WholeStreamsLaw.{Rest, all_read, following, follows, refused_whole}
 
-pub same_whole_runs : (s t : List ℕ) (ms ns : List Message) (x y : Input) → Rest s x → Rest t y → StreamMeans s ms
+pub same_whole_runs : (s t : List ℕ) (ms ns : List Message) (x y : ReadInput) → Rest s x → Rest t y → StreamMeans s ms
     → StreamMeans t ns → AgreeOnJob x y → SameJob ms ns
 same_whole_runs s t ms ns x y a b p q agree =
     let one : agree.0 ≡ ms = one_meaning longest_segment no_login x.read agree.0 ms agree.3.0.0
@@ -58,7 +58,7 @@ part_first a b (Some m) None c d s t =
 part_first a b None (Some n) c d s t =
     absurd (omega (arith, same_count a b s, same_count (a ++ []) (b ++ n ∷ d) t, length-append b (n ∷ d), ap length (append-nil a)))
 
-pub other_whole_runs : (s t : List ℕ) (ms ns : List Message) (x y : Input) (place other_place : ℕ) → Rest s x → Rest t y → StreamMeans s ms
+pub other_whole_runs : (s t : List ℕ) (ms ns : List Message) (x y : ReadInput) (place other_place : ℕ) → Rest s x → Rest t y → StreamMeans s ms
     → StreamMeans t ns → PartFromJob x y place other_place → SameJob ms ns → ⊥
 other_whole_runs s t ms ns x y place other_place a b p q part same =
     let one = follows s ms part.ms x part.next a p part.goes_on in
@@ -68,7 +68,7 @@ other_whole_runs s t ms ns x y place other_place a b p q part same =
 
 -- ---- no fault
 
-pub no_run_refused : (which : Which) (f : StreamFault) (s t : List ℕ) (ms ns : List Message) (x y : Input) → Rest s x → Rest t y → StreamMeans s ms
+pub no_run_refused : (which : Which) (f : StreamFault) (s t : List ℕ) (ms ns : List Message) (x y : ReadInput) → Rest s x → Rest t y → StreamMeans s ms
     → StreamMeans t ns → FailsInJob (fault.Stream which f) x y → ⊥
 no_run_refused First f s t ms ns x y a b p q fails = refused_whole f s ms fails.0 x a p fails.3.0
 no_run_refused Second f s t ms ns x y a b p q fails = refused_whole f t ns fails.1 y b q fails.3.2

@@ -6,7 +6,7 @@ use Rattle.iscsi_compare.specs.declared.fault.CompareFault.{CompareFault}
 use Rattle.iscsi_compare.specs.declared.fault.CompareFault.TheVariants as fault
 use Rattle.iscsi_compare.specs.declared.verdict.Verdict.{Verdict}
 use Rattle.iscsi_compare.specs.declared.verdict.Verdict.TheVariants as verdict
-use Rattle.iscsi_compare.specs.Comparing.{Input, BeginsWith, MeansAll, GoesOn, StandsAt, Stops, IsRefused}
+use Rattle.iscsi_compare.specs.Comparing.{ReadInput, BeginsWithMessages, MeansAll, StreamGoesOn, StandsAtPlace, NoPduFollows, IsRefused}
 use Rattle.iscsi_compare.specs.SameJob.{SameJob}
 
 -- The PDUs before are of one job, and of what follows them this holds.
@@ -15,40 +15,41 @@ BehindOneJob Holds =
     (ms : List Message) × (ns : List Message) × SameJob ms ns × Holds ms ns
 
 -- Both streams are at their ends, and of one job.
-abbrev pub AgreeOnJob : Input → Input → Type 0
+abbrev pub AgreeOnJob : ReadInput → ReadInput → Type 0
 AgreeOnJob first second = BehindOneJob (λ ms ns. MeansAll first ms × MeansAll second ns)
 
 -- The streams are of one job up to these places, and no more with what stands there: a PDU, or the
 -- end of the stream.
-pub record PartFromJob (first second : Input) (place other_place : ℕ) : Type 0 where
+pub record PartFromJob (first second : ReadInput) (place other_place : ℕ) : Type 0 where
   pub ms : List Message
   pub ns : List Message
   pub same : SameJob ms ns
-  pub at : StandsAt first ms place
-  pub other_at : StandsAt second ns other_place
+  pub at : StandsAtPlace first ms place
+  pub other_at : StandsAtPlace second ns other_place
   pub next : Option Message
   pub other_next : Option Message
-  pub goes_on : GoesOn first ms next
-  pub other_goes_on : GoesOn second ns other_next
+  pub goes_on : StreamGoesOn first ms next
+  pub other_goes_on : StreamGoesOn second ns other_next
   pub differ : SameJob (ms ++ option_to_list next) (ns ++ option_to_list other_next) → ⊥
 
 -- Of both streams the PDUs before are read, and of one job; this is the first fault behind them, that
 -- of the first stream before that of the second.
-abbrev pub FailsInJob : CompareFault → Input → Input → Type 0
+abbrev pub FailsInJob : CompareFault → ReadInput → ReadInput → Type 0
 FailsInJob fault.NoMemory first second =
-    BehindOneJob (λ ms ns. BeginsWith first ms × BeginsWith second ns)
+    BehindOneJob (λ ms ns. BeginsWithMessages first ms × BeginsWithMessages second ns)
 FailsInJob (fault.Stream First f) first second =
-    BehindOneJob (λ ms ns. IsRefused f first ms × BeginsWith second ns)
+    BehindOneJob (λ ms ns. IsRefused f first ms × BeginsWithMessages second ns)
 FailsInJob (fault.Stream Second f) first second =
     BehindOneJob (λ ms ns.
-    (next : Option Message) × GoesOn first ms next × IsRefused f second ns)
+    (next : Option Message) × StreamGoesOn first ms next × IsRefused f second ns)
 FailsInJob (fault.Read First) first second =
-    BehindOneJob (λ ms ns. Stops first ms × BeginsWith second ns)
+    BehindOneJob (λ ms ns. NoPduFollows first ms × BeginsWithMessages second ns)
 FailsInJob (fault.Read Second) first second =
-    BehindOneJob (λ ms ns. (next : Option Message) × GoesOn first ms next × Stops second ns)
+    BehindOneJob (λ ms ns. (next : Option Message) × StreamGoesOn first ms next
+    × NoPduFollows second ns)
 
 -- What was read of the streams where a comparison of two runs answers.
-abbrev pub ComparesJobs : Result Verdict CompareFault → Input → Input → Type 0
+abbrev pub ComparesJobs : Result Verdict CompareFault → ReadInput → ReadInput → Type 0
 ComparesJobs (Ok verdict.Same) first second = AgreeOnJob first second
 ComparesJobs (Ok (verdict.Differ place other_place)) first second =
     PartFromJob first second place other_place

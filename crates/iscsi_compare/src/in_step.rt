@@ -1,9 +1,9 @@
 //! Two streams in step.
 
 ghost use Rattle.std.specs.Prelude.{◌≡◌, ◌++◌, ℕ, List, true, false, Ok, IfErr, OnOk, OnErr};
-ghost use Rattle.iscsi_compare.specs.Comparing.{Input, Gave, Agree, Part, Fails, Compares, Tells};
+ghost use Rattle.iscsi_compare.specs.Comparing.{ReadInput, GaveInput, AgreeAtEnds, Part, ComparisonFails, ComparePost, AppendsDifference};
 ghost use Rattle.iscsi_compare.specs.declared.verdict.Verdict.TheVariants as verdict;
-ghost use Rattle.iscsi_stream.specs.Shown.{IsLine};
+ghost use Rattle.iscsi_stream.specs.Shown.{IsShownLine};
 
 use crate::fault::{CompareFault, Which};
 use crate::side::Side;
@@ -30,20 +30,21 @@ pub fn compare<R: Read, Q: Read>(
     out: &mut Vec<u8>,
 ) -> Result<Verdict, CompareFault>
     // The same: both streams were read to their ends, and have one meaning.
-    ensures same { result ≡ Ok verdict.Same → (first : Input) × (second : Input)
-        × Gave (R.remaining mine.old) (R.remaining mine.new) first
-        × Gave (Q.remaining other.old) (Q.remaining other.new) second × Agree first second }
+    ensures same { result ≡ Ok verdict.Same → (first : ReadInput) × (second : ReadInput)
+        × GaveInput (R.remaining mine.old) (R.remaining mine.new) first
+        × GaveInput (Q.remaining other.old) (Q.remaining other.new) second
+        × AgreeAtEnds first second }
     // They part at these places, and so have no meaning in common.
     ensures differ { (place other_place : ℕ) → result ≡ Ok (verdict.Differ place other_place)
-        → (first : Input) × (second : Input)
-        × Gave (R.remaining mine.old) (R.remaining mine.new) first
-        × Gave (Q.remaining other.old) (Q.remaining other.new) second
+        → (first : ReadInput) × (second : ReadInput)
+        × GaveInput (R.remaining mine.old) (R.remaining mine.new) first
+        × GaveInput (Q.remaining other.old) (Q.remaining other.new) second
         × Part first second place other_place }
-    ensures fault { IfErr result (λ fault. (first : Input) × (second : Input)
-        × Gave (R.remaining mine.old) (R.remaining mine.new) first
-        × Gave (Q.remaining other.old) (Q.remaining other.new) second
-        × Fails fault first second) }
-    ensures tells { Tells result out.old.items out.new.items }
+    ensures fault { IfErr result (λ fault. (first : ReadInput) × (second : ReadInput)
+        × GaveInput (R.remaining mine.old) (R.remaining mine.new) first
+        × GaveInput (Q.remaining other.old) (Q.remaining other.new) second
+        × ComparisonFails fault first second) }
+    ensures tells { AppendsDifference result out.old.items out.new.items }
 {
     compare_streams(alloc, mine, other, out)
 }
@@ -55,11 +56,11 @@ fn compare_streams<R: Read, Q: Read>(
     other: &mut Q,
     out: &mut Vec<u8>,
 ) -> Result<Verdict, CompareFault>
-    ensures compares { (first : Input) × (second : Input)
-        × Gave (R.remaining mine.old) (R.remaining mine.new) first
-        × Gave (Q.remaining other.old) (Q.remaining other.new) second
-        × Compares result first second }
-    ensures tells { Tells result out.old.items out.new.items }
+    ensures compares { (first : ReadInput) × (second : ReadInput)
+        × GaveInput (R.remaining mine.old) (R.remaining mine.new) first
+        × GaveInput (Q.remaining other.old) (Q.remaining other.new) second
+        × ComparePost result first second }
+    ensures tells { AppendsDifference result out.old.items out.new.items }
 {
     let mut first = Side::new(alloc, Which::First);
     let mut second = Side::new(alloc, Which::Second);
@@ -102,7 +103,7 @@ pub(crate) fn difference(first: &Side, second: &Side) -> Verdict
 // out.
 pub(crate) fn write_lines(first: &Side, second: &Side, out: &mut Vec<u8>) -> Result<(), AllocError>
     ensures ok { OnOk result ((line : List ℕ) × (other_line : List ℕ)
-        × IsLine line × IsLine other_line
+        × IsShownLine line × IsShownLine other_line
         × (out.new.items ≡ out.old.items ++ (line ++ other_line))) }
     ensures err { OnErr result (out.new.items ≡ out.old.items) }
 {

@@ -10,34 +10,34 @@ ghost use Rattle.iscsi_stream.specs.Canonical.{canon};
 ghost use Rattle.iscsi_compare.specs.declared.fault.Which.{Which};
 ghost use Rattle.iscsi_compare.specs.declared.fault.CompareFault.TheVariants as fault;
 ghost use Rattle.iscsi_compare.specs.declared.verdict.Verdict.TheVariants as verdict;
-ghost use Rattle.iscsi_compare.specs.Comparing.{Input, Gave, Compares};
-
+ghost use Rattle.iscsi_compare.specs.Comparing.{ReadInput, GaveInput, ComparePost};
 /// Of streams that were read to their ends, it is said that they are the same exactly if their
 /// meanings are one, and exactly if their canonical streams are equal.
 pub fn same_meaning()
-    ensures meanings { (first second : Input) (ms ns : List Message) → IsAtEnd first.left
+    ensures meanings { (first second : ReadInput) (ms ns : List Message) → IsAtEnd first.left
         → IsAtEnd second.left → StreamMeans first.read ms → StreamMeans second.read ns
-        → Compares (Ok verdict.Same) first second ↔ (ms ≡ ns) }
-    ensures forms { (first second : Input) (ms ns : List Message) → AreBytes first.read
+        → ComparePost (Ok verdict.Same) first second ↔ (ms ≡ ns) }
+    ensures forms { (first second : ReadInput) (ms ns : List Message) → AreBytes first.read
         → AreBytes second.read → IsAtEnd first.left → IsAtEnd second.left
         → StreamMeans first.read ms → StreamMeans second.read ns
-        → Compares (Ok verdict.Same) first second ↔ (canon ms ≡ canon ns) }
+        → ComparePost (Ok verdict.Same) first second ↔ (canon ms ≡ canon ns) }
 {}
 
 /// A verdict on two streams of the profile says truly whether their meanings are one, and no fault
 /// of a stream is returned. This holds if as much of the streams was read as was needed.
 pub fn whole_streams()
     ensures same { (s t : List ℕ) (ms ns : List Message) (left other_left : Option (List ℕ))
-        (first second : Input) → Gave (Some s) left first → Gave (Some t) other_left second
+        (first second : ReadInput) → GaveInput (Some s) left first
+        → GaveInput (Some t) other_left second
         → StreamMeans s ms → StreamMeans t ns
-        → Compares (Ok verdict.Same) first second → ms ≡ ns }
+        → ComparePost (Ok verdict.Same) first second → ms ≡ ns }
     ensures differ { (s t : List ℕ) (ms ns : List Message) (left other_left : Option (List ℕ))
-        (first second : Input) (place other_place : ℕ) → Gave (Some s) left first
-        → Gave (Some t) other_left second
+        (first second : ReadInput) (place other_place : ℕ) → GaveInput (Some s) left first
+        → GaveInput (Some t) other_left second
         → StreamMeans s ms → StreamMeans t ns
-        → Compares (Ok (verdict.Differ place other_place)) first second → ms ≡ ns → ⊥ }
+        → ComparePost (Ok (verdict.Differ place other_place)) first second → ms ≡ ns → ⊥ }
     ensures no_fault { (s t : List ℕ) (ms ns : List Message) (left other_left : Option (List ℕ))
-        (first second : Input) (which : Which) (f : StreamFault) → Gave (Some s) left first
-        → Gave (Some t) other_left second → StreamMeans s ms → StreamMeans t ns
-        → Compares (Err (fault.Stream which f)) first second → ⊥ }
+        (first second : ReadInput) (which : Which) (f : StreamFault) → GaveInput (Some s) left first
+        → GaveInput (Some t) other_left second → StreamMeans s ms → StreamMeans t ns
+        → ComparePost (Err (fault.Stream which f)) first second → ⊥ }
 {}

@@ -1,7 +1,7 @@
 //! Two runs of one job.
 
 ghost use Rattle.std.specs.Prelude.{◌≡◌};
-ghost use Rattle.iscsi_compare.specs.Comparing.{Input, Gave, Tells};
+ghost use Rattle.iscsi_compare.specs.Comparing.{ReadInput, GaveInput, AppendsDifference};
 ghost use Rattle.iscsi_compare.specs.SameJobVerdict.{ComparesJobs};
 
 mod heads;
@@ -36,11 +36,11 @@ pub fn compare_jobs<R: Read, Q: Read>(
     other: &mut Q,
     out: &mut Vec<u8>,
 ) -> Result<Verdict, CompareFault>
-    ensures compares { (first : Input) × (second : Input)
-        × Gave (R.remaining mine.old) (R.remaining mine.new) first
-        × Gave (Q.remaining other.old) (Q.remaining other.new) second
+    ensures compares { (first : ReadInput) × (second : ReadInput)
+        × GaveInput (R.remaining mine.old) (R.remaining mine.new) first
+        × GaveInput (Q.remaining other.old) (Q.remaining other.new) second
         × ComparesJobs result first second }
-    ensures tells { Tells result out.old.items out.new.items }
+    ensures tells { AppendsDifference result out.old.items out.new.items }
 {
     let mut first = Side::new(alloc, Which::First);
     let mut second = Side::new(alloc, Which::Second);

@@ -4,10 +4,10 @@ ghost use Rattle.std.specs.Prelude.{◌≡◌, ◌≤◌, ◌<◌, ◌-◌, ◌+
 ghost use Rattle.iscsi_pdu.specs.Meaning.{Means};
 ghost use Rattle.iscsi_pdu.specs.declared.head.Head.{Head};
 ghost use Rattle.iscsi_stream.specs.Stream.{Message};
-ghost use Rattle.iscsi_stream.specs.Framing.{is_ready, message_of, stopped, Takes, FeedFails};
-ghost use Rattle.iscsi_stream.specs.Shown.{IsLine};
-ghost use Rattle.iscsi_compare.specs.Comparing.{input_of};
-ghost use Rattle.iscsi_compare.specs.Inside.{compare_fault, fuel, IsOpen, HasRead, ReadsOn, Stands, SideFails, FormIf};
+ghost use Rattle.iscsi_stream.specs.Framing.{is_ready, message_of, stopped, FramerTakes, FramerFeedFails};
+ghost use Rattle.iscsi_stream.specs.Shown.{IsShownLine};
+ghost use Rattle.iscsi_compare.specs.inner.Comparing.{input_of};
+ghost use Rattle.iscsi_compare.specs.inner.Inside.{compare_fault, fuel, IsOpen, HasRead, SideReadsOn, SideHasRead, SideFails, FormIf};
 
 use crate::fault::{CompareFault, Which};
 use iscsi_stream::{Framer, LONGEST_SEGMENT, PIECE, Reads, StreamFault, canonical, show_line};
@@ -59,9 +59,10 @@ impl Side {
         ensures which { self.new.which ≡ self.old.which }
         ensures fuel { fuel self.new ≤ fuel self.old }
         ensures ready { IfOk result (λ some. is_ready self.new.framer ≡ some) }
-        ensures ok { IfOk result (λ some. ReadsOn self.old (R.remaining r.old) (R.remaining r.new)
-            (Stands some self.new)) }
-        ensures err { IfErr result (λ fault. ReadsOn self.old
+        ensures ok { IfOk result (λ some. SideReadsOn self.old (R.remaining r.old)
+            (R.remaining r.new)
+            (SideHasRead some self.new)) }
+        ensures err { IfErr result (λ fault. SideReadsOn self.old
             (R.remaining r.old) (R.remaining r.new) (SideFails fault self.old.which)) }
         ensures form { IfOk result (λ some. FormIf some self.new.framer form.new.items) }
     {
@@ -83,9 +84,10 @@ impl Side {
         ensures which { self.new.which ≡ self.old.which }
         ensures fuel { fuel self.new ≤ fuel self.old }
         ensures ready { IfOk result (λ some. is_ready self.new.framer ≡ some) }
-        ensures ok { IfOk result (λ some. ReadsOn self.old (R.remaining r.old) (R.remaining r.new)
-            (Stands some self.new)) }
-        ensures err { IfErr result (λ fault. ReadsOn self.old
+        ensures ok { IfOk result (λ some. SideReadsOn self.old (R.remaining r.old)
+            (R.remaining r.new)
+            (SideHasRead some self.new)) }
+        ensures err { IfErr result (λ fault. SideReadsOn self.old
             (R.remaining r.old) (R.remaining r.new) (SideFails fault self.old.which)) }
     {
         loop {
@@ -113,7 +115,7 @@ impl Side {
     /// Appends the line of the PDU that is ready, as `show` writes it, or a line that says that the
     /// stream ends, and where. Returns `AllocError` where memory runs out.
     pub(crate) fn write_line(&self, out: &mut Vec<u8>) -> Result<(), AllocError>
-        ensures line { OnOk result ((line : List ℕ) × IsLine line
+        ensures line { OnOk result ((line : List ℕ) × IsShownLine line
             × (out.new.items ≡ out.old.items ++ line)) }
     {
         match self.framer.pdu() {
@@ -170,9 +172,10 @@ impl Side {
         ensures fuel { fuel self.new ≤ fuel self.old }
         ensures reads { result ≡ Ok true → self.old.reads < self.new.reads }
         ensures unready { OnOk result (is_ready self.new.framer ≡ false) }
-        ensures ok { IfOk result (λ some. ReadsOn self.old (R.remaining r.old) (R.remaining r.new)
-            (Stands some self.new)) }
-        ensures err { IfErr result (λ fault. ReadsOn self.old
+        ensures ok { IfOk result (λ some. SideReadsOn self.old (R.remaining r.old)
+            (R.remaining r.new)
+            (SideHasRead some self.new)) }
+        ensures err { IfErr result (λ fault. SideReadsOn self.old
             (R.remaining r.old) (R.remaining r.new) (SideFails fault self.old.which)) }
     {
         match self.reads.next(r, &mut self.piece) {
@@ -200,8 +203,9 @@ fn feed_part(
     requires order { from ≤ to }
     requires within { to ≤ length piece.now }
     ensures ok { IfOk result (λ n.
-        Takes framer.old (take (to - from) (drop from piece.now)) n framer.new) }
-    ensures err { IfErr result (FeedFails framer.old (take (to - from) (drop from piece.now))) }
+        FramerTakes framer.old (take (to - from) (drop from piece.now)) n framer.new) }
+    ensures err { IfErr result (FramerFeedFails framer.old
+        (take (to - from) (drop from piece.now))) }
     ensures stopped { OnErr result (framer.new ≡ stopped framer.old) }
 {
     framer.feed(&piece[from..to])
@@ -219,7 +223,7 @@ fn compare_fault(which: Which, fault: StreamFault) -> CompareFault
 
 // Appends the line that says where a stream ends.
 fn write_end(place: u64, out: &mut Vec<u8>) -> Result<(), AllocError>
-    ensures line { OnOk result ((line : List ℕ) × IsLine line
+    ensures line { OnOk result ((line : List ℕ) × IsShownLine line
         × (out.new.items ≡ out.old.items ++ line)) }
 {
     let mut decimal = Buffer::new();

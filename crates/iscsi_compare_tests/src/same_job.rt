@@ -5,7 +5,7 @@
 use crate::asserts::same;
 use iscsi_compare::same_job::compare_jobs;
 use iscsi_compare::{CompareFault, Verdict, Which};
-use iscsi_examples::{Source, Steps, marked};
+use iscsi_test_support::{Source, Steps, marked};
 use std::alloc::Global;
 use std::process::Abort;
 

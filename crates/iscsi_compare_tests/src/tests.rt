@@ -2,7 +2,7 @@
 //! section 11.
 
 use iscsi_compare::{CompareFault, Verdict, compare};
-use iscsi_examples::LineFault;
+use iscsi_test_support::LineFault;
 use std::alloc::Global;
 use std::process::Abort;
 
@@ -14,7 +14,7 @@ mod worked;
 fn read_bytes(alloc: Global, lines: &str) -> Result<Vec<u8>, LineFault> {
     let mut stream = Vec::new(alloc);
     for line in lines.lines() {
-        stream.extend_from_slice(&iscsi_examples::bytes_of(alloc, line)?)?;
+        stream.extend_from_slice(&iscsi_test_support::bytes_of(alloc, line)?)?;
     }
     Ok(stream)
 }

@@ -9,13 +9,13 @@ use Rattle.iscsi_compare.specs.declared.fault.CompareFault.{CompareFault}
 use Rattle.iscsi_compare.specs.declared.fault.CompareFault.TheVariants as compare
 use Rattle.iscsi_compare.specs.declared.verdict.Verdict.{Verdict}
 use Rattle.iscsi_compare.specs.SameJobVerdict.{ComparesJobs}
-use Rattle.iscsi_compare.specs.Comparing.{Input, Gave, Compares, Tells}
+use Rattle.iscsi_compare.specs.Comparing.{ReadInput, GaveInput, ComparePost, AppendsDifference}
 use Rattle.iscsi_comparison.specs.declared.comparing.Sameness.{Sameness}
 use Rattle.iscsi_comparison.specs.declared.comparing.Sameness.TheVariants as same
 use Rattle.iscsi_comparison.specs.declared.comparing.ComparisonFault.{ComparisonFault}
 use Rattle.iscsi_comparison.specs.declared.comparing.ComparisonFault.TheVariants as fault
-use Rattle.iscsi_filters.specs.Filters.{exit_status}
-use Rattle.iscsi_filters.specs.HexText.{BytesOf, HexTextFails, IsRead}
+use Rattle.iscsi_filters.specs.Filters.{filter_exit_status}
+use Rattle.iscsi_filters.specs.HexText.{BytesOf, HexTextFails, IsReadToFault}
 
 -- a fault of an input, or of none
 abbrev pub input_fault : Which → ToolFault → ComparisonFault
@@ -35,48 +35,51 @@ comparison_fault (compare.Stream which f) = fault.Input which (tool.Stream f)
 comparison_fault (compare.Read which) = fault.Input which tool.Read
 
 -- the exit status of a fault
-abbrev pub fault_status : ComparisonFault → ℕ
-fault_status (fault.Input which f) = exit_status f
-fault_status (fault.Own f) = exit_status f
+abbrev pub comparison_exit_status : ComparisonFault → ℕ
+comparison_exit_status (fault.Input which f) = filter_exit_status f
+comparison_exit_status (fault.Own f) = filter_exit_status f
 
 -- how a comparison of two inputs ends
-abbrev pub Outcome : Type 0
-Outcome = Result Verdict ComparisonFault
+abbrev pub ComparisonOutcome : Type 0
+ComparisonOutcome = Result Verdict ComparisonFault
 
 -- What is answered and written if a comparison says this: its verdict, and the lines of the
 -- difference; or its fault, and nothing. A write of the lines that fails leaves a front of them.
-abbrev pub Ends : Result Verdict CompareFault → Outcome → List ℕ → Type 0
-Ends (Ok verdict) (Ok said) written = (said ≡ verdict) × Tells (Ok verdict) [] written
-Ends (Ok verdict) (Err f) written =
+abbrev pub ComparisonPost : Result Verdict CompareFault → ComparisonOutcome → List ℕ → Type 0
+ComparisonPost (Ok verdict) (Ok said) written =
+    (said ≡ verdict) × AppendsDifference (Ok verdict) [] written
+ComparisonPost (Ok verdict) (Err f) written =
     (f ≡ fault.Own tool.Write)
-    × ((lines : List ℕ) × (n : ℕ) × Tells (Ok verdict) [] lines × (written ≡ take n lines))
-Ends (Err f) (Ok said) written = ⊥
-Ends (Err f) (Err e) written = (e ≡ comparison_fault f) × (written ≡ [])
+    × ((lines : List ℕ) × (n : ℕ) × AppendsDifference (Ok verdict) [] lines
+    × (written ≡ take n lines))
+ComparisonPost (Err f) (Ok said) written = ⊥
+ComparisonPost (Err f) (Err e) written = (e ≡ comparison_fault f) × (written ≡ [])
 
 -- what a comparison says of two streams, as it was asked
-abbrev pub Judges : Sameness → Result Verdict CompareFault → Input → Input → Type 0
-Judges same.Meaning said first second = Compares said first second
-Judges same.Job said first second = ComparesJobs said first second
+abbrev pub ComparisonSays : Sameness → Result Verdict CompareFault → ReadInput → ReadInput → Type 0
+ComparisonSays same.Meaning said first second = ComparePost said first second
+ComparisonSays same.Job said first second = ComparesJobs said first second
 
 -- Two streams of bytes were compared.
-abbrev pub ComparesBytes : Sameness → Outcome → Input → Input → List ℕ → Type 0
+abbrev pub ComparesBytes : Sameness → ComparisonOutcome → ReadInput → ReadInput → List ℕ → Type 0
 ComparesBytes sameness outcome first second written =
-    (said : Result Verdict CompareFault) × Judges sameness said first second
-    × Ends said outcome written
+    (said : Result Verdict CompareFault) × ComparisonSays sameness said first second
+    × ComparisonPost said outcome written
 
 -- Two streams that are there as a whole were compared, as far as that was needed.
-pub record ComparesWhole (sameness : Sameness) (outcome : Outcome)
+pub record ComparesWhole (sameness : Sameness) (outcome : ComparisonOutcome)
     (stream other_stream written : List ℕ) : Type 0 where
-  pub first : Input
-  pub second : Input
+  pub first : ReadInput
+  pub second : ReadInput
   pub left : Option (List ℕ)
   pub other_left : Option (List ℕ)
-  pub gave : Gave (Some stream) left first
-  pub other_gave : Gave (Some other_stream) other_left second
+  pub gave : GaveInput (Some stream) left first
+  pub other_gave : GaveInput (Some other_stream) other_left second
   pub compares : ComparesBytes sameness outcome first second written
 
 -- Both texts were read to their ends, and the bytes that they mean were compared.
-pub record ComparesTexts (sameness : Sameness) (outcome : Outcome) (first second : Input)
+pub record ComparesTexts (sameness : Sameness) (outcome : ComparisonOutcome)
+    (first second : ReadInput)
     (written : List ℕ) : Type 0 where
   pub ended : IsAtEnd first.left
   pub other_ended : IsAtEnd second.left
@@ -87,21 +90,22 @@ pub record ComparesTexts (sameness : Sameness) (outcome : Outcome) (first second
   pub compares : ComparesWhole sameness outcome bytes other_bytes written
 
 -- A text was refused or can't be read, and nothing was written.
-pub record RefusesText (which : Which) (outcome : Outcome) (input : Input) (written : List ℕ)
+pub record RefusesText (which : Which) (outcome : ComparisonOutcome) (input : ReadInput)
+    (written : List ℕ)
     : Type 0 where
   pub reason : ToolFault
   pub fails : HexTextFails reason input.read
-  pub is_read : IsRead reason input.read input.left
+  pub is_read : IsReadToFault reason input.read input.left
   pub outcome_is : outcome ≡ Err (input_fault which reason)
   pub none : written ≡ []
 
 -- Two streams that come as hex text were compared; both texts are read first.
-abbrev pub ComparesHex : Sameness → Outcome → Input → Input → List ℕ → Type 0
+abbrev pub ComparesHex : Sameness → ComparisonOutcome → ReadInput → ReadInput → List ℕ → Type 0
 ComparesHex sameness outcome first second written =
     RefusesText First outcome first written
     ⊎ (RefusesText Second outcome second written
     ⊎ ComparesTexts sameness outcome first second written)
 
 -- A reader gave this text.
-abbrev pub GaveText : Option (List ℕ) → Option (List ℕ) → Input → Type 0
+abbrev pub GaveText : Option (List ℕ) → Option (List ℕ) → ReadInput → Type 0
 GaveText old new input = Consumes old new input.read × (input.left ≡ new)

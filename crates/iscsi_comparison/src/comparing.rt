@@ -2,8 +2,8 @@
 
 ghost use Rattle.std.specs.Prelude.{◌≡◌, ℕ, List};
 ghost use Rattle.std.specs.Io.KnownBytes.{Appends};
-ghost use Rattle.iscsi_compare.specs.Comparing.{Input, Gave, Tells};
-ghost use Rattle.iscsi_comparison.specs.Comparisons.{input_fault, comparison_fault, fault_status, Judges, ComparesBytes, ComparesHex, GaveText};
+ghost use Rattle.iscsi_compare.specs.Comparing.{ReadInput, GaveInput, AppendsDifference};
+ghost use Rattle.iscsi_comparison.specs.Comparisons.{input_fault, comparison_fault, comparison_exit_status, ComparisonSays, ComparesBytes, ComparesHex, GaveText};
 
 use iscsi_compare::same_job::compare_jobs;
 use iscsi_compare::{CompareFault, Verdict, Which, compare};
@@ -33,7 +33,7 @@ pub enum ComparisonFault {
 impl ComparisonFault {
     /// The exit status that says the fault: that of `status`.
     pub fn status(&self) -> u8
-        ensures { result ≡ fault_status self.now }
+        ensures { result ≡ comparison_exit_status self.now }
     {
         match self {
             ComparisonFault::Input(_, fault) => status(fault),
@@ -54,9 +54,9 @@ pub fn compare_bytes<R: Read, Q: Read, W: Write>(
     other: &mut Q,
     w: &mut W,
 ) -> Result<Verdict, ComparisonFault>
-    ensures compares { (first : Input) × (second : Input) × (written : List ℕ)
-        × Gave (R.remaining mine.old) (R.remaining mine.new) first
-        × Gave (Q.remaining other.old) (Q.remaining other.new) second
+    ensures compares { (first : ReadInput) × (second : ReadInput) × (written : List ℕ)
+        × GaveInput (R.remaining mine.old) (R.remaining mine.new) first
+        × GaveInput (Q.remaining other.old) (Q.remaining other.new) second
         × Appends (W.contents w.old) (W.contents w.new) written
         × ComparesBytes sameness result first second written }
 {
@@ -81,7 +81,7 @@ pub fn compare_hex<R: Read, Q: Read, W: Write>(
     other: &mut Q,
     w: &mut W,
 ) -> Result<Verdict, ComparisonFault>
-    ensures compares { (first : Input) × (second : Input) × (written : List ℕ)
+    ensures compares { (first : ReadInput) × (second : ReadInput) × (written : List ℕ)
         × GaveText (R.remaining mine.old) (R.remaining mine.new) first
         × GaveText (Q.remaining other.old) (Q.remaining other.new) second
         × Appends (W.contents w.old) (W.contents w.new) written
@@ -108,11 +108,11 @@ fn judged<R: Read, Q: Read>(
     other: &mut Q,
     lines: &mut Vec<u8>,
 ) -> Result<Verdict, CompareFault>
-    ensures compares { (first : Input) × (second : Input)
-        × Gave (R.remaining mine.old) (R.remaining mine.new) first
-        × Gave (Q.remaining other.old) (Q.remaining other.new) second
-        × Judges sameness result first second }
-    ensures tells { Tells result lines.old.items lines.new.items }
+    ensures compares { (first : ReadInput) × (second : ReadInput)
+        × GaveInput (R.remaining mine.old) (R.remaining mine.new) first
+        × GaveInput (Q.remaining other.old) (Q.remaining other.new) second
+        × ComparisonSays sameness result first second }
+    ensures tells { AppendsDifference result lines.old.items lines.new.items }
 {
     match sameness {
         Sameness::Meaning => compare(alloc, mine, other, lines),

@@ -2,7 +2,7 @@
 use Rattle.std.specs.Prelude.{◌≡◌, ℕ, Result, Ok, Err, Some}
 use Rattle.iscsi_secrets.specs.declared.fault.SecretsFault.{SecretsFault}
 use Rattle.iscsi_secrets.specs.declared.fault.SecretsFault.TheVariants as secrets
-use Rattle.iscsi_serving.specs.Faults.{exit_status}
+use Rattle.iscsi_serving.specs.Faults.{serve_exit_status}
 use Rattle.iscsi_serve_words.specs.declared.command_line.LineFault.{LineFault}
 use Rattle.iscsi_serve_words.specs.declared.serve_words.ServeJob.{ServeJob}
 use Rattle.iscsi_serve_words.specs.declared.storage.Storage.{Storage}
@@ -19,7 +19,7 @@ secrets_status _ = 4
 
 -- The exit status of a fault: that of the service, that of the secrets, or 4 for an image and an export.
 abbrev pub disk_status : DiskFault → ℕ
-disk_status (disk.Session fault) = exit_status fault
+disk_status (disk.Session fault) = serve_exit_status fault
 disk_status (disk.Image image fault) = 4
 disk_status (disk.Nbd export fault) = 4
 disk_status (disk.Secrets path fault) = secrets_status fault

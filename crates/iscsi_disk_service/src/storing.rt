@@ -6,13 +6,13 @@ ghost use Rattle.iscsi_serve_words.specs.Services.{CanServe, IsServeJob};
 ghost use Rattle.iscsi_serve_words.specs.Storage.{IsStorage};
 ghost use Rattle.iscsi_disk_service.specs.Disks.{EndsDisk, EndsStorage, disk_status};
 
+use iscsi_event_loop::{serve_at_once, serve_memory_at_once};
 use iscsi_options::Options;
 use iscsi_secrets::{Secrets, SecretsFault};
+use iscsi_serve::serve;
 use iscsi_serve_words::{
     Image, ImageFault, NbdExport, NbdFault, ServeJob, Service, Storage, read_initiators,
 };
-use iscsi_server::{serve_at_once, serve_memory_at_once};
-use iscsi_service::serve;
 use iscsi_serving::{Access, ServeFault};
 use scsi_disk::{BlockStore, ReadOnly, SparseStore};
 use scsi_file::{FileStore, Medium};

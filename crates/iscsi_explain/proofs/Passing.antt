@@ -4,12 +4,12 @@ use Rattle.std.proofs.lemmas.List.{take-append-drop, take_rest, nil_from_length}
 use Rattle.iscsi_pdu.specs.declared.head.Head.{Head}
 use Rattle.iscsi_pdu.specs.Meaning.{Means}
 use Rattle.iscsi_stream.specs.Stream.{Message}
-use Rattle.iscsi_stream.specs.Framing.{Framing, is_ready, Takes, Moves, given_up, message_of}
+use Rattle.iscsi_stream.specs.Framing.{Framing, is_ready, FramerTakes, FramerMoves, pdu_given_up, message_of}
 use Rattle.iscsi_stream.proofs.PassingLemmas.{unready_after}
 use Rattle.iscsi_stream.proofs.TakingLemmas.{moves_none, moves_fed, moves_gave, moves_then, taken_at}
 use Rattle.iscsi_explain.specs.declared.form.Form.{Form}
-use Rattle.iscsi_explain.specs.Forms.{IsEntry}
-use Rattle.iscsi_explain.specs.Showing.{AreEntries, AppendsSome, PassesOn}
+use Rattle.iscsi_explain.specs.Forms.{IsPduEntry}
+use Rattle.iscsi_explain.specs.Showing.{AreEntries, AppendsSome, PassesEntries}
 
 pub entries_append : (form : Form) (ms ns : List Message) (a b : List ℕ) → AreEntries form ms a
     → AreEntries form ns b → AreEntries form (ms ++ ns) (a ++ b)
@@ -23,7 +23,7 @@ entries_append form (m ∷ ms) ns a b entries more = (
 )
 
 pub pass_none : (form : Form) (v : Framing) (out : List ℕ) → is_ready v ≡ false
-    → PassesOn form v v out out [] []
+    → PassesEntries form v v out out [] []
 pass_none form v out unready = record {
   moves = moves_none v;
   limit = refl;
@@ -34,12 +34,12 @@ pass_none form v out unready = record {
 }
 
 pub pass_one : (form : Form) (v w : Framing) (h : Head) (d before after entry : List ℕ)
-    → Means v.held h d → w ≡ given_up v h → after ≡ before ++ entry → IsEntry form entry
-    → PassesOn form v w before after [] (message_of v h d ∷ [])
+    → Means v.held h d → w ≡ pdu_given_up v h → after ≡ before ++ entry → IsPduEntry form entry
+    → PassesEntries form v w before after [] (message_of v h d ∷ [])
 pass_one form v w h d before after entry means is appended is_entry =
     let m = message_of v h d in
     record {
-      moves = subst (λ (x : Framing). Moves v x [] (m ∷ [])) (sym is) (moves_gave v h d means);
+      moves = subst (λ (x : Framing). FramerMoves v x [] (m ∷ [])) (sym is) (moves_gave v h d means);
       limit = ap (λ (x : Framing). x.limit) is;
       unready = ap is_ready is ∙ unready_after v h;
       out = entry;
@@ -48,7 +48,7 @@ pass_one form v w h d before after entry means is appended is_entry =
     }
 
 pub passes_then : (form : Form) (u v w : Framing) (x y : List ℕ) (ms ns : List Message) (a b c : List ℕ)
-    → PassesOn form u v a b x ms → PassesOn form v w b c y ns → PassesOn form u w a c (x ++ y) (ms ++ ns)
+    → PassesEntries form u v a b x ms → PassesEntries form v w b c y ns → PassesEntries form u w a c (x ++ y) (ms ++ ns)
 passes_then form u v w x y ms ns a b c p q = record {
   moves = moves_then u v w x y ms ns p.moves q.moves;
   limit = q.limit ∙ p.limit;
@@ -64,16 +64,16 @@ pub record UpTo (form : Form) (piece rest : List ℕ) (old new : Framing) (befor
   pub begun : List ℕ
   pub more : List Message
   pub parts : piece ≡ begun ++ rest
-  pub passes : PassesOn form old new before after begun more
+  pub passes : PassesEntries form old new before after begun more
 
 pub up_to_none : (form : Form) (piece : List ℕ) (old v : Framing) (a b : List ℕ) (more : List Message)
-    → PassesOn form old v a b [] more → UpTo form piece piece old v a b
+    → PassesEntries form old v a b [] more → UpTo form piece piece old v a b
 up_to_none form piece old v a b more passes =
     record { begun = []; more = more; parts = refl; passes = passes }
 
 pub up_to_more : (form : Form) (piece rest : List ℕ) (old v u w : Framing) (a b c : List ℕ) (taken : ℕ)
-    (more : List Message) → UpTo form piece rest old v a b → Takes v rest taken u
-    → PassesOn form u w b c [] more
+    (more : List Message) → UpTo form piece rest old v a b → FramerTakes v rest taken u
+    → PassesEntries form u w b c [] more
     → UpTo form piece (take (length rest - taken) (drop taken rest)) old w a c
 up_to_more form piece rest old v u w a b c taken more upto takes one = record {
   begun = upto.begun ++ take taken rest;
@@ -94,11 +94,11 @@ up_to_more form piece rest old v u w a b c taken more upto takes one = record {
 }
 
 pub up_to_all : (form : Form) (piece rest : List ℕ) (old v : Framing) (a b : List ℕ) → length rest ≡ 0
-    → UpTo form piece rest old v a b → (more : List Message) × PassesOn form old v a b piece more
+    → UpTo form piece rest old v a b → (more : List Message) × PassesEntries form old v a b piece more
 up_to_all form piece rest old v a b none upto =
     let same : piece ≡ upto.begun = upto.parts ∙ ap (λ (x : List ℕ). upto.begun ++ x)
     (nil_from_length rest none) ∙ append-nil upto.begun in
-    (upto.more, subst (λ (x : List ℕ). PassesOn form old v a b x upto.more) (sym same) upto.passes)
+    (upto.more, subst (λ (x : List ℕ). PassesEntries form old v a b x upto.more) (sym same) upto.passes)
 
 pub up_to_some : (form : Form) (piece rest : List ℕ) (old v : Framing) (a b c : List ℕ)
     → UpTo form piece rest old v a b → c ≡ b → AppendsSome form a c

@@ -6,12 +6,12 @@ use Rattle.std.proofs.KnownBytes.{Appends-trans, Appends-nil, Consumes-trans, Co
 use Rattle.std.proofs.lemmas.List.{nil_from_length}
 use Rattle.iscsi_stream.specs.Segment.{no_login}
 use Rattle.iscsi_stream.specs.Stream.{Message, StreamMeans, ReadsAs, longest_segment}
-use Rattle.iscsi_stream.specs.Framing.{Framing, opening, is_ready, HasTaken}
+use Rattle.iscsi_stream.specs.Framing.{Framing, opening_framing, is_ready, HasTaken}
 use Rattle.iscsi_stream.proofs.SettledBytesLemmas.{length-settled}
 use Rattle.iscsi_stream.proofs.ReadyLemmas.{apart, not_whole-nil}
 use Rattle.iscsi_stream.proofs.TakingLemmas.{at_opening}
 use Rattle.iscsi_explain.specs.declared.form.Form.{Form}
-use Rattle.iscsi_explain.specs.Showing.{AreEntries, PassesOn}
+use Rattle.iscsi_explain.specs.Showing.{AreEntries, PassesEntries}
 use Rattle.iscsi_explain.proofs.Passing.{entries_append}
 
 -- an entry for each PDU of what was read is written
@@ -26,7 +26,7 @@ pub record ReadUpTo (form : Form) (v : Framing) (r0 r1 w0 w1 : Option (List ℕ)
   pub consumed : Consumes r0 r1 read
   pub written : Appends w0 w1 out
 
-pub at_start : (form : Form) (r w : Option (List ℕ)) → ReadUpTo form (opening longest_segment) r r w w
+pub at_start : (form : Form) (r w : Option (List ℕ)) → ReadUpTo form (opening_framing longest_segment) r r w w
 at_start form r w = record {
   read = [];
   ms = [];
@@ -41,7 +41,7 @@ at_start form r w = record {
 
 pub read_more : (form : Form) (v u : Framing) (r0 r1 r2 w0 w1 w2 : Option (List ℕ)) (piece out : List ℕ)
     (more : List Message) → ReadUpTo form v r0 r1 w0 w1 → Consumes r1 r2 piece
-    → PassesOn form v u [] out piece more → Appends w1 w2 out → ReadUpTo form u r0 r2 w0 w2
+    → PassesEntries form v u [] out piece more → Appends w1 w2 out → ReadUpTo form u r0 r2 w0 w2
 read_more form v u r0 r1 r2 w0 w1 w2 piece out more up read passes wrote = record {
   read = up.read ++ piece;
   ms = up.ms ++ more;

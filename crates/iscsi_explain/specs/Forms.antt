@@ -2,7 +2,7 @@
 use Rattle.std.specs.Prelude.{◌≡◌, ℕ, ◌&&◌, nat_lt, not, if◌then◌else◌, List, [], ◌∷◌, ◌++◌, map}
 use Rattle.json.specs.Print.{print}
 use Rattle.json.specs.Lex.{tokens}
-use Rattle.iscsi_stream.specs.Shown.{IsLine}
+use Rattle.iscsi_stream.specs.Shown.{IsShownLine}
 use Rattle.iscsi_explain.specs.declared.form.Form.{Form}
 use Rattle.iscsi_explain.specs.declared.form.Form.TheVariants as forms
 
@@ -24,7 +24,7 @@ notes_from (text ∷ texts) = note text ++ notes_from texts
 pub record IsText (texts : List (List ℕ)) (entry : List ℕ) : Type 0 where
   pub front : List ℕ
   pub line : List ℕ
-  pub is_line : IsLine line
+  pub is_line : IsShownLine line
   pub whole : entry ≡ map printable front ++ (line ++ notes_from texts)
 
 -- JSON text without spaces between its tokens (RFC 8259)
@@ -32,8 +32,8 @@ abbrev pub IsObject : List ℕ → Type 0
 IsObject text = text ≡ print (tokens text)
 
 -- what is written of one PDU
-abbrev pub IsEntry : Form → List ℕ → Type 0
-IsEntry forms.Line entry = IsText [] entry
-IsEntry forms.Explained entry = (texts : List (List ℕ)) × IsText texts entry
-IsEntry forms.Json entry = (text : List ℕ) × IsObject text × (entry ≡ text ++ 10 ∷ [])
-IsEntry forms.ExplainedJson entry = (text : List ℕ) × IsObject text × (entry ≡ text ++ 10 ∷ [])
+abbrev pub IsPduEntry : Form → List ℕ → Type 0
+IsPduEntry forms.Line entry = IsText [] entry
+IsPduEntry forms.Explained entry = (texts : List (List ℕ)) × IsText texts entry
+IsPduEntry forms.Json entry = (text : List ℕ) × IsObject text × (entry ≡ text ++ 10 ∷ [])
+IsPduEntry forms.ExplainedJson entry = (text : List ℕ) × IsObject text × (entry ≡ text ++ 10 ∷ [])

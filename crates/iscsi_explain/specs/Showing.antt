@@ -1,20 +1,20 @@
 -- What is written of the PDUs of a stream, one after another.
 use Rattle.std.specs.Prelude.{◌≡◌, ℕ, false, List, [], ◌∷◌, ◌++◌}
 use Rattle.iscsi_stream.specs.Stream.{Message}
-use Rattle.iscsi_stream.specs.Framing.{Framing, Moves, is_ready}
+use Rattle.iscsi_stream.specs.Framing.{Framing, FramerMoves, is_ready}
 use Rattle.iscsi_explain.specs.declared.form.Form.{Form}
-use Rattle.iscsi_explain.specs.Forms.{IsEntry}
+use Rattle.iscsi_explain.specs.Forms.{IsPduEntry}
 
 -- The bytes are an entry for each of the PDUs, in their order.
 abbrev pub AreEntries : Form → List Message → List ℕ → Type 0
 AreEntries form [] bytes = bytes ≡ []
-AreEntries form (m ∷ ms) bytes = (entry : List ℕ) × (more : List ℕ) × IsEntry form entry
+AreEntries form (m ∷ ms) bytes = (entry : List ℕ) × (more : List ℕ) × IsPduEntry form entry
     × (bytes ≡ entry ++ more) × AreEntries form ms more
 
 -- The framer took these bytes, and an entry for each PDU that it gave up was appended. No PDU is ready.
-pub record PassesOn (form : Form) (old new : Framing) (before after bytes : List ℕ)
+pub record PassesEntries (form : Form) (old new : Framing) (before after bytes : List ℕ)
     (more : List Message) : Type 0 where
-  pub moves : Moves old new bytes more
+  pub moves : FramerMoves old new bytes more
   pub limit : new.limit ≡ old.limit
   pub unready : is_ready new ≡ false
   pub out : List ℕ

@@ -1,8 +1,8 @@
 //! What is written of a PDU, in each form.
 
 ghost use Rattle.std.specs.Prelude.{◌≡◌, ◌++◌, ◌∷◌, [], IfOk, OnOk, OnErr, map, ℕ, List};
-ghost use Rattle.iscsi_pdu.specs.Meaning.{Fits};
-ghost use Rattle.iscsi_explain.specs.Forms.{IsEntry, IsObject, IsText, printable};
+ghost use Rattle.iscsi_pdu.specs.Meaning.{HeadFits};
+ghost use Rattle.iscsi_explain.specs.Forms.{IsPduEntry, IsObject, IsText, printable};
 
 use crate::notes::all_notes;
 use crate::objects::object_of;
@@ -36,8 +36,8 @@ pub fn write_pdu(
     pdu: &Pdu<'_>,
     out: &mut Vec<u8>,
 ) -> Result<(), AllocError>
-    requires { Fits pdu.now.head }
-    ensures ok { OnOk result ((entry : List ℕ) × IsEntry form entry
+    requires { HeadFits pdu.now.head }
+    ensures ok { OnOk result ((entry : List ℕ) × IsPduEntry form entry
         × (out.new.items ≡ out.old.items ++ entry)) }
     ensures err { OnErr result (out.new.items ≡ out.old.items) }
 {
@@ -53,8 +53,8 @@ fn entry_of(
     place: u64,
     pdu: &Pdu<'_>,
 ) -> Result<Vec<u8>, AllocError>
-    requires { Fits pdu.now.head }
-    ensures entry { IfOk result (λ entry. IsEntry form entry.items) }
+    requires { HeadFits pdu.now.head }
+    ensures entry { IfOk result (λ entry. IsPduEntry form entry.items) }
 {
     match form {
         Form::Line => line_of(alloc, stamp, place, pdu),
@@ -84,7 +84,7 @@ fn line_of(
     place: u64,
     pdu: &Pdu<'_>,
 ) -> Result<Vec<u8>, AllocError>
-    requires { Fits pdu.now.head }
+    requires { HeadFits pdu.now.head }
     ensures text { IfOk result (λ line. IsText [] line.items) }
 {
     let mut entry = front_of(alloc, stamp)?;
@@ -99,7 +99,7 @@ fn explained_of(
     place: u64,
     pdu: &Pdu<'_>,
 ) -> Result<Vec<u8>, AllocError>
-    requires { Fits pdu.now.head }
+    requires { HeadFits pdu.now.head }
     ensures text { IfOk result (λ entry. (texts : List (List ℕ)) × IsText texts entry.items) }
 {
     let mut entry = line_of(alloc, stamp, place, pdu)?;
@@ -116,7 +116,7 @@ fn object_line(
     place: u64,
     pdu: &Pdu<'_>,
 ) -> Result<Vec<u8>, AllocError>
-    requires { Fits pdu.now.head }
+    requires { HeadFits pdu.now.head }
     ensures line { IfOk result (λ line. (text : List ℕ) × IsObject text
         × (line.items ≡ text ++ 10 ∷ [])) }
 {

@@ -1,7 +1,7 @@
 //! The line of a PDU as one JSON object (RFC 8259).
 
 ghost use Rattle.std.specs.Prelude.{◌≡◌, IfOk};
-ghost use Rattle.iscsi_pdu.specs.Meaning.{Fits};
+ghost use Rattle.iscsi_pdu.specs.Meaning.{HeadFits};
 ghost use Rattle.iscsi_explain.specs.Forms.{IsObject};
 
 use crate::notes::all_notes;
@@ -22,7 +22,7 @@ pub(crate) fn object_of(
     place: u64,
     pdu: &Pdu<'_>,
 ) -> Result<Vec<u8>, AllocError>
-    requires { Fits pdu.now.head }
+    requires { HeadFits pdu.now.head }
     ensures object { IfOk result (λ bytes. IsObject bytes.items) }
 {
     let mut map = Map::new(alloc);
@@ -39,7 +39,7 @@ fn put_members(
     pdu: &Pdu<'_>,
     map: &mut Map<String, Value>,
 ) -> Result<(), AllocError>
-    requires { Fits pdu.now.head }
+    requires { HeadFits pdu.now.head }
 {
     put_line(alloc, place, pdu, map)?;
     if let Some(stamp) = stamp {
@@ -59,7 +59,7 @@ fn put_line(
     pdu: &Pdu<'_>,
     map: &mut Map<String, Value>,
 ) -> Result<(), AllocError>
-    requires { Fits pdu.now.head }
+    requires { HeadFits pdu.now.head }
 {
     let mut line = Vec::new(alloc);
     show_line(place, pdu, &mut line)?;

@@ -2,10 +2,10 @@
 
 ghost use Rattle.std.specs.Prelude.{◌≡◌, ◌<◌, ◌^◌, ◌++◌, [], false, length, ℕ, List, OnOk, OnErr, IfOk};
 ghost use Rattle.std.specs.Io.KnownBytes.{Appends, Consumes};
-ghost use Rattle.iscsi_pdu.specs.Meaning.{Fits};
+ghost use Rattle.iscsi_pdu.specs.Meaning.{HeadFits};
 ghost use Rattle.iscsi_stream.specs.Stream.{Message, StreamMeans, longest_segment};
 ghost use Rattle.iscsi_stream.specs.Framing.{is_ready};
-ghost use Rattle.iscsi_explain.specs.Showing.{AreEntries, PassesOn, AppendsSome};
+ghost use Rattle.iscsi_explain.specs.Showing.{AreEntries, PassesEntries, AppendsSome};
 
 use crate::form::{Form, write_pdu};
 use crate::requests::Requests;
@@ -74,7 +74,8 @@ pub fn pass_on(
     piece: &[u8],
     out: &mut Vec<u8>,
 ) -> Result<(), ToolFault>
-    ensures ok { OnOk result ((more : List Message) × PassesOn manner.form framer.old framer.new
+    ensures ok { OnOk result ((more : List Message)
+        × PassesEntries manner.form framer.old framer.new
         out.old.items out.new.items piece.now more) }
     ensures err { OnErr result (AppendsSome manner.form out.old.items out.new.items) }
 {
@@ -96,7 +97,8 @@ fn append_ready(
     framer: &mut Framer,
     out: &mut Vec<u8>,
 ) -> Result<(), AllocError>
-    ensures ok { OnOk result ((more : List Message) × PassesOn manner.form framer.old framer.new
+    ensures ok { OnOk result ((more : List Message)
+        × PassesEntries manner.form framer.old framer.new
         out.old.items out.new.items [] more) }
     ensures err { OnErr result (out.new.items ≡ out.old.items) }
 {

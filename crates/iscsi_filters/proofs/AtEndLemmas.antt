@@ -6,8 +6,8 @@ use Rattle.iscsi_stream.specs.declared.fault.ToolFault.{ToolFault}
 use Rattle.iscsi_stream.specs.declared.fault.ToolFault.TheVariants as tool
 use Rattle.iscsi_stream.specs.declared.counts.Counts.{Counts}
 use Rattle.iscsi_stream.specs.Normalising.{AtEnd}
-use Rattle.iscsi_filters.specs.Filters.{CutAtEnd, HexAtEnd, Outcome}
-use Rattle.iscsi_filters.specs.HexText.{HexTextFails, IsRead}
+use Rattle.iscsi_filters.specs.Filters.{CutAtEnd, HexAtEnd, FilterOutcome}
+use Rattle.iscsi_filters.specs.HexText.{HexTextFails, IsReadToFault}
 
 pub stream_at_end : (fault : ToolFault) (Ended : Type 0) → (let r : Result Counts ToolFault = Err fault in AtEnd r Ended) → CutAtEnd (Err fault) Ended
 stream_at_end tool.NoMemory Ended h = tt
@@ -25,7 +25,7 @@ stream_at_end (tool.Protocol rule) Ended h = tt
 
 -- hex text that was not taken
 pub hex_refused : (fault : ToolFault) (read : List ℕ) (before after : Option (List ℕ)) → Consumes before after read → HexTextFails fault read
-    → IsRead fault read after → HexAtEnd (Err fault) before after
+    → IsReadToFault fault read after → HexAtEnd (Err fault) before after
 hex_refused tool.NoMemory read before after c h is = tt
 hex_refused (tool.Stream f) read before after c h is = absurd h
 hex_refused (tool.Text f) read before after c h is = absurd h
@@ -36,7 +36,7 @@ hex_refused tool.NotHex read before after c h is = (read, c, is)
 hex_refused (tool.Protocol rule) read before after c h is = absurd h
 
 -- hex text that was read to its end
-pub hex_read : (outcome : Outcome) (read : List ℕ) (before after : Option (List ℕ)) → Consumes before after read → IsAtEnd after
+pub hex_read : (outcome : FilterOutcome) (read : List ℕ) (before after : Option (List ℕ)) → Consumes before after read → IsAtEnd after
     → HexAtEnd outcome before after
 hex_read (Ok done) read before after c end = tt
 hex_read (Err tool.NoMemory) read before after c end = tt

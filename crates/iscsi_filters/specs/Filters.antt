@@ -12,22 +12,22 @@ use Rattle.iscsi_stream.specs.Shown.{AreLines}
 use Rattle.iscsi_stream.specs.Texts.{CanonicalOf, NormalisesText, TextAtEnd, longest_text}
 use Rattle.iscsi_filters.specs.declared.work.StreamWork.{StreamWork}
 use Rattle.iscsi_filters.specs.declared.work.StreamWork.TheVariants.{Show, Normalise, Text}
-use Rattle.iscsi_filters.specs.HexText.{BytesOf, IsNotHex, IsRead, hex_line}
+use Rattle.iscsi_filters.specs.HexText.{BytesOf, IsNotHex, IsReadToFault, hex_line}
 
 -- How a filter ends: done, or why not.
-abbrev pub Outcome : Type 0
-Outcome = Result (Unit {0}) ToolFault
+abbrev pub FilterOutcome : Type 0
+FilterOutcome = Result (Unit {0}) ToolFault
 
 -- ---- bytes
 
 -- The canonical stream of what was read is written, or what normalising leaves at a fault.
-abbrev pub NormalisesBytes : Outcome → List ℕ → List ℕ → Type 0
+abbrev pub NormalisesBytes : FilterOutcome → List ℕ → List ℕ → Type 0
 NormalisesBytes (Ok done) read written =
     (ms : List Message) × StreamMeans read ms × (written ≡ canon ms)
 NormalisesBytes (Err fault) read written = WritesUntil IsCanonical fault read written
 
 -- A line for each PDU of what was read is written, or what showing leaves at a fault.
-abbrev pub ShowsBytes : Outcome → List ℕ → List ℕ → Type 0
+abbrev pub ShowsBytes : FilterOutcome → List ℕ → List ℕ → Type 0
 ShowsBytes (Ok done) read written =
     (ms : List Message) × StreamMeans read ms × AreLines ms written
 ShowsBytes (Err fault) read written = WritesUntil AreLines fault read written
@@ -36,13 +36,13 @@ ShowsBytes (Err fault) read written = WritesUntil AreLines fault read written
 
 -- What is due for the bytes of a stream: its canonical stream, or that of all PDUs before its
 -- fault.
-abbrev pub DueOfStream : List ℕ → Outcome → List ℕ → Type 0
+abbrev pub DueOfStream : List ℕ → FilterOutcome → List ℕ → Type 0
 DueOfStream bytes (Ok done) due = (ms : List Message) × StreamMeans bytes ms × (due ≡ canon ms)
 DueOfStream bytes (Err (tool.Stream fault)) due = WritesUntil IsCanonical (tool.Stream fault) bytes due
 DueOfStream bytes (Err fault) due = ⊥
 
 -- What is due for the bytes of a text: its canonical text, or nothing where it is refused.
-abbrev pub DueOfText : List ℕ → Outcome → List ℕ → Type 0
+abbrev pub DueOfText : List ℕ → FilterOutcome → List ℕ → Type 0
 DueOfText bytes (Ok done) due = CanonicalOf bytes due × (length bytes ≤ longest_text)
 DueOfText bytes (Err (tool.Text fault)) due =
     IsFirstFault bytes fault × (length bytes ≤ longest_text) × (due ≡ [])
@@ -50,20 +50,21 @@ DueOfText bytes (Err tool.TextTooLong) due = (longest_text < length bytes) × (d
 DueOfText bytes (Err fault) due = ⊥
 
 -- What is due for the bytes of a text or of a stream.
-abbrev pub Due : Bool → List ℕ → Outcome → List ℕ → Type 0
-Due true bytes outcome due = DueOfText bytes outcome due
-Due false bytes outcome due = DueOfStream bytes outcome due
+abbrev pub DueOutput : Bool → List ℕ → FilterOutcome → List ℕ → Type 0
+DueOutput true bytes outcome due = DueOfText bytes outcome due
+DueOutput false bytes outcome due = DueOfStream bytes outcome due
 
 -- The line that is due for bytes, with this outcome.
-pub record IsLine (text : Bool) (bytes : List ℕ) (outcome : Outcome) (line : List ℕ) : Type 0 where
+pub record IsDueLine (text : Bool) (bytes : List ℕ) (outcome : FilterOutcome) (line : List ℕ) : Type
+    0 where
   pub due : List ℕ
-  pub is_due : Due text bytes outcome due
+  pub is_due : DueOutput text bytes outcome due
   pub spelled : line ≡ hex_line due
 
 -- The line that is due for hex text.
-abbrev pub LineOf : Bool → List ℕ → Outcome → List ℕ → Type 0
+abbrev pub LineOf : Bool → List ℕ → FilterOutcome → List ℕ → Type 0
 LineOf text read outcome line =
-    (bytes : List ℕ) × BytesOf read bytes × IsLine text bytes outcome line
+    (bytes : List ℕ) × BytesOf read bytes × IsDueLine text bytes outcome line
 
 -- What a filter of hex text has written where it answers a fault.
 abbrev pub HexFails : Bool → ToolFault → List ℕ → List ℕ → Type 0
@@ -74,14 +75,14 @@ HexFails text (tool.Text fault) read written = LineOf text read (Err (tool.Text 
 HexFails text tool.TextTooLong read written = LineOf text read (Err tool.TextTooLong) written
 HexFails text tool.Read read written = written ≡ []
 HexFails text tool.Write read written =
-    (outcome : Outcome) × (line : List ℕ) × (n : ℕ)
+    (outcome : FilterOutcome) × (line : List ℕ) × (n : ℕ)
     × LineOf text read outcome line × (written ≡ take n line)
 HexFails text tool.NotHex read written = IsNotHex read × (written ≡ [])
 HexFails text (tool.Protocol rule) read written = ⊥
 
 -- The canonical form of what the hex text means is written as a line of hex, or what is due at a
 -- fault.
-abbrev pub NormalisesHex : Bool → Outcome → List ℕ → List ℕ → Type 0
+abbrev pub NormalisesHex : Bool → FilterOutcome → List ℕ → List ℕ → Type 0
 NormalisesHex text (Ok done) read written = LineOf text read (Ok done) written
 NormalisesHex text (Err fault) read written = HexFails text fault read written
 
@@ -93,9 +94,9 @@ CutAtEnd (Err (tool.Stream (stream.Truncated place))) Ended = Ended
 CutAtEnd _ Ended = Unit {0}
 
 -- Hex text is judged once it was read to its end; it is called no hex past the limit, too.
-abbrev pub HexAtEnd : Outcome → Option (List ℕ) → Option (List ℕ) → Type 0
+abbrev pub HexAtEnd : FilterOutcome → Option (List ℕ) → Option (List ℕ) → Type 0
 HexAtEnd (Err tool.NotHex) before after =
-    (read : List ℕ) × Consumes before after read × IsRead tool.NotHex read after
+    (read : List ℕ) × Consumes before after read × IsReadToFault tool.NotHex read after
 HexAtEnd (Err (tool.Stream fault)) before after = IsAtEnd after
 HexAtEnd (Err (tool.Text fault)) before after = IsAtEnd after
 HexAtEnd (Err tool.TextTooLong) before after = IsAtEnd after
@@ -105,7 +106,7 @@ HexAtEnd _ before after = Unit {0}
 -- ---- works
 
 -- What a work writes; the lines that Show writes of hex text are not stated.
-abbrev pub DoesWork : StreamWork → Bool → Outcome → List ℕ → List ℕ → Type 0
+abbrev pub DoesWork : StreamWork → Bool → FilterOutcome → List ℕ → List ℕ → Type 0
 DoesWork Show true outcome read written = Unit {0}
 DoesWork Show false outcome read written = ShowsBytes outcome read written
 DoesWork Normalise true outcome read written = NormalisesHex false outcome read written
@@ -114,7 +115,8 @@ DoesWork Text true outcome read written = NormalisesHex true outcome read writte
 DoesWork Text false outcome read written = NormalisesText outcome read written
 
 -- A work whose input is refused for what it lacks has read it to its end.
-abbrev pub RefusesWork : StreamWork → Bool → Outcome → Option (List ℕ) → Option (List ℕ) → Type 0
+abbrev pub RefusesWork : StreamWork → Bool → FilterOutcome → Option (List ℕ) → Option (List ℕ)
+    → Type 0
 RefusesWork _ true outcome before after = HexAtEnd outcome before after
 RefusesWork Show false outcome before after = CutAtEnd outcome (IsAtEnd after)
 RefusesWork Normalise false outcome before after = CutAtEnd outcome (IsAtEnd after)
@@ -124,17 +126,17 @@ RefusesWork Text false outcome before after = TextAtEnd outcome (IsAtEnd after)
 
 -- The exit status of a fault: 1 where the input is refused, 3 for memory, 4 for reading and
 -- writing.
-abbrev pub exit_status : ToolFault → ℕ
-exit_status tool.NoMemory = 3
-exit_status (tool.Stream fault) = 1
-exit_status (tool.Text fault) = 1
-exit_status tool.TextTooLong = 1
-exit_status tool.Read = 4
-exit_status tool.Write = 4
-exit_status tool.NotHex = 1
-exit_status (tool.Protocol rule) = 1
+abbrev pub filter_exit_status : ToolFault → ℕ
+filter_exit_status tool.NoMemory = 3
+filter_exit_status (tool.Stream fault) = 1
+filter_exit_status (tool.Text fault) = 1
+filter_exit_status tool.TextTooLong = 1
+filter_exit_status tool.Read = 4
+filter_exit_status tool.Write = 4
+filter_exit_status tool.NotHex = 1
+filter_exit_status (tool.Protocol rule) = 1
 
 -- How a work ends: 0 if it is done, else the status of its fault.
-abbrev pub work_status : Outcome → ℕ
+abbrev pub work_status : FilterOutcome → ℕ
 work_status (Ok done) = 0
-work_status (Err fault) = exit_status fault
+work_status (Err fault) = filter_exit_status fault

@@ -20,18 +20,18 @@ abbrev pub hex_line : List ℕ → List ℕ
 hex_line bytes = encode_lower bytes ++ 0x0a ∷ []
 
 -- The most bytes of a text, those that are dropped included.
-abbrev pub longest_text : ℕ
-longest_text = 1048576
+abbrev pub longest_hex_text : ℕ
+longest_hex_text = 1048576
 
 -- The text is hex and means these bytes.
 pub record BytesOf (text bytes : List ℕ) : Type 0 where
-  pub within : length text ≤ longest_text
+  pub within : length text ≤ longest_hex_text
   pub means : decode_of (kept text) ≡ Ok bytes
 
 -- The text is over the limit, or no pairs of hex digits.
 abbrev pub IsNotHex : List ℕ → Type 0
 IsNotHex text =
-    (longest_text < length text) ⊎ ((e : FromHexError) × (decode_of (kept text) ≡ Err e))
+    (longest_hex_text < length text) ⊎ ((e : FromHexError) × (decode_of (kept text) ≡ Err e))
 
 -- When reading bytes from hex text answers each fault.
 abbrev pub HexTextFails : ToolFault → List ℕ → Type 0
@@ -45,6 +45,6 @@ HexTextFails tool.NotHex read = IsNotHex read
 HexTextFails (tool.Protocol rule) read = ⊥
 
 -- A text is called no hex once it was read to its end, or past the limit.
-abbrev pub IsRead : ToolFault → List ℕ → Option (List ℕ) → Type 0
-IsRead tool.NotHex read left = (longest_text < length read) ⊎ IsAtEnd left
-IsRead _ read left = Unit {0}
+abbrev pub IsReadToFault : ToolFault → List ℕ → Option (List ℕ) → Type 0
+IsReadToFault tool.NotHex read left = (longest_hex_text < length read) ⊎ IsAtEnd left
+IsReadToFault _ read left = Unit {0}

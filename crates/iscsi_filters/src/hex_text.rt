@@ -2,7 +2,7 @@
 
 ghost use Rattle.std.specs.Prelude.{◌≡◌, ◌≤◌, ◌<◌, ◌++◌, ℕ, List, length, OnErr, IfOk, IfErr, MatchResult};
 ghost use Rattle.std.specs.Io.KnownBytes.{Consumes, IsAtEnd};
-ghost use Rattle.iscsi_filters.specs.HexText.{kept, hex_line, BytesOf, HexTextFails, IsRead};
+ghost use Rattle.iscsi_filters.specs.HexText.{kept, hex_line, BytesOf, HexTextFails, IsReadToFault};
 
 use hex::FromHexError;
 use iscsi_stream::{ToolFault, read_within};
@@ -33,7 +33,7 @@ pub fn read_bytes<R: Read>(alloc: Global, r: &mut R) -> Result<Vec<u8>, ToolFaul
         × BytesOf read bytes.items) }
     ensures err { IfErr result (λ fault. (read : List ℕ)
         × Consumes (R.remaining r.old) (R.remaining r.new) read × HexTextFails fault read
-        × IsRead fault read (R.remaining r.new)) }
+        × IsReadToFault fault read (R.remaining r.new)) }
 {
     let text = read_within(alloc, r, LONGEST_TEXT)?;
     if text.len() > LONGEST_TEXT {

@@ -4,7 +4,7 @@ ghost use Rattle.std.specs.Prelude.{◌≡◌, ◌⊎◌, ℕ, List, true, false
 ghost use Rattle.std.specs.Io.KnownBytes.{Appends, Consumes, IsAtEnd};
 ghost use Rattle.iscsi_stream.specs.declared.fault.ToolFault.TheVariants as tool;
 ghost use Rattle.iscsi_stream.specs.Texts.{NormalisesText, TextAtEnd};
-ghost use Rattle.iscsi_filters.specs.Filters.{CutAtEnd, DoesWork, HexAtEnd, IsLine, NormalisesBytes, NormalisesHex, RefusesWork, ShowsBytes, exit_status};
+ghost use Rattle.iscsi_filters.specs.Filters.{CutAtEnd, DoesWork, HexAtEnd, IsDueLine, NormalisesBytes, NormalisesHex, RefusesWork, ShowsBytes, filter_exit_status};
 
 use crate::hex_text::{line, read_bytes};
 use iscsi_stream::{ToolFault, normalise, normalise_text, show, write_fully};
@@ -56,7 +56,7 @@ pub fn run_work<R: Read, W: Write>(
 /// The exit status of a fault: 1 where the input is refused, 3 for memory, 4 for reading and
 /// writing.
 pub fn status(fault: &ToolFault) -> u8
-    ensures status { result ≡ exit_status fault.now }
+    ensures status { result ≡ filter_exit_status fault.now }
 {
     match fault {
         ToolFault::Stream(_)
@@ -154,7 +154,7 @@ fn line_of(
     text: bool,
     bytes: &[u8],
 ) -> Result<(Vec<u8>, Result<(), ToolFault>), ToolFault>
-    ensures ok { IfOk result (λ x. IsLine text bytes.now x.1 x.0.items) }
+    ensures ok { IfOk result (λ x. IsDueLine text bytes.now x.1 x.0.items) }
     ensures err { IfErr result (λ fault. (fault ≡ tool.NoMemory) ⊎ (fault ≡ tool.Read)) }
 {
     if text {
@@ -165,7 +165,7 @@ fn line_of(
 }
 
 fn stream_line(alloc: Global, bytes: &[u8]) -> Result<(Vec<u8>, Result<(), ToolFault>), ToolFault>
-    ensures ok { IfOk result (λ x. IsLine false bytes.now x.1 x.0.items) }
+    ensures ok { IfOk result (λ x. IsDueLine false bytes.now x.1 x.0.items) }
     ensures err { IfErr result (λ fault. (fault ≡ tool.NoMemory) ⊎ (fault ≡ tool.Read)) }
 {
     let mut source = bytes;
@@ -180,7 +180,7 @@ fn stream_line(alloc: Global, bytes: &[u8]) -> Result<(Vec<u8>, Result<(), ToolF
 }
 
 fn text_line(alloc: Global, bytes: &[u8]) -> Result<(Vec<u8>, Result<(), ToolFault>), ToolFault>
-    ensures ok { IfOk result (λ x. IsLine true bytes.now x.1 x.0.items) }
+    ensures ok { IfOk result (λ x. IsDueLine true bytes.now x.1 x.0.items) }
     ensures err { IfErr result (λ fault. (fault ≡ tool.NoMemory) ⊎ (fault ≡ tool.Read)) }
 {
     let mut source = bytes;

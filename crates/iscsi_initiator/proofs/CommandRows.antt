@@ -4,6 +4,7 @@ use Rattle.std.specs.Prelude.{replicate, if◌then◌else◌}
 use Rattle.scsi_cdb.specs.declared.cdb.Cdb.TheVariants.{Write10}
 use Rattle.scsi_cdb.specs.declared.residual.Residual.TheVariants.{Under}
 use Rattle.scsi_cdb.specs.Layout.{bits_at, number_at, put_bit, put_number, put_bytes, put_raw}
+use Rattle.scsi_cdb.specs.Blocks.{record_of}
 use Rattle.iscsi_pdu.specs.declared.head.Head.{Head}
 use Rattle.iscsi_pdu.specs.declared.head.Head.TheVariants as heads
 use Rattle.iscsi_pdu.specs.Meaning.{whole, header}
@@ -16,11 +17,10 @@ use Rattle.iscsi_login.specs.declared.stage.Stage.TheVariants.{Security, Full}
 use Rattle.iscsi_initiator.specs.declared.fault.InitiatorFault.TheVariants.{Protocol}
 use Rattle.iscsi_initiator.specs.declared.request.Request.TheVariants as requests
 use Rattle.iscsi_initiator.specs.declared.request.Done.TheVariants as done
-use Rattle.iscsi_initiator.specs.State.{Machine, opening}
-use Rattle.iscsi_initiator.specs.Steps.{Stepped}
-use Rattle.iscsi_initiator.specs.Machine.{step}
-use Rattle.iscsi_initiator.specs.Block.{record_of}
-use Rattle.iscsi_initiator.specs.Submitted.{submitted, Submitted}
+use Rattle.iscsi_initiator.specs.State.{InitiatorSession, new_session}
+use Rattle.iscsi_initiator.specs.Steps.{InitiatorStep}
+use Rattle.iscsi_initiator.specs.Machine.{initiator_step}
+use Rattle.iscsi_initiator.specs.Submitted.{submitted, SubmitStep}
 use Rattle.iscsi_initiator.proofs.Rows.{loop_settings, started}
 
 -- the first request, byte for byte
@@ -31,8 +31,8 @@ unfolding segment_bytes whole header put_bit put_number put_bytes put_raw
 start_header = refl
 
 -- a session with bursts of 1,024 bytes and segments of 512
-abbrev ready : Machine
-ready = record (opening (loop_settings Security 8192)) {
+abbrev ready : InitiatorSession
+ready = record (new_session (loop_settings Security 8192)) {
   started = true;
   phase = phases.Full;
   stage = Full;
@@ -67,7 +67,7 @@ its_record : record_of write8 ≡ Write10 (record { options = 0; logical_block_a
 unfolding record_of number_at bits_at
 its_record = refl
 
-abbrev wrote : Submitted
+abbrev wrote : SubmitStep
 wrote = submitted ready (requests.Out 0 write8 (replicate 4096 0x5a))
 
 abbrev r2t : ℕ → ℕ → ℕ → Message
@@ -91,21 +91,21 @@ first_burst_out : map shape wrote.output ≡ (1 ∷ 0 ∷ 1 ∷ 1 ∷ 3 ∷ 4096
 unfolding submitted segment_bytes
 first_burst_out = refl
 
-abbrev solicited : Stepped
-solicited = step wrote.machine (r2t 0 1024 1024)
+abbrev solicited : InitiatorStep
+solicited = initiator_step wrote.machine (r2t 0 1024 1024)
 
 second_burst_out : map shape solicited.output ≡ (5 ∷ 0 ∷ 1 ∷ 0 ∷ 3 ∷ 0 ∷ 1024 ∷ 512 ∷ []) ∷ (5 ∷ 1 ∷ 1 ∷ 0 ∷ 3 ∷ 1 ∷ 1536 ∷ 512 ∷ []) ∷ []
-unfolding submitted step segment_bytes
+unfolding submitted initiator_step segment_bytes
 second_burst_out = refl
 
 -- DataSN begins again in each sequence
-third_burst_out : map shape (step solicited.machine (r2t 1 2048 1024)).output ≡ (5 ∷ 0 ∷ 1 ∷ 1 ∷ 3 ∷ 0 ∷ 2048 ∷ 512 ∷ []) ∷
+third_burst_out : map shape (initiator_step solicited.machine (r2t 1 2048 1024)).output ≡ (5 ∷ 0 ∷ 1 ∷ 1 ∷ 3 ∷ 0 ∷ 2048 ∷ 512 ∷ []) ∷
     (5 ∷ 1 ∷ 1 ∷ 1 ∷ 3 ∷ 1 ∷ 2560 ∷ 512 ∷ []) ∷ []
-unfolding submitted step segment_bytes
+unfolding submitted initiator_step segment_bytes
 third_burst_out = refl
 
-too_far : (step solicited.machine (r2t 1 2048 2049)).fault ≡ Some (Protocol 3)
-unfolding submitted step segment_bytes
+too_far : (initiator_step solicited.machine (r2t 1 2048 2049)).fault ≡ Some (Protocol 3)
+unfolding submitted initiator_step segment_bytes
 too_far = refl
 
 abbrev read1 : List ℕ
@@ -153,21 +153,21 @@ response stat_sn = record {
   segment = Bytes [];
 }
 
-abbrev reading : Machine
+abbrev reading : InitiatorSession
 reading = (submitted ready (requests.In 0 read1 5)).machine
 
-abbrev read_done : Stepped
-read_done = step (step (step reading (data_in 0 0 (1 ∷ 2 ∷ []))).machine (data_in 1 2 (3 ∷ 4 ∷ []))).machine (response 3)
+abbrev read_done : InitiatorStep
+read_done = initiator_step (initiator_step (initiator_step reading (data_in 0 0 (1 ∷ 2 ∷ []))).machine (data_in 1 2 (3 ∷ 4 ∷ []))).machine (response 3)
 
 read_outcome : (read_done.machine.done ≡ Some (done.Command 0 0 [] (1 ∷ 2 ∷ 3 ∷ 4 ∷ []) (Under 1))) × (read_done.machine.outstanding ≡ None)
     × (read_done.machine.exp_stat_sn ≡ Some 4)
-unfolding submitted step segment_bytes
+unfolding submitted initiator_step segment_bytes
 read_outcome = (refl, refl, refl)
 
-wrong_offset : (step (step reading (data_in 0 0 (1 ∷ 2 ∷ []))).machine (data_in 1 3 (3 ∷ []))).fault ≡ Some (Protocol 3)
-unfolding submitted step segment_bytes
+wrong_offset : (initiator_step (initiator_step reading (data_in 0 0 (1 ∷ 2 ∷ []))).machine (data_in 1 3 (3 ∷ []))).fault ≡ Some (Protocol 3)
+unfolding submitted initiator_step segment_bytes
 wrong_offset = refl
 
-not_due : (step ready (response 3)).fault ≡ Some (Protocol 1)
-unfolding step segment_bytes
+not_due : (initiator_step ready (response 3)).fault ≡ Some (Protocol 1)
+unfolding initiator_step segment_bytes
 not_due = refl

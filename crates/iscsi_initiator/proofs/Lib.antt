@@ -9,6 +9,5 @@ pub mod FaultLemmas
 pub mod ReceivingLemmas
 pub mod SequenceLemmas
 pub mod OutcomeLaws
-pub mod BlockLaws
 pub mod ReadLaws
 pub mod OneOutcomeLaw

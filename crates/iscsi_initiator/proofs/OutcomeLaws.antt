@@ -3,7 +3,7 @@ use Rattle.std.proofs.Common.{◌≡◌, refl, ap, sym, ◌∙◌, subst, Bool, 
 use Rattle.std.proofs.Common.{append_assoc, append-nil, arith, length-append}
 use Rattle.std.specs.Prelude.{if◌then◌else◌, not, ◌&&◌, ◌==◌, nat_lt, unwrap_or, ◌||◌}
 use Rattle.std.proofs.lemmas.Bool.{leb-true}
-use Rattle.iscsi_pdu.specs.Fields.{is_tag, reserved_tag}
+use Rattle.iscsi_pdu.specs.Fields.{is_tag}
 use Rattle.iscsi_text.specs.Text.{Pairs}
 use Rattle.iscsi_text.specs.Canonical.{canonical_text}
 use Rattle.iscsi_pdu.specs.declared.head.Head.{Head}
@@ -28,19 +28,26 @@ use Rattle.iscsi_initiator.specs.declared.request.Request.TheVariants as request
 use Rattle.iscsi_initiator.specs.declared.request.SubmitFault.{SubmitFault}
 use Rattle.iscsi_initiator.specs.declared.outstanding.Outstanding.{Outstanding}
 use Rattle.iscsi_initiator.specs.declared.outstanding.Outstanding.TheVariants.{In, Out, Ping, Text, Logout}
-use Rattle.iscsi_initiator.specs.Progress.{Reading, Writing}
-use Rattle.iscsi_initiator.specs.State.{Settings, Machine, opening, is_closed}
+use Rattle.iscsi_initiator.specs.Progress.{ReadProgress, WriteProgress}
+use Rattle.iscsi_initiator.specs.State.{InitiatorSettings, InitiatorSession, new_session, is_session_closed}
 use Rattle.iscsi_pdu.specs.Serial.{next_sn}
-use Rattle.iscsi_initiator.specs.Steps.{Stepped, closed, protocol_error, quiet}
-use Rattle.iscsi_initiator.specs.Login.{counted, fits_segment, moves_on, goes_on, is_expected, start_step, login_step, begins_stage, judged, offered}
-use Rattle.iscsi_initiator.specs.Login.{text_answered, in_turn, answered, following_stage, sends_text}
-use Rattle.iscsi_initiator.specs.Full.{Due, UnsolicitedNopIn, Pong, Data, R2t, Response, TextAnswer, LogoutAnswer, Async, RejectPdu, on_due, outcome_with}
-use Rattle.iscsi_initiator.specs.Full.{sense_of, takes, due, due_to, answer_due, tag_of, fits_reading, fits_writing, update_counters, is_in_turn}
-use Rattle.iscsi_initiator.specs.Full.{checked_stat_sn, completes, has_received, read_outcome, residual}
-use Rattle.iscsi_initiator.specs.Machine.{step, step_in, taken}
-use Rattle.iscsi_initiator.specs.Submitted.{submitted, or_accepted, accepted as accept, refusal, refusal_in}
+use Rattle.iscsi_initiator.specs.Steps.{InitiatorStep, closed_session, rule_broken, quiet}
+use Rattle.iscsi_initiator.specs.Login.{login_counted, fits_segment, moves_on, is_mid_text_answer, is_expected, start_step, initiator_login_step, begins_stage, answer_judged, offered}
+use Rattle.iscsi_initiator.specs.Login.{login_text_answered, login_answer_in_turn, login_answered, following_stage, sends_text}
+use Rattle.iscsi_initiator.specs.declared.target_pdu.Answer.{Answer}
+use Rattle.iscsi_initiator.specs.declared.target_pdu.Answer.TheVariants as answers
+use Rattle.iscsi_initiator.specs.declared.target_pdu.Content.{Content}
+use Rattle.iscsi_initiator.specs.declared.target_pdu.Content.TheVariants as contents
+use Rattle.iscsi_initiator.specs.declared.target_pdu.Counters.{Counters}
+use Rattle.iscsi_initiator.specs.declared.target_pdu.TargetPdu.{TargetPdu}
+use Rattle.iscsi_initiator.specs.TargetPdu.{target_pdu}
+use Rattle.iscsi_initiator.specs.Full.{DuePdu, UnsolicitedNopIn, Pong, Data, R2t, Response, TextAnswer, LogoutAnswer, Async, RejectPdu, on_due, outcome_with}
+use Rattle.iscsi_initiator.specs.Full.{sense_of, takes, due, due_to, pdu_step, initiator_full_step, fits_reading, fits_writing, update_counters, is_in_turn}
+use Rattle.iscsi_initiator.specs.Full.{completes, has_received, read_outcome, residual}
+use Rattle.iscsi_initiator.specs.Machine.{initiator_step, step_in, outcome_taken}
+use Rattle.iscsi_initiator.specs.Submitted.{submitted, or_accepted, accepted as accept, submit_refusal, refusal_in}
 use Rattle.iscsi_initiator.specs.declared.request.SubmitFault.TheVariants as refusals
-use Rattle.iscsi_initiator.specs.Laws.{Event, Starts, Meets, Comes, Asks, Takes, Ends, after, run, accepted, accepted_in, accepted_if, given, given_in, listed}
+use Rattle.iscsi_initiator.specs.Laws.{InitiatorEvent, Starts, Meets, Comes, Asks, Takes, Ends, session_after, run, accepted, accepted_in, accepted_if, outcomes_given, outcome_given_in, listed}
 use Rattle.iscsi_initiator.specs.Laws.{IsOutcomeOf, AreOutcomesOf, OutcomesInOrder}
 use Rattle.iscsi_stream.proofs.ReadyLemmas.{and_right}
 
@@ -55,11 +62,11 @@ IsFor _ _ = ⊥
 
 -- ---- what one step does to the open request and its outcome
 
-pub record Same (m n : Machine) : Type 0 where
+pub record Same (m n : InitiatorSession) : Type 0 where
   pub request : n.outstanding ≡ m.outstanding
   pub outcome : n.done ≡ m.done
 
-pub record Further (m n : Machine) : Type 0 where
+pub record Further (m n : InitiatorSession) : Type 0 where
   pub old : Outstanding
   pub new : Outstanding
   pub was : m.outstanding ≡ Some old
@@ -67,7 +74,7 @@ pub record Further (m n : Machine) : Type 0 where
   pub outcome : n.done ≡ m.done
   pub fits : (r : Request) → IsFor old r → IsFor new r
 
-pub record Completed (m n : Machine) : Type 0 where
+pub record Completed (m n : InitiatorSession) : Type 0 where
   pub old : Outstanding
   pub outcome : Done
   pub was : m.outstanding ≡ Some old
@@ -75,22 +82,22 @@ pub record Completed (m n : Machine) : Type 0 where
   pub given : n.done ≡ Some outcome
   pub fits : (r : Request) → IsFor old r → IsOutcomeOf r outcome
 
-pub data Turn (m n : Machine) : Type 0 where
+pub data Turn (m n : InitiatorSession) : Type 0 where
   stays : Same m n → Turn m n
   goes : Further m n → Turn m n
   ends : Completed m n → Turn m n
 
-turn_if : (m : Machine) (b : Bool) (x y : Stepped) → Turn m x.machine → Turn m y.machine → Turn m (if b then x else y).machine
+turn_if : (m : InitiatorSession) (b : Bool) (x y : InitiatorStep) → Turn m x.machine → Turn m y.machine → Turn m (if b then x else y).machine
 turn_if m true x y p q = p
 turn_if m false x y p q = q
 
-same : (m n : Machine) → n.outstanding ≡ m.outstanding → n.done ≡ m.done → Turn m n
+same : (m n : InitiatorSession) → n.outstanding ≡ m.outstanding → n.done ≡ m.done → Turn m n
 same m n a b = stays (record { request = a; outcome = b })
 
 -- ---- in full feature phase
 
 -- more data are received, within what is expected
-more_fits : (r : Reading) (bytes : List ℕ) (n : ℕ) → length r.received + length bytes ≤ r.expected → (q : Request) → IsFor (In r) q
+more_fits : (r : ReadProgress) (bytes : List ℕ) (n : ℕ) → length r.received + length bytes ≤ r.expected → (q : Request) → IsFor (In r) q
     → IsFor (In (record r { received = r.received ++ bytes; next_data_sn = n })) q
 more_fits r bytes n le (requests.In lun cdb expected) f = (
   f.0,
@@ -102,7 +109,7 @@ more_fits r bytes n le (requests.Ping sent) f = absurd f
 more_fits r bytes n le (requests.Text sent) f = absurd f
 more_fits r bytes n le requests.Logout f = absurd f
 
-read_fits : (r : Reading) (bytes sense : List ℕ) (response status : ℕ) (q : Request) (o : Done) → o ≡ o → length bytes ≤ r.expected → IsFor (In r) q →
+read_fits : (r : ReadProgress) (bytes sense : List ℕ) (response status : ℕ) (q : Request) (o : Done) → o ≡ o → length bytes ≤ r.expected → IsFor (In r) q →
     (residual : _) → IsOutcomeOf q (done.Command response status sense bytes residual)
 read_fits r bytes sense response status (requests.In lun cdb expected) o e le f residual = subst (λ (n : ℕ). length bytes ≤ n) f.0 le
 read_fits r bytes sense response status (requests.Out lun cdb sent) o e le f residual = absurd f
@@ -110,9 +117,9 @@ read_fits r bytes sense response status (requests.Ping sent) o e le f residual =
 read_fits r bytes sense response status (requests.Text sent) o e le f residual = absurd f
 read_fits r bytes sense response status requests.Logout o e le f residual = absurd f
 
-data_turn : (b c : Bool) (m : Machine) (r : Reading) (h : DataIn) (bytes : List ℕ) → m.outstanding ≡ Some (In r) → fits_reading r h bytes ≡ b
-    → Turn m (if not b then protocol_error m 3 else (if c then completes m (read_outcome (r.received ++ bytes) h) else quiet (has_received m r bytes))).machine
-data_turn false c m r h bytes e f = same m (closed m) refl refl
+data_turn : (b c : Bool) (m : InitiatorSession) (r : ReadProgress) (h : DataIn) (bytes : List ℕ) → m.outstanding ≡ Some (In r) → fits_reading r h bytes ≡ b
+    → Turn m (if not b then rule_broken m 3 else (if c then completes m (read_outcome (r.received ++ bytes) h) else quiet (has_received m r bytes))).machine
+data_turn false c m r h bytes e f = same m (closed_session m) refl refl
 data_turn true true m r h bytes e f =
     let le : length r.received + length bytes ≤ r.expected = leb-true _ _ (and_right _ _ f) in
     let le' : length (r.received ++ bytes) ≤ r.expected = rw (length-append r.received bytes) le in
@@ -135,14 +142,14 @@ data_turn true false m r h bytes e f =
       fits = more_fits r bytes (next_sn r.next_data_sn) le;
     })
 
-out_more : (w v : Writing) (q : Request) → IsFor (Out w) q → IsFor (Out v) q
+out_more : (w v : WriteProgress) (q : Request) → IsFor (Out w) q → IsFor (Out v) q
 out_more w v (requests.In lun cdb expected) f = absurd f
 out_more w v (requests.Out lun cdb sent) f = tt
 out_more w v (requests.Ping sent) f = absurd f
 out_more w v (requests.Text sent) f = absurd f
 out_more w v requests.Logout f = absurd f
 
-out_done : (w : Writing) (sense : List ℕ) (response status : ℕ) (left : Residual) (q : Request) → IsFor (Out w) q →
+out_done : (w : WriteProgress) (sense : List ℕ) (response status : ℕ) (left : Residual) (q : Request) → IsFor (Out w) q →
     IsOutcomeOf q (done.Command response status sense [] left)
 out_done w sense response status left (requests.In lun cdb expected) f = absurd f
 out_done w sense response status left (requests.Out lun cdb sent) f = refl
@@ -150,7 +157,7 @@ out_done w sense response status left (requests.Ping sent) f = absurd f
 out_done w sense response status left (requests.Text sent) f = absurd f
 out_done w sense response status left requests.Logout f = absurd f
 
-in_done : (r : Reading) (sense : List ℕ) (response status : ℕ) (left : Residual) (q : Request) → IsFor (In r) q →
+in_done : (r : ReadProgress) (sense : List ℕ) (response status : ℕ) (left : Residual) (q : Request) → IsFor (In r) q →
     IsOutcomeOf q (done.Command response status sense r.received left)
 in_done r sense response status left (requests.In lun cdb expected) f = f.1
 in_done r sense response status left (requests.Out lun cdb sent) f = absurd f
@@ -179,9 +186,9 @@ logout_done (requests.Ping sent) f = absurd f
 logout_done (requests.Text sent) f = absurd f
 logout_done requests.Logout f = tt
 
-in_response : (o : Option (List ℕ)) (m : Machine) (r : Reading) (h : ScsiResponse) → m.outstanding ≡ Some (In r) →
+in_response : (o : Option (List ℕ)) (m : InitiatorSession) (r : ReadProgress) (h : ScsiResponse) → m.outstanding ≡ Some (In r) →
     Turn m (outcome_with o m r.received h).machine
-in_response None m r h e = same m (closed m) refl refl
+in_response None m r h e = same m (closed_session m) refl refl
 in_response (Some sense) m r h e =
     ends (record {
       old = In r;
@@ -192,8 +199,9 @@ in_response (Some sense) m r h e =
       fits = in_done r sense h.response (unwrap_or h.status 0) (residual h.overflow h.underflow (unwrap_or h.residual 0));
     })
 
-out_response : (o : Option (List ℕ)) (m : Machine) (w : Writing) (h : ScsiResponse) → m.outstanding ≡ Some (Out w) → Turn m (outcome_with o m [] h).machine
-out_response None m w h e = same m (closed m) refl refl
+out_response : (o : Option (List ℕ)) (m : InitiatorSession) (w : WriteProgress) (h : ScsiResponse) → m.outstanding ≡ Some (Out w)
+    → Turn m (outcome_with o m [] h).machine
+out_response None m w h e = same m (closed_session m) refl refl
 out_response (Some sense) m w h e =
     ends (record {
       old = Out w;
@@ -204,100 +212,105 @@ out_response (Some sense) m w h e =
       fits = out_done w sense h.response (unwrap_or h.status 0) (residual h.overflow h.underflow (unwrap_or h.residual 0));
     })
 
-unpassed : (m : Machine) (d : Due) (n : Machine) → Turn (update_counters m d) n → Turn m n
-unpassed m d n (stays s) = stays (record { request = s.request; outcome = s.outcome })
-unpassed m d n (goes s) = goes (record { old = s.old; new = s.new; was = s.was; is = s.is; outcome = s.outcome; fits = s.fits })
-unpassed m d n (ends s) = ends (record { old = s.old; outcome = s.outcome; was = s.was; is = s.is; given = s.given; fits = s.fits })
+unpassed : (m : InitiatorSession) (counters : Counters) (n : InitiatorSession) → Turn (update_counters m counters) n → Turn m n
+unpassed m counters n (stays s) = stays (record { request = s.request; outcome = s.outcome })
+unpassed m counters n (goes s) = goes (record { old = s.old; new = s.new; was = s.was; is = s.is; outcome = s.outcome; fits = s.fits })
+unpassed m counters n (ends s) = ends (record { old = s.old; outcome = s.outcome; was = s.was; is = s.is; given = s.given; fits = s.fits })
 
-some_turn : (m : Machine) (d : Due) (bytes : List ℕ) → Turn (update_counters m d) (on_due (update_counters m d) d bytes).machine →
-    Turn m (takes (Some d) m bytes).machine
-some_turn m d bytes t =
-    turn_if m (nat_lt m.held.initiator_max_recv (length bytes)) _ _ (same m (closed m) refl refl)
-    (turn_if m (not (is_in_turn m.exp_stat_sn (checked_stat_sn d))) _ _ (same m (closed m) refl refl) (unpassed m d _ t))
+some_turn : (m : InitiatorSession) (d : DuePdu) (counters : Counters) (bytes : List ℕ) →
+    Turn (update_counters m counters) (on_due (update_counters m counters) d bytes).machine → Turn m (takes (Some d) counters m bytes).machine
+some_turn m d counters bytes t =
+    turn_if m (nat_lt m.held.initiator_max_recv (length bytes)) _ _ (same m (closed_session m) refl refl)
+    (turn_if m (not (is_in_turn m.exp_stat_sn counters.stat_sn)) _ _ (same m (closed_session m) refl refl) (unpassed m counters _ t))
 
-none_turn : (m : Machine) (bytes : List ℕ) → Turn m (takes None m bytes).machine
-none_turn m bytes = same m (closed m) refl refl
+none_turn : (m : InitiatorSession) (counters : Counters) (bytes : List ℕ) → Turn m (takes None counters m bytes).machine
+none_turn m counters bytes = same m (closed_session m) refl refl
 
-due_turn : (q : Option Outstanding) (head : Head) (m : Machine) (bytes : List ℕ) → m.outstanding ≡ q → Turn m (takes (due_to q head) m bytes).machine
-due_turn (Some Ping) (heads.NopIn h) m bytes e =
-    some_turn m (Pong h) bytes (ends (record { old = Ping; outcome = done.Ping bytes; was = e; is = refl; given = refl; fits = ping_done bytes }))
-due_turn (Some (In r)) (heads.DataIn h) m bytes e = some_turn m (Data r h) bytes
-    (data_turn (fits_reading r h bytes) h.has_status (update_counters m (Data r h)) r h bytes e refl)
-due_turn (Some (In r)) (heads.ScsiResponse h) m bytes e = some_turn m (Response r.received h) bytes (in_response (sense_of bytes)
-    (update_counters m (Response r.received h)) r h e)
-due_turn (Some (Out w)) (heads.ReadyToTransfer h) m bytes e =
-    let v : Writing = record w { sent = w.sent + h.desired_data_transfer_length; next_r2t_sn = next_sn w.next_r2t_sn } in
-    some_turn m (R2t w h) bytes (turn_if (update_counters m (R2t w h)) (fits_writing (update_counters m (R2t w h)) w h) _ _
+due_turn : (q : Option Outstanding) (answer : Answer) (counters : Counters) (m : InitiatorSession) (bytes : List ℕ) → m.outstanding ≡ q →
+    Turn m (takes (due_to q answer) counters m bytes).machine
+due_turn (Some Ping) answers.Ping counters m bytes e =
+    some_turn m Pong counters bytes (ends (record { old = Ping; outcome = done.Ping bytes; was = e; is = refl; given = refl; fits = ping_done bytes }))
+due_turn (Some (In r)) (answers.Data h) counters m bytes e = some_turn m (Data r h) counters bytes
+    (data_turn (fits_reading r h bytes) h.has_status (update_counters m counters) r h bytes e refl)
+due_turn (Some (In r)) (answers.Response h) counters m bytes e = some_turn m (Response r.received h) counters bytes (in_response (sense_of bytes)
+    (update_counters m counters) r h e)
+due_turn (Some (Out w)) (answers.R2t h) counters m bytes e =
+    let v : WriteProgress = record w { sent = w.sent + h.desired_data_transfer_length; next_r2t_sn = next_sn w.next_r2t_sn } in
+    some_turn m (R2t w h) counters bytes (turn_if (update_counters m counters) (fits_writing (update_counters m counters) w h) _ _
     (goes (record { old = Out w; new = Out v; was = e; is = refl; outcome = refl; fits = out_more w v }))
     (same _ _ refl refl))
-due_turn (Some (Out w)) (heads.ScsiResponse h) m bytes e = some_turn m (Response [] h) bytes (out_response (sense_of bytes)
-    (update_counters m (Response [] h)) w h e)
-due_turn (Some Text) (heads.TextResponse h) m bytes e =
-    some_turn m (TextAnswer h) bytes (turn_if (update_counters m (TextAnswer h)) (h.is_final && not h.continues) _ _
+due_turn (Some (Out w)) (answers.Response h) counters m bytes e = some_turn m (Response [] h) counters bytes (out_response (sense_of bytes)
+    (update_counters m counters) w h e)
+due_turn (Some Text) (answers.Text h) counters m bytes e =
+    some_turn m (TextAnswer h) counters bytes (turn_if (update_counters m counters) (h.is_final && not h.continues) _ _
     (ends (record { old = Text; outcome = done.Text bytes; was = e; is = refl; given = refl; fits = text_done bytes })) (same _ _ refl refl))
-due_turn (Some Logout) (heads.LogoutResponse h) m bytes e =
-    some_turn m (LogoutAnswer h) bytes (ends (record { old = Logout; outcome = done.Closed; was = e; is = refl; given = refl; fits = logout_done }))
-due_turn _ _ m bytes e = none_turn m bytes
+due_turn (Some Logout) answers.Logout counters m bytes e =
+    some_turn m LogoutAnswer counters bytes (ends (record { old = Logout; outcome = done.Closed; was = e; is = refl; given = refl; fits = logout_done }))
+due_turn _ _ counters m bytes e = none_turn m counters bytes
 
-takes_if : (b : Bool) (x y : Option Due) (m : Machine) (bytes : List ℕ) → Turn m (takes x m bytes).machine → Turn m (takes y m bytes).machine →
-    Turn m (takes (if b then x else y) m bytes).machine
-takes_if true x y m bytes p q = p
-takes_if false x y m bytes p q = q
+takes_if : (b : Bool) (x y : Option DuePdu) (counters : Counters) (m : InitiatorSession) (bytes : List ℕ) → Turn m (takes x counters m bytes).machine →
+    Turn m (takes y counters m bytes).machine → Turn m (takes (if b then x else y) counters m bytes).machine
+takes_if true x y counters m bytes p q = p
+takes_if false x y counters m bytes p q = q
 
-answer_turn : (head : Head) (m : Machine) (bytes : List ℕ) → Turn m (takes (answer_due m head) m bytes).machine
-answer_turn head m bytes = takes_if (tag_of head == m.initiator_task_tag) (due_to m.outstanding head) None m bytes (due_turn m.outstanding head m bytes refl)
-    (none_turn m bytes)
+content_turn : (content : Content) (counters : Counters) (m : InitiatorSession) (bytes : List ℕ) → Turn m (takes (due m content) counters m bytes).machine
+content_turn (contents.UnsolicitedNopIn h) counters m bytes =
+    some_turn m (UnsolicitedNopIn h) counters bytes (turn_if (update_counters m counters) (is_tag h.target_transfer_tag) _ _ (same _ _ refl refl)
+    (same _ _ refl refl))
+content_turn contents.Async counters m bytes = some_turn m Async counters bytes (same _ _ refl refl)
+content_turn contents.Reject counters m bytes = some_turn m RejectPdu counters bytes (same _ _ refl refl)
+content_turn (contents.Tagged tag answer) counters m bytes =
+    takes_if (tag == m.initiator_task_tag) (due_to m.outstanding answer) None counters m bytes (due_turn m.outstanding answer counters m bytes refl)
+    (none_turn m counters bytes)
 
-full_turn : (head : Head) (m : Machine) (bytes : List ℕ) → Turn m (takes (due m head) m bytes).machine
-full_turn (heads.NopIn h) m bytes =
-    takes_if (h.initiator_task_tag == reserved_tag) (Some (UnsolicitedNopIn h)) (answer_due m (heads.NopIn h)) m bytes
-    (some_turn m (UnsolicitedNopIn h) bytes (turn_if (update_counters m (UnsolicitedNopIn h)) (is_tag h.target_transfer_tag) _ _ (same _ _ refl refl)
-    (same _ _ refl refl))) (answer_turn (heads.NopIn h) m bytes)
-full_turn (heads.AsyncMessage h) m bytes = some_turn m (Async h) bytes (same _ _ refl refl)
-full_turn (heads.Reject h) m bytes = some_turn m (RejectPdu h) bytes (same _ _ refl refl)
-full_turn head m bytes = answer_turn head m bytes
+pdu_turn : (pdu : Option TargetPdu) (m : InitiatorSession) (bytes : List ℕ) → Turn m (pdu_step pdu m bytes).machine
+pdu_turn None m bytes = same m (closed_session m) refl refl
+pdu_turn (Some pdu) m bytes = content_turn pdu.content pdu.counters m bytes
+
+full_turn : (head : Head) (m : InitiatorSession) (bytes : List ℕ) → Turn m (initiator_full_step m head bytes).machine
+full_turn head m bytes = pdu_turn (target_pdu head) m bytes
 
 -- ---- in the login
 
-text_turn : (m n : Machine) → n.outstanding ≡ m.outstanding → n.done ≡ m.done → Turn m (sends_text n).machine
+text_turn : (m n : InitiatorSession) → n.outstanding ≡ m.outstanding → n.done ≡ m.done → Turn m (sends_text n).machine
 text_turn m n a b = turn_if m (fits_segment n (canonical_text (offered n))) _ _ (same m _ a b) (same m _ a b)
 
-enters_turn : (stage : Stage) (m n : Machine) → n.outstanding ≡ m.outstanding → n.done ≡ m.done → Turn m (begins_stage stage n).machine
+enters_turn : (stage : Stage) (m n : InitiatorSession) → n.outstanding ≡ m.outstanding → n.done ≡ m.done → Turn m (begins_stage stage n).machine
 enters_turn stages.Full m n a b = same m _ a b
-enters_turn stages.Security m n a b = let x : Machine = record n { stage = stages.Security } in text_turn m x a b
-enters_turn stages.Operational m n a b = let x : Machine = record n { stage = stages.Operational } in text_turn m x a b
+enters_turn stages.Security m n a b = let x : InitiatorSession = record n { stage = stages.Security } in text_turn m x a b
+enters_turn stages.Operational m n a b = let x : InitiatorSession = record n { stage = stages.Operational } in text_turn m x a b
 
-judged_turn : (o : Option (List ℕ)) (m : Machine) (h : LoginResponse) (answer : Pairs) → Turn m (judged o m h answer).machine
-judged_turn (Some key) m h answer = same m (closed m) refl refl
-judged_turn None m h answer = let n : Machine = record (counted m h) { held = initiator_holds None answer m.held } in
+judged_turn : (o : Option (List ℕ)) (m : InitiatorSession) (h : LoginResponse) (answer : Pairs) → Turn m (answer_judged o m h answer).machine
+judged_turn (Some key) m h answer = same m (closed_session m) refl refl
+judged_turn None m h answer = let n : InitiatorSession = record (login_counted m h) { held = initiator_holds None answer m.held } in
     enters_turn (following_stage m.stage) m n refl refl
 
-text_answered_turn : (m : Machine) (h : LoginResponse) (segment : Segment) → Turn m (text_answered m h segment).machine
-text_answered_turn m h (Bytes bytes) = same m (closed m) refl refl
+text_answered_turn : (m : InitiatorSession) (h : LoginResponse) (segment : Segment) → Turn m (login_text_answered m h segment).machine
+text_answered_turn m h (Bytes bytes) = same m (closed_session m) refl refl
 text_answered_turn m h (segments.Text pairs) = judged_turn (bad_key (offered m) pairs) m h pairs
 
-in_turn_turn : (left : List ℕ) (m : Machine) (h : LoginResponse) (segment : Segment) → Turn m (in_turn left m h segment).machine
-in_turn_turn [] m h segment = turn_if m (moves_on m h) _ _ (text_answered_turn m h segment) (same m (closed m) refl refl)
-in_turn_turn (byte ∷ bytes) m h segment = turn_if m (goes_on m h segment) _ _ (same m _ refl refl) (same m (closed m) refl refl)
+in_turn_turn : (left : List ℕ) (m : InitiatorSession) (h : LoginResponse) (segment : Segment) → Turn m (login_answer_in_turn left m h segment).machine
+in_turn_turn [] m h segment = turn_if m (moves_on m h) _ _ (text_answered_turn m h segment) (same m (closed_session m) refl refl)
+in_turn_turn (byte ∷ bytes) m h segment = turn_if m (is_mid_text_answer m h segment) _ _ (same m _ refl refl) (same m (closed_session m) refl refl)
 
-answered_turn : (m : Machine) (h : LoginResponse) (segment : Segment) → Turn m (answered m h segment).machine
+answered_turn : (m : InitiatorSession) (h : LoginResponse) (segment : Segment) → Turn m (login_answered m h segment).machine
 answered_turn m h segment =
-    turn_if m (not (h.status_class == 0)) _ _ (same m (closed m) refl refl)
-    (turn_if m (not (is_expected m.exp_stat_sn (unwrap_or h.stat_sn 0))) _ _ (same m (closed m) refl refl) (in_turn_turn m.unsent_text m h segment))
+    turn_if m (not (h.status_class == 0)) _ _ (same m (closed_session m) refl refl)
+    (turn_if m (not (is_expected m.exp_stat_sn (unwrap_or h.stat_sn 0))) _ _ (same m (closed_session m) refl refl) (in_turn_turn m.unsent_text m h segment))
 
-login_turn : (m : Machine) (head : Head) (segment : Segment) → Turn m (login_step m head segment).machine
-login_turn m (heads.LoginResponse h) segment = turn_if m (h.initiator_task_tag == 0) _ _ (answered_turn m h segment) (same m (closed m) refl refl)
-login_turn m _ segment = same m (closed m) refl refl
+login_turn : (m : InitiatorSession) (head : Head) (segment : Segment) → Turn m (initiator_login_step m head segment).machine
+login_turn m (heads.LoginResponse h) segment = turn_if m (h.initiator_task_tag == 0) _ _ (answered_turn m h segment) (same m (closed_session m) refl refl)
+login_turn m _ segment = same m (closed_session m) refl refl
 
-step_turn : (p : Phase) (m : Machine) (message : Message) → Turn m (step_in p m message).machine
-step_turn phases.Login m message = turn_if m m.started _ _ (login_turn m message.head message.segment) (same m (closed m) refl refl)
+step_turn : (p : Phase) (m : InitiatorSession) (message : Message) → Turn m (step_in p m message).machine
+step_turn phases.Login m message = turn_if m m.started _ _ (login_turn m message.head message.segment) (same m (closed_session m) refl refl)
 step_turn phases.Full m message = full_turn message.head m (segment_bytes message.segment)
 step_turn phases.Closed m message = same m m refl refl
 
-start_turn : (m : Machine) → Turn m (start_step m).machine
-start_turn m = let n : Machine = record m { started = true } in turn_if m m.started _ _ (same m (closed m) refl refl) (text_turn m n refl refl)
+start_turn : (m : InitiatorSession) → Turn m (start_step m).machine
+start_turn m = let n : InitiatorSession = record m { started = true } in turn_if m m.started _ _ (same m (closed_session m) refl refl) (text_turn m n refl refl)
 
-if_turn : (b : Bool) (m n : Machine) → Turn m n → Turn m (if b then m else n)
+if_turn : (b : Bool) (m n : InitiatorSession) → Turn m n → Turn m (if b then m else n)
 if_turn true m n t = same m m refl refl
 if_turn false m n t = t
 
@@ -309,11 +322,11 @@ AllOutcomes [] [] = Unit {0}
 AllOutcomes (request ∷ requests) (outcome ∷ outcomes) = IsOutcomeOf request outcome × AllOutcomes requests outcomes
 AllOutcomes _ _ = ⊥
 
-pub record Idle (m : Machine) (asked : List Request) (taken_so_far : List Done) : Type 0 where
+pub record Idle (m : InitiatorSession) (asked : List Request) (taken_so_far : List Done) : Type 0 where
   pub none : m.outstanding ≡ None
   pub all : AllOutcomes asked (taken_so_far ++ listed m.done)
 
-pub record Waits (m : Machine) (asked : List Request) (taken_so_far : List Done) : Type 0 where
+pub record Waits (m : InitiatorSession) (asked : List Request) (taken_so_far : List Done) : Type 0 where
   pub front : List Request
   pub request : Request
   pub outstanding : Outstanding
@@ -323,7 +336,7 @@ pub record Waits (m : Machine) (asked : List Request) (taken_so_far : List Done)
   pub outcome : m.done ≡ None
   pub all : AllOutcomes front taken_so_far
 
-pub data Inv (m : Machine) (asked : List Request) (taken_so_far : List Done) : Type 0 where
+pub data Inv (m : InitiatorSession) (asked : List Request) (taken_so_far : List Done) : Type 0 where
   idle : Idle m asked taken_so_far → Inv m asked taken_so_far
   waits : Waits m asked taken_so_far → Inv m asked taken_so_far
 
@@ -347,7 +360,7 @@ or_open (Some o) d = o
 one_open : (o : Option Outstanding) (x y : Outstanding) → o ≡ Some x → o ≡ Some y → x ≡ y
 one_open o x y e f = ap (λ (p : Option Outstanding). or_open p x) (sym e ∙ f)
 
-turn_inv : (m n : Machine) (rs : List Request) (ds : List Done) → Turn m n → Inv m rs ds → Inv n rs ds
+turn_inv : (m n : InitiatorSession) (rs : List Request) (ds : List Done) → Turn m n → Inv m rs ds → Inv n rs ds
 turn_inv m n rs ds (stays s) (idle i) =
     idle (record { none = s.request ∙ i.none; all = subst (λ (d : Option Done). AllOutcomes rs (ds ++ listed d)) (sym s.outcome) i.all })
 turn_inv m n rs ds (stays s) (waits w) =
@@ -402,17 +415,19 @@ IsFault (Some f) = Unit {0}
 no_fault : (f : SubmitFault) → Some f ≡ None → ⊥
 no_fault f e = subst (λ (x : Option SubmitFault). IsFault x) e tt
 
-full_free : (b : Bool) (m : Machine) (rest : Option SubmitFault) → (is_some m.outstanding || is_some m.done) ≡ b → (if b then Some refusals.Busy else rest)
+full_free : (b : Bool) (m : InitiatorSession) (rest : Option SubmitFault) → (is_some m.outstanding || is_some m.done) ≡ b
+    → (if b then Some refusals.Busy else rest)
     ≡ None → (m.outstanding ≡ None) × (m.done ≡ None)
 full_free true m rest e f = absurd (no_fault refusals.Busy f)
 full_free false m rest e f = is_none_of m.outstanding m.done e
 
-free_in : (p : Phase) (m : Machine) (r : Request) → refusal_in p m r ≡ None → (m.outstanding ≡ None) × (m.done ≡ None)
+free_in : (p : Phase) (m : InitiatorSession) (r : Request) → refusal_in p m r ≡ None → (m.outstanding ≡ None) × (m.done ≡ None)
 free_in phases.Closed m r f = absurd (no_fault refusals.Closed f)
 free_in phases.Login m r f = absurd (no_fault refusals.NotReady f)
 free_in phases.Full m r f = full_free (is_some m.outstanding || is_some m.done) m _ refl f
 
-waits_for : (m n : Machine) (rs : List Request) (ds : List Done) (r : Request) (o : Outstanding) → m.done ≡ None → AllOutcomes rs (ds ++ listed m.done) →
+waits_for : (m n : InitiatorSession) (rs : List Request) (ds : List Done) (r : Request) (o : Outstanding) → m.done ≡ None → AllOutcomes rs (ds ++ listed m.done)
+    →
     n.outstanding ≡ Some o → n.done ≡ m.done → IsFor o r
     → Inv n (rs ++ r ∷ []) ds
 waits_for m n rs ds r o e a is same_outcome f =
@@ -420,7 +435,7 @@ waits_for m n rs ds r o e a is same_outcome f =
     (subst (λ (d : Option Done). AllOutcomes rs (ds ++ listed d)) e a) in
     waits (record { front = rs; request = r; outstanding = o; split = refl; is = is; fits = f; outcome = same_outcome ∙ e; all = all })
 
-accept_inv : (m : Machine) (r : Request) (rs : List Request) (ds : List Done) → m.done ≡ None → AllOutcomes rs (ds ++ listed m.done) →
+accept_inv : (m : InitiatorSession) (r : Request) (rs : List Request) (ds : List Done) → m.done ≡ None → AllOutcomes rs (ds ++ listed m.done) →
     Inv (accept m r).machine (rs ++ r ∷ []) ds
 accept_inv m (requests.In lun cdb expected) rs ds e a = waits_for m _ rs ds _ _ e a refl refl (refl, omega arith)
 accept_inv m (requests.Out lun cdb bytes) rs ds e a = waits_for m _ rs ds _ _ e a refl refl tt
@@ -428,13 +443,13 @@ accept_inv m (requests.Ping bytes) rs ds e a = waits_for m _ rs ds _ _ e a refl 
 accept_inv m (requests.Text bytes) rs ds e a = waits_for m _ rs ds _ _ e a refl refl tt
 accept_inv m requests.Logout rs ds e a = waits_for m _ rs ds _ _ e a refl refl tt
 
-asks_inv : (o : Option SubmitFault) (m : Machine) (r : Request) (rs : List Request) (ds : List Done) → refusal m r ≡ o → Inv m rs ds →
+asks_inv : (o : Option SubmitFault) (m : InitiatorSession) (r : Request) (rs : List Request) (ds : List Done) → submit_refusal m r ≡ o → Inv m rs ds →
     Inv (or_accepted o m r).machine (rs ++ accepted_if o r) ds
 asks_inv (Some f) m r rs ds e i = subst (λ (xs : List Request). Inv m xs ds) (sym (append-nil rs)) i
 asks_inv None m r rs ds e (idle i) = accept_inv m r rs ds (free_in m.phase m r e).1 i.all
 asks_inv None m r rs ds e (waits w) = absurd (never_both m.outstanding w.outstanding (free_in m.phase m r e).0 w.is)
 
-takes_inv : (m : Machine) (rs : List Request) (ds : List Done) → Inv m rs ds → Inv (taken m) rs (ds ++ listed m.done)
+takes_inv : (m : InitiatorSession) (rs : List Request) (ds : List Done) → Inv m rs ds → Inv (outcome_taken m) rs (ds ++ listed m.done)
 takes_inv m rs ds (idle i) = idle (record { none = i.none; all = subst (λ (xs : List Done). AllOutcomes rs xs) (sym (append-nil (ds ++ listed m.done))) i.all })
 takes_inv m rs ds (waits w) =
     waits (record {
@@ -449,33 +464,35 @@ takes_inv m rs ds (waits w) =
           (subst (λ (xs : List Done). AllOutcomes w.front xs) (sym (append-nil ds)) w.all);
     })
 
-none_more : (m n : Machine) (rs : List Request) (ds : List Done) → Turn m n → Inv m rs ds → Inv n (rs ++ []) (ds ++ [])
+none_more : (m n : InitiatorSession) (rs : List Request) (ds : List Done) → Turn m n → Inv m rs ds → Inv n (rs ++ []) (ds ++ [])
 none_more m n rs ds t i =
     subst (λ (xs : List Request). Inv n xs (ds ++ [])) (sym (append-nil rs)) (subst (λ (ys : List Done). Inv n rs ys) (sym (append-nil ds))
     (turn_inv m n rs ds t i))
 
-event_inv : (m : Machine) (event : Event) (rs : List Request) (ds : List Done) → Inv m rs ds →
-    Inv (after m event) (rs ++ accepted_in m event) (ds ++ given_in m event)
-unfolding step submitted
-event_inv m Starts rs ds i = none_more m _ rs ds (if_turn (is_closed m) m (start_step m).machine (start_turn m)) i
+event_inv : (m : InitiatorSession) (event : InitiatorEvent) (rs : List Request) (ds : List Done) → Inv m rs ds →
+    Inv (session_after m event) (rs ++ accepted_in m event) (ds ++ outcome_given_in m event)
+unfolding initiator_step submitted
+event_inv m Starts rs ds i = none_more m _ rs ds (if_turn (is_session_closed m) m (start_step m).machine (start_turn m)) i
 event_inv m (Meets (Comes message)) rs ds i = none_more m _ rs ds (step_turn m.phase m message) i
 event_inv m (Meets (Asks request)) rs ds i =
-    subst (λ (ys : List Done). Inv (or_accepted (refusal m request) m request).machine (rs ++ accepted_if (refusal m request) request) ys) (sym (append-nil ds))
-    (asks_inv (refusal m request) m request rs ds refl i)
-event_inv m (Meets Takes) rs ds i = subst (λ (xs : List Request). Inv (taken m) xs (ds ++ listed m.done)) (sym (append-nil rs)) (takes_inv m rs ds i)
-event_inv m Ends rs ds i = none_more m (closed m) rs ds (same m (closed m) refl refl) i
+    subst (λ (ys : List Done). Inv (or_accepted (submit_refusal m request) m request).machine (rs ++ accepted_if (submit_refusal m request) request) ys)
+    (sym (append-nil ds))
+    (asks_inv (submit_refusal m request) m request rs ds refl i)
+event_inv m (Meets Takes) rs ds i = subst (λ (xs : List Request). Inv (outcome_taken m) xs (ds ++ listed m.done)) (sym (append-nil rs)) (takes_inv m rs ds i)
+event_inv m Ends rs ds i = none_more m (closed_session m) rs ds (same m (closed_session m) refl refl) i
 
 -- ---- runs
 
-run_inv : (m : Machine) (events : List Event) (rs : List Request) (ds : List Done) → Inv m rs ds →
-    Inv (run m events) (rs ++ accepted m events) (ds ++ given m events)
+run_inv : (m : InitiatorSession) (events : List InitiatorEvent) (rs : List Request) (ds : List Done) → Inv m rs ds →
+    Inv (run m events) (rs ++ accepted m events) (ds ++ outcomes_given m events)
 run_inv m [] rs ds i = none_more m m rs ds (same m m refl refl) i
 run_inv m (event ∷ events) rs ds i =
-    subst (λ (xs : List Request). Inv (run (after m event) events) xs (ds ++ (given_in m event ++ given (after m event) events)))
-    (append_assoc rs (accepted_in m event) (accepted (after m event) events))
-    (subst (λ (ys : List Done). Inv (run (after m event) events) (rs ++ accepted_in m event ++ accepted (after m event) events) ys)
-    (append_assoc ds (given_in m event) (given (after m event) events))
-    (run_inv (after m event) events (rs ++ accepted_in m event) (ds ++ given_in m event) (event_inv m event rs ds i)))
+    subst (λ (xs : List Request). Inv (run (session_after m event) events) xs
+    (ds ++ (outcome_given_in m event ++ outcomes_given (session_after m event) events)))
+    (append_assoc rs (accepted_in m event) (accepted (session_after m event) events))
+    (subst (λ (ys : List Done). Inv (run (session_after m event) events) (rs ++ accepted_in m event ++ accepted (session_after m event) events) ys)
+    (append_assoc ds (outcome_given_in m event) (outcomes_given (session_after m event) events))
+    (run_inv (session_after m event) events (rs ++ accepted_in m event) (ds ++ outcome_given_in m event) (event_inv m event rs ds i)))
 
 all_are : (rs : List Request) (ds : List Done) → AllOutcomes rs ds → AreOutcomesOf rs ds
 all_are [] [] a = omega arith
@@ -489,7 +506,7 @@ all_but_one [] r (d ∷ ds) a = absurd a
 all_but_one (x ∷ rs) r [] a = absurd a
 all_but_one (x ∷ rs) r (d ∷ ds) a = (a.0, all_but_one rs r ds a.1)
 
-inv_says : (m : Machine) (rs : List Request) (ds : List Done) → Inv m rs ds → AreOutcomesOf rs (ds ++ listed m.done)
+inv_says : (m : InitiatorSession) (rs : List Request) (ds : List Done) → Inv m rs ds → AreOutcomesOf rs (ds ++ listed m.done)
 inv_says m rs ds (idle i) = all_are rs (ds ++ listed m.done) i.all
 inv_says m rs ds (waits w) =
     subst (λ (xs : List Request). AreOutcomesOf xs (ds ++ listed m.done)) (sym w.split)
@@ -497,6 +514,7 @@ inv_says m rs ds (waits w) =
     (subst (λ (d : Option Done). AllOutcomes w.front (ds ++ listed d)) (sym w.outcome)
     (subst (λ (xs : List Done). AllOutcomes w.front xs) (sym (append-nil ds)) w.all)))
 
-pub outcomes_in_order : (settings : Settings) → OutcomesInOrder settings
-outcomes_in_order settings events = inv_says (run (opening settings) events) (accepted (opening settings) events) (given (opening settings) events)
-    (run_inv (opening settings) events [] [] (idle (record { none = refl; all = tt })))
+pub outcomes_in_order : (settings : InitiatorSettings) → OutcomesInOrder settings
+outcomes_in_order settings events =
+    inv_says (run (new_session settings) events) (accepted (new_session settings) events) (outcomes_given (new_session settings) events)
+    (run_inv (new_session settings) events [] [] (idle (record { none = refl; all = tt })))

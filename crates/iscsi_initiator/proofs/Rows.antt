@@ -15,16 +15,16 @@ use Rattle.iscsi_text.specs.declared.negotiated.Session.TheVariants.{Normal}
 use Rattle.iscsi_login.specs.declared.offers.Auth.TheVariants as auths
 use Rattle.iscsi_login.specs.declared.phase.Phase.TheVariants as phases
 use Rattle.iscsi_text.specs.declared.negotiated.Answered.TheVariants.{Number, Flag, NoneItem}
-use Rattle.iscsi_login.specs.Negotiation.{standard}
+use Rattle.iscsi_login.specs.Negotiation.{standard_preferences}
 use Rattle.iscsi_login.specs.Offers.{Proposal}
 use Rattle.iscsi_initiator.specs.declared.fault.InitiatorFault.{InitiatorFault}
 use Rattle.iscsi_initiator.specs.declared.fault.InitiatorFault.TheVariants.{Protocol, BadAnswer}
 use Rattle.iscsi_initiator.specs.declared.request.Request.TheVariants as requests
 use Rattle.iscsi_initiator.specs.declared.request.SubmitFault.TheVariants as refusals
-use Rattle.iscsi_initiator.specs.State.{Settings, Machine, opening}
-use Rattle.iscsi_initiator.specs.Steps.{Stepped}
+use Rattle.iscsi_initiator.specs.State.{InitiatorSettings, InitiatorSession, new_session}
+use Rattle.iscsi_initiator.specs.Steps.{InitiatorStep}
 use Rattle.iscsi_initiator.specs.Login.{start_step}
-use Rattle.iscsi_initiator.specs.Machine.{step}
+use Rattle.iscsi_initiator.specs.Machine.{initiator_step}
 use Rattle.iscsi_initiator.specs.Submitted.{submitted}
 
 abbrev pub loop_proposal : Proposal
@@ -33,10 +33,10 @@ loop_proposal = record {
   target = codes "iqn.2026-01.example:disk";
   session = Normal;
   auth = auths.None;
-  prefs = standard;
+  prefs = standard_preferences;
 }
 
-abbrev pub loop_settings : Stage → ℕ → Settings
+abbrev pub loop_settings : Stage → ℕ → InitiatorSettings
 loop_settings start segment = record {
   proposal = loop_proposal;
   start = start;
@@ -91,8 +91,8 @@ abbrev pub answer2 : Pairs → Message
 answer2 pairs = login_answer true 1 (Some 3) 1 2 1 (segments.Text pairs)
 
 -- a login of the standard preferences, from the security stage
-abbrev pub started : Stepped
-started = start_step (opening (loop_settings Security 8192))
+abbrev pub started : InitiatorStep
+started = start_step (new_session (loop_settings Security 8192))
 
 start_writes : started.output ≡ record {
   head = heads.LoginRequest (record {
@@ -116,8 +116,8 @@ start_writes = refl
 first_length : length (canonical_text first_pairs) ≡ 0x6e
 first_length = refl
 
-abbrev pub secured : Stepped
-secured = step started.machine answer1
+abbrev pub secured : InitiatorStep
+secured = initiator_step started.machine answer1
 
 second_writes : secured.output ≡ record {
   head = heads.LoginRequest (record {
@@ -136,19 +136,19 @@ second_writes : secured.output ≡ record {
   });
   segment = segments.Text second_pairs;
 } ∷ []
-unfolding step digits segment_bytes
+unfolding initiator_step digits segment_bytes
 second_writes = refl
 
 second_length : length (canonical_text second_pairs) ≡ 283
 unfolding digits segment_bytes
 second_length = refl
 
-abbrev pub logged_in : Stepped
-logged_in = step secured.machine (answer2 second_pairs)
+abbrev pub logged_in : InitiatorStep
+logged_in = initiator_step secured.machine (answer2 second_pairs)
 
 is_logged_in : (logged_in.output ≡ []) × (logged_in.fault ≡ None) × (logged_in.machine.phase ≡ phases.Full) × (logged_in.machine.stage ≡ Full)
     × (logged_in.machine.exp_stat_sn ≡ Some 3)
-unfolding step digits segment_bytes
+unfolding initiator_step digits segment_bytes
 is_logged_in = (refl, refl, refl, refl, refl)
 
 holds : logged_in.machine.held ≡ record {
@@ -157,66 +157,66 @@ holds : logged_in.machine.held ≡ record {
   initiator_max_recv = 8192;
   target_max_recv = 8192;
 }
-unfolding step digits segment_bytes
+unfolding initiator_step digits segment_bytes
 holds = refl
 
 -- answers that may not be given
 abbrev fault_at : Pairs → Option InitiatorFault
-fault_at pairs = (step secured.machine (answer2 pairs)).fault
+fault_at pairs = (initiator_step secured.machine (answer2 pairs)).fault
 
 greater_answer : fault_at ((codes "MaxBurstLength", values.Number 300000) ∷ []) ≡ Some (BadAnswer (codes "MaxBurstLength"))
-unfolding step digits segment_bytes
+unfolding initiator_step digits segment_bytes
 greater_answer = refl
 
 missing_answer : fault_at ((codes "MaxBurstLength", values.Number 1024) ∷ []) ≡ Some (BadAnswer (codes "DataDigest"))
-unfolding step digits segment_bytes
+unfolding initiator_step digits segment_bytes
 missing_answer = refl
 
 -- what was answered before is no offer of this text
 answered_before : fault_at ((codes "AuthMethod", values.Items (codes "None")) ∷ second_pairs) ≡ Some (BadAnswer (codes "AuthMethod"))
-unfolding step digits segment_bytes
+unfolding initiator_step digits segment_bytes
 answered_before = refl
 
 -- the second answer names stage 0
-wrong_stage : (step secured.machine (login_answer true 0 (Some 3) 1 2 1 (segments.Text second_pairs))).fault ≡ Some (Protocol 7)
-unfolding step digits segment_bytes
+wrong_stage : (initiator_step secured.machine (login_answer true 0 (Some 3) 1 2 1 (segments.Text second_pairs))).fault ≡ Some (Protocol 7)
+unfolding initiator_step digits segment_bytes
 wrong_stage = refl
 
 abbrev reject : ℕ → Message
 reject stat_sn = record { head = heads.Reject (record { reason = 4; stat_sn = stat_sn; exp_cmd_sn = 1; max_cmd_sn = 1 }); segment = Bytes [] }
 
-rejected : ((step logged_in.machine (reject 3)).fault ≡ Some (Protocol 8)) × ((step logged_in.machine (reject 4)).fault ≡ Some (Protocol 6))
-unfolding step digits segment_bytes
+rejected : ((initiator_step logged_in.machine (reject 3)).fault ≡ Some (Protocol 8)) × ((initiator_step logged_in.machine (reject 4)).fault ≡ Some (Protocol 6))
+unfolding initiator_step digits segment_bytes
 rejected = (refl, refl)
 
-closed_then : (submitted (step logged_in.machine (reject 3)).machine requests.Logout).refusal ≡ Some refusals.Closed
-unfolding step submitted digits segment_bytes
+closed_then : (submitted (initiator_step logged_in.machine (reject 3)).machine requests.Logout).refusal ≡ Some refusals.Closed
+unfolding initiator_step submitted digits segment_bytes
 closed_then = refl
 
-abbrev shut : Machine
-shut = (step (step started.machine (login_answer true 0 (Some 1) 0 1 0 (segments.Text first_answer))).machine
+abbrev shut : InitiatorSession
+shut = (initiator_step (initiator_step started.machine (login_answer true 0 (Some 1) 0 1 0 (segments.Text first_answer))).machine
     (login_answer true 1 (Some 3) 1 2 0 (segments.Text second_pairs))).machine
 
 is_shut : (submitted shut requests.Logout).refusal ≡ Some refusals.Shut
-unfolding step submitted digits segment_bytes
+unfolding initiator_step submitted digits segment_bytes
 is_shut = refl
 
 -- requests before the login, while one is open, and too long
 not_ready : (submitted started.machine requests.Logout).refusal ≡ Some refusals.NotReady
-unfolding step submitted digits segment_bytes
+unfolding initiator_step submitted digits segment_bytes
 not_ready = refl
 
 busy : (submitted (submitted logged_in.machine (requests.Ping (1 ∷ []))).machine requests.Logout).refusal ≡ Some refusals.Busy
-unfolding step submitted digits segment_bytes
+unfolding initiator_step submitted digits segment_bytes
 busy = refl
 
 too_long : (submitted logged_in.machine (requests.Ping (replicate 8193 0))).refusal ≡ Some refusals.TooLong
-unfolding step submitted digits segment_bytes
+unfolding initiator_step submitted digits segment_bytes
 too_long = refl
 
 -- a login of one text, from the operational stage
-abbrev single : Stepped
-single = start_step (opening (loop_settings Operational 8192))
+abbrev single : InitiatorStep
+single = start_step (new_session (loop_settings Operational 8192))
 
 abbrev text_length : Message → ℕ
 text_length m = length (segment_bytes m.segment)
@@ -228,45 +228,45 @@ single_length = refl
 abbrev single_answer : Message
 single_answer = login_answer true 1 (Some 3) 1 1 1 (segments.Text (second_pairs ++ (codes "TargetPortalGroupTag", values.Number 1) ∷ []))
 
-abbrev single_login : Stepped
-single_login = step single.machine single_answer
+abbrev single_login : InitiatorStep
+single_login = initiator_step single.machine single_answer
 
 single_holds : ((single_login.machine.held ≡ logged_in.machine.held)) × (single_login.machine.phase ≡ phases.Full) × (text_length single_answer ≡ 0x132)
-unfolding step digits segment_bytes
+unfolding initiator_step digits segment_bytes
 single_holds = (refl, refl, refl)
 
 -- a login in segments of at most 64 bytes
 abbrev goes_on : ℕ → ℕ → Message
 goes_on current_stage stat_sn = login_answer false current_stage None 0 stat_sn 1 (segments.Text [])
 
-abbrev c1 : Stepped
-c1 = start_step (opening (loop_settings Security 64))
+abbrev c1 : InitiatorStep
+c1 = start_step (new_session (loop_settings Security 64))
 
-abbrev c2 : Stepped
-c2 = step c1.machine (goes_on 0 1)
+abbrev c2 : InitiatorStep
+c2 = initiator_step c1.machine (goes_on 0 1)
 
-abbrev c3 : Stepped
-c3 = step c2.machine (login_answer true 0 (Some 1) 0 2 1 (segments.Text first_answer))
+abbrev c3 : InitiatorStep
+c3 = initiator_step c2.machine (login_answer true 0 (Some 1) 0 2 1 (segments.Text first_answer))
 
-abbrev c4 : Stepped
-c4 = step c3.machine (goes_on 1 3)
+abbrev c4 : InitiatorStep
+c4 = initiator_step c3.machine (goes_on 1 3)
 
-abbrev c5 : Stepped
-c5 = step c4.machine (goes_on 1 4)
+abbrev c5 : InitiatorStep
+c5 = initiator_step c4.machine (goes_on 1 4)
 
-abbrev c6 : Stepped
-c6 = step c5.machine (goes_on 1 5)
+abbrev c6 : InitiatorStep
+c6 = initiator_step c5.machine (goes_on 1 5)
 
-abbrev c7 : Stepped
-c7 = step c6.machine (goes_on 1 6)
+abbrev c7 : InitiatorStep
+c7 = initiator_step c6.machine (goes_on 1 6)
 
-abbrev c8 : Stepped
-c8 = step c7.machine (login_answer true 1 (Some 3) 1 7 1 (segments.Text second_pairs))
+abbrev c8 : InitiatorStep
+c8 = initiator_step c7.machine (login_answer true 1 (Some 3) 1 7 1 (segments.Text second_pairs))
 
 in_segments : map text_length (c1.output ++ c2.output ++ c3.output ++ c4.output ++ c5.output ++ c6.output ++ c7.output) ≡ 64 ∷ 46 ∷ 64 ∷ 64 ∷ 64 ∷ 64 ∷ 27 ∷ []
-unfolding step digits segment_bytes
+unfolding initiator_step digits segment_bytes
 in_segments = refl
 
 ends_the_same : (c8.machine.held ≡ logged_in.machine.held) × (c8.fault ≡ None) × (c8.machine.phase ≡ phases.Full)
-unfolding step digits segment_bytes
+unfolding initiator_step digits segment_bytes
 ends_the_same = (refl, refl, refl)

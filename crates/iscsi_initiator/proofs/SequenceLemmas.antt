@@ -6,11 +6,11 @@ use Rattle.std.proofs.lemmas.List.{length-take, length-append, take-append-le, t
 use Rattle.std.proofs.lemmas.Bool.{eqb-true}
 use Rattle.iscsi_pdu.specs.declared.head.data_out.DataOut.{DataOut}
 use Rattle.iscsi_pdu.specs.declared.head.Head.TheVariants as heads
-use Rattle.iscsi_pdu.specs.Meaning.{Fits, whole}
+use Rattle.iscsi_pdu.specs.Meaning.{HeadFits, whole}
 use Rattle.iscsi_stream.specs.Segment.{segment_bytes}
 use Rattle.iscsi_stream.specs.Canonical.{canon}
 use Rattle.iscsi_pdu.specs.Serial.{next_sn}
-use Rattle.iscsi_initiator.specs.Full.{data_outs, is_last}
+use Rattle.iscsi_initiator.specs.Full.{data_outs, is_last_piece}
 use Rattle.iscsi_stream.specs.Pieces.{chunks}
 use Rattle.iscsi_stream.proofs.ChunkLemmas.{chunks_step}
 
@@ -25,7 +25,7 @@ due next bytes = record { next = next; bytes = bytes }
 
 -- what is written of the sequence in pieces of n bytes, and what is left to write
 pub record Wrote (most : ℕ) (all left : Due) (before written : List ℕ) : Type 0 where
-  pub fits : Fits (heads.DataOut left.next)
+  pub fits : HeadFits (heads.DataOut left.next)
   pub within : left.next.buffer_offset + length left.bytes < 2 ^ 32
   pub same : written ++ canon (data_outs left.next (chunks most left.bytes)) ≡ before ++ canon (data_outs all.next (chunks most all.bytes))
   pub front : take (length before) written ≡ before
@@ -44,7 +44,7 @@ not_zero : (n : ℕ) (b : Bool) → (suc n == 0) ≡ b → b ≡ false
 not_zero n true e = absurd (omega (arith, eqb-true (suc n) 0 e))
 not_zero n false e = refl
 
-last_piece : (n : ℕ) (bytes : List ℕ) → is_last (chunks n bytes) ≡ (length bytes == 0)
+last_piece : (n : ℕ) (bytes : List ℕ) → is_last_piece (chunks n bytes) ≡ (length bytes == 0)
 last_piece n [] = refl
 last_piece n (x ∷ xs) = sym (not_zero (length xs) (suc (length xs) == 0) refl)
 

@@ -5,11 +5,11 @@ use Rattle.iscsi_login.specs.declared.stage.Stage.TheVariants as stages
 use Rattle.iscsi_login.specs.declared.config_fault.ConfigFault.{ConfigFault}
 use Rattle.iscsi_login.specs.declared.config_fault.ConfigFault.TheVariants.{NoMemory, BadName, OutOfRange}
 use Rattle.iscsi_login.specs.Name.{IsName}
-use Rattle.iscsi_login.specs.Negotiation.{IsInRange}
-use Rattle.iscsi_initiator.specs.State.{Settings}
+use Rattle.iscsi_login.specs.Negotiation.{ArePreferencesInRange}
+use Rattle.iscsi_initiator.specs.State.{InitiatorSettings}
 
 -- Both names are names (section 4.2.7).
-pub record AreNames (settings : Settings) : Type 0 where
+pub record AreNames (settings : InitiatorSettings) : Type 0 where
   pub initiator : IsName settings.proposal.initiator
   pub target : IsName settings.proposal.target
 
@@ -20,20 +20,20 @@ IsStart stages.Operational = Unit {0}
 IsStart stages.Full = ⊥
 
 -- Each number and the stage are in their ranges (section 13; that of the segment is own rule).
-pub record AreInRange (settings : Settings) : Type 0 where
-  pub preferences : IsInRange settings.proposal.prefs
+pub record AreSettingsInRange (settings : InitiatorSettings) : Type 0 where
+  pub preferences : ArePreferencesInRange settings.proposal.prefs
   pub start : IsStart settings.start
   pub least : 64 ≤ settings.login_segment
   pub most : settings.login_segment ≤ 8192
 
 -- Settings that are not refused.
-pub record AreValid (settings : Settings) : Type 0 where
+pub record AreValid (settings : InitiatorSettings) : Type 0 where
   pub names : AreNames settings
-  pub in_range : AreInRange settings
+  pub in_range : AreSettingsInRange settings
 
 -- The settings are those that were given; each fault has its cause, the names' first.
-abbrev pub Configures : Settings → Result Settings ConfigFault → Type 0
-Configures given (Ok settings) = AreValid given × (settings ≡ given)
-Configures given (Err BadName) = ¬ AreNames given
-Configures given (Err OutOfRange) = AreNames given × (¬ AreInRange given)
-Configures given (Err NoMemory) = AreValid given
+abbrev pub InitiatorConfigPost : InitiatorSettings → Result InitiatorSettings ConfigFault → Type 0
+InitiatorConfigPost given (Ok settings) = AreValid given × (settings ≡ given)
+InitiatorConfigPost given (Err BadName) = ¬ AreNames given
+InitiatorConfigPost given (Err OutOfRange) = AreNames given × (¬ AreSettingsInRange given)
+InitiatorConfigPost given (Err NoMemory) = AreValid given

@@ -11,11 +11,7 @@ use Rattle.iscsi_pdu.specs.declared.head.scsi_response.ScsiResponse.{ScsiRespons
 use Rattle.iscsi_pdu.specs.declared.head.text_response.TextResponse.{TextResponse}
 use Rattle.iscsi_pdu.specs.declared.head.data_in.DataIn.{DataIn}
 use Rattle.iscsi_pdu.specs.declared.head.data_out.DataOut.{DataOut}
-use Rattle.iscsi_pdu.specs.declared.head.logout_response.LogoutResponse.{LogoutResponse}
 use Rattle.iscsi_pdu.specs.declared.head.ready_to_transfer.ReadyToTransfer.{ReadyToTransfer}
-use Rattle.iscsi_pdu.specs.declared.head.async_message.AsyncMessage.{AsyncMessage}
-use Rattle.iscsi_pdu.specs.declared.head.reject.Reject.{Reject}
-use Rattle.iscsi_pdu.specs.declared.serial.Window.{Window}
 use Rattle.iscsi_pdu.specs.Fields.{is_tag, reserved_tag}
 use Rattle.iscsi_pdu.specs.Serial.{moved, next_sn}
 use Rattle.iscsi_stream.specs.Segment.{Bytes}
@@ -25,87 +21,56 @@ use Rattle.iscsi_initiator.specs.declared.request.Done.{Done}
 use Rattle.iscsi_initiator.specs.declared.request.Done.TheVariants as done
 use Rattle.iscsi_initiator.specs.declared.outstanding.Outstanding.{Outstanding}
 use Rattle.iscsi_initiator.specs.declared.outstanding.Outstanding.TheVariants.{In, Out, Ping, Text, Logout}
-use Rattle.iscsi_initiator.specs.State.{Machine, serial, sent_exp_stat_sn}
-use Rattle.iscsi_initiator.specs.Progress.{Reading, Writing}
+use Rattle.iscsi_initiator.specs.declared.target_pdu.Answer.{Answer}
+use Rattle.iscsi_initiator.specs.declared.target_pdu.Answer.TheVariants as answers
+use Rattle.iscsi_initiator.specs.declared.target_pdu.Content.{Content}
+use Rattle.iscsi_initiator.specs.declared.target_pdu.Content.TheVariants as contents
+use Rattle.iscsi_initiator.specs.declared.target_pdu.Counters.{Counters}
+use Rattle.iscsi_initiator.specs.declared.target_pdu.TargetPdu.{TargetPdu}
+use Rattle.iscsi_initiator.specs.TargetPdu.{target_pdu}
+use Rattle.iscsi_initiator.specs.State.{InitiatorSession, serial, sent_exp_stat_sn}
+use Rattle.iscsi_initiator.specs.Progress.{ReadProgress, WriteProgress}
 use Rattle.iscsi_initiator.specs.Login.{is_expected}
-use Rattle.iscsi_initiator.specs.Steps.{Stepped, closed, protocol_error, quiet, sends}
+use Rattle.iscsi_initiator.specs.Steps.{InitiatorStep, closed_session, rule_broken, quiet, step_sending}
 use Rattle.iscsi_stream.specs.Pieces.{chunks}
 use Rattle.iscsi_pdu.specs.Rules.{data_out_of_order, kind_not_due, rejected, segment_too_long, status_out_of_order, text_at_fault}
 
--- ---- which messages are due
+-- ---- which PDUs are due
 
--- A message that is due, with what it is due to (section 11.2.1.8). UnsolicitedNopIn is a NOP-In
--- that answers no ping, Response an answer to a command that has received these bytes.
-pub data Due : Type 0 where
-  UnsolicitedNopIn : NopIn → Due
-  Pong : NopIn → Due
-  Data : Reading → DataIn → Due
-  R2t : Writing → ReadyToTransfer → Due
-  Response : List ℕ → ScsiResponse → Due
-  TextAnswer : TextResponse → Due
-  LogoutAnswer : LogoutResponse → Due
-  Async : AsyncMessage → Due
-  RejectPdu : Reject → Due
+-- A PDU that is due, with what it is due to (section 11.2.1.8). UnsolicitedNopIn is a NOP-In that
+-- answers no ping, Response an answer to a command that has received these bytes.
+pub data DuePdu : Type 0 where
+  UnsolicitedNopIn : NopIn → DuePdu
+  Pong : DuePdu
+  Data : ReadProgress → DataIn → DuePdu
+  R2t : WriteProgress → ReadyToTransfer → DuePdu
+  Response : List ℕ → ScsiResponse → DuePdu
+  TextAnswer : TextResponse → DuePdu
+  LogoutAnswer : DuePdu
+  Async : DuePdu
+  RejectPdu : DuePdu
 
--- What a message is due to, by the outstanding request and the message's kind (section 11).
-abbrev pub due_to : Option Outstanding → Head → Option Due
-due_to (Some Ping) (heads.NopIn h) = Some (Pong h)
-due_to (Some (In r)) (heads.DataIn h) = Some (Data r h)
-due_to (Some (In r)) (heads.ScsiResponse h) = Some (Response r.received h)
-due_to (Some (Out w)) (heads.ReadyToTransfer h) = Some (R2t w h)
-due_to (Some (Out w)) (heads.ScsiResponse h) = Some (Response [] h)
-due_to (Some Text) (heads.TextResponse h) = Some (TextAnswer h)
-due_to (Some Logout) (heads.LogoutResponse h) = Some (LogoutAnswer h)
+-- What an answer is due to, by the outstanding request and the answer's kind (section 11).
+abbrev pub due_to : Option Outstanding → Answer → Option DuePdu
+due_to (Some Ping) answers.Ping = Some Pong
+due_to (Some (In r)) (answers.Data h) = Some (Data r h)
+due_to (Some (In r)) (answers.Response h) = Some (Response r.received h)
+due_to (Some (Out w)) (answers.R2t h) = Some (R2t w h)
+due_to (Some (Out w)) (answers.Response h) = Some (Response [] h)
+due_to (Some Text) (answers.Text h) = Some (TextAnswer h)
+due_to (Some Logout) answers.Logout = Some LogoutAnswer
 due_to _ _ = None
 
--- The task tag of the kinds that answer a request (section 11.2.1.8).
-abbrev pub tag_of : Head → ℕ
-tag_of (heads.NopIn h) = h.initiator_task_tag
-tag_of (heads.DataIn h) = h.initiator_task_tag
-tag_of (heads.ScsiResponse h) = h.initiator_task_tag
-tag_of (heads.ReadyToTransfer h) = h.initiator_task_tag
-tag_of (heads.TextResponse h) = h.initiator_task_tag
-tag_of (heads.LogoutResponse h) = h.initiator_task_tag
-tag_of _ = reserved_tag
-
--- What answers the outstanding request has its tag (section 11.2.1.8).
-abbrev pub answer_due : Machine → Head → Option Due
-answer_due m head = if tag_of head == m.initiator_task_tag then due_to m.outstanding head else None
-
--- What a message is due to, if it is due (section 11).
-abbrev pub due : Machine → Head → Option Due
-due m (heads.NopIn h) =
-    if h.initiator_task_tag == reserved_tag then Some (UnsolicitedNopIn h)
-    else answer_due m (heads.NopIn h)
-due m (heads.AsyncMessage h) = Some (Async h)
-due m (heads.Reject h) = Some (RejectPdu h)
-due m head = answer_due m head
+-- What a PDU is due to, if it is due; what answers the outstanding request has its tag (section
+-- 11.2.1.8).
+abbrev pub due : InitiatorSession → Content → Option DuePdu
+due m (contents.UnsolicitedNopIn h) = Some (UnsolicitedNopIn h)
+due m contents.Async = Some Async
+due m contents.Reject = Some RejectPdu
+due m (contents.Tagged tag answer) =
+    if tag == m.initiator_task_tag then due_to m.outstanding answer else None
 
 -- ---- what each of them counts
-
--- The StatSN that has to be the expected one (section 4.2.2.2).
-abbrev pub checked_stat_sn : Due → Option ℕ
-checked_stat_sn (UnsolicitedNopIn h) = None
-checked_stat_sn (Pong h) = Some h.stat_sn
-checked_stat_sn (Data r h) = h.stat_sn
-checked_stat_sn (R2t w h) = None
-checked_stat_sn (Response received h) = Some h.stat_sn
-checked_stat_sn (TextAnswer h) = Some h.stat_sn
-checked_stat_sn (LogoutAnswer h) = Some h.stat_sn
-checked_stat_sn (Async h) = Some h.stat_sn
-checked_stat_sn (RejectPdu h) = Some h.stat_sn
-
--- The window after a message that is due (section 4.2.2.1).
-abbrev pub window_after : Window → Due → Window
-window_after w (UnsolicitedNopIn h) = moved w (serial h.exp_cmd_sn) (serial h.max_cmd_sn)
-window_after w (Pong h) = moved w (serial h.exp_cmd_sn) (serial h.max_cmd_sn)
-window_after w (Data r h) = moved w (serial h.exp_cmd_sn) (serial h.max_cmd_sn)
-window_after w (R2t x h) = moved w (serial h.exp_cmd_sn) (serial h.max_cmd_sn)
-window_after w (Response received h) = moved w (serial h.exp_cmd_sn) (serial h.max_cmd_sn)
-window_after w (TextAnswer h) = moved w (serial h.exp_cmd_sn) (serial h.max_cmd_sn)
-window_after w (LogoutAnswer h) = moved w (serial h.exp_cmd_sn) (serial h.max_cmd_sn)
-window_after w (Async h) = moved w (serial h.exp_cmd_sn) (serial h.max_cmd_sn)
-window_after w (RejectPdu h) = moved w (serial h.exp_cmd_sn) (serial h.max_cmd_sn)
 
 -- A StatSN that has to be the expected one is (section 4.2.2.2).
 abbrev pub is_in_turn : Option ℕ → Option ℕ → Bool
@@ -117,17 +82,17 @@ abbrev pub stat_sn_after : Option ℕ → Option ℕ → Option ℕ
 stat_sn_after expected None = expected
 stat_sn_after expected (Some stat_sn) = Some (next_sn stat_sn)
 
--- The session once a message's numbers are counted (section 4.2.2).
-abbrev pub update_counters : Machine → Due → Machine
-update_counters m d = record m {
-  exp_stat_sn = stat_sn_after m.exp_stat_sn (checked_stat_sn d);
-  window = window_after m.window d;
+-- The session once a PDU's numbers are counted (sections 4.2.2.1 and 4.2.2.2).
+abbrev pub update_counters : InitiatorSession → Counters → InitiatorSession
+update_counters m counters = record m {
+  exp_stat_sn = stat_sn_after m.exp_stat_sn counters.stat_sn;
+  window = moved m.window (serial counters.exp_cmd_sn) (serial counters.max_cmd_sn);
 }
 
 -- ---- what each of them does
 
 -- The outstanding request has this outcome (section 11).
-abbrev pub completes : Machine → Done → Stepped
+abbrev pub completes : InitiatorSession → Done → InitiatorStep
 completes m outcome = quiet (record m { outstanding = None; done = Some outcome })
 
 -- The residual that a response names; overflow is looked at first (sections 11.4.1 and 11.4.5).
@@ -137,7 +102,7 @@ residual false true n = Under n
 residual false false n = Exact
 
 -- The head of a NOP-Out that answers and asks for nothing (section 11.18).
-abbrev pub nop_answer : Machine → NopIn → NopOut
+abbrev pub nop_answer : InitiatorSession → NopIn → NopOut
 nop_answer m h = record {
   immediate = true;
   lun = h.lun;
@@ -148,14 +113,14 @@ nop_answer m h = record {
 }
 
 -- A NOP-In of the target's own is answered where it has a transfer tag (section 11.19).
-abbrev pub on_nop_in : Machine → NopIn → Stepped
+abbrev pub on_nop_in : InitiatorSession → NopIn → InitiatorStep
 on_nop_in m h =
     if is_tag h.target_transfer_tag
-    then sends m (record { head = heads.NopOut (nop_answer m h); segment = Bytes [] } ∷ [])
+    then step_sending m (record { head = heads.NopOut (nop_answer m h); segment = Bytes [] } ∷ [])
     else quiet m
 
 -- The read has received these bytes more (section 11.7).
-abbrev pub has_received : Machine → Reading → List ℕ → Machine
+abbrev pub has_received : InitiatorSession → ReadProgress → List ℕ → InitiatorSession
 has_received m r bytes = record m {
   outstanding = Some (In (record r {
     received = r.received ++ bytes;
@@ -164,7 +129,7 @@ has_received m r bytes = record m {
 }
 
 -- The next DataSN, the next offset, and no byte more than expected (sections 11.7.4 and 11.7.5).
-abbrev pub fits_reading : Reading → DataIn → List ℕ → Bool
+abbrev pub fits_reading : ReadProgress → DataIn → List ℕ → Bool
 fits_reading r h bytes =
     (h.data_sn == r.next_data_sn) && (h.buffer_offset == length r.received)
     && nat_le (length r.received + length bytes) r.expected
@@ -175,30 +140,34 @@ read_outcome received h = done.Command 0 (unwrap_or h.status 0) [] received
     (residual (unwrap_or h.overflow false) (unwrap_or h.underflow false) (unwrap_or h.residual 0))
 
 -- Data of a read; with a status they complete it (section 11.7).
-abbrev pub on_data : Machine → Reading → DataIn → List ℕ → Stepped
+abbrev pub on_data : InitiatorSession → ReadProgress → DataIn → List ℕ → InitiatorStep
 on_data m r h bytes =
-    if not (fits_reading r h bytes) then protocol_error m data_out_of_order
+    if not (fits_reading r h bytes) then rule_broken m data_out_of_order
     else (if h.has_status then completes m (read_outcome (r.received ++ bytes) h)
     else quiet (has_received m r bytes))
 
 -- No piece follows (section 11.7.1).
-abbrev pub is_last : List (List ℕ) → Bool
-is_last [] = true
-is_last (piece ∷ pieces) = false
+abbrev pub is_last_piece : List (List ℕ) → Bool
+is_last_piece [] = true
+is_last_piece (piece ∷ pieces) = false
 
 -- Data-Out PDUs with these pieces: DataSN and offset go on, and the last alone is final (section
 -- 11.7).
 abbrev pub data_outs : DataOut → List (List ℕ) → List Message
 data_outs h [] = []
 data_outs h (piece ∷ more) =
-    record { head = heads.DataOut (record h { is_final = is_last more }); segment = Bytes piece }
+    record {
+      head = heads.DataOut (record h { is_final = is_last_piece more });
+      segment =
+          Bytes piece;
+    }
     ∷ data_outs (record h {
       data_sn = next_sn h.data_sn;
       buffer_offset = h.buffer_offset + length piece;
     }) more
 
 -- One sequence of Data-Out PDUs: these bytes from this offset on (section 11.7).
-abbrev pub sequence : Machine → Option ℕ → ℕ → ℕ → List ℕ → List Message
+abbrev pub sequence : InitiatorSession → Option ℕ → ℕ → ℕ → List ℕ → List Message
 sequence m lun target_transfer_tag offset bytes =
     data_outs (record {
       is_final = false;
@@ -211,7 +180,7 @@ sequence m lun target_transfer_tag offset bytes =
     }) (chunks m.held.target_max_recv bytes)
 
 -- The next R2TSN, the next offset, 1 to MaxBurstLength bytes, all within the data (section 11.8).
-abbrev pub fits_writing : Machine → Writing → ReadyToTransfer → Bool
+abbrev pub fits_writing : InitiatorSession → WriteProgress → ReadyToTransfer → Bool
 fits_writing m w h =
     (h.r2t_sn == w.next_r2t_sn) && (h.buffer_offset == w.sent)
     && nat_le 1 h.desired_data_transfer_length
@@ -219,19 +188,19 @@ fits_writing m w h =
     && nat_le (w.sent + h.desired_data_transfer_length) (length w.bytes)
 
 -- The write has sent n bytes more, on one R2T more (section 11.8).
-abbrev pub has_sent : Machine → Writing → ℕ → Machine
+abbrev pub has_sent : InitiatorSession → WriteProgress → ℕ → InitiatorSession
 has_sent m w n = record m {
   outstanding = Some (Out (record w { sent = w.sent + n; next_r2t_sn = next_sn w.next_r2t_sn }));
 }
 
 -- An R2T is answered with one sequence (section 11.8).
-abbrev pub on_r2t : Machine → Writing → ReadyToTransfer → Stepped
+abbrev pub on_r2t : InitiatorSession → WriteProgress → ReadyToTransfer → InitiatorStep
 on_r2t m w h =
     if fits_writing m w h
-    then sends (has_sent m w h.desired_data_transfer_length)
+    then step_sending (has_sent m w h.desired_data_transfer_length)
     (sequence m (then_some (is_tag h.target_transfer_tag) h.lun) h.target_transfer_tag w.sent
     (take h.desired_data_transfer_length (drop w.sent w.bytes)))
-    else protocol_error m data_out_of_order
+    else rule_broken m data_out_of_order
 
 -- The sense bytes behind their length; none where the segment is empty (section 11.4.7).
 abbrev pub sense_of : List ℕ → Option (List ℕ)
@@ -241,39 +210,44 @@ sense_of (high ∷ low ∷ bytes) =
     then_some (nat_le (high * 256 + low) (length bytes)) (take (high * 256 + low) bytes)
 
 -- A response completes its command, unless its sense is cut off (section 11.4).
-abbrev pub outcome_with : Option (List ℕ) → Machine → List ℕ → ScsiResponse → Stepped
-outcome_with None m received h = protocol_error m data_out_of_order
+abbrev pub outcome_with : Option (List ℕ) → InitiatorSession → List ℕ → ScsiResponse → InitiatorStep
+outcome_with None m received h = rule_broken m data_out_of_order
 outcome_with (Some sense) m received h =
     completes m (done.Command h.response (unwrap_or h.status 0) sense received
     (residual h.overflow h.underflow (unwrap_or h.residual 0)))
 
 -- An answer to a text is to be whole (section 11.11.1; own rule).
-abbrev pub on_text : Machine → TextResponse → List ℕ → Stepped
+abbrev pub on_text : InitiatorSession → TextResponse → List ℕ → InitiatorStep
 on_text m h bytes =
     if h.is_final && not h.continues then completes m (done.Text bytes)
-    else protocol_error m text_at_fault
+    else rule_broken m text_at_fault
 
--- What a message does once its numbers are counted (section 11).
-abbrev pub on_due : Machine → Due → List ℕ → Stepped
+-- What a PDU does once its numbers are counted (section 11).
+abbrev pub on_due : InitiatorSession → DuePdu → List ℕ → InitiatorStep
 on_due m (UnsolicitedNopIn h) bytes = on_nop_in m h
-on_due m (Pong h) bytes = completes m (done.Ping bytes)
+on_due m Pong bytes = completes m (done.Ping bytes)
 on_due m (Data r h) bytes = on_data m r h bytes
 on_due m (R2t w h) bytes = on_r2t m w h
 on_due m (Response received h) bytes = outcome_with (sense_of bytes) m received h
 on_due m (TextAnswer h) bytes = on_text m h bytes
-on_due m (LogoutAnswer h) bytes = completes (closed m) done.Closed
-on_due m (Async h) bytes = quiet m
-on_due m (RejectPdu h) bytes = protocol_error m rejected
+on_due m LogoutAnswer bytes = completes (closed_session m) done.Closed
+on_due m Async bytes = quiet m
+on_due m RejectPdu bytes = rule_broken m rejected
 
 -- Kind and tag come first, then the length of the segment, then StatSN (section 7.7; own rule).
-abbrev pub takes : Option Due → Machine → List ℕ → Stepped
-takes None m bytes = protocol_error m kind_not_due
-takes (Some d) m bytes =
-    if nat_lt m.held.initiator_max_recv (length bytes) then protocol_error m segment_too_long
-    else (if not (is_in_turn m.exp_stat_sn (checked_stat_sn d))
-    then protocol_error m status_out_of_order
-    else on_due (update_counters m d) d bytes)
+abbrev pub takes : Option DuePdu → Counters → InitiatorSession → List ℕ → InitiatorStep
+takes None counters m bytes = rule_broken m kind_not_due
+takes (Some d) counters m bytes =
+    if nat_lt m.held.initiator_max_recv (length bytes) then rule_broken m segment_too_long
+    else (if not (is_in_turn m.exp_stat_sn counters.stat_sn)
+    then rule_broken m status_out_of_order
+    else on_due (update_counters m counters) d bytes)
+
+-- A PDU of the target, unless its kind has no place there (section 11).
+abbrev pub pdu_step : Option TargetPdu → InitiatorSession → List ℕ → InitiatorStep
+pdu_step None m bytes = rule_broken m kind_not_due
+pdu_step (Some pdu) m bytes = takes (due m pdu.content) pdu.counters m bytes
 
 -- A message in full feature phase (section 4.2).
-abbrev pub full_step : Machine → Head → List ℕ → Stepped
-full_step m head bytes = takes (due m head) m bytes
+abbrev pub initiator_full_step : InitiatorSession → Head → List ℕ → InitiatorStep
+initiator_full_step m head bytes = pdu_step (target_pdu head) m bytes

@@ -3,10 +3,10 @@ pub mod State
 pub mod Configured
 pub mod Steps
 pub mod Login
+pub mod TargetPdu
 pub mod Full
 pub mod Machine
-pub mod Block
 pub mod Submitted
 pub mod Calls
-pub mod Inside
 pub mod Laws
+pub mod inner

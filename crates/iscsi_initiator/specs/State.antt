@@ -13,7 +13,7 @@ use Rattle.iscsi_initiator.specs.declared.outstanding.Outstanding.{Outstanding}
 use Rattle.iscsi_login.specs.Stage.{is_closed_phase}
 
 -- What an initiator is configured with: what it offers, and how it logs in (section 6.3).
-pub record Settings : Type 0 where
+pub record InitiatorSettings : Type 0 where
   pub proposal : Proposal
   -- the stage where the login starts
   pub start : Stage
@@ -23,8 +23,8 @@ pub record Settings : Type 0 where
   pub login_segment : ℕ
 
 -- The session between two messages (sections 4.2.2 and 6.3).
-pub record Machine : Type 0 where
-  pub settings : Settings
+pub record InitiatorSession : Type 0 where
+  pub settings : InitiatorSettings
   pub started : Bool
   pub phase : Phase
   -- where the login is, or was when the session closed
@@ -55,14 +55,14 @@ abbrev pub next_tag : ℕ → ℕ
 next_tag tag = if tag == 0xffff_fffe then 0 else tag + 1
 
 -- The ExpStatSN of what is sent: 0 before the first answer (sections 4.2.2.2 and 11.12.9).
-abbrev pub sent_exp_stat_sn : Machine → ℕ
+abbrev pub sent_exp_stat_sn : InitiatorSession → ℕ
 sent_exp_stat_sn m = unwrap_or m.exp_stat_sn 0
 
 -- ---- the opening state
 
 -- A new session. No command number is taken yet (section 4.2.2.1).
-abbrev pub opening : Settings → Machine
-opening settings = record {
+abbrev pub new_session : InitiatorSettings → InitiatorSession
+new_session settings = record {
   settings = settings;
   started = false;
   phase = phases.Login;
@@ -81,5 +81,5 @@ opening settings = record {
 }
 
 -- The session is over.
-abbrev pub is_closed : Machine → Bool
-is_closed m = is_closed_phase m.phase
+abbrev pub is_session_closed : InitiatorSession → Bool
+is_session_closed m = is_closed_phase m.phase

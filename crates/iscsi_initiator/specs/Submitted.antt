@@ -19,14 +19,14 @@ use Rattle.iscsi_initiator.specs.declared.request.SubmitFault.{SubmitFault}
 use Rattle.iscsi_initiator.specs.declared.request.SubmitFault.TheVariants as refusals
 use Rattle.iscsi_initiator.specs.declared.outstanding.Outstanding.{Outstanding}
 use Rattle.iscsi_initiator.specs.declared.outstanding.Outstanding.TheVariants as opens
-use Rattle.iscsi_initiator.specs.State.{Machine, next_tag, sent_exp_stat_sn}
+use Rattle.iscsi_initiator.specs.State.{InitiatorSession, next_tag, sent_exp_stat_sn}
 use Rattle.iscsi_pdu.specs.Fields.{reserved_tag}
-use Rattle.iscsi_initiator.specs.Block.{record_of}
+use Rattle.scsi_cdb.specs.Blocks.{record_of}
 use Rattle.iscsi_initiator.specs.Full.{sequence}
 
 -- The session after a request, what is sent, and why it is refused, if it is.
-pub record Submitted : Type 0 where
-  pub machine : Machine
+pub record SubmitStep : Type 0 where
+  pub machine : InitiatorSession
   pub output : List Message
   pub refusal : Option SubmitFault
 
@@ -37,69 +37,69 @@ abbrev pub most_bytes : ℕ
 most_bytes = 4194304
 
 -- The request has or asks for more bytes than may go (section 13.12; that of commands is own rule).
-abbrev pub is_too_long : Machine → Request → Bool
-is_too_long m (In lun cdb expected) = nat_lt most_bytes expected
-is_too_long m (Out lun cdb bytes) = nat_lt most_bytes (length bytes)
-is_too_long m (Ping bytes) = nat_lt m.held.target_max_recv (length bytes)
-is_too_long m (Text bytes) = nat_lt m.held.target_max_recv (length bytes)
-is_too_long m Logout = false
+abbrev pub is_request_too_long : InitiatorSession → Request → Bool
+is_request_too_long m (In lun cdb expected) = nat_lt most_bytes expected
+is_request_too_long m (Out lun cdb bytes) = nat_lt most_bytes (length bytes)
+is_request_too_long m (Ping bytes) = nat_lt m.held.target_max_recv (length bytes)
+is_request_too_long m (Text bytes) = nat_lt m.held.target_max_recv (length bytes)
+is_request_too_long m Logout = false
 
 -- Why a request is refused in full feature phase (own rule).
-abbrev pub refusal_when_full : Machine → Request → Option SubmitFault
+abbrev pub refusal_when_full : InitiatorSession → Request → Option SubmitFault
 refusal_when_full m request =
     if is_some m.outstanding || is_some m.done then Some refusals.Busy
     else (if not (is_within m.cmd_sn m.window.exp.0 m.window.max.0) then Some refusals.Shut
-    else (if is_too_long m request then Some refusals.TooLong else None))
+    else (if is_request_too_long m request then Some refusals.TooLong else None))
 
 -- Why a request is refused, by the phase.
-abbrev pub refusal_in : Phase → Machine → Request → Option SubmitFault
+abbrev pub refusal_in : Phase → InitiatorSession → Request → Option SubmitFault
 refusal_in phases.Closed m request = Some refusals.Closed
 refusal_in phases.Login m request = Some refusals.NotReady
 refusal_in phases.Full m request = refusal_when_full m request
 
 -- Why a request is refused, if it is.
-abbrev pub refusal : Machine → Request → Option SubmitFault
-refusal m request = refusal_in m.phase m request
+abbrev pub submit_refusal : InitiatorSession → Request → Option SubmitFault
+submit_refusal m request = refusal_in m.phase m request
 
 -- ---- requests that are accepted
 
 -- The session with a new request, whose tag and CmdSN are the next (section 4.2.2.1).
-abbrev pub begun : Machine → Outstanding → Machine
-begun m request = record m {
+abbrev pub request_begun : InitiatorSession → Outstanding → InitiatorSession
+request_begun m request = record m {
   initiator_task_tag = next_tag m.initiator_task_tag;
   cmd_sn = next_sn m.cmd_sn;
   outstanding = Some request;
 }
 
 -- A request is accepted, and these go out.
-abbrev pub accepts : Machine → List Message → Submitted
+abbrev pub accepts : InitiatorSession → List Message → SubmitStep
 accepts m messages = record { machine = m; output = messages; refusal = None }
 
 -- The bytes that the command itself carries (section 13.11).
-abbrev pub immediate : Machine → List ℕ → List ℕ
-immediate m bytes =
+abbrev pub immediate_data : InitiatorSession → List ℕ → List ℕ
+immediate_data m bytes =
     if is_on m.held ImmediateData
     then take (min (unasked m.held (length bytes)) m.held.target_max_recv) bytes else []
 
 -- Bytes of the first burst are left, and follow without being asked for (section 13.10).
-abbrev pub has_more : Machine → List ℕ → Bool
+abbrev pub has_more : InitiatorSession → List ℕ → Bool
 has_more m bytes =
     not (is_on m.held InitialR2T)
-    && nat_lt (length (immediate m bytes)) (unasked m.held (length bytes))
+    && nat_lt (length (immediate_data m bytes)) (unasked m.held (length bytes))
 
 -- The bytes that follow the command without being asked for (section 13.10).
-abbrev pub unsolicited : Machine → List ℕ → List ℕ
+abbrev pub unsolicited : InitiatorSession → List ℕ → List ℕ
 unsolicited m bytes =
-    if has_more m bytes then drop (length (immediate m bytes)) (take (unasked m.held (length bytes)) bytes) else []
+    if has_more m bytes then drop (length (immediate_data m bytes)) (take (unasked m.held (length bytes)) bytes) else []
 
 -- A request is accepted: it is outstanding, and one PDU goes out (section 4.2.2.1).
-abbrev pub begins : Machine → Outstanding → Head → List ℕ → Submitted
+abbrev pub begins : InitiatorSession → Outstanding → Head → List ℕ → SubmitStep
 begins m request head bytes =
-    accepts (begun m request) (record { head = head; segment = Bytes bytes } ∷ [])
+    accepts (request_begun m request) (record { head = head; segment = Bytes bytes } ∷ [])
 
 -- The head of a command of simple order that moves nothing (sections 11.3 and 11.3.1).
-abbrev pub command : Machine → Bool → ℕ → List ℕ → ScsiCommand
-command m is_final lun cdb = record {
+abbrev pub command_head : InitiatorSession → Bool → ℕ → List ℕ → ScsiCommand
+command_head m is_final lun cdb = record {
   immediate = false;
   is_final = is_final;
   read = false;
@@ -114,39 +114,39 @@ command m is_final lun cdb = record {
 }
 
 -- A command that may read begins (section 11.3).
-abbrev pub reads : Machine → ℕ → List ℕ → ℕ → Submitted
+abbrev pub reads : InitiatorSession → ℕ → List ℕ → ℕ → SubmitStep
 reads m lun cdb expected =
     begins m (opens.In (record { expected = expected; received = []; next_data_sn = 0 }))
-    (heads.ScsiCommand (record (command m true lun cdb) {
+    (heads.ScsiCommand (record (command_head m true lun cdb) {
       read = not (expected == 0);
       expected_data_transfer_length = expected;
     })) []
 
 -- The session with a new command that may write (section 11.3).
-abbrev pub write_begun : Machine → List ℕ → Machine
-write_begun m bytes = begun m (opens.Out (record {
+abbrev pub write_begun : InitiatorSession → List ℕ → InitiatorSession
+write_begun m bytes = request_begun m (opens.Out (record {
   bytes = bytes;
-  sent = length (immediate m bytes) + length (unsolicited m bytes);
+  sent = length (immediate_data m bytes) + length (unsolicited m bytes);
   next_r2t_sn = 0;
 }))
 
 -- A command that may write begins: it, with its immediate data, and the unsolicited data (sections
 -- 11.3 and 11.7).
-abbrev pub writes : Machine → ℕ → List ℕ → List ℕ → Submitted
-writes m lun cdb bytes =
+abbrev pub write_submitted : InitiatorSession → ℕ → List ℕ → List ℕ → SubmitStep
+write_submitted m lun cdb bytes =
     accepts (write_begun m bytes)
     (record {
-      head = heads.ScsiCommand (record (command m (not (has_more m bytes)) lun cdb) {
+      head = heads.ScsiCommand (record (command_head m (not (has_more m bytes)) lun cdb) {
         write = not (length bytes == 0);
         expected_data_transfer_length = length bytes;
       });
-      segment = Bytes (immediate m bytes);
-    } ∷ sequence (write_begun m bytes) None reserved_tag (length (immediate m bytes))
+      segment = Bytes (immediate_data m bytes);
+    } ∷ sequence (write_begun m bytes) None reserved_tag (length (immediate_data m bytes))
     (unsolicited m bytes))
 
 -- The head of a ping (section 11.18).
-abbrev pub ping : Machine → NopOut
-ping m = record {
+abbrev pub ping_head : InitiatorSession → NopOut
+ping_head m = record {
   immediate = false;
   lun = None;
   initiator_task_tag = next_tag m.initiator_task_tag;
@@ -156,8 +156,8 @@ ping m = record {
 }
 
 -- The head of a text request (section 11.10).
-abbrev pub text_request : Machine → TextRequest
-text_request m = record {
+abbrev pub text_request_head : InitiatorSession → TextRequest
+text_request_head m = record {
   immediate = false;
   is_final = true;
   continues = false;
@@ -169,8 +169,8 @@ text_request m = record {
 }
 
 -- The head of a logout of the whole session (section 11.14).
-abbrev pub logout_request : Machine → LogoutRequest
-logout_request m = record {
+abbrev pub logout_request_head : InitiatorSession → LogoutRequest
+logout_request_head m = record {
   immediate = false;
   reason = 0;
   initiator_task_tag = next_tag m.initiator_task_tag;
@@ -180,18 +180,18 @@ logout_request m = record {
 }
 
 -- A request that is accepted begins (section 11).
-abbrev pub accepted : Machine → Request → Submitted
+abbrev pub accepted : InitiatorSession → Request → SubmitStep
 accepted m (In lun cdb expected) = reads m lun cdb expected
-accepted m (Out lun cdb bytes) = writes m lun cdb bytes
-accepted m (Ping bytes) = begins m opens.Ping (heads.NopOut (ping m)) bytes
-accepted m (Text bytes) = begins m opens.Text (heads.TextRequest (text_request m)) bytes
-accepted m Logout = begins m opens.Logout (heads.LogoutRequest (logout_request m)) []
+accepted m (Out lun cdb bytes) = write_submitted m lun cdb bytes
+accepted m (Ping bytes) = begins m opens.Ping (heads.NopOut (ping_head m)) bytes
+accepted m (Text bytes) = begins m opens.Text (heads.TextRequest (text_request_head m)) bytes
+accepted m Logout = begins m opens.Logout (heads.LogoutRequest (logout_request_head m)) []
 
 -- A refused request changes and sends nothing.
-abbrev pub or_accepted : Option SubmitFault → Machine → Request → Submitted
+abbrev pub or_accepted : Option SubmitFault → InitiatorSession → Request → SubmitStep
 or_accepted None m request = accepted m request
 or_accepted (Some fault) m request = record { machine = m; output = []; refusal = Some fault }
 
 -- A request is handed in (section 4.2).
-unfoldable pub submitted : Machine → Request → Submitted
-submitted m request = or_accepted (refusal m request) m request
+unfoldable pub submitted : InitiatorSession → Request → SubmitStep
+submitted m request = or_accepted (submit_refusal m request) m request

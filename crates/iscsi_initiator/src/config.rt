@@ -1,12 +1,12 @@
 //! Configurations of an initiator.
 
 ghost use Rattle.std.specs.Prelude.{◌≡◌, ◌≤◌, ◌++◌, None, OnOk, OnErr};
-ghost use Rattle.iscsi_login.specs.Negotiation.{IsInRange};
+ghost use Rattle.iscsi_login.specs.Negotiation.{ArePreferencesInRange};
 ghost use Rattle.iscsi_login.specs.Answer.{DeclaresWell};
 ghost use Rattle.iscsi_text.specs.Reading.{in_order};
 ghost use Rattle.iscsi_login.specs.Check.{bad_key};
 ghost use Rattle.iscsi_login.specs.Offers.{proposed, text_of, offers_at};
-ghost use Rattle.iscsi_initiator.specs.Configured.{Configures};
+ghost use Rattle.iscsi_initiator.specs.Configured.{InitiatorConfigPost};
 
 use crate::fault::Key;
 use iscsi_login::{Auth, ConfigFault, Offers, Preferences, Session, Stage, is_name};
@@ -30,10 +30,10 @@ pub struct Config {
 }
 
 impl Model for Config {
-    ghost use Rattle.iscsi_initiator.specs.State.{Settings};
+    ghost use Rattle.iscsi_initiator.specs.State.{InitiatorSettings};
     ghost use Rattle.iscsi_initiator.specs.Configured.{AreValid};
 
-    ghost Value = { Settings };
+    ghost Value = { InitiatorSettings };
 
     ghost view = { λ c. record {
       proposal = record {
@@ -79,7 +79,7 @@ impl Config {
         first_cmd_sn: u32,
         login_segment: u32,
     ) -> Result<Config, ConfigFault>
-        ensures configures { Configures (record {
+        ensures configures { InitiatorConfigPost (record {
           proposal = proposed offers.entry;
           start = start;
           isid = isid;
@@ -119,7 +119,7 @@ impl Config {
     // What the initiator wants of each key.
     pub(crate) fn preferences(&self) -> &Preferences
         ensures preferences { result.now ≡ self.now.proposal.prefs }
-        ensures range { IsInRange self.now.proposal.prefs }
+        ensures range { ArePreferencesInRange self.now.proposal.prefs }
     {
         &self.prefs
     }

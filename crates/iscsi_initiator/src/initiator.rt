@@ -1,11 +1,11 @@
 //! An initiator's session over a stream.
 
 ghost use Rattle.std.specs.Prelude.{◌≡◌, false, length, take, IfOk, IfErr, OnOk, OnErr};
-ghost use Rattle.iscsi_stream.specs.Framing.{Takes, is_ready, stopped};
-ghost use Rattle.iscsi_initiator.specs.State.{is_closed};
-ghost use Rattle.iscsi_initiator.specs.Steps.{closed};
-ghost use Rattle.iscsi_initiator.specs.Calls.{opening_connection, Starts, Feeds, Submits, Finishes, after_taking};
-ghost use Rattle.iscsi_initiator.specs.Inside.{connection, initiator_fault, ReceivesPdu, ShutsReady, RestFails, FedUntil, has_run_out};
+ghost use Rattle.iscsi_stream.specs.Framing.{FramerTakes, is_ready, stopped};
+ghost use Rattle.iscsi_initiator.specs.State.{is_session_closed};
+ghost use Rattle.iscsi_initiator.specs.Steps.{closed_session};
+ghost use Rattle.iscsi_initiator.specs.Calls.{opening_initiator, InitiatorStartPost, InitiatorFeedPost, InitiatorSubmitPost, InitiatorFinishPost, after_taking};
+ghost use Rattle.iscsi_initiator.specs.inner.Inside.{initiator_connection, initiator_stream_fault, ReceivesPdu, InitiatorShutsReady, InitiatorRestFails, FedUntil, has_run_out};
 
 use crate::config::Config;
 use crate::fault::InitiatorFault;
@@ -34,9 +34,9 @@ pub struct Initiator {
 impl Model for Initiator {
     ghost use Rattle.std.specs.Prelude.{◌≡◌, false};
     ghost use Rattle.iscsi_stream.specs.Framing.{is_ready};
-    ghost use Rattle.iscsi_initiator.specs.Calls.{Connection};
+    ghost use Rattle.iscsi_initiator.specs.Calls.{InitiatorConnection};
 
-    ghost Value = { Connection };
+    ghost Value = { InitiatorConnection };
 
     ghost view = { λ i. record { machine = i.session; framing = i.framer } };
 
@@ -46,7 +46,7 @@ impl Model for Initiator {
 impl Initiator {
     /// A session that is not started. It takes no memory.
     pub fn new(alloc: Global, config: Config) -> Initiator
-        ensures opening { result ≡ opening_connection config }
+        ensures opening { result ≡ opening_initiator config }
     {
         let limit = config.preferences().max_recv.max(LOGIN_SEGMENT);
         Initiator {
@@ -60,7 +60,7 @@ impl Initiator {
     /// A second start returns `Protocol` with rule 1. After `NoMemory` `out` is as it was. Both close
     /// the session; a closed session returns `Closed`.
     pub fn start(&mut self, out: &mut Vec<u8>) -> Result<(), InitiatorFault>
-        ensures starts { Starts result self.old self.new out.old.items out.new.items }
+        ensures starts { InitiatorStartPost result self.old self.new out.old.items out.new.items }
     {
         if self.session.is_closed() {
             return Err(InitiatorFault::Closed);
@@ -83,7 +83,8 @@ impl Initiator {
     /// it is as it was. A closed session returns `Closed` and takes nothing (RFC 7143, sections 6 and
     /// 11; the rules and their order are own).
     pub fn feed(&mut self, piece: &[u8], out: &mut Vec<u8>) -> Result<Phase, InitiatorFault>
-        ensures feeds { Feeds result self.old piece.now self.new out.old.items out.new.items }
+        ensures feeds { InitiatorFeedPost result self.old piece.now self.new out.old.items
+            out.new.items }
     {
         if self.session.is_closed() {
             return Err(InitiatorFault::Closed);
@@ -102,7 +103,8 @@ impl Initiator {
     /// A refused request comes back as it was, and nothing has changed; the refusals come in the order
     /// of `SubmitFault`.
     pub fn submit(&mut self, request: Request, out: &mut Vec<u8>) -> Result<(), Refused>
-        ensures submits { Submits result self.old request self.new out.old.items out.new.items }
+        ensures submits { InitiatorSubmitPost result self.old request self.new out.old.items
+            out.new.items }
     {
         self.session.submit(request, out)
     }
@@ -140,7 +142,7 @@ impl Initiator {
     /// Ends the stream. Returns `Stream` with `Truncated` where it ends within a PDU, which closes the
     /// session, and `Closed` where it was closed before.
     pub fn finish(&mut self) -> Result<(), InitiatorFault>
-        ensures finishes { Finishes result self.old self.new }
+        ensures finishes { InitiatorFinishPost result self.old self.new }
     {
         if self.session.is_closed() {
             return Err(InitiatorFault::Closed);
@@ -171,9 +173,9 @@ fn feed_all(
     out: &mut Vec<u8>,
 ) -> Result<Phase, InitiatorFault>
     requires unready { is_ready framer.old ≡ false }
-    requires live { is_closed session.old ≡ false }
-    ensures fed { FedUntil result (connection session.old framer.old) piece.now
-        (connection session.new framer.new) out.old.items out.new.items }
+    requires live { is_session_closed session.old ≡ false }
+    ensures fed { FedUntil result (initiator_connection session.old framer.old) piece.now
+        (initiator_connection session.new framer.new) out.old.items out.new.items }
     ensures unready { is_ready framer.new ≡ false }
 {
     let mut rest = piece;
@@ -197,10 +199,10 @@ fn take_bytes(
     framer: &mut Framer,
     piece: &[u8],
 ) -> Result<usize, InitiatorFault>
-    ensures ok { IfOk result (λ n. Takes framer.old piece.now n framer.new) }
+    ensures ok { IfOk result (λ n. FramerTakes framer.old piece.now n framer.new) }
     ensures kept { OnOk result (session.new ≡ session.old) }
-    ensures err { IfErr result (RestFails framer.old piece.now) }
-    ensures shut { OnErr result (session.new ≡ closed session.old) }
+    ensures err { IfErr result (InitiatorRestFails framer.old piece.now) }
+    ensures shut { OnErr result (session.new ≡ closed_session session.old) }
     ensures stopped { OnErr result (framer.new ≡ stopped framer.old) }
 {
     match framer.feed(piece) {
@@ -214,7 +216,7 @@ fn take_bytes(
 
 // A stream's `NoMemory` is the initiator's own.
 fn stream_fault(fault: StreamFault) -> InitiatorFault
-    ensures { result ≡ initiator_fault fault }
+    ensures { result ≡ initiator_stream_fault fault }
 {
     match fault {
         StreamFault::NoMemory => InitiatorFault::NoMemory,
@@ -229,11 +231,12 @@ fn receive_pdu(
     framer: &mut Framer,
     out: &mut Vec<u8>,
 ) -> Result<Option<InitiatorFault>, AllocError>
-    requires live { is_closed session.old ≡ false }
-    ensures ok { IfOk result (λ fault. ReceivesPdu (connection session.old framer.old) fault
-        (connection session.new framer.new) out.old.items out.new.items) }
-    ensures err { OnErr result (ShutsReady (connection session.old framer.old)
-        (connection session.new framer.new) out.old.items out.new.items) }
+    requires live { is_session_closed session.old ≡ false }
+    ensures ok { IfOk result (λ fault. ReceivesPdu (initiator_connection session.old framer.old)
+        fault
+        (initiator_connection session.new framer.new) out.old.items out.new.items) }
+    ensures err { OnErr result (InitiatorShutsReady (initiator_connection session.old framer.old)
+        (initiator_connection session.new framer.new) out.old.items out.new.items) }
 {
     let Some(pdu) = framer.pdu() else {
         return Ok(None);

@@ -2,7 +2,7 @@
 //! alone.
 
 ghost use Rattle.std.specs.Prelude.{◌≡◌, ◌≢◌, ◌<◌, ℕ, false, Err, List, Option, Result, length};
-ghost use Rattle.scsi_cdb.specs.Blocks.{IsRecord};
+ghost use Rattle.scsi_cdb.specs.Blocks.{IsRecord, record_of};
 ghost use Rattle.iscsi_stream.specs.Stream.{Message};
 ghost use Rattle.iscsi_stream.specs.Framing.{HasTaken};
 ghost use Rattle.iscsi_login.specs.declared.phase.Phase.{Phase};
@@ -10,9 +10,8 @@ ghost use Rattle.iscsi_initiator.specs.declared.fault.InitiatorFault.{InitiatorF
 ghost use Rattle.iscsi_initiator.specs.declared.fault.InitiatorFault.TheVariants as faults;
 ghost use Rattle.iscsi_initiator.specs.declared.request.Refused.{Refused};
 ghost use Rattle.iscsi_initiator.specs.declared.request.Request.{Request};
-ghost use Rattle.iscsi_initiator.specs.Block.{record_of};
-ghost use Rattle.iscsi_initiator.specs.Calls.{Alike, CalledAlike, Connection, Feeds, HadMemory, Submits};
-ghost use Rattle.iscsi_initiator.specs.State.{Settings, Machine, is_closed};
+ghost use Rattle.iscsi_initiator.specs.Calls.{InitiatorsAlike, CalledAlike, InitiatorConnection, InitiatorFeedPost, HadMemory, InitiatorSubmitPost};
+ghost use Rattle.iscsi_initiator.specs.State.{InitiatorSettings, InitiatorSession, is_session_closed};
 ghost use Rattle.iscsi_initiator.specs.Full.{sequence};
 ghost use Rattle.iscsi_initiator.specs.Configured.{IsStart};
 ghost use Rattle.iscsi_initiator.specs.Laws.{HeldStays, IsSequence, OutcomesInOrder, ReadsTile};
@@ -20,13 +19,13 @@ ghost use Rattle.iscsi_initiator.specs.Laws.{HeldStays, IsSequence, OutcomesInOr
 /// Once the login is completed, what is agreed never changes, whatever comes, is handed in or fails
 /// later (RFC 7143, section 6.3).
 pub fn held_stays()
-    ensures stays { (settings : Settings) → IsStart settings.start → HeldStays settings }
+    ensures stays { (settings : InitiatorSettings) → IsStart settings.start → HeldStays settings }
 {}
 
 /// What a write sends in one sequence are its bytes, one piece behind the other from the sequence's
 /// offset on (RFC 7143, section 11.7).
 pub fn sequences()
-    ensures tiles { (m : Machine) (lun : Option ℕ) (target_transfer_tag offset : ℕ)
+    ensures tiles { (m : InitiatorSession) (lun : Option ℕ) (target_transfer_tag offset : ℕ)
         (bytes : List ℕ) → 0 < m.held.target_max_recv →
         IsSequence offset bytes (sequence m lun target_transfer_tag offset bytes) }
 {}
@@ -34,7 +33,7 @@ pub fn sequences()
 /// The k-th outcome is one of the k-th accepted request's kind, and at most one request has none yet,
 /// over every list of events.
 pub fn outcomes_in_order()
-    ensures order { (settings : Settings) → OutcomesInOrder settings }
+    ensures order { (settings : InitiatorSettings) → OutcomesInOrder settings }
 {}
 
 /// The Data-In of a read tile its data, and are the data of its outcome (RFC 7143, section 11.7).
@@ -52,14 +51,16 @@ pub fn record_of_a_block()
 /// time, also if the piece breaks off within a PDU.
 pub fn one_outcome()
     ensures feed { (stream piece output written rewritten : List ℕ) (ms : List Message)
-        (old same a b : Connection) (result other : Result Phase InitiatorFault)
-        → (is_closed old.machine ≡ false → HasTaken stream ms old.framing) → Alike old same
-        → Feeds result old piece a output written → result ≢ Err faults.NoMemory
-        → Feeds other same piece b output rewritten → other ≢ Err faults.NoMemory
+        (old same a b : InitiatorConnection) (result other : Result Phase InitiatorFault)
+        → (is_session_closed old.machine ≡ false → HasTaken stream ms old.framing)
+        → InitiatorsAlike old same
+        → InitiatorFeedPost result old piece a output written → result ≢ Err faults.NoMemory
+        → InitiatorFeedPost other same piece b output rewritten → other ≢ Err faults.NoMemory
         → CalledAlike result other a b written rewritten }
     ensures submit { (request : Request) (output written rewritten : List ℕ)
-        (old same a b : Connection) (result other : Result (Unit {0}) Refused) → Alike old same
-        → Submits result old request a output written → HadMemory result
-        → Submits other same request b output rewritten → HadMemory other
+        (old same a b : InitiatorConnection) (result other : Result (Unit {0}) Refused)
+        → InitiatorsAlike old same
+        → InitiatorSubmitPost result old request a output written → HadMemory result
+        → InitiatorSubmitPost other same request b output rewritten → HadMemory other
         → CalledAlike result other a b written rewritten }
 {}

@@ -8,6 +8,7 @@ pub mod laws;
 mod outstanding;
 mod request;
 mod session;
+mod target_pdu;
 
 pub use config::Config;
 pub use fault::{InitiatorFault, Key};

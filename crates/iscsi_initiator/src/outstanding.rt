@@ -3,7 +3,7 @@
 ghost use Rattle.std.specs.Prelude.{◌≡◌, ◌≤◌, ◌+◌, ◌++◌, length, take, drop, OnOk, OnErr};
 ghost use Rattle.iscsi_text.specs.declared.negotiated.NegKey.TheVariants.{MaxBurstLength};
 ghost use Rattle.iscsi_login.specs.Held.{held_value, number_of};
-ghost use Rattle.iscsi_initiator.specs.State.{Machine};
+ghost use Rattle.iscsi_initiator.specs.State.{InitiatorSession};
 ghost use Rattle.iscsi_pdu.specs.Serial.{next_sn};
 ghost use Rattle.iscsi_initiator.specs.Full.{fits_reading, fits_writing};
 
@@ -26,7 +26,7 @@ pub(crate) struct Reading {
 }
 
 impl Model for Reading {
-    ghost use Rattle.iscsi_initiator.specs.Progress.{Reading as Progress};
+    ghost use Rattle.iscsi_initiator.specs.Progress.{ReadProgress as Progress};
 
     ghost Value = { Progress };
 
@@ -75,7 +75,7 @@ pub(crate) struct Writing {
 
 impl Model for Writing {
     ghost use Rattle.std.specs.Prelude.{◌≤◌, length};
-    ghost use Rattle.iscsi_initiator.specs.Progress.{Writing as Progress};
+    ghost use Rattle.iscsi_initiator.specs.Progress.{WriteProgress as Progress};
 
     ghost Value = { Progress };
 
@@ -92,7 +92,7 @@ impl Writing {
     /// Whether an R2T has the next R2TSN and the next offset, and asks for 1 to `most_burst` bytes,
     /// all of them within the data.
     pub(crate) fn fits(&self, head: &ReadyToTransfer, most_burst: u32) -> bool
-        ensures { (m : Machine) → number_of (held_value m.held MaxBurstLength) ≡ most_burst
+        ensures { (m : InitiatorSession) → number_of (held_value m.held MaxBurstLength) ≡ most_burst
             → result ≡ fits_writing m self.now head.now }
     {
         let desired = head.desired_data_transfer_length;

@@ -1,13 +1,13 @@
 //! A session between two messages.
 
 ghost use Rattle.std.specs.Prelude.{◌≡◌, Some};
-ghost use Rattle.iscsi_pdu.specs.Meaning.{Fits};
+ghost use Rattle.iscsi_pdu.specs.Meaning.{HeadFits};
 ghost use Rattle.iscsi_stream.specs.Stream.{message};
 ghost use Rattle.iscsi_initiator.specs.declared.fault.InitiatorFault.TheVariants.{Protocol};
-ghost use Rattle.iscsi_initiator.specs.State.{opening, is_closed, sent_exp_stat_sn};
-ghost use Rattle.iscsi_initiator.specs.Steps.{closed};
-ghost use Rattle.iscsi_initiator.specs.Machine.{step, taken};
-ghost use Rattle.iscsi_initiator.specs.Inside.{Handles, Counts};
+ghost use Rattle.iscsi_initiator.specs.State.{new_session, is_session_closed, sent_exp_stat_sn};
+ghost use Rattle.iscsi_initiator.specs.Steps.{closed_session};
+ghost use Rattle.iscsi_initiator.specs.Machine.{initiator_step, outcome_taken};
+ghost use Rattle.iscsi_initiator.specs.inner.Inside.{SessionStepPost, CountedStepPost};
 
 mod data_in;
 mod data_out;
@@ -47,9 +47,9 @@ pub struct Session {
 
 impl Model for Session {
     ghost use Rattle.std.specs.Prelude.{◌<◌};
-    ghost use Rattle.iscsi_initiator.specs.State.{Machine};
+    ghost use Rattle.iscsi_initiator.specs.State.{InitiatorSession};
 
-    ghost Value = { Machine };
+    ghost Value = { InitiatorSession };
 
     ghost view = { λ s. record {
       settings = s.config;
@@ -73,7 +73,7 @@ impl Model for Session {
 impl Session {
     /// A session to which nothing came. It takes no memory.
     pub fn new(alloc: Global, config: Config) -> Session
-        ensures { result ≡ opening config }
+        ensures { result ≡ new_session config }
     {
         let first_cmd_sn = config.first_cmd_sn();
         let held = Params::declaring(config.preferences().max_recv);
@@ -120,14 +120,14 @@ impl Session {
 
     /// Whether the session is over.
     pub fn is_closed(&self) -> bool
-        ensures { result ≡ is_closed self.now }
+        ensures { result ≡ is_session_closed self.now }
     {
         matches!(self.phase, Phase::Closed)
     }
 
     /// Closes the session.
     pub fn close(&mut self)
-        ensures { self.new ≡ closed self.old }
+        ensures { self.new ≡ closed_session self.old }
     {
         self.phase = Phase::Closed;
     }
@@ -140,8 +140,9 @@ impl Session {
         continued: bool,
         out: &mut Vec<u8>,
     ) -> Result<Option<InitiatorFault>, AllocError>
-        requires fits { Fits pdu.now.head }
-        ensures { Handles (step self.old (message continued pdu.now.head pdu.now.bytes.now))
+        requires fits { HeadFits pdu.now.head }
+        ensures { SessionStepPost (initiator_step self.old
+            (message continued pdu.now.head pdu.now.bytes.now))
             result self.old self.new out.old.items out.new.items }
     {
         let (exp_stat_sn, window) = (self.exp_stat_sn, self.window);
@@ -161,8 +162,9 @@ impl Session {
         continued: bool,
         out: &mut Vec<u8>,
     ) -> Result<Option<InitiatorFault>, AllocError>
-        requires fits { Fits pdu.now.head }
-        ensures { Counts (step self.old (message continued pdu.now.head pdu.now.bytes.now))
+        requires fits { HeadFits pdu.now.head }
+        ensures { CountedStepPost (initiator_step self.old
+            (message continued pdu.now.head pdu.now.bytes.now))
             result self.old self.new out.old.items out.new.items }
     {
         match self.phase {
@@ -176,7 +178,7 @@ impl Session {
     /// Takes the outcome of the last request, if there is one.
     pub fn outcome(&mut self) -> Option<Done>
         ensures outcome { result ≡ self.old.done }
-        ensures taken { self.new ≡ taken self.old }
+        ensures taken { self.new ≡ outcome_taken self.old }
     {
         self.done.take()
     }
@@ -184,7 +186,7 @@ impl Session {
     // A fault closes the session.
     fn fails(&mut self, fault: InitiatorFault) -> Option<InitiatorFault>
         ensures fault { result ≡ Some fault }
-        ensures closed { self.new ≡ closed self.old }
+        ensures closed { self.new ≡ closed_session self.old }
     {
         self.close();
         Some(fault)
@@ -193,7 +195,7 @@ impl Session {
     // The target broke this rule, which closes the session.
     fn protocol_error(&mut self, rule: u8) -> Option<InitiatorFault>
         ensures fault { result ≡ Some (Protocol rule) }
-        ensures closed { self.new ≡ closed self.old }
+        ensures closed { self.new ≡ closed_session self.old }
     {
         self.fails(InitiatorFault::Protocol(rule))
     }

@@ -1,9 +1,9 @@
 //! An initiator by example.
 
 use hex::FromHex;
-use iscsi_examples::segment_of;
 use iscsi_initiator::{Config, Initiator, InitiatorFault, Request};
 use iscsi_login::{Auth, ConfigFault, Offers, Phase, Preferences, Session, Stage};
+use iscsi_test_support::segment_of;
 use scsi_cdb::Bytes;
 use std::alloc::Global;
 use std::process::Abort;

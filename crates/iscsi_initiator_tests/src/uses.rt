@@ -2,7 +2,7 @@
 
 ghost use Rattle.std.specs.Prelude.{◌≡◌, Ok, Err, IfOk, IfErr};
 ghost use Rattle.iscsi_login.specs.declared.phase.Phase.{Phase};
-ghost use Rattle.iscsi_initiator.specs.Calls.{Connection, Feeds, after_taking};
+ghost use Rattle.iscsi_initiator.specs.Calls.{InitiatorConnection, InitiatorFeedPost, after_taking};
 
 use iscsi_initiator::{Done, Initiator, InitiatorFault};
 
@@ -13,10 +13,11 @@ pub fn outcome_of(
     came: &[u8],
     out: &mut Vec<u8>,
 ) -> Result<Option<Done>, InitiatorFault>
-    ensures fed { IfOk result (λ done. (phase : Phase) × (fed : Connection)
-        × Feeds (Ok phase) initiator.old came.now fed out.old.items out.new.items
+    ensures fed { IfOk result (λ done. (phase : Phase) × (fed : InitiatorConnection)
+        × InitiatorFeedPost (Ok phase) initiator.old came.now fed out.old.items out.new.items
         × (done ≡ fed.machine.done) × (initiator.new ≡ after_taking fed)) }
-    ensures fault { IfErr result (λ fault. Feeds (Err fault) initiator.old came.now initiator.new
+    ensures fault { IfErr result (λ fault. InitiatorFeedPost (Err fault) initiator.old came.now
+        initiator.new
         out.old.items out.new.items) }
 {
     initiator.feed(came, out)?;

@@ -1,3 +1,1 @@
-pub mod Jobs
-pub mod Requests
-pub mod Answers
+pub mod inner

@@ -4,7 +4,7 @@ ghost use Rattle.std.specs.Prelude.{◌≡◌, ◌≤◌, ◌++◌, IfOk, IfSome
 ghost use Rattle.std.specs.Option.{option_map};
 ghost use Rattle.iscsi_initiator.specs.Full.{residual, sense_of};
 ghost use Rattle.iscsi_job.specs.declared.item.Ended.TheVariants.{Ping as IsPing};
-ghost use Rattle.iscsi_job.specs.Answers.{answered, on_data, on_sense, on_text};
+ghost use Rattle.iscsi_job.specs.inner.Answers.{item_answered, item_on_data, on_sense, item_on_text};
 
 use crate::fault::Reason;
 use crate::item::{Asked, Ended, Item, Moves};
@@ -54,13 +54,7 @@ fn tag_of(head: &Head) -> Result<u32, Option<Reason>> {
         Head::LogoutResponse(head) => Ok(head.initiator_task_tag),
         Head::LoginResponse(_) | Head::ReadyToTransfer(_) | Head::AsyncMessage(_) => Err(None),
         Head::Reject(_) => Err(Some(Reason::Rejected)),
-        Head::NopOut(_)
-        | Head::ScsiCommand(_)
-        | Head::TaskRequest(_)
-        | Head::LoginRequest(_)
-        | Head::TextRequest(_)
-        | Head::DataOut(_)
-        | Head::LogoutRequest(_) => Err(Some(Reason::Kind)),
+        _ => Err(Some(Reason::Kind)),
     }
 }
 
@@ -93,8 +87,8 @@ fn next_open(noted: &[Noted], from: usize) -> usize {
 // Notes what a PDU answers to its request.
 fn answered(item: &mut Item, head: &Head, bytes: &[u8]) -> Result<Option<Reason>, AllocError>
     ensures refusal { IfOk result (λ refusal.
-        refusal ≡ (answered item.old head.now bytes.now).refusal) }
-    ensures item { OnOk result (item.new ≡ (answered item.old head.now bytes.now).item) }
+        refusal ≡ (item_answered item.old head.now bytes.now).refusal) }
+    ensures item { OnOk result (item.new ≡ (item_answered item.old head.now bytes.now).item) }
     ensures err { OnErr result (item.new ≡ item.old) }
 {
     match (head, item.asked) {
@@ -132,8 +126,9 @@ fn data(
     bytes: &[u8],
 ) -> Result<Option<Reason>, AllocError>
     ensures refusal { IfOk result (λ refusal.
-        refusal ≡ (on_data item.old expected head.now bytes.now).refusal) }
-    ensures item { OnOk result (item.new ≡ (on_data item.old expected head.now bytes.now).item) }
+        refusal ≡ (item_on_data item.old expected head.now bytes.now).refusal) }
+    ensures item { OnOk result (item.new ≡ (item_on_data item.old expected head.now
+        bytes.now).item) }
     ensures err { OnErr result (item.new ≡ item.old) }
 {
     let held = item.received.len();
@@ -194,8 +189,8 @@ fn pong(item: &mut Item, bytes: &[u8]) -> Result<Option<Reason>, AllocError>
 // The answer to a text.
 fn text(item: &mut Item, head: &TextResponse, bytes: &[u8]) -> Result<Option<Reason>, AllocError>
     ensures refusal { IfOk result (λ refusal.
-        refusal ≡ (on_text item.old head.now bytes.now).refusal) }
-    ensures item { OnOk result (item.new ≡ (on_text item.old head.now bytes.now).item) }
+        refusal ≡ (item_on_text item.old head.now bytes.now).refusal) }
+    ensures item { OnOk result (item.new ≡ (item_on_text item.old head.now bytes.now).item) }
     ensures err { OnErr result (item.new ≡ item.old) }
 {
     if !head.is_final || head.continues {

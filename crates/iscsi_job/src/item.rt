@@ -89,7 +89,7 @@ pub struct Item {
 }
 
 impl Model for Item {
-    ghost use Rattle.iscsi_job.specs.Jobs.{Item as JobItem};
+    ghost use Rattle.iscsi_job.specs.inner.Jobs.{Item as JobItem};
 
     ghost Value = { JobItem };
 

@@ -1,6 +1,6 @@
 //! The recording of a session, out of which its job is found.
 
-ghost use Rattle.iscsi_pdu.specs.Meaning.{Fits};
+ghost use Rattle.iscsi_pdu.specs.Meaning.{HeadFits};
 
 use crate::answers;
 use crate::fault::{JobFault, Reason, Which};
@@ -29,7 +29,7 @@ pub struct Noted {
 }
 
 impl Model for Noted {
-    ghost use Rattle.iscsi_job.specs.Jobs.{Noted as NotedItem};
+    ghost use Rattle.iscsi_job.specs.inner.Jobs.{NotedRequest as NotedItem};
 
     ghost Value = { NotedItem };
 
@@ -132,7 +132,7 @@ impl Recording {
         head: &Head,
         bytes: &[u8],
     ) -> Result<Option<Reason>, JobFault>
-        requires fits { Fits head.now }
+        requires fits { HeadFits head.now }
     {
         match said_by(head, bytes) {
             Heard::Asks(tag, asked) => {

@@ -1,9 +1,9 @@
 //! What the PDUs of an initiator ask.
 
 ghost use Rattle.std.specs.Prelude.{◌≡◌, ◌++◌, ◌∷◌, [], None, Ok, IfOk, IsSome, OnOk, OnErr};
-ghost use Rattle.scsi_cdb.specs.Blocks.{Fits as FitsTable};
-ghost use Rattle.iscsi_pdu.specs.Meaning.{Fits};
-ghost use Rattle.iscsi_job.specs.Requests.{asked_item, commanded, gives, said_by, texted};
+ghost use Rattle.scsi_cdb.specs.Blocks.{CdbFits as FitsTable};
+ghost use Rattle.iscsi_pdu.specs.Meaning.{HeadFits};
+ghost use Rattle.iscsi_job.specs.inner.Requests.{asked_item, commanded, gives, said_by, texted};
 
 use crate::fault::{JobFault, Reason};
 use crate::item::{Asked, Item, Moves};
@@ -26,7 +26,7 @@ pub enum Heard {
 
 /// What a PDU of the initiator says of a job, by its kind.
 pub(crate) fn said_by(head: &Head, bytes: &[u8]) -> Heard
-    requires fits { Fits head.now }
+    requires fits { HeadFits head.now }
     ensures value { result ≡ said_by head.now bytes.now }
 {
     match head {
@@ -45,16 +45,7 @@ pub(crate) fn said_by(head: &Head, bytes: &[u8]) -> Heard
             Heard::Asks(head.initiator_task_tag, Asked::Task(head.function))
         }
         Head::LoginRequest(_) => Heard::Nothing,
-        Head::NopIn(_)
-        | Head::ScsiResponse(_)
-        | Head::TaskResponse(_)
-        | Head::LoginResponse(_)
-        | Head::TextResponse(_)
-        | Head::DataIn(_)
-        | Head::LogoutResponse(_)
-        | Head::ReadyToTransfer(_)
-        | Head::AsyncMessage(_)
-        | Head::Reject(_) => Heard::Refuses(Reason::Kind),
+        _ => Heard::Refuses(Reason::Kind),
     }
 }
 

@@ -95,7 +95,7 @@ fn write_script(unit: u8, cdb: &[u8; 16], line: &mut String) -> Result<(), Alloc
             let first = u64::from(sync.logical_block_address);
             write_pair("sync", first, u64::from(sync.blocks), line)
         }
-        Cdb::Unknown(_) => Ok(()),
+        _ => Ok(()),
     }
 }
 

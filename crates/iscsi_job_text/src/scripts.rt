@@ -1,6 +1,6 @@
 //! The lines of `loop`'s scripts: what each asks.
 
-ghost use Rattle.scsi_cdb.specs.Blocks.{Fits};
+ghost use Rattle.scsi_cdb.specs.Blocks.{CdbFits};
 
 use crate::fault::{LineFault, LineReason};
 use crate::words::Words;
@@ -85,7 +85,7 @@ fn write_of(address: u64, blocks: u16) -> Asked {
 
 // A command that may return bytes.
 fn data_in(unit: u8, cdb: Cdb, expected: u32) -> Asked
-    requires { Fits cdb }
+    requires { CdbFits cdb }
 {
     Asked::Command {
         lun: u64::from(unit) << 48,

@@ -7,22 +7,23 @@ use Rattle.std.proofs.lemmas.Grind.{flat_map-append}
 use Rattle.iscsi_text.specs.declared.pair.Pair.{Pair}
 use Rattle.iscsi_text.specs.Key.{kind_of, target_address}
 use Rattle.iscsi_text.specs.Value.{Typed}
-use Rattle.iscsi_text.specs.Text.{Pairs, values_of, IsInOrder, Arranges, IsMeaning}
-use Rattle.iscsi_text.specs.Inside.{shown, all_shown, Inserts}
+use Rattle.iscsi_text.specs.Text.{Pairs, values_of, IsInOrder, ArrangesPairs, IsMeaning}
+use Rattle.iscsi_text.specs.Shown.{shown, all_shown}
+use Rattle.iscsi_text.specs.inner.Inside.{InsertsPair}
 use Rattle.iscsi_text.proofs.PairLemmas.{values_of-append, values_of-same}
 use Rattle.iscsi_text.specs.declared.negotiated.Session.{Session}
 use Rattle.iscsi_login.specs.declared.preferences.Preferences.{Preferences}
 use Rattle.iscsi_login.specs.Answer.{answer_value, answers_to, tag_key, max_recv_key, declarations}
 use Rattle.iscsi_login.proofs.AnswerLemmas.{values_of-answers, undeclared, answer_values}
 
-pub arranges_insert : (old : Pairs) (pair : List ℕ × Typed) (new : Pairs) → Inserts old pair new → Arranges (old ++ pair ∷ []) new
+pub arranges_insert : (old : Pairs) (pair : List ℕ × Typed) (new : Pairs) → InsertsPair old pair new → ArrangesPairs (old ++ pair ∷ []) new
 arranges_insert old pair new is = record { in_order = is.in_order; same = λ key. is.values key ∙ sym (values_of-append key old (pair ∷ [])) }
 
-pub arranges_itself : (ps : Pairs) → IsInOrder ps → Arranges ps ps
+pub arranges_itself : (ps : Pairs) → IsInOrder ps → ArrangesPairs ps ps
 arranges_itself ps order = record { in_order = order; same = λ key. refl }
 
 -- what arranges the arranged pairs and more
-pub arranges_more : (row old more new : Pairs) → Arranges row old → Arranges (old ++ more) new → Arranges (row ++ more) new
+pub arranges_more : (row old more new : Pairs) → ArrangesPairs row old → ArrangesPairs (old ++ more) new → ArrangesPairs (row ++ more) new
 arranges_more row old more new first then = record {
   in_order = then.in_order;
   same = λ key. then.same key ∙ values_of-append key old more ∙ ap (λ vs. vs ++ values_of key more) (first.same key) ∙ sym (values_of-append key row more);
@@ -77,7 +78,7 @@ empty (v ∷ vs) le = absurd (omega arith)
 -- the key of an answered pair has no answer yet
 pub no_answer_before : (session : Session) (p : Preferences) (tag max_recv : Option ℕ) (given : Pairs) (n : ℕ) (pair : List ℕ × Typed) (pairs : Pairs) →
     IsMeaning given → StandsAt given n pair
-    → Arranges (declarations tag max_recv ++ flat_map (answers_to session p) (take n given)) pairs → IsSome (answer_value session p pair.0 pair.1) →
+    → ArrangesPairs (declarations tag max_recv ++ flat_map (answers_to session p) (take n given)) pairs → IsSome (answer_value session p pair.0 pair.1) →
     values_of pair.0 pairs ≡ []
 no_answer_before session p tag max_recv given n pair pairs is at arranges some =
     let single : length (values_of pair.0 given) ≤ 1 = is.single pair.0 (λ same. apart_from_unanswered session p target_address pair.0 pair.1
@@ -95,13 +96,13 @@ no_answer_before session p tag max_recv given n pair pairs is at arranges some =
 
 -- one more pair answered
 pub answered_more : (session : Session) (p : Preferences) (declared given : Pairs) (n : ℕ) (pair : List ℕ × Typed) (old new : Pairs) → StandsAt given n pair
-    → Arranges (declared ++ flat_map (answers_to session p) (take n given)) old → Arranges (old ++ answers_to session p pair) new →
-    Arranges (declared ++ flat_map (answers_to session p) (take (n + 1) given)) new
+    → ArrangesPairs (declared ++ flat_map (answers_to session p) (take n given)) old → ArrangesPairs (old ++ answers_to session p pair) new →
+    ArrangesPairs (declared ++ flat_map (answers_to session p) (take (n + 1) given)) new
 answered_more session p declared given n pair old new at first then =
     let more = arranges_more (declared ++ flat_map (answers_to session p) (take n given)) old (answers_to session p pair) new first then in
     let row : flat_map (answers_to session p) (take (n + 1) given) ≡ flat_map (answers_to session p) (take n given) ++ answers_to session p pair =
     ap (λ k. flat_map (answers_to session p) (take k given)) (add-one n) ∙ ap (flat_map (answers_to session p)) at.more
     ∙ flat_map-append (answers_to session p) (take n given) (pair ∷ [])
     ∙ ap (λ qs. flat_map (answers_to session p) (take n given) ++ qs) (append-nil (answers_to session p pair)) in
-    subst (λ ps. Arranges ps new) (append_assoc declared (flat_map (answers_to session p) (take n given)) (answers_to session p pair)
+    subst (λ ps. ArrangesPairs ps new) (append_assoc declared (flat_map (answers_to session p) (take n given)) (answers_to session p pair)
     ∙ ap (λ qs. declared ++ qs) (sym row)) more

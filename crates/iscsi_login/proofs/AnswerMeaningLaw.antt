@@ -10,8 +10,8 @@ use Rattle.std.proofs.lemmas.Bool.{or_cases}
 use Rattle.iscsi_text.specs.declared.key.KeyKind.{KeyKind}
 use Rattle.iscsi_text.specs.declared.key.KeyKind.TheVariants as kinds
 use Rattle.iscsi_text.specs.Key.{kind_of, is_among, IsKey}
-use Rattle.iscsi_text.specs.Numeral.{Spells, canonical_number}
-use Rattle.iscsi_text.specs.Value.{Typed, Means, boolean_text}
+use Rattle.iscsi_text.specs.Numeral.{SpellsNumber, canonical_number}
+use Rattle.iscsi_text.specs.Value.{Typed, MeansValue, boolean_text}
 use Rattle.iscsi_text.specs.Value as values
 use Rattle.iscsi_text.specs.Text.{Pairs, values_of, HasNo, IsMeaning, IsPair}
 use Rattle.iscsi_text.proofs.NumeralLemmas.{canonical_spells, spelling_no_zero}
@@ -26,8 +26,8 @@ use Rattle.iscsi_text.specs.declared.negotiated.Answered.{Answered}
 use Rattle.iscsi_text.specs.declared.negotiated.Answered.TheVariants.{Number, Flag, NoneItem}
 use Rattle.iscsi_login.specs.declared.preferences.Preferences.{Preferences}
 use Rattle.iscsi_text.specs.Negotiated.{name_of, rule_of, all_keys, key_named, is_irrelevant}
-use Rattle.iscsi_login.specs.Negotiation.{IsInRange, Allows, result_of, preference, word, answered_value}
-use Rattle.iscsi_login.specs.Answer.{answer_to, other_answer, answered_no, rejected, answer_value, answers_to, pairs_with, max_recv_key, tag_key, declarations}
+use Rattle.iscsi_login.specs.Negotiation.{ArePreferencesInRange, AllowsValue, result_of, preference, word, answered_value}
+use Rattle.iscsi_login.specs.Answer.{answer_to, other_answer, answered_no, rejected_keys, answer_value, answers_to, pairs_with, max_recv_key, tag_key, declarations}
 use Rattle.iscsi_login.specs.Answer.{answer}
 use Rattle.iscsi_login.proofs.AgreementLaw.{outcome, preference_allowed}
 use Rattle.iscsi_login.proofs.AnswerLemmas.{values_of-answer, answer_values, undeclared}
@@ -40,7 +40,7 @@ use Rattle.iscsi_login.proofs.KeyTestLemmas.{key_from, no_zero_from}
 pub record Writable (kind : Option KeyKind) (v : Typed) : Type 0 where
   pub bytes : List ℕ
   pub ends : HasNo 0 bytes
-  pub means : Means kind bytes v
+  pub means : MeansValue kind bytes v
 
 abbrev pub kind_behind : Rule → KeyKind
 kind_behind (rules.Minimum range) = kinds.Number
@@ -66,14 +66,14 @@ writable_boolean true = record { bytes = codes "Yes"; ends = no_zero_from (codes
 writable_boolean false = record { bytes = codes "No"; ends = no_zero_from (codes "No") refl; means = refl }
 
 -- the words are no numbers, and lists of one item
-reject_unspelled : (n : ℕ) → ¬ Spells (codes "Reject") n
+reject_unspelled : (n : ℕ) → ¬ SpellsNumber (codes "Reject") n
 reject_unspelled n spells = elim spells.form [
   | inl decimal ↦ (let digit = decimal.digits.1.0 in omega arith)
   | inr hexadecimal ↦ (let first = hexadecimal.0 in
       omega arith)
 ]
 
-irrelevant_unspelled : (n : ℕ) → ¬ Spells (codes "Irrelevant") n
+irrelevant_unspelled : (n : ℕ) → ¬ SpellsNumber (codes "Irrelevant") n
 irrelevant_unspelled n spells = elim spells.form [
   | inl decimal ↦ (let digit = decimal.digits.1.0 in
       omega arith)
@@ -128,7 +128,7 @@ pub highest_small : (key : NegKey) → highest (rule_of key) < 2 ^ 64
 highest_small keys.MaxConnections = omega arith
 highest_small _ = omega arith
 
-pub writable_value : (rule : Rule) (v : Answered) → highest rule < 2 ^ 64 → Allows rule v → Writable (Some (kind_behind rule)) (answered_value rule v)
+pub writable_value : (rule : Rule) (v : Answered) → highest rule < 2 ^ 64 → AllowsValue rule v → Writable (Some (kind_behind rule)) (answered_value rule v)
 writable_value (rules.Minimum range) (Number n) small a = writable_number n (omega (arith, a.1))
 writable_value (rules.Minimum range) _ small a = absurd a
 writable_value (rules.Maximum range) (Number n) small a = writable_number n (omega (arith, a.1))
@@ -144,7 +144,7 @@ writable_value rules.NoneItem NoneItem small a = record {
 }
 writable_value rules.NoneItem _ small a = absurd a
 
-writable_answer : (session : Session) (p : Preferences) → IsInRange p → (key : NegKey) (v : Typed) →
+writable_answer : (session : Session) (p : Preferences) → ArePreferencesInRange p → (key : NegKey) (v : Typed) →
     Writable (Some (kind_behind (rule_of key))) (answer_to session p key v)
 writable_answer session p range key v = by (is_irrelevant session key)
   where
@@ -200,7 +200,7 @@ answered_no_kind key e = elim (or_cases (bytes_eq (codes "IFMarker") key) (bytes
   ]
 ]
 
-rejected_kind : (key : List ℕ) → is_among rejected key ≡ true → kind_of key ≡ Some kinds.Plain
+rejected_kind : (key : List ℕ) → is_among rejected_keys key ≡ true → kind_of key ≡ Some kinds.Plain
 rejected_kind key e = elim (or_cases (bytes_eq (codes "IFMarkInt") key) (bytes_eq (codes "OFMarkInt") key || (bytes_eq (codes "SendTargets") key || false)) e) [
   | inl one ↦ kind_at (codes "IFMarkInt") key (Some kinds.Plain) kind_rejected_1 one
   | inr more ↦ elim (or_cases (bytes_eq (codes "OFMarkInt") key) (bytes_eq (codes "SendTargets") key || false) more) [
@@ -223,7 +223,7 @@ writable_other key w e = no (is_among answered_no key) refl e
         subst (λ kind. Writable kind w) (sym (unknown_kind (kind_of key) unknown))
         (subst (Writable None) is (record { bytes = codes "NotUnderstood"; ends = no_zero_from (codes "NotUnderstood") refl; means = refl }))
 
-    reject : (t : Bool) → is_among rejected key ≡ t → cond t (Some (values.Plain (codes "Reject")))
+    reject : (t : Bool) → is_among rejected_keys key ≡ t → cond t (Some (values.Plain (codes "Reject")))
         (cond (is_some (kind_of key)) None (Some (values.Plain (codes "NotUnderstood")))) ≡ Some w → Writable (kind_of key) w
     reject true is_ found = let is : values.Plain (codes "Reject") ≡ w = cc in
         subst (λ kind. Writable kind w) (sym (rejected_kind key is_)) (subst (Writable (Some kinds.Plain)) is
@@ -231,13 +231,13 @@ writable_other key w e = no (is_among answered_no key) refl e
     reject false not_ found = last (is_some (kind_of key)) refl found
 
     no : (t : Bool) → is_among answered_no key ≡ t → cond t (Some (values.Boolean false))
-        (cond (is_among rejected key) (Some (values.Plain (codes "Reject"))) (cond (is_some (kind_of key)) None (Some (values.Plain (codes "NotUnderstood")))))
+        (cond (is_among rejected_keys key) (Some (values.Plain (codes "Reject"))) (cond (is_some (kind_of key)) None (Some (values.Plain (codes "NotUnderstood")))))
         ≡ Some w → Writable (kind_of key) w
     no true is_ found = let is : values.Boolean false ≡ w = cc in
         subst (λ kind. Writable kind w) (sym (answered_no_kind key is_)) (subst (Writable (Some kinds.Boolean)) is (writable_boolean false))
-    no false not_ found = reject (is_among rejected key) refl found
+    no false not_ found = reject (is_among rejected_keys key) refl found
 
-writable_any : (session : Session) (p : Preferences) → IsInRange p → (key : List ℕ) (v w : Typed) → answer_value session p key v ≡ Some w →
+writable_any : (session : Session) (p : Preferences) → ArePreferencesInRange p → (key : List ℕ) (v w : Typed) → answer_value session p key v ≡ Some w →
     Writable (kind_of key) w
 writable_any session p range key v w e = by (key_named key) refl e
   where
@@ -259,7 +259,7 @@ pairs_are : (key : List ℕ) (o : Option Typed) → IsKey key → ((w : Typed) �
 pairs_are key None is writable = tt
 pairs_are key (Some w) is writable = (pair_of key w is (writable w refl), tt)
 
-answers_are : (session : Session) (p : Preferences) → IsInRange p → (given : Pairs) → AllByRecursion IsPair given →
+answers_are : (session : Session) (p : Preferences) → ArePreferencesInRange p → (given : Pairs) → AllByRecursion IsPair given →
     AllByRecursion IsPair (flat_map (answers_to session p) given)
 answers_are session p range [] all = tt
 answers_are session p range (pair ∷ given) all =
@@ -299,7 +299,7 @@ answered_at_most session p key (v ∷ vs) = omega (
   length-append (answer_values session p key v) (flat_map (answer_values session p key) vs),
 )
 
-pub answer_meaning : (session : Session) (p : Preferences) → IsInRange p → (tag max_recv : Option ℕ) → IfSome tag (λ n. n < 2 ^ 64) →
+pub answer_meaning : (session : Session) (p : Preferences) → ArePreferencesInRange p → (tag max_recv : Option ℕ) → IfSome tag (λ n. n < 2 ^ 64) →
     IfSome max_recv (λ n. n < 2 ^ 64) → (given : Pairs) → IsMeaning given → IsMeaning (answer session p tag max_recv given)
 answer_meaning session p range tag max_recv small_tag small_max given is = record {
   in_order = in_order_is (declarations tag max_recv ++ flat_map (answers_to session p) given);

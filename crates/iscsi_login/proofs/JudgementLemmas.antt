@@ -16,7 +16,7 @@ use Rattle.iscsi_text.specs.declared.negotiated.NegKey.TheVariants as keys
 use Rattle.iscsi_text.specs.Negotiated.{name_of, all_keys, key_named}
 use Rattle.iscsi_login.specs.Negotiation.{max_recv_range}
 use Rattle.iscsi_login.specs.Answer.{max_recv_key, IsSegmentLength, is_segment_length, IsLengthOrNone, DeclaresWell}
-use Rattle.iscsi_login.specs.Check.{Answers, declarable, may_declare, may_answer, is_good_pair, is_bad, is_unanswered, key_or, bad_key, IsOffer, IsGoodAnswer}
+use Rattle.iscsi_login.specs.Check.{AnswersOffer, declarable, may_declare, may_answer, is_good_pair, is_bad, is_unanswered, key_or, bad_key, IsOffer, IsGoodAnswer}
 use Rattle.iscsi_login.proofs.AnswerLemmas.{key_named-name}
 use Rattle.iscsi_login.proofs.KeyValueLemmas.{found_passes, found_has, none_passes, none_found, all_from, each_value, each_pair, neither}
 use Rattle.iscsi_login.proofs.LegalAnswerLemmas.{legal_from, legal_passes}
@@ -127,7 +127,7 @@ answered_value_of [] (o ∷ offers) all some = absurd (none all.0)
 answered_value_of (a ∷ answers) (o ∷ offers) all some = omega arith
 
 answers_from : (key : NegKey) (offers answers : List Typed) → length offers ≤ 1 → length answers ≤ 1 →
-    AllByRecursion (λ v. may_answer key (slice_get offers 0) v ≡ true) answers → (0 < length offers → 0 < length answers) → Answers key offers answers
+    AllByRecursion (λ v. may_answer key (slice_get offers 0) v ≡ true) answers → (0 < length offers → 0 < length answers) → AnswersOffer key offers answers
 answers_from key [] [] few one all some = tt
 answers_from key [] (a ∷ answers) few one all some = let bad : false ≡ true = all.0 in cc
 answers_from key (o ∷ []) [] few one all some = absurd (omega (arith, some (omega arith)))
@@ -175,7 +175,7 @@ none_is_good offered answer offer meaning e =
 -- ---- a good one has none
 
 -- the answers to an offer, and what they answer
-good_values : (key : NegKey) (offers answers : List Typed) → Answers key offers answers →
+good_values : (key : NegKey) (offers answers : List Typed) → AnswersOffer key offers answers →
     AllByRecursion (λ v. may_answer key (slice_get offers 0) v ≡ true) answers
 good_values key [] [] is = tt
 good_values key (o ∷ []) (a ∷ []) is = (legal_passes key o a is, tt)
@@ -184,7 +184,8 @@ good_values key (o ∷ []) [] is = absurd is
 good_values key (o ∷ []) (a ∷ b ∷ answers) is = absurd is
 good_values key (o ∷ p ∷ offers) answers is = absurd is
 
-all_answered : (key : NegKey) (offers answers : List Typed) → Answers key offers answers → AllByRecursion (λ v. is_none (slice_get answers 0) ≡ false) offers
+all_answered : (key : NegKey) (offers answers : List Typed) → AnswersOffer key offers answers
+    → AllByRecursion (λ v. is_none (slice_get answers 0) ≡ false) offers
 all_answered key [] [] is = tt
 all_answered key (o ∷ []) (a ∷ []) is = (refl, tt)
 all_answered key [] (a ∷ answers) is = absurd is

@@ -10,7 +10,7 @@ use Rattle.iscsi_text.specs.declared.negotiated.Rule.TheVariants as rules
 use Rattle.iscsi_text.specs.declared.negotiated.Answered.{Answered}
 use Rattle.iscsi_text.specs.declared.negotiated.Answered.TheVariants.{Number, Flag, NoneItem, Reject}
 use Rattle.iscsi_text.specs.Negotiated.{rule_of}
-use Rattle.iscsi_login.specs.Negotiation.{Allows, has_none, value_of, chosen, is_word, answered_value, IsChoice, IsLegal, is_given, is_one_item, is_legal}
+use Rattle.iscsi_login.specs.Negotiation.{AllowsValue, has_none, value_of, chosen, is_answer_word, answered_value, IsChoice, IsLegal, is_given, is_one_item, is_legal}
 use Rattle.iscsi_login.proofs.AgreementLaw.{in_range_cases, in_range_within, value_cases}
 
 -- the offer and this value as the preference give the value
@@ -61,17 +61,17 @@ choice key offer answer given one =
     let preferred = value_of (rule_of key) answer in
     let some : preferred ≢ Reject = given_some rule (value_of rule offer) preferred given in
     let same : chosen rule (value_of rule offer) preferred ≡ preferred = given_chosen rule (value_of rule offer) preferred given in
-    let allowed : Allows rule preferred = elim (value_cases rule answer) [ inl out ↦ absurd (some out) | inr is ↦ is ] in
+    let allowed : AllowsValue rule preferred = elim (value_cases rule answer) [ inl out ↦ absurd (some out) | inr is ↦ is ] in
     record {
       preferred = preferred;
       allowed = allowed;
-      result = subst (Allows rule) (sym same) allowed;
+      result = subst (AllowsValue rule) (sym same) allowed;
       same = elim (spelled rule answer one) [ inl out ↦ absurd (some out) | inr is ↦ is ∙ ap (answered_value rule) (sym same) ];
     }
 
 -- what passes the test is legal
 pub legal_from : (key : NegKey) (offer answer : Typed) → is_legal key offer answer ≡ true → IsLegal key offer answer
-legal_from key offer answer e = elim (or_cases (is_word answer) (is_given (rule_of key) (value_of (rule_of key) offer) (value_of (rule_of key) answer)
+legal_from key offer answer e = elim (or_cases (is_answer_word answer) (is_given (rule_of key) (value_of (rule_of key) offer) (value_of (rule_of key) answer)
     && is_one_item answer) e) [
       | inl is ↦ inl is
       | inr rest ↦ let both = and_parts (is_given (rule_of key) (value_of (rule_of key) offer) (value_of (rule_of key) answer)) (is_one_item answer) rest in
@@ -79,7 +79,7 @@ legal_from key offer answer e = elim (or_cases (is_word answer) (is_given (rule_
     ]
 
 -- an allowed value in a text stands for itself, and has one item
-value_back : (rule : Rule) (v : Answered) → Allows rule v → value_of rule (answered_value rule v) ≡ v
+value_back : (rule : Rule) (v : Answered) → AllowsValue rule v → value_of rule (answered_value rule v) ≡ v
 value_back (rules.Minimum range) (Number n) a = in_range_within range n a
 value_back (rules.Maximum range) (Number n) a = in_range_within range n a
 value_back rules.Or (Flag b) a = refl
@@ -87,7 +87,7 @@ value_back rules.And (Flag b) a = refl
 value_back rules.NoneItem NoneItem a = refl
 value_back _ _ a = absurd a
 
-one_item_back : (rule : Rule) (v : Answered) → Allows rule v → is_one_item (answered_value rule v) ≡ true
+one_item_back : (rule : Rule) (v : Answered) → AllowsValue rule v → is_one_item (answered_value rule v) ≡ true
 one_item_back rule (Number n) a = refl
 one_item_back rule (Flag b) a = refl
 one_item_back rule NoneItem a = refl
@@ -98,7 +98,7 @@ one_item_back rules.And Reject a = absurd a
 one_item_back rules.NoneItem Reject a = absurd a
 
 -- a result is given by its offer
-result_given : (rule : Rule) (x y : Answered) → Allows rule (chosen rule x y) → is_given rule x (chosen rule x y) ≡ true
+result_given : (rule : Rule) (x y : Answered) → AllowsValue rule (chosen rule x y) → is_given rule x (chosen rule x y) ≡ true
 result_given (rules.Minimum range) (Number n) (Number m) a = le-leb (min n m) n (omega arith)
 result_given (rules.Maximum range) (Number n) (Number m) a = le-leb n (max n m) (omega arith)
 result_given rules.Or (Flag true) (Flag b) a = refl
@@ -111,13 +111,13 @@ result_given _ _ _ a = absurd a
 -- what is legal passes the test
 pub legal_passes : (key : NegKey) (offer answer : Typed) → IsLegal key offer answer → is_legal key offer answer ≡ true
 legal_passes key offer answer legal = elim legal [
-  | inl is ↦ or_left (is_word answer) (is_given (rule_of key) (value_of (rule_of key) offer) (value_of (rule_of key) answer) && is_one_item answer) is
+  | inl is ↦ or_left (is_answer_word answer) (is_given (rule_of key) (value_of (rule_of key) offer) (value_of (rule_of key) answer) && is_one_item answer) is
   | inr choice ↦
       let rule = rule_of key in
       let given = value_of (rule_of key) offer in
       let result = chosen (rule_of key) (value_of (rule_of key) offer) choice.preferred in
       let back : value_of rule answer ≡ result = ap (value_of rule) choice.same ∙ value_back rule result choice.result in
-      or_right (is_word answer) (is_given rule given (value_of rule answer) && is_one_item answer)
+      or_right (is_answer_word answer) (is_given rule given (value_of rule answer) && is_one_item answer)
       (and_from (is_given rule given (value_of rule answer)) (is_one_item answer)
       (ap (is_given rule given) back ∙ result_given rule given choice.preferred choice.result)
       (ap is_one_item choice.same ∙ one_item_back rule result choice.result))

@@ -16,7 +16,7 @@ use Rattle.iscsi_text.specs.Negotiated.{name_of, all_keys}
 use Rattle.iscsi_text.specs.Reading.{in_order}
 use Rattle.iscsi_login.specs.Offers.{Proposal, auth_items, session_name, target_pair, security_offers, operational_offers, single_offers}
 use Rattle.iscsi_login.specs.Check.{described, IsOffer}
-use Rattle.iscsi_login.specs.Inside.{is_new, all_new}
+use Rattle.iscsi_login.specs.inner.Inside.{is_new, all_new}
 use Rattle.iscsi_text.proofs.OrderLemmas.{values_in_order}
 
 new_absent : (key : List ℕ) (ps : Pairs) → is_new key ps ≡ true → values_of key ps ≡ []

@@ -9,11 +9,11 @@ use Rattle.iscsi_text.specs.Value as values
 use Rattle.iscsi_text.specs.Value.{Typed}
 use Rattle.iscsi_text.specs.Text.{Pairs}
 use Rattle.iscsi_text.specs.Negotiated.{all_keys, key_place}
-use Rattle.iscsi_text.specs.Inside.{shown, all_shown}
+use Rattle.iscsi_text.specs.Shown.{shown, all_shown}
 use Rattle.iscsi_text.specs.Reading.{in_order}
 use Rattle.iscsi_login.specs.declared.preferences.Preferences.{Preferences}
 use Rattle.iscsi_login.specs.Offers.{Proposal, session_name, preferred_pair, max_recv_pair, operational_offers, single_offers}
-use Rattle.iscsi_login.specs.Inside.{all_new, said}
+use Rattle.iscsi_login.specs.inner.Inside.{all_new, sent_pairs}
 
 -- ---- the operational stage
 
@@ -96,21 +96,21 @@ module _ (name kind target : Pair) where
     front_is_new = ap all_new front_are
 
     pub said_in_Normal : (ys : List Pair) → o.session ≡ Normal → all_shown ys ≡ in_order (all_shown (filled xs (length all_keys))) →
-        said o.session (all_shown ys) ≡ in_order (single_offers o)
-    said_in_Normal ys normal sorted = ap (said o.session) (sorted ∙ ap in_order all_are) ∙ by o.session normal
+        sent_pairs o.session (all_shown ys) ≡ in_order (single_offers o)
+    said_in_Normal ys normal sorted = ap (sent_pairs o.session) (sorted ∙ ap in_order all_are) ∙ by o.session normal
       where
-        by : (s : Session) → s ≡ Normal → said s (in_order (with_target (record o { session = s }))) ≡ in_order (single_offers (record o { session = s }))
+        by : (s : Session) → s ≡ Normal → sent_pairs s (in_order (with_target (record o { session = s }))) ≡ in_order (single_offers (record o { session = s }))
         by Normal is = refl
         by Discovery is = cc
 
     pub said_in_Discovery : (ys : List Pair) → o.session ≡ Discovery → all_shown ys
         ≡ in_order (all_shown (take (suc (suc (length all_keys))) (filled xs (length all_keys)))) →
-        said o.session (all_shown (ys ++ drop (suc (suc (length all_keys))) (filled xs (length all_keys)))) ≡ in_order (single_offers o)
+        sent_pairs o.session (all_shown (ys ++ drop (suc (suc (length all_keys))) (filled xs (length all_keys)))) ≡ in_order (single_offers o)
     said_in_Discovery ys discovery sorted =
-        ap (said o.session) (map-append shown ys (drop (suc (suc (length all_keys))) (filled xs (length all_keys)))
+        ap (sent_pairs o.session) (map-append shown ys (drop (suc (suc (length all_keys))) (filled xs (length all_keys)))
         ∙ (λ i. (sorted ∙ ap in_order front_are) i ++ behind_is i)) ∙ by o.session discovery
       where
-        by : (s : Session) → s ≡ Discovery → said s (in_order (without_target (record o { session = s })) ++ target_of o ∷ [])
+        by : (s : Session) → s ≡ Discovery → sent_pairs s (in_order (without_target (record o { session = s })) ++ target_of o ∷ [])
             ≡ in_order (single_offers (record o { session = s }))
         by Normal is = cc
         by Discovery is = refl

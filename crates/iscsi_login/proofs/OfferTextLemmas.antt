@@ -14,7 +14,7 @@ use Rattle.iscsi_text.specs.declared.negotiated.Session.TheVariants.{Normal, Dis
 use Rattle.iscsi_login.specs.declared.offers.Auth.{Auth}
 use Rattle.iscsi_login.specs.declared.offers.Auth.TheVariants as auths
 use Rattle.iscsi_text.specs.Negotiated.{name_of, rule_of, operational_keys}
-use Rattle.iscsi_login.specs.Negotiation.{IsInRange, preference, answered_value}
+use Rattle.iscsi_login.specs.Negotiation.{ArePreferencesInRange, preference, answered_value}
 use Rattle.iscsi_login.specs.Answer.{max_recv_key}
 use Rattle.iscsi_text.specs.Reading.{in_order}
 use Rattle.iscsi_login.specs.Offers.{Proposal, auth_items, session_name, target_pair, names, security_offers, preferred_pair, operational_offers, single_offers}
@@ -41,17 +41,17 @@ name_is_key keys.DataDigest = key_from (codes "DataDigest") refl refl refl
 name_is_key keys.AuthMethod = key_from (codes "AuthMethod") refl refl refl
 
 -- a preference is an offer that can be written
-preferred_is : (p : Preferences) → IsInRange p → (key : NegKey) → IsPair (preferred_pair p key)
+preferred_is : (p : Preferences) → ArePreferencesInRange p → (key : NegKey) → IsPair (preferred_pair p key)
 preferred_is p range key =
     pair_of (name_of key) (answered_value (rule_of key) (preference p key)) (name_is_key key)
     (subst (λ kind. Writable kind (answered_value (rule_of key) (preference p key))) (sym (kind_of_name key))
     (writable_value (rule_of key) (preference p key) (highest_small key) (preference_allowed p range key)))
 
-all_preferred : (p : Preferences) → IsInRange p → (ks : List NegKey) → AllByRecursion IsPair (map (preferred_pair p) ks)
+all_preferred : (p : Preferences) → ArePreferencesInRange p → (ks : List NegKey) → AllByRecursion IsPair (map (preferred_pair p) ks)
 all_preferred p range [] = tt
 all_preferred p range (k ∷ ks) = (preferred_is p range k, all_preferred p range ks)
 
-operational_pairs : (o : Proposal) → IsInRange o.prefs → AllByRecursion IsPair (operational_offers o)
+operational_pairs : (o : Proposal) → ArePreferencesInRange o.prefs → AllByRecursion IsPair (operational_offers o)
 operational_pairs o range = (
   pair_of max_recv_key (values.Number o.prefs.max_recv) (key_from max_recv_key refl refl refl)
       (subst (λ kind. Writable kind (values.Number o.prefs.max_recv)) (sym kind_max_recv)
@@ -123,14 +123,14 @@ security_text_is o initiator target = record {
   each = all_in_order IsPair (security_offers o) (security_pairs o initiator target);
 }
 
-pub operational_text_is : (o : Proposal) → IsInRange o.prefs → IsMeaning (in_order (operational_offers o))
+pub operational_text_is : (o : Proposal) → ArePreferencesInRange o.prefs → IsMeaning (in_order (operational_offers o))
 operational_text_is o range = record {
   in_order = in_order_is (operational_offers o);
   single = (operational_is_offer o).single;
   each = all_in_order IsPair (operational_offers o) (operational_pairs o range);
 }
 
-pub single_text_is : (o : Proposal) → HasNo 0 o.initiator → HasNo 0 o.target → IsInRange o.prefs → IsMeaning (in_order (single_offers o))
+pub single_text_is : (o : Proposal) → HasNo 0 o.initiator → HasNo 0 o.target → ArePreferencesInRange o.prefs → IsMeaning (in_order (single_offers o))
 single_text_is o initiator target range = record {
   in_order = in_order_is (single_offers o);
   single = (single_is_offer o).single;

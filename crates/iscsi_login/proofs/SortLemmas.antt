@@ -8,12 +8,12 @@ use Rattle.std.proofs.lemmas.List.Sorted.{IsPermutation-map, All-permutation, su
 use Rattle.iscsi_text.specs.declared.pair.Pair.{Pair}
 use Rattle.iscsi_text.specs.Value.{Typed}
 use Rattle.iscsi_text.specs.Text.{Pairs, values_of, IsInOrder}
-use Rattle.iscsi_text.specs.Inside.{shown, all_shown}
+use Rattle.iscsi_text.specs.Shown.{shown, all_shown}
 use Rattle.iscsi_text.specs.Reading.{in_order}
 use Rattle.iscsi_text.proofs.KeyLemmas.{bytes_eq_same, bytes_eq_other}
 use Rattle.iscsi_text.proofs.PairLemmas.{values_of-same, values_of-other, key_cases}
 use Rattle.iscsi_text.proofs.OrderLemmas.{arranged_is}
-use Rattle.iscsi_login.specs.Inside.{all_new}
+use Rattle.iscsi_login.specs.inner.Inside.{all_new}
 use Rattle.iscsi_login.proofs.OfferMeaningLaw.{at_most_one}
 
 -- how many values a key has

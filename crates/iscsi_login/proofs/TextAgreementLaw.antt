@@ -19,17 +19,17 @@ use Rattle.iscsi_text.specs.declared.negotiated.Session.{Session}
 use Rattle.iscsi_text.specs.declared.negotiated.Answered.{Answered}
 use Rattle.iscsi_login.specs.declared.preferences.Preferences.{Preferences}
 use Rattle.iscsi_text.specs.Negotiated.{name_of, all_keys, IsWithin}
-use Rattle.iscsi_login.specs.Negotiation.{IsInRange, max_recv_range}
+use Rattle.iscsi_login.specs.Negotiation.{ArePreferencesInRange, max_recv_range}
 use Rattle.iscsi_login.specs.Held.{Held, held_value}
 use Rattle.iscsi_login.specs.Answer.{IsSegmentLength, answer_to, answer_value, held_by_target, held_by_initiator, first_or, first_number, declared_max_recv}
 use Rattle.iscsi_login.specs.Answer.{max_recv_key, tag_key, declarations, answer, target_holds, initiator_holds}
-use Rattle.iscsi_login.specs.Check.{Answers, declarable, described, IsOffer, IsGoodAnswer}
+use Rattle.iscsi_login.specs.Check.{AnswersOffer, declarable, described, IsOffer, IsGoodAnswer}
 use Rattle.iscsi_login.proofs.AgreementLaw.{answer_legal, ends_agree}
 use Rattle.iscsi_login.proofs.AnswerLemmas.{answers_of_key, values_of-answer, answer_values, undeclared}
 use Rattle.iscsi_login.proofs.AnswerLoopLemmas.{unanswered_max_recv}
 
 -- what is held after the answers to these values
-held_same : (session : Session) (p : Preferences) → IsInRange p → (key : NegKey) (before : Answered) (offers : List Typed)
+held_same : (session : Session) (p : Preferences) → ArePreferencesInRange p → (key : NegKey) (before : Answered) (offers : List Typed)
     → first_or (held_by_initiator key) before (map (answer_to session p key) offers) ≡ first_or (held_by_target session p key) before offers
 held_same session p is key before [] = refl
 held_same session p is key before (offer ∷ offers) = ends_agree session p is key offer
@@ -63,7 +63,7 @@ number_again None = refl
 number_again (Some m) = refl
 
 -- after the target's answer the initiator holds what the target holds
-pub texts_agree : (session : Session) (p : Preferences) → IsInRange p → (tag max_recv : Option ℕ) (given : Pairs) (held : Held)
+pub texts_agree : (session : Session) (p : Preferences) → ArePreferencesInRange p → (tag max_recv : Option ℕ) (given : Pairs) (held : Held)
     → initiator_holds (declared_max_recv given) (answer session p tag max_recv given) held ≡ target_holds session p max_recv given held
 texts_agree session p is tag max_recv given held =
     let each : (key : NegKey) → first_or (held_by_initiator key) (held_value held key) (values_of (name_of key) (answer session p tag max_recv given))
@@ -78,8 +78,8 @@ texts_agree session p is tag max_recv given held =
     λ i. record { values = all i; initiator_max_recv = unwrap_or (declared_max_recv given) held.initiator_max_recv; target_max_recv = lengths i }
 
 -- one answer for each value
-answers_match : (session : Session) (p : Preferences) → IsInRange p → (key : NegKey) (offers : List Typed) → length offers ≤ 1 →
-    Answers key offers (map (answer_to session p key) offers)
+answers_match : (session : Session) (p : Preferences) → ArePreferencesInRange p → (key : NegKey) (offers : List Typed) → length offers ≤ 1 →
+    AnswersOffer key offers (map (answer_to session p key) offers)
 answers_match session p is key [] le = tt
 answers_match session p is key (offer ∷ []) le = answer_legal session p is key offer
 answers_match session p is key (a ∷ b ∷ offers) le = absurd (omega arith)
@@ -147,11 +147,11 @@ negotiated_key session p offered is key some =
       | inr other ↦ let none = ap length (declared_keys_unanswered session p key (values_of key offered) other) in absurd (omega (arith, some, none))
     ]
 
-pub good_answer : (session : Session) (p : Preferences) → IsInRange p → (tag max_recv : Option ℕ) → IfSome max_recv (IsWithin max_recv_range) →
+pub good_answer : (session : Session) (p : Preferences) → ArePreferencesInRange p → (tag max_recv : Option ℕ) → IfSome max_recv (IsWithin max_recv_range) →
     (offered : Pairs) → IsOffer offered
     → IsGoodAnswer offered (answer session p tag max_recv offered)
 good_answer session p range tag max_recv length_range offered is = record {
-  negotiated = λ key. subst (Answers key (values_of (name_of key) offered)) (sym (answers_of_key session p tag max_recv offered key))
+  negotiated = λ key. subst (AnswersOffer key (values_of (name_of key) offered)) (sym (answers_of_key session p tag max_recv offered key))
       (answers_match session p range key (values_of (name_of key) offered) (is.single (name_of key) (not_address key)));
   max_recv = subst (AllByRecursion IsSegmentLength) (sym (answered_lengths session p tag max_recv offered)) (segment_lengths max_recv length_range);
   others = λ key some. elim (key_cases max_recv_key key) [

@@ -42,15 +42,15 @@ answered_no = codes "IFMarker" ∷ codes "OFMarker" ∷ []
 
 -- Known keys that are answered `Reject` in a login (RFC 3720, appendix A, and section 13.3; own
 -- rule).
-abbrev pub rejected : List (List ℕ)
-rejected = codes "IFMarkInt" ∷ codes "OFMarkInt" ∷ codes "SendTargets" ∷ []
+abbrev pub rejected_keys : List (List ℕ)
+rejected_keys = codes "IFMarkInt" ∷ codes "OFMarkInt" ∷ codes "SendTargets" ∷ []
 
 -- The answer to a key that isn't negotiated: none to the other known keys, which are declared
 -- (section 6.2).
 abbrev pub other_answer : List ℕ → Option Typed
 other_answer key =
     if is_among answered_no key then Some (values.Boolean false) else (
-    if is_among rejected key then Some (values.Plain (codes "Reject")) else (
+    if is_among rejected_keys key then Some (values.Plain (codes "Reject")) else (
     if is_some (kind_of key) then None else Some (values.Plain (codes "NotUnderstood"))))
 
 -- The answer to a value of a key, if it has one (section 6.2).

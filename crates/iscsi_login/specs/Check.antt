@@ -12,10 +12,10 @@ use Rattle.iscsi_login.specs.Answer.{max_recv_key, tag_key, IsSegmentLength, is_
 
 -- An offered value has one answer, a legal one, and a key that wasn't offered has none (section
 -- 6.2).
-abbrev pub Answers : NegKey → List Typed → List Typed → Type 0
-Answers key [] [] = Unit {0}
-Answers key (offer ∷ []) (answer ∷ []) = IsLegal key offer answer
-Answers key _ _ = ⊥
+abbrev pub AnswersOffer : NegKey → List Typed → List Typed → Type 0
+AnswersOffer key [] [] = Unit {0}
+AnswersOffer key (offer ∷ []) (answer ∷ []) = IsLegal key offer answer
+AnswersOffer key _ _ = ⊥
 
 -- What a target may declare of itself (sections 13.6, 13.8, 13.9 and 13.12).
 abbrev pub declarable : List (List ℕ)
@@ -72,7 +72,7 @@ pub record IsOffer (offered : Pairs) : Type 0 where
 -- One legal answer to each negotiated key that was offered, and no key that an initiator refuses
 -- (section 6.2).
 pub record IsGoodAnswer (offered answer : Pairs) : Type 0 where
-  pub negotiated : (key : NegKey) → Answers key (values_of (name_of key) offered)
+  pub negotiated : (key : NegKey) → AnswersOffer key (values_of (name_of key) offered)
       (values_of (name_of key) answer)
   pub max_recv : AllByRecursion IsSegmentLength (values_of max_recv_key answer)
   pub others : (key : List ℕ) → 0 < length (values_of key answer) →

@@ -7,7 +7,7 @@ use Rattle.iscsi_login.specs.declared.preferences.Preferences.{Preferences}
 use Rattle.iscsi_text.specs.declared.negotiated.Answered.{Answered}
 use Rattle.iscsi_text.specs.declared.negotiated.Answered.TheVariants.{Flag, Number, Reject}
 use Rattle.iscsi_text.specs.Negotiated.{rule_of, default_of, all_keys, key_place, IsWithin}
-use Rattle.iscsi_login.specs.Negotiation.{Allows, max_recv_range}
+use Rattle.iscsi_login.specs.Negotiation.{AllowsValue, max_recv_range}
 
 -- The held values (section 13).
 pub record Held : Type 0 where
@@ -67,6 +67,6 @@ longest_taken p = max 8192 p.max_recv
 
 -- Each key has a value that it allows, and each length is one that may be declared (section 13).
 pub record IsHeld (held : Held) : Type 0 where
-  pub values : (key : NegKey) → Allows (rule_of key) (held_value held key)
+  pub values : (key : NegKey) → AllowsValue (rule_of key) (held_value held key)
   pub initiator_max_recv : IsWithin max_recv_range held.initiator_max_recv
   pub target_max_recv : IsWithin max_recv_range held.target_max_recv

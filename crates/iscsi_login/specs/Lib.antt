@@ -4,5 +4,5 @@ pub mod Negotiation
 pub mod Held
 pub mod Answer
 pub mod Offers
-pub mod Inside
 pub mod Check
+pub mod inner

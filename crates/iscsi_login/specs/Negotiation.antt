@@ -29,8 +29,8 @@ preference p keys.DefaultTime2Retain = Number p.time2retain
 preference p key = default_of key
 
 -- What an end prefers that was told nothing else (own rule).
-abbrev pub standard : Preferences
-standard = record {
+abbrev pub standard_preferences : Preferences
+standard_preferences = record {
   initial_r2t = false;
   immediate_data = true;
   max_burst = 262144;
@@ -43,24 +43,24 @@ standard = record {
 -- ---- values
 
 -- The rule allows the value (section 13).
-abbrev pub Allows : Rule → Answered → Type 0
-Allows (rules.Minimum range) (Number n) = IsWithin range n
-Allows (rules.Maximum range) (Number n) = IsWithin range n
-Allows rules.Or (Flag b) = Unit {0}
-Allows rules.And (Flag b) = Unit {0}
-Allows rules.NoneItem NoneItem = Unit {0}
-Allows _ _ = ⊥
+abbrev pub AllowsValue : Rule → Answered → Type 0
+AllowsValue (rules.Minimum range) (Number n) = IsWithin range n
+AllowsValue (rules.Maximum range) (Number n) = IsWithin range n
+AllowsValue rules.Or (Flag b) = Unit {0}
+AllowsValue rules.And (Flag b) = Unit {0}
+AllowsValue rules.NoneItem NoneItem = Unit {0}
+AllowsValue _ _ = ⊥
 
 -- How many bytes a receiver may declare as the most that it takes in one segment (section 13.12).
 abbrev pub max_recv_range : Range
 max_recv_range = between 512 16777215
 
 -- Each number is in its key's range (section 13).
-pub record IsInRange (p : Preferences) : Type 0 where
-  pub max_burst : Allows (rule_of keys.MaxBurstLength) (Number p.max_burst)
-  pub first_burst : Allows (rule_of keys.FirstBurstLength) (Number p.first_burst)
-  pub time2wait : Allows (rule_of keys.DefaultTime2Wait) (Number p.time2wait)
-  pub time2retain : Allows (rule_of keys.DefaultTime2Retain) (Number p.time2retain)
+pub record ArePreferencesInRange (p : Preferences) : Type 0 where
+  pub max_burst : AllowsValue (rule_of keys.MaxBurstLength) (Number p.max_burst)
+  pub first_burst : AllowsValue (rule_of keys.FirstBurstLength) (Number p.first_burst)
+  pub time2wait : AllowsValue (rule_of keys.DefaultTime2Wait) (Number p.time2wait)
+  pub time2retain : AllowsValue (rule_of keys.DefaultTime2Retain) (Number p.time2retain)
   pub max_recv : IsWithin max_recv_range p.max_recv
 
 -- An item of the list is `None` (section 6.2.1).
@@ -107,11 +107,11 @@ abbrev pub words : List (List ℕ)
 words = codes "Reject" ∷ codes "Irrelevant" ∷ codes "NotUnderstood" ∷ []
 
 -- The value is one of these words, whatever its key's kind (section 6.2).
-abbrev pub is_word : Typed → Bool
-is_word (values.Items bytes) = is_among words bytes
-is_word (values.Plain bytes) = is_among words bytes
-is_word (values.Odd bytes) = is_among words bytes
-is_word _ = false
+abbrev pub is_answer_word : Typed → Bool
+is_answer_word (values.Items bytes) = is_among words bytes
+is_answer_word (values.Plain bytes) = is_among words bytes
+is_answer_word (values.Odd bytes) = is_among words bytes
+is_answer_word _ = false
 
 -- A word as it is read behind a key of this rule (section 6.1).
 abbrev pub word : Rule → List ℕ → Typed
@@ -129,13 +129,13 @@ answered_value rule Reject = word rule (codes "Reject")
 -- (section 6.2).
 pub record IsChoice (key : NegKey) (offer answer : Typed) : Type 0 where
   pub preferred : Answered
-  pub allowed : Allows (rule_of key) preferred
-  pub result : Allows (rule_of key) (result_with key offer preferred)
+  pub allowed : AllowsValue (rule_of key) preferred
+  pub result : AllowsValue (rule_of key) (result_with key offer preferred)
   pub same : answer ≡ answered_value (rule_of key) (result_with key offer preferred)
 
 -- The answer is one of the words, or a choice (section 6.2).
 abbrev pub IsLegal : NegKey → Typed → Typed → Type 0
-IsLegal key offer answer = IsTrue (is_word answer) ⊎ IsChoice key offer answer
+IsLegal key offer answer = IsTrue (is_answer_word answer) ⊎ IsChoice key offer answer
 
 -- ---- the test
 
@@ -156,7 +156,7 @@ is_one_item _ = true
 -- The test of `IsLegal` (section 6.2).
 abbrev pub is_legal : NegKey → Typed → Typed → Bool
 is_legal key offer answer =
-    is_word answer
+    is_answer_word answer
     || (is_given (rule_of key) (value_of (rule_of key) offer) (value_of (rule_of key) answer)
     && is_one_item answer)
 

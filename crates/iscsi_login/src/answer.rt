@@ -3,9 +3,9 @@
 ghost use Rattle.std.specs.Prelude.{◌≡◌, ◌++◌, ◌∷◌, [], IfOk, OnOk, IsSome};
 ghost use Rattle.std.specs.Option.{option_map};
 ghost use Rattle.iscsi_text.specs.Value.{typed};
-ghost use Rattle.iscsi_text.specs.Text.{values_of, IsInOrder, Arranges};
+ghost use Rattle.iscsi_text.specs.Text.{values_of, IsInOrder, ArrangesPairs};
 ghost use Rattle.iscsi_text.specs.Canonical.{canonical_text};
-ghost use Rattle.iscsi_text.specs.Inside.{shown, all_shown};
+ghost use Rattle.iscsi_text.specs.Shown.{shown, all_shown};
 ghost use Rattle.iscsi_login.specs.Answer.{answer_to, other_answer, answer_value, answers_to, declarations, answer};
 
 use crate::negotiation::{answered_value, result, word};
@@ -99,7 +99,7 @@ fn add_answer<'a>(
     requires new { IsSome (answer_value session preferences.now
         offered.now.key.now (typed offered.now.value)) →
         values_of offered.now.key.now (all_shown pairs.old.items) ≡ [] }
-    ensures { OnOk result (Arranges
+    ensures { OnOk result (ArrangesPairs
         (all_shown pairs.old.items ++ answers_to session preferences.now (shown offered.now))
         (all_shown pairs.new.items)) }
 {
@@ -114,7 +114,7 @@ fn add_answer<'a>(
 fn add<'a>(pairs: &mut Vec<Pair<'a>>, pair: Pair<'a>) -> Result<(), AllocError>
     requires in_order { IsInOrder (all_shown pairs.old.items) }
     requires new { values_of pair.key.now (all_shown pairs.old.items) ≡ [] }
-    ensures { OnOk result (Arranges
+    ensures { OnOk result (ArrangesPairs
         (all_shown pairs.old.items ++ shown pair.entry ∷ [])
         (all_shown pairs.new.items)) }
 {

@@ -3,7 +3,7 @@
 ghost use Rattle.std.specs.Prelude.{◌≡◌, ◌≤◌, length, find, IfSome};
 ghost use Rattle.std.specs.Option.{option_map};
 ghost use Rattle.iscsi_text.specs.Value.{typed};
-ghost use Rattle.iscsi_text.specs.Inside.{shown, all_shown};
+ghost use Rattle.iscsi_text.specs.Shown.{shown, all_shown};
 ghost use Rattle.iscsi_login.specs.Answer.{DeclaresWell};
 ghost use Rattle.iscsi_text.specs.Reading.{in_order};
 ghost use Rattle.iscsi_login.specs.Offers.{proposed, offers_at};

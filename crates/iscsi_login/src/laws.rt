@@ -2,12 +2,12 @@
 
 ghost use Rattle.std.specs.Prelude.{◌≡◌, ℕ, Option, map, IfSome, ◌<◌, ◌^◌};
 ghost use Rattle.iscsi_text.specs.Value.{Typed};
-ghost use Rattle.iscsi_text.specs.Text.{Pairs, Arranges, HasNo, IsMeaning, values_of};
+ghost use Rattle.iscsi_text.specs.Text.{Pairs, ArrangesPairs, HasNo, IsMeaning, values_of};
 ghost use Rattle.iscsi_text.specs.declared.negotiated.NegKey.{NegKey};
 ghost use Rattle.iscsi_text.specs.declared.negotiated.Session.{Session};
 ghost use Rattle.iscsi_login.specs.declared.preferences.Preferences.{Preferences};
 ghost use Rattle.iscsi_text.specs.Negotiated.{name_of, IsWithin};
-ghost use Rattle.iscsi_login.specs.Negotiation.{IsInRange, IsLegal, max_recv_range};
+ghost use Rattle.iscsi_login.specs.Negotiation.{ArePreferencesInRange, IsLegal, max_recv_range};
 ghost use Rattle.iscsi_login.specs.Held.{Held};
 ghost use Rattle.iscsi_login.specs.Answer.{answer_to, held_by_target, held_by_initiator, declared_max_recv, answer, initiator_holds, target_holds};
 ghost use Rattle.iscsi_text.specs.Reading.{in_order};
@@ -17,9 +17,9 @@ ghost use Rattle.iscsi_login.specs.Check.{IsOffer, IsGoodAnswer, bad_key};
 /// Whatever is offered of a key, the answer of a target with preferences in range is legal, and
 /// after it both ends hold the same value. That is so in a session of either kind.
 pub fn agreement()
-    ensures legal { (session : Session) (p : Preferences) → IsInRange p →
+    ensures legal { (session : Session) (p : Preferences) → ArePreferencesInRange p →
         (key : NegKey) (offer : Typed) → IsLegal key offer (answer_to session p key offer) }
-    ensures agree { (session : Session) (p : Preferences) → IsInRange p →
+    ensures agree { (session : Session) (p : Preferences) → ArePreferencesInRange p →
         (key : NegKey) (offer : Typed) →
         held_by_initiator key (answer_to session p key offer) ≡ held_by_target session p key offer }
 {}
@@ -34,13 +34,14 @@ pub fn each_offer_is_answered()
 
 /// Pairs have one order.
 pub fn order()
-    ensures one { (pairs arranged : Pairs) → Arranges pairs arranged → arranged ≡ in_order pairs }
+    ensures one { (pairs arranged : Pairs) → ArrangesPairs pairs arranged → arranged
+        ≡ in_order pairs }
 {}
 
 /// After a text and the target's answer to it both ends hold the same of each key and declaration,
 /// if they did before.
 pub fn texts_agree()
-    ensures agree { (session : Session) (p : Preferences) → IsInRange p →
+    ensures agree { (session : Session) (p : Preferences) → ArePreferencesInRange p →
         (tag max_recv : Option ℕ) (given : Pairs) (held : Held) →
         initiator_holds (declared_max_recv given) (answer session p tag max_recv given) held ≡
         target_holds session p max_recv given held }
@@ -49,7 +50,7 @@ pub fn texts_agree()
 /// The target's answer to what an initiator says has one legal answer to each negotiated key, and
 /// no key that the initiator refuses.
 pub fn answer_is_good()
-    ensures good { (session : Session) (p : Preferences) → IsInRange p →
+    ensures good { (session : Session) (p : Preferences) → ArePreferencesInRange p →
         (tag max_recv : Option ℕ) → IfSome max_recv (IsWithin max_recv_range) →
         (offered : Pairs) → IsOffer offered →
         IsGoodAnswer offered (answer session p tag max_recv offered) }
@@ -66,7 +67,7 @@ pub fn judged_answers()
 
 /// The target's answer to what an initiator says is one that the initiator takes.
 pub fn answer_is_taken()
-    ensures taken { (session : Session) (p : Preferences) → IsInRange p →
+    ensures taken { (session : Session) (p : Preferences) → ArePreferencesInRange p →
         (tag max_recv : Option ℕ) → IfSome max_recv (IsWithin max_recv_range) →
         (offered : Pairs) → IsOffer offered →
         bad_key offered (answer session p tag max_recv offered) ≡ None }
@@ -74,7 +75,7 @@ pub fn answer_is_taken()
 
 /// The answer to what a text means is what a text means.
 pub fn answer_is_text()
-    ensures meaning { (session : Session) (p : Preferences) → IsInRange p →
+    ensures meaning { (session : Session) (p : Preferences) → ArePreferencesInRange p →
         (tag max_recv : Option ℕ) →
         IfSome tag (λ n. n < 2 ^ 64) → IfSome max_recv (λ n. n < 2 ^ 64) →
         (given : Pairs) → IsMeaning given → IsMeaning (answer session p tag max_recv given) }
@@ -91,8 +92,9 @@ pub fn texts_are_offers()
 pub fn offers_are_texts()
     ensures security { (o : Proposal) → HasNo 0 o.initiator → HasNo 0 o.target →
         IsMeaning (in_order (security_offers o)) }
-    ensures operational { (o : Proposal) → IsInRange o.prefs →
+    ensures operational { (o : Proposal) → ArePreferencesInRange o.prefs →
         IsMeaning (in_order (operational_offers o)) }
-    ensures single { (o : Proposal) → HasNo 0 o.initiator → HasNo 0 o.target → IsInRange o.prefs →
+    ensures single { (o : Proposal) → HasNo 0 o.initiator → HasNo 0 o.target
+        → ArePreferencesInRange o.prefs →
         IsMeaning (in_order (single_offers o)) }
 {}

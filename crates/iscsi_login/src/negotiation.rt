@@ -2,7 +2,7 @@
 
 ghost use Rattle.std.specs.Prelude.{◌≡◌, ◌↔◌, IsTrue, ◌==◌};
 ghost use Rattle.iscsi_text.specs.Value.{typed};
-ghost use Rattle.iscsi_login.specs.Negotiation.{result_of, is_legal, IsLegal, has_none, chosen, value_of, is_word, word, answered_value, or_default};
+ghost use Rattle.iscsi_login.specs.Negotiation.{result_of, is_legal, IsLegal, has_none, chosen, value_of, is_answer_word, word, answered_value, or_default};
 
 use crate::preferences::Preferences;
 use iscsi_text::{Answered, NegKey, Rule, Value};
@@ -100,7 +100,7 @@ const WORDS: [&[u8]; 3] = [b"Reject", b"Irrelevant", b"NotUnderstood"];
 
 // Whether it is one of the three words that answer for a value.
 fn is_word(value: &Value) -> bool
-    ensures { result ≡ is_word (typed value.now) }
+    ensures { result ≡ is_answer_word (typed value.now) }
 {
     match value {
         Value::Items(bytes) | Value::Plain(bytes) | Value::Odd(bytes) => WORDS.contains(bytes),

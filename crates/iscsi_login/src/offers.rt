@@ -2,10 +2,10 @@
 
 ghost use Rattle.std.specs.Prelude.{◌≡◌, ◌++◌, true, OnOk, OnErr, codes};
 ghost use Rattle.iscsi_text.specs.Value as values;
-ghost use Rattle.iscsi_text.specs.Inside.{shown, all_shown};
+ghost use Rattle.iscsi_text.specs.Shown.{shown, all_shown};
 ghost use Rattle.iscsi_text.specs.Reading.{in_order};
 ghost use Rattle.iscsi_login.specs.Offers.{auth_items, session_name, preferred_pair, max_recv_pair, proposed, security_offers, operational_offers, single_offers, offers_at, text_of};
-ghost use Rattle.iscsi_login.specs.Inside.{all_new, said};
+ghost use Rattle.iscsi_login.specs.inner.Inside.{all_new, sent_pairs};
 
 use crate::negotiation::answered_value;
 use crate::preferences::Preferences;
@@ -123,7 +123,7 @@ impl Offers<'_> {
 
     // The pairs of the security stage, and the target's name in any session.
     pub(crate) fn security_pairs(&self) -> [Pair; 4]
-        ensures { said self.now.session (all_shown result) ≡
+        ensures { sent_pairs self.now.session (all_shown result) ≡
             in_order (security_offers (proposed self.now)) }
     {
         [
@@ -151,7 +151,7 @@ impl Offers<'_> {
     // All pairs of a login that starts in the operational stage. A discovery session doesn't say the
     // target's name, which stands behind them there.
     pub(crate) fn single_pairs(&self) -> [Pair; SINGLE_PAIRS]
-        ensures { said self.now.session (all_shown result) ≡
+        ensures { sent_pairs self.now.session (all_shown result) ≡
             in_order (single_offers (proposed self.now)) }
     {
         let mut pairs = [self.target_name(); SINGLE_PAIRS];
@@ -231,7 +231,7 @@ fn put_in_order(pairs: &mut [Pair])
 
 // The pairs but the last, the target's name, which a discovery session doesn't say.
 pub(crate) fn said<'b, 'a>(pairs: &'b [Pair<'a>], session: Session) -> &'b [Pair<'a>]
-    ensures { all_shown result.now ≡ said session (all_shown pairs.now) }
+    ensures { all_shown result.now ≡ sent_pairs session (all_shown pairs.now) }
 {
     match session {
         Session::Normal => pairs,

@@ -3,7 +3,7 @@
 ghost use Rattle.std.specs.Prelude.{◌≡◌, ◌↔◌, IsTrue, map, IfSome};
 ghost use Rattle.iscsi_text.specs.Value.{typed};
 ghost use Rattle.iscsi_text.specs.Negotiated.{rule_of, default_of, all_keys, IsWithin};
-ghost use Rattle.iscsi_login.specs.Negotiation.{Allows, IsInRange, max_recv_range};
+ghost use Rattle.iscsi_login.specs.Negotiation.{AllowsValue, ArePreferencesInRange, max_recv_range};
 ghost use Rattle.iscsi_login.specs.Held.{defaults, first_burst, held_value, number_of, IsHeld};
 ghost use Rattle.iscsi_login.specs.Answer.{declared_max_recv, IsSegmentLength, is_segment_length, DeclaresWell, value_after_offers, target_holds, value_after_answer, initiator_holds};
 
@@ -70,7 +70,7 @@ impl Params {
     /// The held value of a key, which is one that the key allows and so never `Reject`.
     pub fn get(&self, key: NegKey) -> Answered
         ensures value { result ≡ held_value self.now key }
-        ensures allowed { Allows (rule_of key) result }
+        ensures allowed { AllowsValue (rule_of key) result }
         // So it is of every key, and both lengths may be declared.
         ensures held { IsHeld self.now }
     {
@@ -107,7 +107,7 @@ impl Params {
         session: Session,
         max_recv: Option<u32>,
     )
-        requires preferences { IsInRange preferences.now }
+        requires preferences { ArePreferencesInRange preferences.now }
         requires declared { DeclaresWell text.now }
         requires declares { IfSome max_recv (IsWithin max_recv_range) }
         ensures holds { self.new ≡ target_holds session preferences.now max_recv text.now self.old }

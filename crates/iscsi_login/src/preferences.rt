@@ -1,7 +1,7 @@
 //! What an end prefers, key by key.
 
 ghost use Rattle.std.specs.Prelude.{◌≡◌, ◌↔◌, IsTrue};
-ghost use Rattle.iscsi_login.specs.Negotiation.{preference, IsInRange, standard};
+ghost use Rattle.iscsi_login.specs.Negotiation.{preference, ArePreferencesInRange, standard_preferences};
 
 use iscsi_text::{Answered, BYTES, NegKey, SECONDS};
 
@@ -31,7 +31,7 @@ impl Preferences {
     /// The standard preferences (own rule): no initial R2T, immediate data, bursts of 262144 bytes,
     /// first bursts of 65536, 2 and 20 seconds, segments of 8192 bytes.
     pub const fn standard() -> Preferences
-        ensures standard { result ≡ standard }
+        ensures standard { result ≡ standard_preferences }
     {
         Preferences {
             initial_r2t: false,
@@ -46,7 +46,7 @@ impl Preferences {
 
     /// Whether each number is in its key's range (RFC 7143, sections 13.12 to 13.16).
     pub fn in_range(&self) -> bool
-        ensures in_range { IsTrue result ↔ IsInRange self.now }
+        ensures in_range { IsTrue result ↔ ArePreferencesInRange self.now }
     {
         BYTES.contains(u64::from(self.max_burst))
             && BYTES.contains(u64::from(self.first_burst))

@@ -9,7 +9,7 @@ use Rattle.iscsi_stream.specs.declared.fault.StreamFault.{StreamFault}
 use Rattle.iscsi_stream.specs.declared.fault.StreamFault.TheVariants as stream
 use Rattle.iscsi_stream.specs.declared.logins.Logins.{Logins}
 use Rattle.iscsi_stream.specs.Segment.{Text, no_login}
-use Rattle.iscsi_stream.specs.Stream.{Message, ReadsAs, after_all}
+use Rattle.iscsi_stream.specs.Stream.{Message, ReadsAs, logins_after_all}
 use Rattle.iscsi_stream.specs.Framing.{FinishFails, Framing, HasTaken, settled}
 use Rattle.iscsi_stream.proofs.ReadyLemmas.{apart}
 use Rattle.iscsi_stream.proofs.SettledBytesLemmas.{settled-short}
@@ -21,12 +21,12 @@ use Rattle.iscsi_target_session.specs.Session as target_session
 use Rattle.iscsi_target.specs.declared.fault.TargetFault.{TargetFault}
 use Rattle.iscsi_target.specs.declared.fault.TargetFault.TheVariants as target_faults
 use Rattle.iscsi_target.specs.State as target_state
-use Rattle.iscsi_target.specs.State.{joined}
+use Rattle.iscsi_target.specs.State.{writes_joined}
 use Rattle.iscsi_target.specs.Machine as target_machine
 use Rattle.iscsi_target.specs.Machine.{answers}
 use Rattle.iscsi_target.specs.Feed as target
-use Rattle.iscsi_target.proofs.AppendLemmas.{answers_append}
-use Rattle.iscsi_target.proofs.JoiningLemmas.{answers_joined}
+use Rattle.iscsi_target.proofs.Steps.AppendLemmas.{answers_append}
+use Rattle.iscsi_target.proofs.Writes.JoiningLemmas.{answers_joined}
 use Rattle.iscsi_initiator.specs.declared.fault.InitiatorFault.{InitiatorFault}
 use Rattle.iscsi_initiator.specs.declared.fault.InitiatorFault.TheVariants as initiator_faults
 use Rattle.iscsi_initiator.specs.declared.request.Done.{Done}
@@ -37,16 +37,16 @@ use Rattle.iscsi_initiator.specs.declared.request.SubmitFault.{SubmitFault}
 use Rattle.iscsi_initiator.specs.declared.request.SubmitFault.TheVariants as refusals
 use Rattle.iscsi_initiator.specs.Calls as initiator
 use Rattle.iscsi_initiator.specs.Laws.{listed}
-use Rattle.iscsi_initiator.specs.Login.{fits_segment, login_message, offered, sends_cut, sends_text, start_step}
-use Rattle.iscsi_initiator.specs.Machine.{taken}
+use Rattle.iscsi_initiator.specs.Login.{fits_segment, login_request_message, offered, sends_cut, sends_text, start_step}
+use Rattle.iscsi_initiator.specs.Machine.{outcome_taken}
 use Rattle.iscsi_initiator.specs.State as initiator_state
-use Rattle.iscsi_initiator.specs.Steps.{Stepped, sends}
-use Rattle.iscsi_initiator.specs.Submitted.{is_too_long, most_bytes, submitted}
+use Rattle.iscsi_initiator.specs.Steps.{InitiatorStep, step_sending}
+use Rattle.iscsi_initiator.specs.Submitted.{is_request_too_long, most_bytes, submitted}
 use Rattle.iscsi_text.specs.Canonical.{canonical_text}
 use Rattle.iscsi_pair.specs.declared.step.EndFault.TheVariants as ends
-use Rattle.iscsi_pair.specs.World.{Event, InitiatorReceives, MovesToInitiator, MovesToTarget, Happens, Opening, Runs, TargetReceives, ToInitiator, ToTarget}
-use Rattle.iscsi_pair.specs.World.{World, initiator_ran_out, new_pair, store_of, target_ran_out}
-use Rattle.iscsi_pair.specs.Traffic.{TargetStands, first_traffic, said}
+use Rattle.iscsi_pair.specs.World.{PairEvent, InitiatorReceives, MovesToInitiator, MovesToTarget, PairEventStep, Opening, PairRuns, TargetReceives, ToInitiator, ToTarget}
+use Rattle.iscsi_pair.specs.World.{World, initiator_ran_out, new_pair, reliable_store, target_ran_out}
+use Rattle.iscsi_pair.specs.Traffic.{TargetStands, first_traffic, target_said}
 use Rattle.iscsi_pair.specs.LocalDisk.{AreInStep}
 use Rattle.iscsi_pair.specs.Served.{AreAtEnd, EndsInLogout, RunsServed, disk_outcomes, requests_of}
 use Rattle.iscsi_pair.proofs.Ends.BothRuns.{reached_sides, traced}
@@ -59,34 +59,37 @@ use Rattle.iscsi_pair.proofs.Run.DiskInvariant.{Serves}
 use Rattle.iscsi_pair.proofs.Run.InvariantHolds.{none_waits}
 use Rattle.iscsi_pair.proofs.Run.OneDiskLaw.{idle_rests, idle_whole, served}
 use Rattle.iscsi_pair.proofs.Run.QueueReading.{MovesOn, Unread, moves_on}
-use Rattle.iscsi_serving.specs.Faults.{initiator_fault, target_fault}
+use Rattle.iscsi_serving.specs.Faults.{initiator_serve_fault, target_serve_fault}
 use Rattle.iscsi_loop.specs.declared.command.Command.{Command}
 use Rattle.iscsi_loop.specs.declared.command.Command.TheVariants.{TestUnitReady, Inquiry, Capacity, Capacity16, Luns, Read, Write, Sync, Ping, Logout}
-use Rattle.iscsi_loop.specs.Commands.{is_logout, request_of}
+use Rattle.iscsi_loop.specs.Commands.{is_logout, command_request}
 use Rattle.iscsi_serving.specs.declared.fault.ServeFault.{ServeFault}
 use Rattle.iscsi_serving.specs.declared.fault.ServeFault.TheVariants as serve
-use Rattle.iscsi_loop.specs.Script.{IsInRange, ScriptFails}
+use Rattle.iscsi_loop.specs.Script.{ScriptFails}
+use Rattle.iscsi_loop.specs.inner.Script.{IsCommandInRange}
 use Rattle.iscsi_loop.specs.Looping.{initiator_settings, up_to_logout}
-use Rattle.iscsi_loop.specs.LoopSteps.{BlamesNoEnd, refusal_fault}
-use Rattle.iscsi_loop.specs.LoopPairs.{AreOneDisk, AreOpen, AreSomeDisk, Ends, HaveServed, IsBlameless, ends_of, loop_opening, outcome_on, outcomes_on, world_of}
+use Rattle.iscsi_loop.specs.LoopSteps.{BlamesNoEnd}
+use Rattle.iscsi_loop.specs.inner.LoopSteps.{refusal_fault}
+use Rattle.iscsi_loop.specs.LoopPairs.{loop_opening, outcomes_on}
+use Rattle.iscsi_loop.specs.inner.LoopPairs.{AreOneDisk, AreOpen, AreSomeDisk, BothEnds, HaveServed, IsBlameless, ends_of, outcome_on, world_of}
 use Rattle.iscsi_loop.proofs.DeclaredLemmas.{Takes, answers_take}
 use Rattle.iscsi_loop.proofs.PairStepLemmas.{is_normal, stored}
 
 -- ---- where the target stands
 
 -- a run that was served is a run
-reached : (old : World) (events : List Event) (new : World) (outcomes : List Done) → RunsServed old events new outcomes → Runs old events new
-unfolding RunsServed Runs
+reached : (old : World) (events : List PairEvent) (new : World) (outcomes : List Done) → RunsServed old events new outcomes → PairRuns old events new
+unfolding RunsServed PairRuns
 reached old [] new outcomes r = r.0
 reached old (event ∷ events) new outcomes r = (r.0, r.2, reached r.0 events new r.1 r.6)
 
 -- some messages led the target and its disk there
-record Led (blocks : ℕ) (t : target.Connection) (disk : Disk) : Type 0 where
+record Led (blocks : ℕ) (t : target.TargetConnection) (disk : Disk) : Type 0 where
   messages : List Message
-  machine : t.machine ≡ joined (said (loop_opening blocks) messages).machine
-  disk_is : disk ≡ (said (loop_opening blocks) messages).disk
+  machine : t.machine ≡ writes_joined (target_said (loop_opening blocks) messages).machine
+  disk_is : disk ≡ (target_said (loop_opening blocks) messages).disk
 
-led_there : (blocks : ℕ) (requests : List Request) (outcomes : List Done) (there : Ends) → HaveServed blocks requests outcomes there
+led_there : (blocks : ℕ) (requests : List Request) (outcomes : List Done) (there : BothEnds) → HaveServed blocks requests outcomes there
     → Led blocks there.target there.disk
 led_there blocks requests outcomes there h =
     let c : Opening = loop_opening blocks in
@@ -96,45 +99,46 @@ led_there blocks requests outcomes there h =
     record { messages = s.messages; machine = s.machine; disk_is = sym h.disk_is ∙ s.disk }
 
 -- the blocks behind more messages are those of some bytes
-more_blocks : (blocks : ℕ) (old : target.Connection) (before after : Disk) (more : List Message) → Led blocks old before
+more_blocks : (blocks : ℕ) (old : target.TargetConnection) (before after : Disk) (more : List Message) → Led blocks old before
     → after ≡ (answers false old.machine before more).disk → HasBlocks after
 more_blocks blocks old before after more l e =
     let c : Opening = loop_opening blocks in
-    let first : target_state.Machine = target_state.opening c.target c.first_stat_sn in
+    let first : target_state.Machine = target_state.opening_machine c.target c.first_stat_sn in
     let d : Disk = disk_of c.blocks in
-    let a : target_state.Stepped = answers false first d l.messages in
-    let here : (answers false old.machine before more).disk ≡ (answers false (joined a.machine) a.disk more).disk =
+    let a : target_state.TargetStep = answers false first d l.messages in
+    let here : (answers false old.machine before more).disk ≡ (answers false (writes_joined a.machine) a.disk more).disk =
     ap (λ (m : target_state.Machine). (answers false m before more).disk) l.machine
-    ∙ ap (λ (x : Disk). (answers false (joined a.machine) x more).disk) l.disk_is in
-    let same : (answers false (joined a.machine) a.disk more).disk ≡ (answers false a.machine a.disk more).disk =
-    ap (λ (x : target_state.Stepped). x.disk) (answers_joined false a.machine a.disk more) in
+    ∙ ap (λ (x : Disk). (answers false (writes_joined a.machine) x more).disk) l.disk_is in
+    let same : (answers false (writes_joined a.machine) a.disk more).disk ≡ (answers false a.machine a.disk more).disk =
+    ap (λ (x : target_state.TargetStep). x.disk) (answers_joined false a.machine a.disk more) in
     let whole : (answers false first d (l.messages ++ more)).disk ≡ (answers false a.machine a.disk more).disk =
-    ap (λ (x : target_state.Stepped). x.disk) (answers_append false first d l.messages more) in
+    ap (λ (x : target_state.TargetStep). x.disk) (answers_append false first d l.messages more) in
     subst HasBlocks (sym (e ∙ here ∙ same ∙ sym whole)) (answers_blocks first d (l.messages ++ more) tt (record { bytes = c.blocks; is = refl }))
 
 -- so are those that a refused piece leaves
-refused_blocks : (over : Bool) (fault : TargetFault) (blocks : ℕ) (old new : target.Connection) (before after : Disk) (back written piece : List ℕ)
+refused_blocks : (over : Bool) (fault : TargetFault) (blocks : ℕ) (old new : target.TargetConnection) (before after : Disk) (back written piece : List ℕ)
     → Led blocks old before → HasBlocks before → (fault ≡ target_faults.NoMemory → ⊥)
-    → target.FedIf false over (target.scene old (stored before) back) piece (Err fault) (target.scene new (stored after) written) → HasBlocks after
+    → target.FeedPostIfClosed false over (target.scene old (stored before) back) piece (Err fault) (target.scene new (stored after) written) → HasBlocks after
 refused_blocks true fault blocks old new before after back written piece l b never f = subst HasBlocks (sym (ap (λ (s : target.Store). s.disk) f.store)) b
 refused_blocks false target_faults.NoMemory blocks old new before after back written piece l b never f = absurd (never refl)
 refused_blocks false (target_faults.Stream fault) blocks old new before after back written piece l b never f =
-    more_blocks blocks old before after f.messages l (f.leaves.disk ∙ ap (λ (x : target_state.Stepped). x.disk) (f.answered.works refl))
+    more_blocks blocks old before after f.messages l (f.leaves.disk ∙ ap (λ (x : target_state.TargetStep). x.disk) (f.answered.works refl))
 refused_blocks false (target_faults.Protocol rule) blocks old new before after back written piece l b never f =
-    more_blocks blocks old before after f.messages l (f.leaves.disk ∙ ap (λ (x : target_state.Stepped). x.disk) (f.answered.works refl))
+    more_blocks blocks old before after f.messages l (f.leaves.disk ∙ ap (λ (x : target_state.TargetStep). x.disk) (f.answered.works refl))
 refused_blocks false target_faults.Closed blocks old new before after back written piece l b never f = absurd f.ends
 
 -- ---- pieces
 
 -- the target refuses none
-target_refuses : (fault : TargetFault) → target_ran_out (Some fault) ≡ false → (fault ≡ target_faults.NoMemory → ⊥) → (i : initiator.Connection)
-    (old new : target.Connection) (before after : Disk) (rest back written read : List ℕ) (n : ℕ)
-    → target.Fed false (target.scene old (stored before) back) read (Err fault) (target.scene new (stored after) written) → take n rest ≡ read → length read ≡ n
+target_refuses : (fault : TargetFault) → target_ran_out (Some fault) ≡ false → (fault ≡ target_faults.NoMemory → ⊥) → (i : initiator.InitiatorConnection)
+    (old new : target.TargetConnection) (before after : Disk) (rest back written read : List ℕ) (n : ℕ)
+    → target.TargetFeedPost false (target.scene old (stored before) back) read (Err fault) (target.scene new (stored after) written) → take n rest ≡ read
+    → length read ≡ n
     → 0 < n → (blocks : ℕ) (requests : List Request) (outcomes : List Done) → HaveServed blocks requests outcomes (ends_of i old before rest back) → ⊥
 target_refuses fault calm never i old new before after rest back written read n fed front size some blocks requests outcomes h =
     let c : Opening = loop_opening blocks in
-    let here : Ends = ends_of i old before rest back in
-    let b : HasBlocks after = refused_blocks (target_machine.is_closed old.machine) fault blocks old new before after back written read
+    let here : BothEnds = ends_of i old before rest back in
+    let b : HasBlocks after = refused_blocks (target_machine.is_machine_closed old.machine) fault blocks old new before after back written read
     (led_there blocks requests outcomes here h) (record { bytes = h.bytes; is = h.disk_is }) never fed in
     let there : World = record {
       target = new;
@@ -147,29 +151,30 @@ target_refuses fault calm never i old new before after rest back written read n 
     } in
     let receives : TargetReceives read (world_of here h.bytes) there = record {
       result = Err fault;
-      fed = subst (λ (d : Disk). target.Fed false (target.scene old (stored d) back) read (Err fault)
-          (target.scene new (store_of b.bytes) written)) (sym h.disk_is)
-          (subst (λ (d : Disk). target.Fed false (target.scene old (stored before) back) read (Err fault)
+      fed = subst (λ (d : Disk). target.TargetFeedPost false (target.scene old (stored d) back) read (Err fault)
+          (target.scene new (reliable_store b.bytes) written)) (sym h.disk_is)
+          (subst (λ (d : Disk). target.TargetFeedPost false (target.scene old (stored before) back) read (Err fault)
           (target.scene new (stored d) written)) (sym b.is) fed);
       dropped = ap (λ (k : ℕ). drop k rest) (sym size);
       initiator = refl;
       fault = refl;
       other_fault = refl;
     } in
-    let happens : Happens (world_of here h.bytes) (ToTarget n) there =
+    let happens : PairEventStep (world_of here h.bytes) (ToTarget n) there =
     subst (λ (x : List ℕ). MovesToTarget None x (world_of here h.bytes) there) (sym front)
     (moves_there read (world_of here h.bytes) there (omega (arith, size, some)) receives) in
-    let events : List Event = h.events ++ ToTarget n ∷ [] in
+    let events : List PairEvent = h.events ++ ToTarget n ∷ [] in
     let runs : RunsServed (new_pair c) events there (outcomes ++ []) =
     served_more (new_pair c) h.events (world_of here h.bytes) outcomes (ToTarget n) there h.runs happens tt
     (ap (λ (x : Bool). x || initiator_ran_out None) calm) in
     let s = served c events there (outcomes ++ []) (is_normal blocks) runs in
     (let bad : Some fault ≡ None = s.target_well in cc)
 
-pub target_blameless : (fault : TargetFault) (i : initiator.Connection) (old new : target.Connection) (before after : Disk)
+pub target_blameless : (fault : TargetFault) (i : initiator.InitiatorConnection) (old new : target.TargetConnection) (before after : Disk)
     (rest back written read : List ℕ) (n : ℕ)
-    → target.Fed false (target.scene old (stored before) back) read (Err fault) (target.scene new (stored after) written) → read ≡ take n rest → n ≤ length rest
-    → 0 < n → IsBlameless (ends_of i old before rest back) (target_fault fault)
+    → target.TargetFeedPost false (target.scene old (stored before) back) read (Err fault) (target.scene new (stored after) written) → read ≡ take n rest
+    → n ≤ length rest
+    → 0 < n → IsBlameless (ends_of i old before rest back) (target_serve_fault fault)
 target_blameless target_faults.NoMemory i old new before after rest back written read n fed same within some = λ blocks requests outcomes h. tt
 target_blameless (target_faults.Stream fault) i old new before after rest back written read n fed same within some =
     target_refuses (target_faults.Stream fault) refl (λ e. absurd cc) i old new before after rest back written read n fed (sym same)
@@ -182,12 +187,14 @@ target_blameless target_faults.Closed i old new before after rest back written r
     (ap length same ∙ length-take-le n rest within) some
 
 -- nor does the initiator
-initiator_refuses : (fault : InitiatorFault) → initiator_ran_out (Some (ends.Feed fault)) ≡ false → (old new : initiator.Connection) (t : target.Connection)
-    (disk : Disk) (out rest written read : List ℕ) (n : ℕ) → initiator.Feeds (Err fault) old read new out written → take n rest ≡ read → length read ≡ n
+initiator_refuses : (fault : InitiatorFault) → initiator_ran_out (Some (ends.Feed fault)) ≡ false
+    → (old new : initiator.InitiatorConnection) (t : target.TargetConnection)
+    (disk : Disk) (out rest written read : List ℕ) (n : ℕ) → initiator.InitiatorFeedPost (Err fault) old read new out written → take n rest ≡ read → length read
+    ≡ n
     → 0 < n → (blocks : ℕ) (requests : List Request) (outcomes : List Done) → HaveServed blocks requests outcomes (ends_of old t disk out rest) → ⊥
 initiator_refuses fault calm old new t disk out rest written read n fed front size some blocks requests outcomes h =
     let c : Opening = loop_opening blocks in
-    let here : Ends = ends_of old t disk out rest in
+    let here : BothEnds = ends_of old t disk out rest in
     let there : World = record {
       target = t;
       blocks = h.bytes;
@@ -206,18 +213,18 @@ initiator_refuses fault calm old new t disk out rest written read n fed front si
       fault = refl;
       other_fault = refl;
     } in
-    let happens : Happens (world_of here h.bytes) (ToInitiator n) there =
+    let happens : PairEventStep (world_of here h.bytes) (ToInitiator n) there =
     subst (λ (x : List ℕ). MovesToInitiator None x (world_of here h.bytes) there) (sym front)
     (moves_here read (world_of here h.bytes) there (omega (arith, size, some)) receives) in
-    let events : List Event = h.events ++ ToInitiator n ∷ [] in
+    let events : List PairEvent = h.events ++ ToInitiator n ∷ [] in
     let runs : RunsServed (new_pair c) events there (outcomes ++ []) =
     served_more (new_pair c) h.events (world_of here h.bytes) outcomes (ToInitiator n) there h.runs happens tt calm in
     let s = served c events there (outcomes ++ []) (is_normal blocks) runs in
     (let bad : Some (ends.Feed fault) ≡ None = s.initiator_well in cc)
 
-pub initiator_blameless : (fault : InitiatorFault) (old new : initiator.Connection) (t : target.Connection) (disk : Disk)
-    (out rest written read : List ℕ) (n : ℕ) → initiator.Feeds (Err fault) old read new out written → read ≡ take n rest → n ≤ length rest → 0 < n
-    → IsBlameless (ends_of old t disk out rest) (initiator_fault fault)
+pub initiator_blameless : (fault : InitiatorFault) (old new : initiator.InitiatorConnection) (t : target.TargetConnection) (disk : Disk)
+    (out rest written read : List ℕ) (n : ℕ) → initiator.InitiatorFeedPost (Err fault) old read new out written → read ≡ take n rest → n ≤ length rest → 0 < n
+    → IsBlameless (ends_of old t disk out rest) (initiator_serve_fault fault)
 initiator_blameless initiator_faults.NoMemory old new t disk out rest written read n fed same within some = λ blocks requests outcomes h. tt
 initiator_blameless (initiator_faults.Stream fault) old new t disk out rest written read n fed same within some =
     initiator_refuses (initiator_faults.Stream fault) refl old new t disk out rest written read n fed (sym same)
@@ -249,43 +256,44 @@ none_listed None e = refl
 none_listed (Some d) e = absurd (cc e)
 
 -- ends that go on are in step
-pub in_step : (i : initiator.Connection) (t : target.Connection) (disk : Disk) (blocks : ℕ) (past : List Request)
+pub in_step : (i : initiator.InitiatorConnection) (t : target.TargetConnection) (disk : Disk) (blocks : ℕ) (past : List Request)
     → AreOneDisk blocks past (ends_of i t disk [] []) → (EndsInLogout past → ⊥) → AreInStep i.machine t.machine
 in_step i t disk blocks past h goes_on =
     let c : Opening = loop_opening blocks in
     let w : World = world_of (ends_of i t disk [] []) h.bytes in
-    let rests : AreAtEnd (requests_of h.events) (taken i.machine) t.machine =
+    let rests : AreAtEnd (requests_of h.events) (outcome_taken i.machine) t.machine =
     idle_rests c h.events w (outcomes_on blocks past) (is_normal blocks) h.runs refl refl in
     let whole : outcomes_on blocks past ++ listed i.machine.done ≡ disk_outcomes c (requests_of h.events) =
     (idle_whole c h.events w (outcomes_on blocks past) (is_normal blocks) h.runs refl refl).0 in
     let none : i.machine.done ≡ None = none_listed i.machine.done
     (append_cancel_left (outcomes_on blocks past) (listed i.machine.done) []
     (whole ∙ ap (disk_outcomes c) h.requests_are ∙ sym (append-nil (outcomes_on blocks past)))) in
-    let same : taken i.machine ≡ i.machine = ap (λ (d : Option Done). record i.machine { done = d }) (sym none) in
+    let same : outcome_taken i.machine ≡ i.machine = ap (λ (d : Option Done). record i.machine { done = d }) (sym none) in
     elim rests [
-      | inl on_ ↦ subst (λ (m : initiator_state.Machine). AreInStep m t.machine) same on_
+      | inl on_ ↦ subst (λ (m : initiator_state.InitiatorSession). AreInStep m t.machine) same on_
       | inr over ↦ absurd (goes_on (subst EndsInLogout h.requests_are over.1))
     ]
 
 -- behind the login the initiator is in full feature phase
-pub logged_in : (i : initiator.Connection) (t : target.Connection) (disk : Disk) (blocks : ℕ) → AreOneDisk blocks [] (ends_of i t disk [] [])
+pub logged_in : (i : initiator.InitiatorConnection) (t : target.TargetConnection) (disk : Disk) (blocks : ℕ) → AreOneDisk blocks [] (ends_of i t disk [] [])
     → i.machine.phase ≡ phases.Full
 logged_in i t disk blocks h = (in_step i t disk blocks [] h none_end).initiator_phase
 
-none_by : (b : Bool) (x y : Stepped) → x.fault ≡ None → y.fault ≡ None → (if b then x else y).fault ≡ None
+none_by : (b : Bool) (x y : InitiatorStep) → x.fault ≡ None → y.fault ≡ None → (if b then x else y).fault ≡ None
 none_by true x y p q = p
 none_by false x y p q = q
 
-text_goes : (m : initiator_state.Machine) → (sends_text m).fault ≡ None
-text_goes m = none_by (fits_segment m (canonical_text (offered m))) (sends (record m { unsent_text = [] }) (login_message m true (Text (offered m)) ∷ []))
+text_goes : (m : initiator_state.InitiatorSession) → (sends_text m).fault ≡ None
+text_goes m =
+    none_by (fits_segment m (canonical_text (offered m))) (step_sending (record m { unsent_text = [] }) (login_request_message m true (Text (offered m)) ∷ []))
     (sends_cut m (canonical_text (offered m)) false) refl refl
 
-start_goes : (start_step (initiator_state.opening initiator_settings)).fault ≡ None
-start_goes = text_goes (record (initiator_state.opening initiator_settings) { started = true })
+start_goes : (start_step (initiator_state.new_session initiator_settings)).fault ≡ None
+start_goes = text_goes (record (initiator_state.new_session initiator_settings) { started = true })
 
 -- a first start fails where memory runs out, and else not
-starts_by : (fault : InitiatorFault) (new : initiator.Connection) (before out : List ℕ)
-    → initiator.Starts (Err fault) (initiator.opening_connection initiator_settings) new before out → BlamesNoEnd (initiator_fault fault)
+starts_by : (fault : InitiatorFault) (new : initiator.InitiatorConnection) (before out : List ℕ)
+    → initiator.InitiatorStartPost (Err fault) (initiator.opening_initiator initiator_settings) new before out → BlamesNoEnd (initiator_serve_fault fault)
 starts_by initiator_faults.NoMemory new before out s = tt
 starts_by (initiator_faults.Stream fault) new before out s = (let bad : None ≡ Some (initiator_faults.Stream fault) = sym start_goes ∙ s.2 in cc)
 starts_by (initiator_faults.Protocol rule) new before out s = (let bad : None ≡ Some (initiator_faults.Protocol rule) = sym start_goes ∙ s.2 in cc)
@@ -294,10 +302,11 @@ starts_by (initiator_faults.Refused status detail) new before out s =
 starts_by (initiator_faults.BadAnswer key) new before out s = (let bad : None ≡ Some (initiator_faults.BadAnswer key) = sym start_goes ∙ s.2 in cc)
 starts_by initiator_faults.Closed new before out s = (let bad : false ≡ true = s.closed in cc)
 
-pub starts_blameless : (fault : InitiatorFault) (old new : initiator.Connection) (before out : List ℕ)
-    → old ≡ initiator.opening_connection initiator_settings → initiator.Starts (Err fault) old new before out → BlamesNoEnd (initiator_fault fault)
+pub starts_blameless : (fault : InitiatorFault) (old new : initiator.InitiatorConnection) (before out : List ℕ)
+    → old ≡ initiator.opening_initiator initiator_settings → initiator.InitiatorStartPost (Err fault) old new before out
+    → BlamesNoEnd (initiator_serve_fault fault)
 starts_blameless fault old new before out is s =
-    starts_by fault new before out (subst (λ (i : initiator.Connection). initiator.Starts (Err fault) i new before out) is s)
+    starts_by fault new before out (subst (λ (i : initiator.InitiatorConnection). initiator.InitiatorStartPost (Err fault) i new before out) is s)
 
 -- ---- requests
 
@@ -309,7 +318,7 @@ IsShort (kinds.Ping bytes) = length bytes ≤ 8192
 IsShort (kinds.Text bytes) = ⊥
 IsShort kinds.Logout = Unit {0}
 
-pub range_short : (command : Command) → IsInRange command → IsShort (request_of command)
+pub range_short : (command : Command) → IsCommandInRange command → IsShort (command_request command)
 range_short (TestUnitReady unit) r = omega arith
 range_short (Inquiry unit allocation_length) r = (let few = r.1 in omega (arith, few))
 range_short Capacity r = omega arith
@@ -322,16 +331,18 @@ range_short (Ping bytes) r = r.1
 range_short Logout r = tt
 
 -- the target takes at least 8,192 bytes in one segment
-least_taken : (i : initiator.Connection) (t : target.Connection) (disk : Disk) (blocks : ℕ) (past : List Request)
+least_taken : (i : initiator.InitiatorConnection) (t : target.TargetConnection) (disk : Disk) (blocks : ℕ) (past : List Request)
     → AreOneDisk blocks past (ends_of i t disk [] []) → 8192 ≤ t.machine.session.held.target_max_recv
 least_taken i t disk blocks past h =
     let c : Opening = loop_opening blocks in
     let l : Led blocks t disk = led_there blocks past (outcomes_on blocks past) (ends_of i t disk [] []) h in
-    let takes : Takes 8192 (said c l.messages).machine.session =
-    answers_take 8192 (target_state.opening c.target c.first_stat_sn) (disk_of c.blocks) l.messages (record { held = omega arith; prefers = omega arith }) in
+    let takes : Takes 8192 (target_said c l.messages).machine.session =
+    answers_take 8192 (target_state.opening_machine c.target c.first_stat_sn) (disk_of c.blocks) l.messages
+    (record { held = omega arith; prefers = omega arith }) in
     subst (λ (m : target_state.Machine). 8192 ≤ m.session.held.target_max_recv) (sym l.machine) takes.held
 
-short_enough : (request : Request) (m : initiator_state.Machine) → 8192 ≤ m.held.target_max_recv → IsShort request → is_too_long m request ≡ false
+short_enough : (request : Request) (m : initiator_state.InitiatorSession) → 8192 ≤ m.held.target_max_recv → IsShort request → is_request_too_long m request
+    ≡ false
 short_enough (kinds.In lun cdb expected) m least s = le-ltb most_bytes expected s
 short_enough (kinds.Out lun cdb bytes) m least s = le-ltb most_bytes (length bytes) s
 short_enough (kinds.Ping bytes) m least s = le-ltb m.held.target_max_recv (length bytes) (omega (arith, least, s))
@@ -347,8 +358,9 @@ refused_so refusals.Shut cause none e = (let bad : None ≡ Some refusals.Shut =
 refused_so refusals.TooLong cause none e = (let bad : None ≡ Some refusals.TooLong = sym none ∙ e in cc)
 
 -- a short request is refused where memory runs out, and else not
-pub submits_blameless : (old new : initiator.Connection) (t : target.Connection) (disk : Disk) (out : List ℕ) (request : Request) (refused : Refused)
-    (blocks : ℕ) (past : List Request) → initiator.Submits (Err refused) old request new [] out → AreOpen blocks past (ends_of old t disk [] [])
+pub submits_blameless : (old new : initiator.InitiatorConnection) (t : target.TargetConnection) (disk : Disk) (out : List ℕ) (request : Request)
+    (refused : Refused)
+    (blocks : ℕ) (past : List Request) → initiator.InitiatorSubmitPost (Err refused) old request new [] out → AreOpen blocks past (ends_of old t disk [] [])
     → IsShort request → BlamesNoEnd (refusal_fault refused.fault)
 submits_blameless old new t disk out request refused blocks past s goes_on short =
     let step : AreInStep old.machine t.machine = in_step old t disk blocks past goes_on.0 goes_on.1 in
@@ -358,7 +370,7 @@ submits_blameless old new t disk out request refused blocks past s goes_on short
     (accepts old.machine t.machine request step (short_enough request old.machine least short)) s.cause
 
 -- and one that was served has its outcome
-pub has_outcome : (i : initiator.Connection) (t : target.Connection) (disk : Disk) (request : Request) (blocks : ℕ) (past : List Request)
+pub has_outcome : (i : initiator.InitiatorConnection) (t : target.TargetConnection) (disk : Disk) (request : Request) (blocks : ℕ) (past : List Request)
     → HaveServed blocks (past ++ request ∷ []) (outcomes_on blocks past) (ends_of i t disk [] []) → i.machine.done ≡ None → ⊥
 has_outcome i t disk request blocks past h none =
     let c : Opening = loop_opening blocks in
@@ -386,24 +398,24 @@ empty_of limit v waits logins u none =
     let on : MovesOn limit u.received waits [] t.rest [] = moves_on limit v [] waits logins [] [] [] v u refl t u.limit_is in
     let left : on.left ≡ [] = sym on.whole ∙ none in
     let reads : t.rest ++ [] ≡ [] =
-    subst (λ (x : List Message). ReadsAs limit (after_all no_login (u.received ++ [])) (t.rest ++ []) x) left on.reads in
+    subst (λ (x : List Message). ReadsAs limit (logins_after_all no_login (u.received ++ [])) (t.rest ++ []) x) left on.reads in
     let nothing : t.rest ≡ [] = sym (append-nil t.rest) ∙ reads in
     record { held = t.held ∙ ap settled nothing ∙ settled-short [] (omega arith); live = t.live }
 
-abbrev history : List Event → List Done → History
+abbrev history : List PairEvent → List Done → History
 history events outcomes = record { requests = requests_of events; outcomes = outcomes }
 
 -- with nothing on its way the target has no PDU that is begun
-empty_there : (i : initiator.Connection) (t : target.Connection) (disk : Disk) (blocks : ℕ) (requests : List Request) (outcomes : List Done)
-    → HaveServed blocks requests outcomes (ends_of i t disk [] []) → target_machine.is_closed t.machine ≡ false → IsEmpty t.framing
+empty_there : (i : initiator.InitiatorConnection) (t : target.TargetConnection) (disk : Disk) (blocks : ℕ) (requests : List Request) (outcomes : List Done)
+    → HaveServed blocks requests outcomes (ends_of i t disk [] []) → target_machine.is_machine_closed t.machine ≡ false → IsEmpty t.framing
 empty_there i t disk blocks requests outcomes h live =
     let c : Opening = loop_opening blocks in
     let w : World = world_of (ends_of i t disk [] []) h.bytes in
     let s = served c h.events w outcomes (is_normal blocks) h.runs in
     let none = none_waits c (Serves c) (history h.events outcomes) w s refl refl in
     elim s.to_target [
-      | inl on ↦ empty_of (target_session.limit c.target) t.framing s.out s.there on.1 none.0
-      | inr over ↦ absurd (apart (ap target_machine.is_closed s.machine ∙ over.0) live)
+      | inl on ↦ empty_of (target_session.target_limit c.target) t.framing s.out s.there on.1 none.0
+      | inr over ↦ absurd (apart (ap target_machine.is_machine_closed s.machine ∙ over.0) live)
     ]
 
 not_cut : (fault : StreamFault) (v : Framing) → IsEmpty v → FinishFails v fault → ⊥
@@ -419,8 +431,9 @@ over_phase phases.Full e = absurd (cc e)
 over_phase phases.Closed e = refl
 
 -- so its stream ends well, unless the session is over
-pub finish_blameless : (fault : TargetFault) (i : initiator.Connection) (old new : target.Connection) (disk : Disk)
-    → target.Finishes old (Err fault) new → (old.machine.session.phase ≡ phases.Closed → ⊥) → IsBlameless (ends_of i old disk [] []) (target_fault fault)
+pub finish_blameless : (fault : TargetFault) (i : initiator.InitiatorConnection) (old new : target.TargetConnection) (disk : Disk)
+    → target.TargetFinishPost old (Err fault) new → (old.machine.session.phase ≡ phases.Closed → ⊥)
+    → IsBlameless (ends_of i old disk [] []) (target_serve_fault fault)
 finish_blameless target_faults.NoMemory i old new disk f goes_on = λ blocks requests outcomes h. tt
 finish_blameless (target_faults.Stream fault) i old new disk f goes_on = λ blocks requests outcomes h.
     not_cut fault old.framing (empty_there i old disk blocks requests outcomes h f.0) f.1
@@ -430,7 +443,7 @@ finish_blameless target_faults.Closed i old new disk f goes_on = λ blocks reque
 
 -- ---- commands before a logout
 
-logout_is : (command : Command) → request_of command ≡ kinds.Logout → is_logout command ≡ true
+logout_is : (command : Command) → command_request command ≡ kinds.Logout → is_logout command ≡ true
 logout_is (TestUnitReady unit) e = absurd (cc e)
 logout_is (Inquiry unit allocation_length) e = absurd (cc e)
 logout_is Capacity e = absurd (cc e)
@@ -460,15 +473,15 @@ same_requests a b x y e = cc
 
 -- the first of them is no logout, nor is one behind it
 ends_behind : (first : Command) (front : List Command) (past : List Request) → is_logout first ≡ false
-    → request_of first ∷ map request_of front ≡ past ++ kinds.Logout ∷ [] → EndsInLogout (map request_of front)
+    → command_request first ∷ map command_request front ≡ past ++ kinds.Logout ∷ [] → EndsInLogout (map command_request front)
 ends_behind first front [] goes_on e =
-    absurd (apart (logout_is first (same_request (request_of first) kinds.Logout (map request_of front) [] e)) goes_on)
+    absurd (apart (logout_is first (same_request (command_request first) kinds.Logout (map command_request front) [] e)) goes_on)
 ends_behind first front (request ∷ past) goes_on e =
-    (past, same_requests (request_of first) request (map request_of front) (past ++ kinds.Logout ∷ []) e)
+    (past, same_requests (command_request first) request (map command_request front) (past ++ kinds.Logout ∷ []) e)
 
 first_by : (b : Bool) (command first : Command) (all front more : List Command) (x : Command) → is_logout command ≡ b
-    → (up_to_logout all ≡ front ++ x ∷ more → EndsInLogout (map request_of front) → ⊥)
-    → (if b then command ∷ [] else command ∷ up_to_logout all) ≡ first ∷ (front ++ x ∷ more) → EndsInLogout (map request_of (first ∷ front)) → ⊥
+    → (up_to_logout all ≡ front ++ x ∷ more → EndsInLogout (map command_request front) → ⊥)
+    → (if b then command ∷ [] else command ∷ up_to_logout all) ≡ first ∷ (front ++ x ∷ more) → EndsInLogout (map command_request (first ∷ front)) → ⊥
 first_by true command first all front more x is again e l = not_last front more x (same_commands command first [] (front ++ x ∷ more) e)
 first_by false command first all front more x is again e l =
     let same : command ≡ first = same_command command first (up_to_logout all) (front ++ x ∷ more) e in
@@ -476,7 +489,7 @@ first_by false command first all front more x is again e l =
     (ends_behind first front l.0 (sym (ap is_logout same) ∙ is) l.1)
 
 -- commands behind which another one is done have no logout
-pub open_front : (all front more : List Command) (x : Command) → up_to_logout all ≡ front ++ x ∷ more → EndsInLogout (map request_of front) → ⊥
+pub open_front : (all front more : List Command) (x : Command) → up_to_logout all ≡ front ++ x ∷ more → EndsInLogout (map command_request front) → ⊥
 open_front all [] more x e l = none_end l
 open_front [] (first ∷ front) more x e l = (let bad : [] ≡ first ∷ (front ++ x ∷ more) = e in cc)
 open_front (command ∷ all) (first ∷ front) more x e l =
@@ -500,7 +513,7 @@ script_blameless serve.Network script f = tt
 script_blameless (serve.Target fault) script f = f
 script_blameless (serve.Initiator fault) script f = f
 
-pub blameless_at : (result : Result (Unit {0}) ServeFault) (there : Ends) (blocks : ℕ) → IfErr result (IsBlameless there) → AreSomeDisk blocks there
+pub blameless_at : (result : Result (Unit {0}) ServeFault) (there : BothEnds) (blocks : ℕ) → IfErr result (IsBlameless there) → AreSomeDisk blocks there
     → IfErr result BlamesNoEnd
 blameless_at (Ok unit) there blocks e s = tt
 blameless_at (Err fault) there blocks e s = e blocks s.0 (outcomes_on blocks s.0) s.1

@@ -2,7 +2,7 @@
 use Rattle.std.specs.Prelude.{not, ◌&&◌, nat_lt, if◌then◌else◌, unwrap_or}
 use Rattle.std.proofs.Common.{◌≡◌, ◌≤◌, ◌+◌, ℕ, Bool, true, false, List, [], ◌∷◌, length, Option, Some, None, refl, sym, ap, subst}
 use Rattle.scsi_disk.specs.Disk.{Disk}
-use Rattle.scsi_disk.specs.Plan.{first_of}
+use Rattle.scsi_disk.specs.Plan.{first_reason}
 use Rattle.iscsi_text.specs.Text.{Pairs}
 use Rattle.iscsi_pdu.specs.declared.head.Head.{Head}
 use Rattle.iscsi_pdu.specs.declared.head.Head.TheVariants.{LoginRequest}
@@ -14,18 +14,18 @@ use Rattle.iscsi_login.specs.declared.phase.Phase.{Phase}
 use Rattle.iscsi_login.specs.declared.phase.Phase.TheVariants as phases
 use Rattle.iscsi_login.specs.Held.{Held}
 use Rattle.iscsi_login.specs.Stage.{is_closed_phase}
-use Rattle.iscsi_target_session.specs.Configured.{Settings}
+use Rattle.iscsi_target_session.specs.Configured.{TargetSettings}
 use Rattle.iscsi_target_session.specs.Session.{Session, Reply}
 use Rattle.iscsi_target_session.specs.declared.status.Status.{Status}
 use Rattle.iscsi_target_session.specs.LoginText.{is_operational, out_of_resources}
-use Rattle.iscsi_target_session.specs.Login.{entered, gather, login_in, login_request, numbered, refuse, refuse_or, request_refusals, segment_taken}
-use Rattle.iscsi_target_session.specs.Login.{allowed_move, rest_of, text_answered, text_ending, whole_text}
+use Rattle.iscsi_target_session.specs.Login.{entered, gather, login_in, on_login_request, numbers_settled, refuse, refuse_or, request_refusals, segment_taken}
+use Rattle.iscsi_target_session.specs.Login.{allowed_move, rest_of, pairs_answered, text_ending, whole_text}
 use Rattle.iscsi_target_session.proofs.CaseLemmas.{by_cases}
 use Rattle.iscsi_target_session.proofs.ExchangeLemmas.{text_cases}
 use Rattle.iscsi_target.specs.Execution.{reliable}
 use Rattle.iscsi_target.specs.State.{Machine}
-use Rattle.iscsi_target.specs.Machine.{answers, is_closed, is_over_limit, phase_step, step}
-use Rattle.iscsi_target.proofs.KeepingLemmas.{IsLater, Stays, step_settings, step_stays}
+use Rattle.iscsi_target.specs.Machine.{answers, is_machine_closed, is_over_limit, phase_step, target_step}
+use Rattle.iscsi_target.proofs.Steps.KeepingLemmas.{IsLater, Stays, step_settings, step_stays}
 
 -- so many bytes fit into a segment, by what is held, and by what will be declared
 pub record Takes (n : ℕ) (s : Session) : Type 0 where
@@ -47,7 +47,7 @@ declared_takes : (n : ℕ) (s : Session) (first : Bool) → Takes n s
 declared_takes n s true t = t.prefers
 declared_takes n s false t = t.held
 
-answered_takes : (n : ℕ) (s : Session) (r : Request) (pairs : Pairs) → Takes n s → Takes n (text_answered s r pairs).session
+answered_takes : (n : ℕ) (s : Session) (r : Request) (pairs : Pairs) → Takes n s → Takes n (pairs_answered s r pairs).session
 answered_takes n s r pairs t = record { held = declared_takes n s (is_operational s.stage && not s.has_operational_text) t; prefers = t.prefers }
 
 whole_takes : (n : ℕ) (s : Session) (r : Request) (text : Option Pairs) → Takes n s → Takes n (whole_text s r text).session
@@ -78,10 +78,10 @@ numbered_by : (n : ℕ) (s : Session) (r : Request) (begun : Bool) → Takes n s
 numbered_by n s r true t = t
 numbered_by n s r false t = record { held = t.held; prefers = t.prefers }
 
-request_takes : (n : ℕ) (s : Session) (r : Request) (segment : Segment) → Takes n s → Takes n (login_request s r segment).session
+request_takes : (n : ℕ) (s : Session) (r : Request) (segment : Segment) → Takes n s → Takes n (on_login_request s r segment).session
 request_takes n s r segment t =
-    let first : Takes n (numbered s r) = numbered_by n s r s.begun t in
-    refused_takes n (numbered s r) r (first_of (request_refusals s r)) (segment_taken (entered s r) r segment) first
+    let first : Takes n (numbers_settled s r) = numbered_by n s r s.begun t in
+    refused_takes n (numbers_settled s r) r (first_reason (request_refusals s r)) (segment_taken (entered s r) r segment) first
     (segment_takes n (entered s r) r segment (record { held = first.held; prefers = first.prefers }))
 
 login_takes : (n : ℕ) (s : Session) (head : Head) (segment : Segment) → Takes n s → Takes n (login_in s head segment).session
@@ -90,20 +90,20 @@ login_takes n s _ segment t = record { held = t.held; prefers = t.prefers }
 
 -- ---- any messages
 
-step_takes : (n : ℕ) (s : Machine) (disk : Disk) (m : Message) → Takes n s.session → Takes n (step false s disk m).machine.session
+step_takes : (n : ℕ) (s : Machine) (disk : Disk) (m : Message) → Takes n s.session → Takes n (target_step false s disk m).machine.session
 step_takes n s disk m t = by_phase s.session.phase refl
   where
-    later : IsLater s.session.phase → Takes n (step false s disk m).machine.session
+    later : IsLater s.session.phase → Takes n (target_step false s disk m).machine.session
     later l =
-        let x : Stays s (step false s disk m).machine = step_stays (reliable false) s disk m l in
+        let x : Stays s (target_step false s disk m).machine = step_stays (reliable false) s disk m l in
         record {
           held = subst (λ (h : Held). n ≤ h.target_max_recv) (sym x.held) t.held;
-          prefers = subst (λ (k : Settings). n ≤ k.preferences.max_recv) (sym (step_settings (reliable false) s disk m)) t.prefers;
+          prefers = subst (λ (k : TargetSettings). n ≤ k.preferences.max_recv) (sym (step_settings (reliable false) s disk m)) t.prefers;
         }
 
-    by_phase : (p : Phase) → s.session.phase ≡ p → Takes n (step false s disk m).machine.session
+    by_phase : (p : Phase) → s.session.phase ≡ p → Takes n (target_step false s disk m).machine.session
     by_phase phases.Login e =
-        let open_ : is_closed s ≡ false = ap is_closed_phase e in
+        let open_ : is_machine_closed s ≡ false = ap is_closed_phase e in
         by_cases (is_over_limit s m.segment) (λ f. rw (open_, f) (record { held = t.held; prefers = t.prefers }))
         (λ f. rw (open_, f) (subst (λ (p : Phase). Takes n (phase_step (reliable false) p s disk m).machine.session) (sym e)
         (login_takes n s.session m.head m.segment t)))
@@ -113,4 +113,4 @@ step_takes n s disk m t = by_phase s.session.phase refl
 pub answers_take : (n : ℕ) (s : Machine) (disk : Disk) (ms : List Message) → Takes n s.session → Takes n (answers false s disk ms).machine.session
 unfolding answers
 answers_take n s disk [] t = t
-answers_take n s disk (m ∷ ms) t = answers_take n (step false s disk m).machine (step false s disk m).disk ms (step_takes n s disk m t)
+answers_take n s disk (m ∷ ms) t = answers_take n (target_step false s disk m).machine (target_step false s disk m).disk ms (step_takes n s disk m t)

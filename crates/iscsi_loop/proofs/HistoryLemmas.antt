@@ -8,12 +8,12 @@ use Rattle.iscsi_login.specs.declared.phase.Phase.TheVariants as phases
 use Rattle.iscsi_initiator.specs.declared.request.Done.{Done}
 use Rattle.iscsi_initiator.specs.declared.request.Request.{Request}
 use Rattle.iscsi_initiator.specs.declared.request.SubmitFault.{SubmitFault}
-use Rattle.iscsi_initiator.specs.State.{Settings, Machine, opening, is_closed}
+use Rattle.iscsi_initiator.specs.State.{InitiatorSettings, InitiatorSession, new_session, is_session_closed}
 use Rattle.iscsi_initiator.specs.Login.{start_step}
-use Rattle.iscsi_initiator.specs.Machine.{step, steps, then_steps}
-use Rattle.iscsi_initiator.specs.Submitted.{submitted, or_accepted, refusal}
-use Rattle.iscsi_initiator.specs.Calls.{Connection, Starts, Feeds, Submits, ReceivesAll, ClosesAt, after_taking}
-use Rattle.iscsi_initiator.specs.Laws.{Event, Meets, Comes, Asks, Takes, after, run, accepted, accepted_in, accepted_if, given, given_in, listed, AreOutcomesOf}
+use Rattle.iscsi_initiator.specs.Machine.{initiator_step, steps, then_steps}
+use Rattle.iscsi_initiator.specs.Submitted.{submitted, or_accepted, submit_refusal}
+use Rattle.iscsi_initiator.specs.Calls.{InitiatorConnection, InitiatorStartPost, InitiatorFeedPost, InitiatorSubmitPost, ReceivesWholePiece, PieceClosesSession, after_taking}
+use Rattle.iscsi_initiator.specs.Laws.{InitiatorEvent, Meets, Comes, Asks, Takes, session_after, run, accepted, accepted_in, accepted_if, outcomes_given, outcome_given_in, listed, AreOutcomesOf}
 use Rattle.iscsi_initiator.specs.Laws as laws
 use Rattle.iscsi_initiator.proofs.OutcomeLaws.{outcomes_in_order, AllOutcomes}
 use Rattle.std.specs.Io.KnownBytes.{Appends, IsAtEnd}
@@ -23,9 +23,9 @@ use Rattle.std.proofs.lemmas.List.{length-map, length-append, map-append}
 use Rattle.std.proofs.lemmas.List.Concat.{flat_map-append}
 use Rattle.std.proofs.Math.Seq.{take-append-add}
 use Rattle.iscsi_loop.specs.declared.command.Command.{Command}
-use Rattle.iscsi_loop.specs.Commands.{request_of, is_logout}
-use Rattle.iscsi_loop.specs.Looping.{HaveOutcomes, FirstHaveOutcomes, Loops, ReadsFirst, StopsWithin, transcript, initiator_settings, up_to_logout, reports}
-use Rattle.iscsi_loop.specs.LoopSteps.{Continues, Fails, IsOfSession, Stops, Runs}
+use Rattle.iscsi_loop.specs.Commands.{command_request, is_logout}
+use Rattle.iscsi_loop.specs.Looping.{HaveOutcomes, FirstHaveOutcomes, LoopPost, ReadsScriptFirst, StopsWithin, transcript, initiator_settings, up_to_logout, reports}
+use Rattle.iscsi_loop.specs.inner.LoopSteps.{InitiatorContinues, CommandFails, IsSessionFault, ScriptStops, ScriptRuns}
 use Rattle.iscsi_loop.specs.Reports.{report}
 use Rattle.iscsi_loop.specs.Script.{IsScript, ScriptFails}
 use Rattle.iscsi_serving.specs.declared.fault.ServeFault.{ServeFault}
@@ -34,46 +34,48 @@ use Rattle.iscsi_target.specs.declared.fault.TargetFault.{TargetFault}
 use Rattle.iscsi_target.specs.declared.fault.TargetFault.TheVariants as target
 use Rattle.iscsi_initiator.specs.declared.fault.InitiatorFault.{InitiatorFault}
 use Rattle.iscsi_initiator.specs.declared.fault.InitiatorFault.TheVariants as initiator
-use Rattle.iscsi_serving.specs.Faults.{target_fault, initiator_fault}
+use Rattle.iscsi_serving.specs.Faults.{target_serve_fault, initiator_serve_fault}
 
 -- ---- runs in two parts
 
-run_parts : (m : Machine) (front back : List Event) → run m (front ++ back) ≡ run (run m front) back
+run_parts : (m : InitiatorSession) (front back : List InitiatorEvent) → run m (front ++ back) ≡ run (run m front) back
 run_parts m [] back = refl
-run_parts m (e ∷ front) back = run_parts (after m e) front back
+run_parts m (e ∷ front) back = run_parts (session_after m e) front back
 
-accepted_parts : (m : Machine) (front back : List Event) → accepted m (front ++ back) ≡ accepted m front ++ accepted (run m front) back
+accepted_parts : (m : InitiatorSession) (front back : List InitiatorEvent) → accepted m (front ++ back) ≡ accepted m front ++ accepted (run m front) back
 accepted_parts m [] back = refl
 accepted_parts m (e ∷ front) back =
-    ap (λ (rs : List Request). accepted_in m e ++ rs) (accepted_parts (after m e) front back)
-    ∙ sym (append_assoc (accepted_in m e) (accepted (after m e) front) (accepted (run (after m e) front) back))
+    ap (λ (rs : List Request). accepted_in m e ++ rs) (accepted_parts (session_after m e) front back)
+    ∙ sym (append_assoc (accepted_in m e) (accepted (session_after m e) front) (accepted (run (session_after m e) front) back))
 
-given_parts : (m : Machine) (front back : List Event) → given m (front ++ back) ≡ given m front ++ given (run m front) back
+given_parts : (m : InitiatorSession) (front back : List InitiatorEvent) → outcomes_given m (front ++ back) ≡ outcomes_given m front
+    ++ outcomes_given (run m front) back
 given_parts m [] back = refl
 given_parts m (e ∷ front) back =
-    ap (λ (ds : List Done). given_in m e ++ ds) (given_parts (after m e) front back)
-    ∙ sym (append_assoc (given_in m e) (given (after m e) front) (given (run (after m e) front) back))
+    ap (λ (ds : List Done). outcome_given_in m e ++ ds) (given_parts (session_after m e) front back)
+    ∙ sym (append_assoc (outcome_given_in m e) (outcomes_given (session_after m e) front) (outcomes_given (run (session_after m e) front) back))
 
-pub stays : (m : Machine) → Continues m [] [] m
+pub stays : (m : InitiatorSession) → InitiatorContinues m [] [] m
 stays m = record { events = []; reached = refl; requests = refl; outcomes = refl }
 
 -- one after the other
-pub then_continues : (a b c : Machine) (rs ss : List Request) (ds es : List Done) → Continues a rs ds b → Continues b ss es c →
-    Continues a (rs ++ ss) (ds ++ es) c
+pub then_continues : (a b c : InitiatorSession) (rs ss : List Request) (ds es : List Done) → InitiatorContinues a rs ds b → InitiatorContinues b ss es c →
+    InitiatorContinues a (rs ++ ss) (ds ++ es) c
 then_continues a b c rs ss ds es x y =
     let at : run a x.events ≡ b = sym x.reached in
     record {
       events = x.events ++ y.events;
-      reached = y.reached ∙ ap (λ (m : Machine). run m y.events) x.reached ∙ sym (run_parts a x.events y.events);
-      requests = accepted_parts a x.events y.events ∙ ap (λ (m : Machine). accepted a x.events ++ accepted m y.events) at
+      reached = y.reached ∙ ap (λ (m : InitiatorSession). run m y.events) x.reached ∙ sym (run_parts a x.events y.events);
+      requests = accepted_parts a x.events y.events ∙ ap (λ (m : InitiatorSession). accepted a x.events ++ accepted m y.events) at
           ∙ ap (λ (l : List Request). l ++ accepted b y.events) x.requests ∙ ap (λ (l : List Request). rs ++ l) y.requests;
-      outcomes = given_parts a x.events y.events ∙ ap (λ (m : Machine). given a x.events ++ given m y.events) at
-          ∙ ap (λ (l : List Done). l ++ given b y.events) x.outcomes ∙ ap (λ (l : List Done). ds ++ l) y.outcomes;
+      outcomes = given_parts a x.events y.events ∙ ap (λ (m : InitiatorSession). outcomes_given a x.events ++ outcomes_given m y.events) at
+          ∙ ap (λ (l : List Done). l ++ outcomes_given b y.events) x.outcomes ∙ ap (λ (l : List Done). ds ++ l) y.outcomes;
     }
 
 -- ---- calls
 
-pub started : (old new : Connection) (before output : List ℕ) → Starts (Ok tt) old new before output → Continues old.machine [] [] new.machine
+pub started : (old new : InitiatorConnection) (before output : List ℕ) → InitiatorStartPost (Ok tt) old new before output
+    → InitiatorContinues old.machine [] [] new.machine
 started old new before output s = record {
   events = laws.Starts ∷ [];
   reached = s.1.machine ∙ sym (ap (λ (b : Bool). if b then old.machine else (start_step old.machine).machine) s.0);
@@ -81,35 +83,37 @@ started old new before output s = record {
   outcomes = refl;
 }
 
-quiet_step : (m : Machine) (message : Message) → Continues m [] [] (step m message).machine
+quiet_step : (m : InitiatorSession) (message : Message) → InitiatorContinues m [] [] (initiator_step m message).machine
 quiet_step m message = record { events = Meets (Comes message) ∷ []; reached = refl; requests = refl; outcomes = refl }
 
-received : (m : Machine) (messages : List Message) → Continues m [] [] (steps m messages).machine
+received : (m : InitiatorSession) (messages : List Message) → InitiatorContinues m [] [] (steps m messages).machine
 unfolding steps
 received m [] = stays m
-received m (message ∷ messages) = go (is_closed (step m message).machine) (received (step m message).machine messages)
+received m (message ∷ messages) = go (is_session_closed (initiator_step m message).machine) (received (initiator_step m message).machine messages)
   where
-    go : (b : Bool) → Continues (step m message).machine [] [] (steps (step m message).machine messages).machine
-        → Continues m [] [] (if b then step m message else then_steps (step m message) (steps (step m message).machine messages)).machine
+    go : (b : Bool) → InitiatorContinues (initiator_step m message).machine [] [] (steps (initiator_step m message).machine messages).machine
+        → InitiatorContinues m [] [] (if b then initiator_step m message else then_steps (initiator_step m message)
+        (steps (initiator_step m message).machine messages)).machine
     go true x = quiet_step m message
     go false x = then_continues m _ _ [] [] [] [] (quiet_step m message) x
 
-pub fed : (phase : Phase) (old new : Connection) (piece before output : List ℕ) → Feeds (Ok phase) old piece new before output →
-    Continues old.machine [] [] new.machine
+pub fed : (phase : Phase) (old new : InitiatorConnection) (piece before output : List ℕ) → InitiatorFeedPost (Ok phase) old piece new before output →
+    InitiatorContinues old.machine [] [] new.machine
 fed phase old new piece before output f = go f.1.1
   where
-    go : ReceivesAll f.1.0 new before output phase ⊎ (ClosesAt f.1.0 new before output None × (phase ≡ phases.Closed)) →
-        Continues old.machine [] [] new.machine
-    go (inl all) = subst (λ (c : Connection). Continues old.machine [] [] c.machine) (sym all.connection) (received old.machine f.1.0.messages)
-    go (inr ends) = subst (λ (m : Machine). Continues old.machine [] [] m) (sym ends.0.machine) (received old.machine f.1.0.messages)
+    go : ReceivesWholePiece f.1.0 new before output phase ⊎ (PieceClosesSession f.1.0 new before output None × (phase ≡ phases.Closed)) →
+        InitiatorContinues old.machine [] [] new.machine
+    go (inl all) = subst (λ (c : InitiatorConnection). InitiatorContinues old.machine [] [] c.machine) (sym all.connection)
+        (received old.machine f.1.0.messages)
+    go (inr ends) = subst (λ (m : InitiatorSession). InitiatorContinues old.machine [] [] m) (sym ends.0.machine) (received old.machine f.1.0.messages)
 
-pub submits : (old new : Connection) (request : Request) (before output : List ℕ) → Submits (Ok tt) old request new before output →
-    Continues old.machine (request ∷ []) [] new.machine
+pub submits : (old new : InitiatorConnection) (request : Request) (before output : List ℕ) → InitiatorSubmitPost (Ok tt) old request new before output →
+    InitiatorContinues old.machine (request ∷ []) [] new.machine
 unfolding submitted
 submits old new request before output s = record {
   events = Meets (Asks request) ∷ [];
-  reached = ap (λ (c : Connection). c.machine) s.connection;
-  requests = taken_in (refusal old.machine request) s.none;
+  reached = ap (λ (c : InitiatorConnection). c.machine) s.connection;
+  requests = taken_in (submit_refusal old.machine request) s.none;
   outcomes = refl;
 }
   where
@@ -117,7 +121,8 @@ submits old new request before output s = record {
     taken_in None e = refl
     taken_in (Some fault) e = absurd cc
 
-pub takes : (old : Connection) (outcome : Done) → old.machine.done ≡ Some outcome → Continues old.machine [] (outcome ∷ []) (after_taking old).machine
+pub takes : (old : InitiatorConnection) (outcome : Done) → old.machine.done ≡ Some outcome
+    → InitiatorContinues old.machine [] (outcome ∷ []) (after_taking old).machine
 takes old outcome is = record { events = Meets Takes ∷ []; reached = refl; requests = refl; outcomes = ap (λ (o : Option Done). listed o ++ []) is }
 
 -- ---- outcomes
@@ -130,56 +135,59 @@ all_of (request ∷ requests) [] more same are = absurd (omega arith)
 all_of (request ∷ requests) (outcome ∷ outcomes) more same are = (are.0, all_of requests outcomes more (omega arith) are.1)
 
 -- as many outcomes as requests are theirs
-pub each_outcome : (settings : Settings) (m : Machine) (requests : List Request) (outcomes : List Done) → Continues (opening settings) requests outcomes m →
+pub each_outcome : (settings : InitiatorSettings) (m : InitiatorSession) (requests : List Request) (outcomes : List Done)
+    → InitiatorContinues (new_session settings) requests outcomes m →
     length outcomes ≡ length requests → AllOutcomes requests outcomes
 each_outcome settings m requests outcomes c same =
     let law = outcomes_in_order settings c.events in
-    let asked : AreOutcomesOf requests (given (opening settings) c.events ++ listed (run (opening settings) c.events).done) =
-    subst (λ (rs : List Request). AreOutcomesOf rs (given (opening settings) c.events ++ listed (run (opening settings) c.events).done)) c.requests law in
-    let taken_too : AreOutcomesOf requests (outcomes ++ listed (run (opening settings) c.events).done) =
-    subst (λ (ds : List Done). AreOutcomesOf requests (ds ++ listed (run (opening settings) c.events).done)) c.outcomes asked in
-    all_of requests outcomes (listed (run (opening settings) c.events).done) same taken_too
+    let asked : AreOutcomesOf requests (outcomes_given (new_session settings) c.events ++ listed (run (new_session settings) c.events).done) =
+    subst (λ (rs : List Request). AreOutcomesOf rs (outcomes_given (new_session settings) c.events ++ listed (run (new_session settings) c.events).done))
+    c.requests law in
+    let taken_too : AreOutcomesOf requests (outcomes ++ listed (run (new_session settings) c.events).done) =
+    subst (λ (ds : List Done). AreOutcomesOf requests (ds ++ listed (run (new_session settings) c.events).done)) c.outcomes asked in
+    all_of requests outcomes (listed (run (new_session settings) c.events).done) same taken_too
 
 -- ---- commands
 
-pub record DoneSoFar (all rest : List Command) (m : Machine) (contents_old contents_new : Option (List ℕ)) : Type 0 where
+pub record DoneSoFar (all rest : List Command) (m : InitiatorSession) (contents_old contents_new : Option (List ℕ)) : Type 0 where
   pub front : List Command
   pub outcomes : List Done
-  pub continues : Continues (opening initiator_settings) (map request_of front) outcomes m
+  pub continues : InitiatorContinues (new_session initiator_settings) (map command_request front) outcomes m
   pub same : length outcomes ≡ length front
   pub runs : up_to_logout all ≡ front ++ up_to_logout rest
   pub written : Appends contents_old contents_new (reports outcomes)
 
-pub done_none : (all : List Command) (m : Machine) (contents : Option (List ℕ)) → Continues (opening initiator_settings) [] [] m →
+pub done_none : (all : List Command) (m : InitiatorSession) (contents : Option (List ℕ)) → InitiatorContinues (new_session initiator_settings) [] [] m →
     DoneSoFar all all m contents contents
 done_none all m contents continues = record { front = []; outcomes = []; continues = continues; same = refl; runs = refl; written = Appends-nil contents }
 
-have_outcomes : (commands : List Command) (outcomes : List Done) → AllOutcomes (map request_of commands) outcomes → HaveOutcomes commands outcomes
+have_outcomes : (commands : List Command) (outcomes : List Done) → AllOutcomes (map command_request commands) outcomes → HaveOutcomes commands outcomes
 have_outcomes [] [] all = tt
 have_outcomes [] (outcome ∷ outcomes) all = absurd all
 have_outcomes (command ∷ commands) [] all = absurd all
 have_outcomes (command ∷ commands) (outcome ∷ outcomes) all = (all.0, have_outcomes commands outcomes all.1)
 
 -- no command is left to be run
-pub done_all : (all rest : List Command) (m : Machine) (contents_old contents_new : Option (List ℕ)) → DoneSoFar all rest m contents_old contents_new →
-    up_to_logout rest ≡ [] → Runs all contents_old contents_new
+pub done_all : (all rest : List Command) (m : InitiatorSession) (contents_old contents_new : Option (List ℕ)) → DoneSoFar all rest m contents_old contents_new →
+    up_to_logout rest ≡ [] → ScriptRuns all contents_old contents_new
 done_all all rest m contents_old contents_new d none =
     let runs : up_to_logout all ≡ d.front = d.runs ∙ ap (λ (cs : List Command). d.front ++ cs) none ∙ append-nil d.front in
-    let same : length d.outcomes ≡ length (map request_of d.front) = d.same ∙ sym (length-map d.front request_of) in
-    let each = each_outcome initiator_settings m (map request_of d.front) d.outcomes d.continues same in
+    let same : length d.outcomes ≡ length (map command_request d.front) = d.same ∙ sym (length-map d.front command_request) in
+    let each = each_outcome initiator_settings m (map command_request d.front) d.outcomes d.continues same in
     (d.outcomes, subst (λ (cs : List Command). HaveOutcomes cs d.outcomes) (sym runs) (have_outcomes d.front d.outcomes each), d.written)
 
 -- a command and its line
-pub done_more : (all rest more : List Command) (command : Command) (m n : Machine) (done : Done) (contents_old contents_now contents_new : Option (List ℕ)) →
+pub done_more : (all rest more : List Command) (command : Command) (m n : InitiatorSession) (done : Done)
+    (contents_old contents_now contents_new : Option (List ℕ)) →
     DoneSoFar all rest m contents_old contents_now
-    → rest ≡ command ∷ more → Continues m (request_of command ∷ []) (done ∷ []) n → Appends contents_now contents_new (report done)
+    → rest ≡ command ∷ more → InitiatorContinues m (command_request command ∷ []) (done ∷ []) n → Appends contents_now contents_new (report done)
     → (left : List Command) → up_to_logout (command ∷ more) ≡ command ∷ up_to_logout left → DoneSoFar all left n contents_old contents_new
 done_more all rest more command m n done contents_old contents_now contents_new d is c line left first = record {
   front = d.front ++ command ∷ [];
   outcomes = d.outcomes ++ done ∷ [];
-  continues = subst (λ (rs : List Request). Continues (opening initiator_settings) rs (d.outcomes ++ done ∷ []) n)
-      (sym (map-append request_of d.front (command ∷ [])))
-      (then_continues (opening initiator_settings) m n (map request_of d.front) (request_of command ∷ []) d.outcomes (done ∷ []) d.continues c);
+  continues = subst (λ (rs : List Request). InitiatorContinues (new_session initiator_settings) rs (d.outcomes ++ done ∷ []) n)
+      (sym (map-append command_request d.front (command ∷ [])))
+      (then_continues (new_session initiator_settings) m n (map command_request d.front) (command_request command ∷ []) d.outcomes (done ∷ []) d.continues c);
   same = omega (arith, d.same, length-append d.outcomes (done ∷ []), length-append d.front (command ∷ []));
   runs = d.runs ∙ ap (λ (cs : List Command). d.front ++ up_to_logout cs) is ∙ ap (λ (cs : List Command). d.front ++ cs) first
       ∙ sym (append_assoc d.front (command ∷ []) (up_to_logout left));
@@ -203,19 +211,21 @@ first_have (command ∷ commands) more [] have = absurd have
 first_have (command ∷ commands) more (outcome ∷ outcomes) have = (have.0, first_have commands more outcomes have.1)
 
 -- what is done is what the first commands led to
-done_first : (all rest : List Command) (m : Machine) (contents_old contents_new : Option (List ℕ)) → (d : DoneSoFar all rest m contents_old contents_new) →
+done_first : (all rest : List Command) (m : InitiatorSession) (contents_old contents_new : Option (List ℕ))
+    → (d : DoneSoFar all rest m contents_old contents_new) →
     FirstHaveOutcomes (up_to_logout all) d.outcomes
 done_first all rest m contents_old contents_new d =
-    let same : length d.outcomes ≡ length (map request_of d.front) = d.same ∙ sym (length-map d.front request_of) in
-    let each = each_outcome initiator_settings m (map request_of d.front) d.outcomes d.continues same in
+    let same : length d.outcomes ≡ length (map command_request d.front) = d.same ∙ sym (length-map d.front command_request) in
+    let each = each_outcome initiator_settings m (map command_request d.front) d.outcomes d.continues same in
     subst (λ (cs : List Command). FirstHaveOutcomes cs d.outcomes) (sym d.runs) (first_have d.front (up_to_logout rest) d.outcomes
     (have_outcomes d.front d.outcomes each))
 
 abbrev AfterFirst : ServeFault → List Command → Option (List ℕ) → Option (List ℕ) → Type 0
-AfterFirst fault commands contents_old contents_new = IsOfSession fault × ((outcomes : List Done) × FirstHaveOutcomes (up_to_logout commands) outcomes
+AfterFirst fault commands contents_old contents_new = IsSessionFault fault × ((outcomes : List Done) × FirstHaveOutcomes (up_to_logout commands) outcomes
     × Appends contents_old contents_new (reports outcomes))
 
-stops_at : (fault : ServeFault) → IsOfSession fault → (all rest : List Command) (m : Machine) (contents_old contents_now contents_new : Option (List ℕ)) →
+stops_at : (fault : ServeFault) → IsSessionFault fault → (all rest : List Command) (m : InitiatorSession)
+    (contents_old contents_now contents_new : Option (List ℕ)) →
     DoneSoFar all rest m contents_old contents_now → Appends contents_now contents_new [] → AfterFirst fault all contents_old contents_new
 stops_at fault is all rest m contents_old contents_now contents_new d w = (
   is,
@@ -246,9 +256,9 @@ left_at true command more is = ends_at command more is
 left_at false command more is = goes_on command more is
 
 -- the line of a command's outcome was written in part
-write_stops : (all rest more : List Command) (command : Command) (m n : Machine) (contents_old contents_now contents_new : Option (List ℕ)) →
+write_stops : (all rest more : List Command) (command : Command) (m n : InitiatorSession) (contents_old contents_now contents_new : Option (List ℕ)) →
     DoneSoFar all rest m contents_old contents_now
-    → rest ≡ command ∷ more → Fails serve.Write m command n contents_now contents_new → Stops serve.Write all contents_old contents_new
+    → rest ≡ command ∷ more → CommandFails serve.Write m command n contents_now contents_new → ScriptStops serve.Write all contents_old contents_new
 unfolding done_more
 write_stops all rest more command m n contents_old contents_now contents_new d is w =
     let unseen : DoneSoFar all rest m None None = record {
@@ -270,9 +280,9 @@ write_stops all rest more command m n contents_old contents_now contents_new d i
     )
 
 -- a fault of the next command
-pub done_stops : (fault : ServeFault) (all rest more : List Command) (command : Command) (m n : Machine)
+pub done_stops : (fault : ServeFault) (all rest more : List Command) (command : Command) (m n : InitiatorSession)
     (contents_old contents_now contents_new : Option (List ℕ)) → DoneSoFar all rest m contents_old contents_now
-    → rest ≡ command ∷ more → Fails fault m command n contents_now contents_new → Stops fault all contents_old contents_new
+    → rest ≡ command ∷ more → CommandFails fault m command n contents_now contents_new → ScriptStops fault all contents_old contents_new
 done_stops serve.Write all rest more command m n contents_old contents_now contents_new d is w =
     write_stops all rest more command m n contents_old contents_now contents_new d is w
 done_stops (serve.Script line) all rest more command m n contents_old contents_now contents_new d is w = absurd w.0
@@ -290,13 +300,13 @@ done_stops (serve.Initiator fault) all rest more command m n contents_old conten
 
 -- ---- faults of a session
 
-pub of_target : (fault : TargetFault) → IsOfSession (target_fault fault)
+pub of_target : (fault : TargetFault) → IsSessionFault (target_serve_fault fault)
 of_target target.NoMemory = tt
 of_target (target.Stream fault) = tt
 of_target (target.Protocol rule) = tt
 of_target target.Closed = tt
 
-pub of_initiator : (fault : InitiatorFault) → IsOfSession (initiator_fault fault)
+pub of_initiator : (fault : InitiatorFault) → IsSessionFault (initiator_serve_fault fault)
 of_initiator initiator.NoMemory = tt
 of_initiator (initiator.Stream fault) = tt
 of_initiator (initiator.Protocol rule) = tt
@@ -306,7 +316,7 @@ of_initiator initiator.Closed = tt
 
 -- ---- the ends of a loop
 
-pub script_stops : (fault : ServeFault) (script : List ℕ) → ScriptFails fault script → Loops (Err fault) script []
+pub script_stops : (fault : ServeFault) (script : List ℕ) → ScriptFails fault script → LoopPost (Err fault) script []
 script_stops (serve.Script n) script f = (f, refl)
 script_stops serve.NoMemory script f = inl refl
 script_stops serve.Read script f = refl
@@ -317,7 +327,7 @@ script_stops serve.Network script f = inl refl
 script_stops (serve.Target fault) script f = absurd f
 script_stops (serve.Initiator fault) script f = absurd f
 
-pub session_stops : (fault : ServeFault) (script written : List ℕ) → IsOfSession fault → StopsWithin script written → Loops (Err fault) script written
+pub session_stops : (fault : ServeFault) (script written : List ℕ) → IsSessionFault fault → StopsWithin script written → LoopPost (Err fault) script written
 session_stops (serve.Script n) script written is s = absurd is
 session_stops serve.NoMemory script written is s = s
 session_stops serve.Read script written is s = absurd is
@@ -338,7 +348,7 @@ session_stops (serve.Initiator initiator.Closed) script written is s = s
 
 -- ---- what a loop has read
 
-pub script_read : (fault : ServeFault) (script : List ℕ) (left : Option (List ℕ)) → ScriptFails fault script → ReadsFirst (Err fault) [] left
+pub script_read : (fault : ServeFault) (script : List ℕ) (left : Option (List ℕ)) → ScriptFails fault script → ReadsScriptFirst (Err fault) [] left
 script_read (serve.Script n) script left f = tt
 script_read serve.Read script left f = tt
 script_read serve.NoMemory script left f = inl refl
@@ -349,7 +359,8 @@ script_read serve.Network script left f = absurd f
 script_read (serve.Target fault) script left f = absurd f
 script_read (serve.Initiator fault) script left f = absurd f
 
-session_read : (fault : ServeFault) (written : List ℕ) (left : Option (List ℕ)) → IsOfSession fault → IsAtEnd left → ReadsFirst (Err fault) written left
+session_read : (fault : ServeFault) (written : List ℕ) (left : Option (List ℕ)) → IsSessionFault fault → IsAtEnd left
+    → ReadsScriptFirst (Err fault) written left
 session_read (serve.Script n) written left is end = absurd is
 session_read serve.Read written left is end = absurd is
 session_read serve.Sync written left is end = absurd is
@@ -361,14 +372,14 @@ session_read (serve.Target fault) written left is end = end
 session_read (serve.Initiator fault) written left is end = end
 
 -- a session failed, and nothing was written
-pub session_ends : (fault : ServeFault) (script : List ℕ) (left : Option (List ℕ)) → IsOfSession fault → IsAtEnd left → Loops (Err fault) script []
-    × ReadsFirst (Err fault) [] left
+pub session_ends : (fault : ServeFault) (script : List ℕ) (left : Option (List ℕ)) → IsSessionFault fault → IsAtEnd left → LoopPost (Err fault) script []
+    × ReadsScriptFirst (Err fault) [] left
 session_ends fault script left is end = (session_stops fault script [] is (inl refl), session_read fault [] left is end)
 
 -- what a loop has written and read, and how it ends
 abbrev pub Leaves : Result (Unit {0}) ServeFault → List ℕ → Option (List ℕ) → Option (List ℕ) → Option (List ℕ) → Type 0
 Leaves result script contents_old contents_new left =
-    (written : List ℕ) × Appends contents_old contents_new written × Loops result script written × ReadsFirst result written left
+    (written : List ℕ) × Appends contents_old contents_new written × LoopPost result script written × ReadsScriptFirst result written left
 
 abbrev pub login_line : List ℕ
 login_line = codes "login" ++ 0x0a ∷ []
@@ -396,7 +407,7 @@ after_some fault script commands contents_old contents_now contents_new left is 
 
 -- a command failed
 pub commands_stop : (fault : ServeFault) (script : List ℕ) (commands : List Command) (contents_old contents_now contents_new left : Option (List ℕ)) →
-    IsScript script commands → IsAtEnd left → Appends contents_old contents_now login_line → Stops fault commands contents_now contents_new →
+    IsScript script commands → IsAtEnd left → Appends contents_old contents_now login_line → ScriptStops fault commands contents_now contents_new →
     Leaves (Err fault) script contents_old contents_new left
 commands_stop serve.Write script commands contents_old contents_now contents_new left is end line s =
     let w : WroteFront contents_old contents_new (transcript s.0) = front_then contents_old contents_now contents_new login_line (reports s.0) line s.2 in
@@ -420,8 +431,8 @@ commands_stop (serve.Initiator fault) script commands contents_old contents_now 
 
 -- all commands are done, and the connection is closed
 pub commands_end : (result : Result (Unit {0}) ServeFault) (script : List ℕ) (commands : List Command)
-    (contents_old contents_now contents_new left : Option (List ℕ)) → IfErr result IsOfSession → IsScript script commands → IsAtEnd left →
-    Appends contents_old contents_now login_line → Runs commands contents_now contents_new
+    (contents_old contents_now contents_new left : Option (List ℕ)) → IfErr result IsSessionFault → IsScript script commands → IsAtEnd left →
+    Appends contents_old contents_now login_line → ScriptRuns commands contents_now contents_new
     → Leaves result script contents_old contents_new left
 commands_end (Ok done) script commands contents_old contents_now contents_new left err is end line r =
     (transcript r.0, Appends-trans contents_old contents_now contents_new login_line (reports r.0) line r.2, (commands, r.0, is, r.1, refl), end)

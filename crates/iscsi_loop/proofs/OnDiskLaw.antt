@@ -15,25 +15,26 @@ use Rattle.iscsi_pair.proofs.Request.OneRequestLaw.{outcomes_more}
 use Rattle.iscsi_loop.specs.declared.command.Command.{Command}
 use Rattle.iscsi_serving.specs.declared.fault.ServeFault.{ServeFault}
 use Rattle.iscsi_serving.specs.declared.fault.ServeFault.TheVariants as serve
-use Rattle.iscsi_loop.specs.Commands.{is_logout, request_of}
+use Rattle.iscsi_loop.specs.Commands.{is_logout, command_request}
 use Rattle.iscsi_loop.specs.Reports.{report}
 use Rattle.iscsi_loop.specs.Script.{IsScript}
 use Rattle.iscsi_loop.specs.Looping.{initiator_settings, reports, transcript, up_to_logout}
-use Rattle.iscsi_loop.specs.LoopPairs.{AreOneDisk, Ends, LoopsOnDisk, Performs, WritesLine, WritesOnDisk, asked, command_outcomes, loop_opening, outcome_on}
+use Rattle.iscsi_loop.specs.LoopPairs.{LoopsOnDisk, command_outcomes, loop_opening}
+use Rattle.iscsi_loop.specs.inner.LoopPairs.{AreOneDisk, BothEnds, PerformsOnDisk, WritesLine, WritesOnDisk, asked, outcome_on}
 use Rattle.iscsi_loop.specs.LoopPairs.{outcomes_on}
 use Rattle.iscsi_loop.proofs.HistoryLemmas.{front_then, left_at, left_by, login_line}
 
 -- ---- one command
 
 -- nothing of its line is written
-pub no_line : (fault : ServeFault) (blocks : ℕ) (past : List Request) (request : Request) (ends : Ends) (contents : Option (List ℕ))
+pub no_line : (fault : ServeFault) (blocks : ℕ) (past : List Request) (request : Request) (ends : BothEnds) (contents : Option (List ℕ))
     → WritesLine (Err fault) (asked blocks past request) ends contents contents
 no_line fault blocks past request ends contents = (0, Appends-nil contents)
 
 -- its line is written, or a front of it
-pub line_written : (result : Result (Unit {0}) ServeFault) (blocks : ℕ) (past : List Request) (request : Request) (done : Done) (old new : Ends)
+pub line_written : (result : Result (Unit {0}) ServeFault) (blocks : ℕ) (past : List Request) (request : Request) (done : Done) (old new : BothEnds)
     (contents_old contents_new : Option (List ℕ))
-    → Performs old request done new → AreOneDisk blocks past old → OnOk result (Appends contents_old contents_new (report done))
+    → PerformsOnDisk old request done new → AreOneDisk blocks past old → OnOk result (Appends contents_old contents_new (report done))
     → IfErr result (λ fault. (fault ≡ serve.Write) × WroteFront contents_old contents_new (report done))
     → WritesLine result (asked blocks past request) new contents_old contents_new
 line_written (Ok unit) blocks past request done old new contents_old contents_new p one ok err =
@@ -52,30 +53,30 @@ parts most disk [] back = refl
 parts most disk (request ∷ front) back = ap (λ (x : List Done). (local most disk request).outcome ∷ x) (parts most (local most disk request).disk front back)
 
 -- the first commands were done, and their lines written
-pub record OnDiskSoFar (blocks : ℕ) (all rest : List Command) (ends : Ends) (contents_old contents_new : Option (List ℕ)) : Type 0 where
+pub record OnDiskSoFar (blocks : ℕ) (all rest : List Command) (ends : BothEnds) (contents_old contents_new : Option (List ℕ)) : Type 0 where
   pub front : List Command
-  pub one : AreOneDisk blocks (map request_of front) ends
+  pub one : AreOneDisk blocks (map command_request front) ends
   pub runs : up_to_logout all ≡ front ++ up_to_logout rest
-  pub written : Appends contents_old contents_new (reports (outcomes_on blocks (map request_of front)))
+  pub written : Appends contents_old contents_new (reports (outcomes_on blocks (map command_request front)))
 
-pub on_none : (blocks : ℕ) (all : List Command) (ends : Ends) (contents : Option (List ℕ)) → AreOneDisk blocks [] ends →
+pub on_none : (blocks : ℕ) (all : List Command) (ends : BothEnds) (contents : Option (List ℕ)) → AreOneDisk blocks [] ends →
     OnDiskSoFar blocks all all ends contents contents
 unfolding local_outcomes
 on_none blocks all ends contents one = record { front = []; one = one; runs = refl; written = Appends-nil contents }
 
 -- a command and its line
-pub on_more : (blocks : ℕ) (all rest more : List Command) (command : Command) (old new : Ends) (contents_old contents_now contents_new : Option (List ℕ))
+pub on_more : (blocks : ℕ) (all rest more : List Command) (command : Command) (old new : BothEnds) (contents_old contents_now contents_new : Option (List ℕ))
     → OnDiskSoFar blocks all rest old contents_old contents_now → rest ≡ command ∷ more
-    → ((past : List Request) → AreOneDisk blocks past old → WritesLine (Ok tt) (asked blocks past (request_of command)) new contents_now contents_new)
+    → ((past : List Request) → AreOneDisk blocks past old → WritesLine (Ok tt) (asked blocks past (command_request command)) new contents_now contents_new)
     → (left : List Command) → up_to_logout (command ∷ more) ≡ command ∷ up_to_logout left → OnDiskSoFar blocks all left new contents_old contents_new
 on_more blocks all rest more command old new contents_old contents_now contents_new d is does left first =
-    let past : List Request = map request_of d.front in
-    let next : Done = outcome_on blocks past (request_of command) in
+    let past : List Request = map command_request d.front in
+    let next : Done = outcome_on blocks past (command_request command) in
     let w = does past d.one in
-    let both : map request_of (d.front ++ command ∷ []) ≡ past ++ request_of command ∷ [] = map-append request_of d.front (command ∷ []) in
-    let each : outcomes_on blocks (past ++ request_of command ∷ []) ≡ outcomes_on blocks past ++ next ∷ [] =
-    outcomes_more initiator_settings.proposal.prefs.max_recv (disk_of (loop_opening blocks).blocks) past (request_of command) in
-    let lines : reports (outcomes_on blocks (map request_of (d.front ++ command ∷ []))) ≡ reports (outcomes_on blocks past) ++ report next =
+    let both : map command_request (d.front ++ command ∷ []) ≡ past ++ command_request command ∷ [] = map-append command_request d.front (command ∷ []) in
+    let each : outcomes_on blocks (past ++ command_request command ∷ []) ≡ outcomes_on blocks past ++ next ∷ [] =
+    outcomes_more initiator_settings.proposal.prefs.max_recv (disk_of (loop_opening blocks).blocks) past (command_request command) in
+    let lines : reports (outcomes_on blocks (map command_request (d.front ++ command ∷ []))) ≡ reports (outcomes_on blocks past) ++ report next =
     ap (λ (rs : List Request). reports (outcomes_on blocks rs)) both ∙ ap reports each ∙ flat_map-append report (outcomes_on blocks past) (next ∷ [])
     ∙ ap (λ (x : List ℕ). reports (outcomes_on blocks past) ++ x) (append-nil (report next)) in
     record {
@@ -95,28 +96,28 @@ front_more a b xs ys w =
     (k, subst (λ (x : List ℕ). Appends a b x) (sym same) w.1)
 
 -- a fault of the next command
-pub on_stops : (fault : ServeFault) (blocks : ℕ) (all rest more : List Command) (command : Command) (old new : Ends)
+pub on_stops : (fault : ServeFault) (blocks : ℕ) (all rest more : List Command) (command : Command) (old new : BothEnds)
     (contents_old contents_now contents_new : Option (List ℕ))
     → OnDiskSoFar blocks all rest old contents_old contents_now → rest ≡ command ∷ more
-    → ((past : List Request) → AreOneDisk blocks past old → WritesLine (Err fault) (asked blocks past (request_of command)) new contents_now contents_new)
+    → ((past : List Request) → AreOneDisk blocks past old → WritesLine (Err fault) (asked blocks past (command_request command)) new contents_now contents_new)
     → WritesOnDisk blocks all (Err fault) contents_old contents_new
 unfolding local_outcomes
 on_stops fault blocks all rest more command old new contents_old contents_now contents_new d is does =
     let most : ℕ = initiator_settings.proposal.prefs.max_recv in
     let disk : Disk = disk_of (loop_opening blocks).blocks in
-    let past : List Request = map request_of d.front in
+    let past : List Request = map command_request d.front in
     let left : List Command = left_by (is_logout command) more in
-    let later : List Request = map request_of (up_to_logout left) in
-    let next : Done = outcome_on blocks past (request_of command) in
-    let tail : List Done = local_outcomes most (local most (local_disk most disk past) (request_of command)).disk later in
+    let later : List Request = map command_request (up_to_logout left) in
+    let next : Done = outcome_on blocks past (command_request command) in
+    let tail : List Done = local_outcomes most (local most (local_disk most disk past) (command_request command)).disk later in
     let whole : up_to_logout all ≡ d.front ++ command ∷ up_to_logout left =
     d.runs ∙ ap (λ (cs : List Command). d.front ++ up_to_logout cs) is
     ∙ ap (λ (cs : List Command). d.front ++ cs) (left_at (is_logout command) command more refl) in
-    let asked : map request_of (up_to_logout all) ≡ past ++ request_of command ∷ later =
-    ap (λ (cs : List Command). map request_of cs) whole ∙ map-append request_of d.front (command ∷ up_to_logout left) in
+    let asked : map command_request (up_to_logout all) ≡ past ++ command_request command ∷ later =
+    ap (λ (cs : List Command). map command_request cs) whole ∙ map-append command_request d.front (command ∷ up_to_logout left) in
     let lines : reports (command_outcomes blocks all) ≡ reports (outcomes_on blocks past) ++ (report next ++ reports tail) =
     ap (λ (rs : List Request). reports (outcomes_on blocks rs)) asked
-    ∙ ap reports (parts most disk past (request_of command ∷ later))
+    ∙ ap reports (parts most disk past (command_request command ∷ later))
     ∙ flat_map-append report (outcomes_on blocks past) (next ∷ tail)
     ∙ ap (λ (x : List ℕ). reports (outcomes_on blocks past) ++ x) (flat_map-cons report next tail) in
     subst (λ (x : List ℕ). WroteFront contents_old contents_new x) (sym lines)
@@ -124,11 +125,11 @@ on_stops fault blocks all rest more command old new contents_old contents_now co
     (front_more contents_now contents_new (report next) (reports tail) (does past d.one)))
 
 -- no command is left to be done
-pub on_all : (blocks : ℕ) (all rest : List Command) (ends : Ends) (contents_old contents_new : Option (List ℕ))
+pub on_all : (blocks : ℕ) (all rest : List Command) (ends : BothEnds) (contents_old contents_new : Option (List ℕ))
     → OnDiskSoFar blocks all rest ends contents_old contents_new → up_to_logout rest ≡ [] → WritesOnDisk blocks all (Ok tt) contents_old contents_new
 on_all blocks all rest ends contents_old contents_new d none =
     let runs : up_to_logout all ≡ d.front = d.runs ∙ ap (λ (cs : List Command). d.front ++ cs) none ∙ append-nil d.front in
-    subst (λ (cs : List Command). Appends contents_old contents_new (reports (outcomes_on blocks (map request_of cs)))) (sym runs) d.written
+    subst (λ (cs : List Command). Appends contents_old contents_new (reports (outcomes_on blocks (map command_request cs)))) (sym runs) d.written
 
 -- ---- the ends of a loop
 

@@ -6,7 +6,7 @@ use Rattle.std.proofs.Common.{ap, ◌∙◌, subst, append-nil, arith}
 use mathlib.Core.Path.{fun_ext}
 use Rattle.std.proofs.lemmas.Bool.{cases_lt}
 use Rattle.std.proofs.lemmas.List.{append_cancel_left, drop-drop, drop_at, length-append, length-drop, length-take-le, take_all, take_at}
-use Rattle.scsi_disk.specs.Disk.{Disk, IsDisk, cut, disk_of, joined, zeros}
+use Rattle.scsi_disk.specs.Disk.{Disk, IsDisk, cut, disk_of, joined_blocks, zeros}
 use Rattle.scsi_disk.proofs.BlockLemmas.{cut_past, disk_of-zeros, same_disk}
 use Rattle.iscsi_login.specs.declared.phase.Phase.{Phase}
 use Rattle.iscsi_target.specs.Feed as target
@@ -14,50 +14,53 @@ use Rattle.iscsi_initiator.specs.declared.request.Done.{Done}
 use Rattle.iscsi_initiator.specs.declared.request.Request.{Request}
 use Rattle.iscsi_initiator.specs.Calls as initiator
 use Rattle.iscsi_initiator.specs.Laws.{listed}
-use Rattle.iscsi_pair.specs.World.{Opening, Event, ToTarget, ToInitiator, Submits, Takes, TargetReceives, InitiatorReceives, InitiatorIsAsked}
-use Rattle.iscsi_pair.specs.World.{MovesToTarget, MovesToInitiator, Happens, new_pair, store_of}
+use Rattle.iscsi_pair.specs.World.{Opening, PairEvent, ToTarget, ToInitiator, Submits, Takes, TargetReceives, InitiatorReceives, InitiatorIsAsked}
+use Rattle.iscsi_pair.specs.World.{MovesToTarget, MovesToInitiator, PairEventStep, new_pair, reliable_store}
 use Rattle.iscsi_pair.specs.LocalDisk.{local_outcomes}
-use Rattle.iscsi_pair.specs.Served.{IsNormal, IsServed, IsAccepted, RunsServed, requests_of, disk_outcomes, given_in}
+use Rattle.iscsi_pair.specs.Served.{IsNormal, IsServed, IsAccepted, RunsServed, requests_of, disk_outcomes, pair_outcome_in}
 use Rattle.iscsi_pair.proofs.Lists.BlockLemmas.{HasBlocks}
 use Rattle.iscsi_pair.proofs.Request.OneRequestLaw.{outcomes_more}
 use Rattle.iscsi_pair.proofs.Run.OneDiskLaw.{idle_whole}
 use Rattle.iscsi_pair.proofs.Lists.ReadBackLaw.{standard_normal}
 use Rattle.iscsi_pair.proofs.Lists.StepLemmas.{requests_append, served_more, moves_there, moves_here}
 use Rattle.iscsi_loop.specs.Looping.{initiator_settings}
-use Rattle.iscsi_service.specs.Session.{target_settings}
-use Rattle.iscsi_loop.specs.LoopPairs.{AreOneDisk, Ends, GoOn, HaveServed, Performs, ends_of, loop_opening, new_ends, outcome_on, outcomes_on, world_of}
+use Rattle.iscsi_serve.specs.Session.{target_settings}
+use Rattle.iscsi_loop.specs.LoopPairs.{loop_opening, outcomes_on}
+use Rattle.iscsi_loop.specs.inner.LoopPairs.{AreOneDisk, BothEnds, GoOn, HaveServed, PerformsOnDisk, ends_of, new_ends, outcome_on, world_of}
 
 -- ---- bytes of blocks
 
-part_of : (block : ℕ → List ℕ) (first count m : ℕ) → ((n : ℕ) → n < first + count → length (block n) ≡ 512) → m < count → cut 512 (joined block first count) m
+part_of : (block : ℕ → List ℕ) (first count m : ℕ) → ((n : ℕ) → n < first + count → length (block n) ≡ 512) → m < count
+    → cut 512 (joined_blocks block first count) m
     ≡ block (first + m)
-unfolding cut joined
+unfolding cut joined_blocks
 part_of block first zero m each lt = absurd (omega (arith, lt))
 part_of block first (suc count) zero each lt =
-    take_at (block first) (joined block (first + 1) count) 512 (each first (omega arith)) ∙ ap block (let e : first ≡ first + 0 = omega arith in e)
+    take_at (block first) (joined_blocks block (first + 1) count) 512 (each first (omega arith)) ∙ ap block (let e : first ≡ first + 0 = omega arith in e)
 part_of block first (suc count) (suc m) each lt =
-    let whole : List ℕ = block first ++ joined block (first + 1) count in
+    let whole : List ℕ = block first ++ joined_blocks block (first + 1) count in
     let at : 512 * suc m ≡ 512 + 512 * m = omega arith in
-    let behind : drop 512 whole ≡ joined block (first + 1) count = drop_at (block first) (joined block (first + 1) count) 512 (each first (omega arith)) in
+    let behind : drop 512 whole ≡ joined_blocks block (first + 1) count =
+    drop_at (block first) (joined_blocks block (first + 1) count) 512 (each first (omega arith)) in
     ap (λ (n : ℕ). take 512 (drop n whole)) at
     ∙ ap (take 512) (sym (drop-drop (512 * m) 512 whole) ∙ ap (drop (512 * m)) behind)
     ∙ part_of block (first + 1) count m (λ n below. each n (omega (arith, below))) (omega (arith, lt))
     ∙ ap block (let e : first + 1 + m ≡ first + suc m = omega arith in e)
 
-joined_length : (block : ℕ → List ℕ) (first count : ℕ) → ((n : ℕ) → n < first + count → length (block n) ≡ 512) → length (joined block first count)
+joined_length : (block : ℕ → List ℕ) (first count : ℕ) → ((n : ℕ) → n < first + count → length (block n) ≡ 512) → length (joined_blocks block first count)
     ≡ 512 * count
-unfolding joined
+unfolding joined_blocks
 joined_length block first zero each = (let e : 0 ≡ 512 * zero = omega arith in e)
 joined_length block first (suc count) each =
     let more = joined_length block (first + 1) count (λ n below. each n (omega (arith, below))) in
     let here = each first (omega arith) in
-    let both = length-append (block first) (joined block (first + 1) count) in
+    let both = length-append (block first) (joined_blocks block (first + 1) count) in
     omega (arith, more, here, both)
 
 -- the blocks of a disk are those of some bytes
 pub has_blocks : (disk : Disk) → IsDisk disk → disk.tells ≡ true → HasBlocks disk
 has_blocks disk is tells =
-    let bytes : List ℕ = joined disk.block 0 disk.count in
+    let bytes : List ℕ = joined_blocks disk.block 0 disk.count in
     let each : (n : ℕ) → n < 0 + disk.count → length (disk.block n) ≡ 512 = λ n below. is.inside n (omega (arith, below)) in
     let size : length bytes ≡ 512 * disk.count = joined_length disk.block 0 disk.count each in
     record {
@@ -70,10 +73,10 @@ has_blocks disk is tells =
 
 -- ---- one event more
 
-more : (blocks : ℕ) (requests : List Request) (outcomes : List Done) (old new : Ends) (bytes : List ℕ) (event : Event)
-    → (h : HaveServed blocks requests outcomes old) → Happens (world_of old h.bytes) event (world_of new bytes) → IsAccepted event (world_of old h.bytes)
+more : (blocks : ℕ) (requests : List Request) (outcomes : List Done) (old new : BothEnds) (bytes : List ℕ) (event : PairEvent)
+    → (h : HaveServed blocks requests outcomes old) → PairEventStep (world_of old h.bytes) event (world_of new bytes) → IsAccepted event (world_of old h.bytes)
     → disk_of bytes ≡ new.disk
-    → HaveServed blocks (requests ++ requests_of (event ∷ [])) (outcomes ++ given_in event (world_of old h.bytes)) new
+    → HaveServed blocks (requests ++ requests_of (event ∷ [])) (outcomes ++ pair_outcome_in event (world_of old h.bytes)) new
 more blocks requests outcomes old new bytes event h happens accepted disk = record {
   events = h.events ++ event ∷ [];
   bytes = bytes;
@@ -83,7 +86,7 @@ more blocks requests outcomes old new bytes event h happens accepted disk = reco
 }
 
 -- an event that asks for nothing and takes nothing
-quiet : (blocks : ℕ) (requests : List Request) (outcomes : List Done) (new : Ends) → HaveServed blocks (requests ++ []) (outcomes ++ []) new →
+quiet : (blocks : ℕ) (requests : List Request) (outcomes : List Done) (new : BothEnds) → HaveServed blocks (requests ++ []) (outcomes ++ []) new →
     HaveServed blocks requests outcomes new
 quiet blocks requests outcomes new h =
     subst (λ (x : List Request). HaveServed blocks x outcomes new) (append-nil requests)
@@ -96,37 +99,40 @@ abbrev pub stored : Disk → target.Store
 stored disk = record { disk = disk; failures = 0 }
 
 -- a piece reaches the target
-pub asks_on : (i : initiator.Connection) (old new : target.Connection) (before after : Disk) (out back written piece : List ℕ) (n : ℕ) (phase : Phase)
-    → target.Fed false (target.scene old (stored before) back) piece (Ok phase) (target.scene new (stored after) written) → IsDisk after → after.tells ≡ true
+pub asks_on : (i : initiator.InitiatorConnection) (old new : target.TargetConnection) (before after : Disk) (out back written piece : List ℕ) (n : ℕ)
+    (phase : Phase)
+    → target.TargetFeedPost false (target.scene old (stored before) back) piece (Ok phase) (target.scene new (stored after) written) → IsDisk after
+    → after.tells ≡ true
     → take n out ≡ piece → length piece ≡ n → 0 < n
     → GoOn (ends_of i old before out back) (ends_of i new after (drop n out) written)
 asks_on i old new before after out back written piece n phase fed is tells front size some = λ blocks requests outcomes h.
     let b : HasBlocks after = has_blocks after is tells in
-    let here : Ends = ends_of i old before out back in
-    let there : Ends = ends_of i new after (drop n out) written in
+    let here : BothEnds = ends_of i old before out back in
+    let there : BothEnds = ends_of i new after (drop n out) written in
     let receives : TargetReceives piece (world_of here h.bytes) (world_of there b.bytes) = record {
       result = Ok phase;
-      fed = subst (λ (d : Disk). target.Fed false (target.scene old (stored d) back) piece (Ok phase)
-          (target.scene new (store_of b.bytes) written)) (sym h.disk_is)
-          (subst (λ (d : Disk). target.Fed false (target.scene old (stored before) back) piece (Ok phase)
+      fed = subst (λ (d : Disk). target.TargetFeedPost false (target.scene old (stored d) back) piece (Ok phase)
+          (target.scene new (reliable_store b.bytes) written)) (sym h.disk_is)
+          (subst (λ (d : Disk). target.TargetFeedPost false (target.scene old (stored before) back) piece (Ok phase)
           (target.scene new (stored d) written)) (sym b.is) fed);
       dropped = ap (λ (k : ℕ). drop k out) (sym size);
       initiator = refl;
       fault = refl;
       other_fault = refl;
     } in
-    let happens : Happens (world_of here h.bytes) (ToTarget n) (world_of there b.bytes) =
+    let happens : PairEventStep (world_of here h.bytes) (ToTarget n) (world_of there b.bytes) =
     subst (λ (x : List ℕ). MovesToTarget None x (world_of here h.bytes) (world_of there b.bytes)) (sym front)
     (moves_there piece (world_of here h.bytes) (world_of there b.bytes) (omega (arith, size, some)) receives) in
     quiet blocks requests outcomes there (more blocks requests outcomes here there b.bytes (ToTarget n) h happens tt b.is)
 
 -- a piece reaches the initiator
-pub receives_on : (old new : initiator.Connection) (t : target.Connection) (disk : Disk) (out back written piece : List ℕ) (n : ℕ) (phase : Phase)
-    → initiator.Feeds (Ok phase) old piece new out written → take n back ≡ piece → length piece ≡ n → 0 < n
+pub receives_on : (old new : initiator.InitiatorConnection) (t : target.TargetConnection) (disk : Disk) (out back written piece : List ℕ) (n : ℕ)
+    (phase : Phase)
+    → initiator.InitiatorFeedPost (Ok phase) old piece new out written → take n back ≡ piece → length piece ≡ n → 0 < n
     → GoOn (ends_of old t disk out back) (ends_of new t disk written (drop n back))
 receives_on old new t disk out back written piece n phase fed front size some = λ blocks requests outcomes h.
-    let here : Ends = ends_of old t disk out back in
-    let there : Ends = ends_of new t disk written (drop n back) in
+    let here : BothEnds = ends_of old t disk out back in
+    let there : BothEnds = ends_of new t disk written (drop n back) in
     let receives : InitiatorReceives piece (world_of here h.bytes) (world_of there h.bytes) = record {
       result = Ok phase;
       fed = fed;
@@ -136,7 +142,7 @@ receives_on old new t disk out back written piece n phase fed front size some = 
       fault = refl;
       other_fault = refl;
     } in
-    let happens : Happens (world_of here h.bytes) (ToInitiator n) (world_of there h.bytes) =
+    let happens : PairEventStep (world_of here h.bytes) (ToInitiator n) (world_of there h.bytes) =
     subst (λ (x : List ℕ). MovesToInitiator None x (world_of here h.bytes) (world_of there h.bytes)) (sym front)
     (moves_here piece (world_of here h.bytes) (world_of there h.bytes) (omega (arith, size, some)) receives) in
     quiet blocks requests outcomes there (more blocks requests outcomes here there h.bytes (ToInitiator n) h happens tt h.disk_is)
@@ -146,8 +152,10 @@ left_of : (n : ℕ) (rest : List ℕ) → take (length rest - n) (drop n rest) �
 left_of n rest = take_all (length rest - n) (drop n rest) (omega (arith, length-drop n rest))
 
 -- the next piece of what goes to the target
-pub asks_more : (i : initiator.Connection) (old new : target.Connection) (before after : Disk) (rest back written read : List ℕ) (n : ℕ) (phase : Phase)
-    → target.Fed false (target.scene old (stored before) back) read (Ok phase) (target.scene new (stored after) written) → IsDisk after → after.tells ≡ true
+pub asks_more : (i : initiator.InitiatorConnection) (old new : target.TargetConnection) (before after : Disk) (rest back written read : List ℕ) (n : ℕ)
+    (phase : Phase)
+    → target.TargetFeedPost false (target.scene old (stored before) back) read (Ok phase) (target.scene new (stored after) written) → IsDisk after → after.tells
+    ≡ true
     → read ≡ take n rest → n ≤ length rest → 0 < n
     → GoOn (ends_of i old before rest back) (ends_of i new after (take (length rest - n) (drop n rest)) written)
 asks_more i old new before after rest back written read n phase fed is tells same within some =
@@ -155,18 +163,19 @@ asks_more i old new before after rest back written read n phase fed is tells sam
     (asks_on i old new before after rest back written read n phase fed is tells (sym same) (ap length same ∙ length-take-le n rest within) some)
 
 -- the next piece of what goes to the initiator
-pub receives_more : (old new : initiator.Connection) (t : target.Connection) (disk : Disk) (out rest written read : List ℕ) (n : ℕ) (phase : Phase)
-    → initiator.Feeds (Ok phase) old read new out written → read ≡ take n rest → n ≤ length rest → 0 < n
+pub receives_more : (old new : initiator.InitiatorConnection) (t : target.TargetConnection) (disk : Disk) (out rest written read : List ℕ) (n : ℕ)
+    (phase : Phase)
+    → initiator.InitiatorFeedPost (Ok phase) old read new out written → read ≡ take n rest → n ≤ length rest → 0 < n
     → GoOn (ends_of old t disk out rest) (ends_of new t disk written (take (length rest - n) (drop n rest)))
 receives_more old new t disk out rest written read n phase fed same within some =
     subst (λ (x : List ℕ). GoOn (ends_of old t disk out rest) (ends_of new t disk written x)) (sym (left_of n rest))
     (receives_on old new t disk out rest written read n phase fed (sym same) (ap length same ∙ length-take-le n rest within) some)
 
 -- one after the other
-pub on_and_on : (a b c : Ends) → GoOn a b → GoOn b c → GoOn a c
+pub on_and_on : (a b c : BothEnds) → GoOn a b → GoOn b c → GoOn a c
 on_and_on a b c x y = λ blocks requests outcomes h. y blocks requests outcomes (x blocks requests outcomes h)
 
-pub stays_on : (a : Ends) → GoOn a a
+pub stays_on : (a : BothEnds) → GoOn a a
 stays_on a = λ blocks requests outcomes h. h
 
 -- ---- the login
@@ -199,9 +208,9 @@ is_normal blocks =
     }
 
 -- the initiator starts its login
-pub starts : (blocks : ℕ) (new : initiator.Connection) (out : List ℕ)
-    → initiator.Starts (Ok tt) (initiator.opening_connection initiator_settings) new [] out
-    → AreOneDisk blocks [] (ends_of new (target.opening_connection target_settings 1) (zeros blocks) out [])
+pub starts : (blocks : ℕ) (new : initiator.InitiatorConnection) (out : List ℕ)
+    → initiator.InitiatorStartPost (Ok tt) (initiator.opening_initiator initiator_settings) new [] out
+    → AreOneDisk blocks [] (ends_of new (target.opening_target target_settings 1) (zeros blocks) out [])
 unfolding RunsServed local_outcomes
 starts blocks new out s = record {
   events = [];
@@ -210,7 +219,7 @@ starts blocks new out s = record {
   requests_are = refl;
   runs = (
     λ j. record {
-      target = target.opening_connection target_settings 1;
+      target = target.opening_target target_settings 1;
       blocks = replicate (512 * blocks) 0;
       initiator = record { machine = s.1.machine j; framing = s.1.framing j };
       to_target = s.1.output j;
@@ -225,13 +234,13 @@ starts blocks new out s = record {
 -- ---- a request
 
 -- a request is handed in
-pub submits_on : (old new : initiator.Connection) (t : target.Connection) (disk : Disk) (out : List ℕ) (request : Request)
-    → initiator.Submits (Ok tt) old request new [] out → IsServed request
+pub submits_on : (old new : initiator.InitiatorConnection) (t : target.TargetConnection) (disk : Disk) (out : List ℕ) (request : Request)
+    → initiator.InitiatorSubmitPost (Ok tt) old request new [] out → IsServed request
     → (blocks : ℕ) (requests : List Request) (outcomes : List Done) → HaveServed blocks requests outcomes (ends_of old t disk [] [])
     → HaveServed blocks (requests ++ request ∷ []) outcomes (ends_of new t disk out [])
 submits_on old new t disk out request s is blocks requests outcomes h =
-    let here : Ends = ends_of old t disk [] [] in
-    let there : Ends = ends_of new t disk out [] in
+    let here : BothEnds = ends_of old t disk [] [] in
+    let there : BothEnds = ends_of new t disk out [] in
     let asks : InitiatorIsAsked request (world_of here h.bytes) (world_of there h.bytes) = record {
       result = Ok tt;
       submitted = s;
@@ -245,12 +254,13 @@ submits_on old new t disk out request s is blocks requests outcomes h =
     (more blocks requests outcomes here there h.bytes (Submits request) h asks (is, s.none) h.disk_is)
 
 -- its outcome is taken, and is that of one local disk
-pub takes_on : (i : initiator.Connection) (t : target.Connection) (disk : Disk) (request : Request) (done : Done) (blocks : ℕ) (past : List Request)
+pub takes_on : (i : initiator.InitiatorConnection) (t : target.TargetConnection) (disk : Disk) (request : Request) (done : Done) (blocks : ℕ)
+    (past : List Request)
     → i.machine.done ≡ Some done → HaveServed blocks (past ++ request ∷ []) (outcomes_on blocks past) (ends_of i t disk [] [])
     → (done ≡ outcome_on blocks past request) × AreOneDisk blocks (past ++ request ∷ []) (ends_of (initiator.after_taking i) t disk [] [])
 takes_on i t disk request done blocks past is h =
-    let here : Ends = ends_of i t disk [] [] in
-    let there : Ends = ends_of (initiator.after_taking i) t disk [] [] in
+    let here : BothEnds = ends_of i t disk [] [] in
+    let there : BothEnds = ends_of (initiator.after_taking i) t disk [] [] in
     let c : Opening = loop_opening blocks in
     let all : List Request = past ++ request ∷ [] in
     let whole : outcomes_on blocks past ++ listed i.machine.done ≡ disk_outcomes c (requests_of h.events) =
@@ -271,27 +281,29 @@ takes_on i t disk request done blocks past is h =
     first_is a b e = cc
 
 -- a request and its outcome, with what was carried between
-pub performs : (old handed settled : initiator.Connection) (t u : target.Connection) (before after : Disk) (out : List ℕ) (request : Request) (done : Done)
-    → initiator.Submits (Ok tt) old request handed [] out → IsServed request → GoOn (ends_of handed t before out []) (ends_of settled u after [] [])
+pub performs : (old handed settled : initiator.InitiatorConnection) (t u : target.TargetConnection) (before after : Disk) (out : List ℕ) (request : Request)
+    (done : Done)
+    → initiator.InitiatorSubmitPost (Ok tt) old request handed [] out → IsServed request → GoOn (ends_of handed t before out []) (ends_of settled u after [] [])
     → settled.machine.done ≡ Some done
-    → Performs (ends_of old t before [] []) request done (ends_of (initiator.after_taking settled) u after [] [])
+    → PerformsOnDisk (ends_of old t before [] []) request done (ends_of (initiator.after_taking settled) u after [] [])
 performs old handed settled t u before after out request done s is on given = λ blocks past h.
     takes_on settled u after request done blocks past given
     (on blocks (past ++ request ∷ []) (outcomes_on blocks past) (submits_on old handed t before out request s is blocks past (outcomes_on blocks past) h))
 
 -- a login begins
-pub login_begins : (old started_ : initiator.Connection) (t : target.Connection) (before : Disk) (out : List ℕ) (blocks : ℕ)
-    → ends_of old t before [] [] ≡ new_ends blocks → initiator.Starts (Ok tt) old started_ [] out → AreOneDisk blocks [] (ends_of started_ t before out [])
+pub login_begins : (old started_ : initiator.InitiatorConnection) (t : target.TargetConnection) (before : Disk) (out : List ℕ) (blocks : ℕ)
+    → ends_of old t before [] [] ≡ new_ends blocks → initiator.InitiatorStartPost (Ok tt) old started_ [] out
+    → AreOneDisk blocks [] (ends_of started_ t before out [])
 login_begins old started_ t before out blocks new s =
-    let first : initiator.Starts (Ok tt) (initiator.opening_connection initiator_settings) started_ [] out =
-    subst (λ (i : initiator.Connection). initiator.Starts (Ok tt) i started_ [] out) (ap (λ (e : Ends). e.initiator) new) s in
-    subst (λ (d : Disk). AreOneDisk blocks [] (ends_of started_ t d out [])) (sym (ap (λ (e : Ends). e.disk) new))
-    (subst (λ (x : target.Connection). AreOneDisk blocks [] (ends_of started_ x (zeros blocks) out [])) (sym (ap (λ (e : Ends). e.target) new))
+    let first : initiator.InitiatorStartPost (Ok tt) (initiator.opening_initiator initiator_settings) started_ [] out =
+    subst (λ (i : initiator.InitiatorConnection). initiator.InitiatorStartPost (Ok tt) i started_ [] out) (ap (λ (e : BothEnds). e.initiator) new) s in
+    subst (λ (d : Disk). AreOneDisk blocks [] (ends_of started_ t d out [])) (sym (ap (λ (e : BothEnds). e.disk) new))
+    (subst (λ (x : target.TargetConnection). AreOneDisk blocks [] (ends_of started_ x (zeros blocks) out [])) (sym (ap (λ (e : BothEnds). e.target) new))
     (starts blocks started_ out first))
 
 -- a login
-pub logs_in : (old started_ settled : initiator.Connection) (t u : target.Connection) (before after : Disk) (out : List ℕ) (blocks : ℕ)
-    → ends_of old t before [] [] ≡ new_ends blocks → initiator.Starts (Ok tt) old started_ [] out
+pub logs_in : (old started_ settled : initiator.InitiatorConnection) (t u : target.TargetConnection) (before after : Disk) (out : List ℕ) (blocks : ℕ)
+    → ends_of old t before [] [] ≡ new_ends blocks → initiator.InitiatorStartPost (Ok tt) old started_ [] out
     → GoOn (ends_of started_ t before out []) (ends_of settled u after [] []) → AreOneDisk blocks [] (ends_of settled u after [] [])
 logs_in old started_ settled t u before after out blocks new s on =
     on blocks [] (outcomes_on blocks []) (login_begins old started_ t before out blocks new s)

@@ -8,7 +8,7 @@ use Rattle.std.proofs.lemmas.Fmt.{hex_byte}
 use Rattle.std.proofs.lemmas.List.{take_min}
 use Rattle.std.proofs.lemmas.Bool.{eqb-true}
 use Rattle.hex.specs.Hex.{encode_lower}
-use Rattle.iscsi_loop.specs.Reports.{good, check, two_digits}
+use Rattle.iscsi_loop.specs.Reports.{good_report, check_report, two_digits}
 
 pub as_two_digits : (byte : ℕ) → byte < 256 → padded_integral (format_spec 32 0 4 2 (2 ^ 64 - 1)) false [] (digits 16 false byte) ≡ two_digits byte
 as_two_digits byte small = hex_byte false byte small
@@ -26,7 +26,7 @@ not_zero n other = go (n == 0) refl
     go false e = e
 
 pub good_is : (bytes shown : List ℕ) (n : ℕ) → (length bytes ≡ 0 → ⊥) → n ≡ min (length bytes) 16 → shown ≡ encode_lower (take n bytes)
-    → codes "good " ++ (decimal (length bytes) ++ (codes " " ++ shown)) ≡ good bytes
+    → codes "good " ++ (decimal (length bytes) ++ (codes " " ++ shown)) ≡ good_report bytes
 good_is bytes shown n some least is =
     let first : take n bytes ≡ take 16 bytes = ap (λ (k : ℕ). take k bytes) (least ∙ min_comm (length bytes) 16) ∙ take_min 16 bytes in
     let all : shown ≡ encode_lower (take 16 bytes) = is ∙ ap encode_lower first in
@@ -37,7 +37,7 @@ good_is bytes shown n some least is =
 
 pub check_is : (sense key code qualifier : List ℕ) (k c q : ℕ) → k ≡ slice_index_or sense 2 0 → c ≡ slice_index_or sense 12 0 → q ≡ slice_index_or sense 13 0 →
     key ≡ digits 16 false (k % 16) → code ≡ two_digits c → qualifier ≡ two_digits q
-    → codes "check " ++ (key ++ (codes "/" ++ (code ++ (codes "/" ++ qualifier)))) ≡ check sense
+    → codes "check " ++ (key ++ (codes "/" ++ (code ++ (codes "/" ++ qualifier)))) ≡ check_report sense
 check_is sense key code qualifier k c q is_k is_c is_q is_key is_code is_qualifier =
     let d : List ℕ = digits 16 false (slice_index_or sense 2 0 % 16) in
     let a : List ℕ = two_digits (slice_index_or sense 12 0) in

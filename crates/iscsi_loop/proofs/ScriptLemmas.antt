@@ -8,9 +8,10 @@ use Rattle.std.proofs.lemmas.Bool.{eq-eqb, eqb-true}
 use Rattle.std.proofs.lemmas.List.{drop_more, length-append}
 use Rattle.std.proofs.lemmas.List.Elements.{recursion_from_All}
 use Rattle.iscsi_text.specs.Text.{HasNo}
-use Rattle.iscsi_text.specs.Inside.{SplitsAt}
+use Rattle.iscsi_text.specs.Shown.{SplitsAtByte}
 use Rattle.iscsi_loop.specs.declared.command.Command.{Command}
-use Rattle.iscsi_loop.specs.Script.{parted, number_behind, lines_of, begin, meaning, meanings, AreCommands, IsFirstBad, IsInRange, AreInRange}
+use Rattle.iscsi_loop.specs.Script.{parted, number_behind, script_lines, begin, meaning, meanings, AreCommands, IsFirstBad}
+use Rattle.iscsi_loop.specs.inner.Script.{IsCommandInRange, AreCommandsInRange}
 
 -- ---- parts
 
@@ -45,13 +46,13 @@ lacking : (byte : ℕ) (bytes : List ℕ) → AllByRecursion (λ b. b ≢ byte) 
 lacking byte [] none = refl
 lacking byte (b ∷ bytes) none = other_byte byte b bytes none.0 ∙ ap (longer b) (lacking byte bytes none.1)
 
-whole : (bytes : List ℕ) (byte : ℕ) (front back : List ℕ) → SplitsAt bytes byte front back → ◌≡◌ {A = Parts} (parted byte bytes) (front, Some back)
+whole : (bytes : List ℕ) (byte : ℕ) (front back : List ℕ) → SplitsAtByte bytes byte front back → ◌≡◌ {A = Parts} (parted byte bytes) (front, Some back)
 whole bytes byte front back splits = ap (parted byte) splits.whole ∙ found byte front back (recursion_from_All (λ b. b ≢ byte) front splits.first)
 
-pub found_front : (bytes : List ℕ) (byte : ℕ) (front back : List ℕ) → SplitsAt bytes byte front back → front ≡ (parted byte bytes).0
+pub found_front : (bytes : List ℕ) (byte : ℕ) (front back : List ℕ) → SplitsAtByte bytes byte front back → front ≡ (parted byte bytes).0
 found_front bytes byte front back splits = ap (λ (p : Parts). p.0) (sym (whole bytes byte front back splits))
 
-pub found_behind : (bytes : List ℕ) (byte : ℕ) (front back : List ℕ) → SplitsAt bytes byte front back → Some back ≡ (parted byte bytes).1
+pub found_behind : (bytes : List ℕ) (byte : ℕ) (front back : List ℕ) → SplitsAtByte bytes byte front back → Some back ≡ (parted byte bytes).1
 found_behind bytes byte front back splits = ap (λ (p : Parts). p.1) (sym (whole bytes byte front back splits))
 
 pub lacking_front : (bytes : List ℕ) (byte : ℕ) → HasNo byte bytes → bytes ≡ (parted byte bytes).0
@@ -65,40 +66,40 @@ lacking_behind bytes byte none = ap (λ (p : Parts). p.1) (sym (lacking byte byt
 -- the lines behind the first
 abbrev pub lines_behind : Option (List ℕ) → List (List ℕ)
 lines_behind None = []
-lines_behind (Some rest) = lines_of rest
+lines_behind (Some rest) = script_lines rest
 
 -- the first line and those behind it
 abbrev lines_at : Parts → List (List ℕ)
 lines_at parts = parts.0 ∷ lines_behind parts.1
 
 one_more : (t : Bool) (b : ℕ) (bs : List ℕ) (lines : List (List ℕ)) (parts : Parts) → begin b lines ≡ lines_at (longer b parts)
-    → (if t then [] ∷ lines_of bs else begin b lines) ≡ lines_at (if t then here bs else longer b parts)
+    → (if t then [] ∷ script_lines bs else begin b lines) ≡ lines_at (if t then here bs else longer b parts)
 one_more true b bs lines parts e = refl
 one_more false b bs lines parts e = e
 
-lines_from : (b : ℕ) (bs : List ℕ) → lines_of (b ∷ bs) ≡ lines_at (parted 0x0a (b ∷ bs))
+lines_from : (b : ℕ) (bs : List ℕ) → script_lines (b ∷ bs) ≡ lines_at (parted 0x0a (b ∷ bs))
 lines_from b [] = one_more (b == 0x0a) b [] [] ([], None) refl
-lines_from b (c ∷ cs) = one_more (b == 0x0a) b (c ∷ cs) (lines_of (c ∷ cs)) (parted 0x0a (c ∷ cs)) (ap (begin b) (lines_from c cs))
+lines_from b (c ∷ cs) = one_more (b == 0x0a) b (c ∷ cs) (script_lines (c ∷ cs)) (parted 0x0a (c ∷ cs)) (ap (begin b) (lines_from c cs))
 
 -- the line before the first line end, and those behind it
-pub lines_split : (bs front back : List ℕ) → SplitsAt bs 0x0a front back → 0 < length bs → lines_of bs ≡ front ∷ lines_of back
+pub lines_split : (bs front back : List ℕ) → SplitsAtByte bs 0x0a front back → 0 < length bs → script_lines bs ≡ front ∷ script_lines back
 lines_split [] front back splits some = absurd (omega arith)
 lines_split (b ∷ bs) front back splits some = lines_from b bs ∙ ap lines_at (whole (b ∷ bs) 0x0a front back splits)
 
 -- the last line, which lacks its end
-pub lines_last : (bs : List ℕ) → HasNo 0x0a bs → 0 < length bs → lines_of bs ≡ bs ∷ []
+pub lines_last : (bs : List ℕ) → HasNo 0x0a bs → 0 < length bs → script_lines bs ≡ bs ∷ []
 lines_last [] none some = absurd (omega arith)
 lines_last (b ∷ bs) none some = lines_from b bs ∙ ap lines_at (lacking 0x0a (b ∷ bs) (recursion_from_All (λ c. c ≢ 0x0a) (b ∷ bs) none))
 
 -- what stands behind a byte is shorter
-pub shorter : (bs : List ℕ) (byte : ℕ) (front back : List ℕ) → SplitsAt bs byte front back → length back < length bs
+pub shorter : (bs : List ℕ) (byte : ℕ) (front back : List ℕ) → SplitsAtByte bs byte front back → length back < length bs
 shorter bs byte front back splits = omega (arith, ap length splits.whole, length-append front (byte ∷ back))
 
 -- ---- commands
 
 -- one command more
 pub commands_more : (script rest line more : List ℕ) (commands : List Command) (command : Command) → meanings script ≡ map Some commands ++ meanings rest →
-    lines_of rest ≡ line ∷ lines_of more → meaning line ≡ Some command
+    script_lines rest ≡ line ∷ script_lines more → meaning line ≡ Some command
     → meanings script ≡ map Some (commands ++ command ∷ []) ++ meanings more
 commands_more script rest line more commands command so_far lines is =
     so_far ∙ ap (λ (ls : List (List ℕ)). map Some commands ++ map meaning ls) lines ∙ ap (λ (o : Option Command). map Some commands ++ o ∷ meanings more) is
@@ -109,13 +110,14 @@ commands_more script rest line more commands command so_far lines is =
     moved (c ∷ cs) = ap (λ (os : List (Option Command)). Some c ∷ os) (moved cs)
 
 -- one command more is in range
-pub one_more_in_range : (commands : List Command) (command : Command) → AreInRange commands → IsInRange command → AreInRange (commands ++ command ∷ [])
+pub one_more_in_range : (commands : List Command) (command : Command) → AreCommandsInRange commands → IsCommandInRange command
+    → AreCommandsInRange (commands ++ command ∷ [])
 one_more_in_range [] command all is = (is, tt)
 one_more_in_range (c ∷ commands) command all is = (all.0, one_more_in_range commands command all.1 is)
 
 -- the first line that means nothing
-pub commands_stop : (script rest line more : List ℕ) (commands : List Command) → meanings script ≡ map Some commands ++ meanings rest → lines_of rest
-    ≡ line ∷ lines_of more → meaning line ≡ None
+pub commands_stop : (script rest line more : List ℕ) (commands : List Command) → meanings script ≡ map Some commands ++ meanings rest → script_lines rest
+    ≡ line ∷ script_lines more → meaning line ≡ None
     → IsFirstBad script (length commands + 1)
 commands_stop script rest line more commands so_far lines is = (
   commands,

@@ -1,5 +1,5 @@
 -- The requests that the commands of a script are (SPC-4 and SBC-3; which there are is own rule).
-use Rattle.std.specs.Prelude.{ℕ, ◌*◌, ◌^◌, ◌<◌, Bool, true, false, replicate}
+use Rattle.std.specs.Prelude.{ℕ, ◌*◌, ◌^◌, Bool, true, false, replicate}
 use Rattle.scsi_cdb.specs.declared.cdb.Cdb.{Cdb}
 use Rattle.scsi_cdb.specs.declared.cdb.Cdb.TheVariants as cdb
 use Rattle.scsi_cdb.specs.Blocks.{canonical}
@@ -15,44 +15,29 @@ abbrev pub data_in_request : ℕ → Cdb → ℕ → Request
 data_in_request unit block expected = requests.In (unit * 2 ^ 48) (canonical block) expected
 
 -- A WRITE of n blocks of 512 bytes, all of them this byte (SBC-3).
-abbrev pub written : ℕ → ℕ → ℕ → Request
-written logical_block_address blocks byte =
+abbrev pub write_request : ℕ → ℕ → ℕ → Request
+write_request logical_block_address blocks byte =
     requests.Out 0 (canonical (writing logical_block_address blocks))
     (replicate (512 * blocks) byte)
 
 -- What a command asks for. TEST UNIT READY, INQUIRY and REPORT LUNS are SPC-4's, and READ CAPACITY,
 -- READ, WRITE and SYNCHRONIZE CACHE(10) are SBC-3's. A ping and a logout are those of RFC 7143,
 -- sections 11.18 and 11.14 (what stands in the other fields of all these is own rule).
-abbrev pub request_of : Command → Request
-request_of (TestUnitReady unit) = data_in_request unit (cdb.TestUnitReady 0) 0
-request_of (Inquiry unit allocation_length) =
+abbrev pub command_request : Command → Request
+command_request (TestUnitReady unit) = data_in_request unit (cdb.TestUnitReady 0) 0
+command_request (Inquiry unit allocation_length) =
     data_in_request unit (cdb.Inquiry false 0 allocation_length 0) allocation_length
-request_of Capacity = data_in_request 0 (cdb.Capacity10 0) 8
-request_of Capacity16 = data_in_request 0 (cdb.Capacity16 32 0) 32
-request_of Luns = data_in_request 0 (cdb.ReportLuns 0 16 0) 16
-request_of (Read logical_block_address blocks) =
+command_request Capacity = data_in_request 0 (cdb.Capacity10 0) 8
+command_request Capacity16 = data_in_request 0 (cdb.Capacity16 32 0) 32
+command_request Luns = data_in_request 0 (cdb.ReportLuns 0 16 0) 16
+command_request (Read logical_block_address blocks) =
     data_in_request 0 (reading logical_block_address blocks) (512 * blocks)
-request_of (Write logical_block_address blocks byte) = written logical_block_address blocks byte
-request_of (Sync logical_block_address blocks) =
+command_request (Write logical_block_address blocks byte) =
+    write_request logical_block_address blocks byte
+command_request (Sync logical_block_address blocks) =
     data_in_request 0 (flush logical_block_address blocks) 0
-request_of (Ping bytes) = requests.Ping bytes
-request_of Logout = requests.Logout
-
--- The numbers of a command are those of their fields.
-abbrev pub HasNumbers : Command → Type 0
-HasNumbers (TestUnitReady unit) = unit < 256
-HasNumbers (Inquiry unit allocation_length) = (unit < 256) × (allocation_length < 2 ^ 16)
-HasNumbers Capacity = Unit {0}
-HasNumbers Capacity16 = Unit {0}
-HasNumbers Luns = Unit {0}
-HasNumbers (Read logical_block_address blocks) =
-    (logical_block_address < 2 ^ 64) × (blocks < 2 ^ 16)
-HasNumbers (Write logical_block_address blocks byte) =
-    (logical_block_address < 2 ^ 64) × (blocks < 2 ^ 16)
-HasNumbers (Sync logical_block_address blocks) =
-    (logical_block_address < 2 ^ 32) × (blocks < 2 ^ 16)
-HasNumbers (Ping bytes) = Unit {0}
-HasNumbers Logout = Unit {0}
+command_request (Ping bytes) = requests.Ping bytes
+command_request Logout = requests.Logout
 
 -- The command ends the session (RFC 7143, section 11.14).
 abbrev pub is_logout : Command → Bool

@@ -4,3 +4,4 @@ pub mod Reports
 pub mod Looping
 pub mod LoopSteps
 pub mod LoopPairs
+pub mod inner

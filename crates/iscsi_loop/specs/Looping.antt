@@ -5,28 +5,28 @@ use Rattle.std.specs.List.{flat_map}
 use Rattle.iscsi_text.specs.declared.negotiated.Session.TheVariants.{Normal}
 use Rattle.iscsi_login.specs.declared.stage.Stage.TheVariants.{Security}
 use Rattle.iscsi_login.specs.declared.offers.Auth.TheVariants as auth
-use Rattle.iscsi_login.specs.Negotiation.{standard}
+use Rattle.iscsi_login.specs.Negotiation.{standard_preferences}
 use Rattle.iscsi_target.specs.declared.fault.TargetFault.TheVariants as target
 use Rattle.iscsi_initiator.specs.declared.fault.InitiatorFault.TheVariants as initiator
 use Rattle.iscsi_initiator.specs.declared.request.Done.{Done}
-use Rattle.iscsi_initiator.specs.State.{Settings}
+use Rattle.iscsi_initiator.specs.State.{InitiatorSettings}
 use Rattle.iscsi_initiator.specs.Laws.{IsOutcomeOf}
 use Rattle.iscsi_loop.specs.declared.command.Command.{Command}
 use Rattle.iscsi_serving.specs.declared.fault.ServeFault.{ServeFault}
 use Rattle.iscsi_serving.specs.declared.fault.ServeFault.TheVariants as serve
-use Rattle.iscsi_loop.specs.Commands.{request_of, is_logout}
+use Rattle.iscsi_loop.specs.Commands.{command_request, is_logout}
 use Rattle.iscsi_loop.specs.Script.{IsScript, ScriptFails}
 use Rattle.iscsi_loop.specs.Reports.{report}
 
 -- What the initiator is configured with.
-abbrev pub initiator_settings : Settings
+abbrev pub initiator_settings : InitiatorSettings
 initiator_settings = record {
   proposal = record {
     initiator = codes "iqn.2026-01.example:host";
     target = codes "iqn.2026-01.example:disk";
     session = Normal;
     auth = auth.None;
-    prefs = standard;
+    prefs = standard_preferences;
   };
   start = Security;
   isid = 0x40 ∷ 0 ∷ 0 ∷ 1 ∷ 0 ∷ 0 ∷ [];
@@ -46,14 +46,14 @@ up_to_logout (command ∷ commands) =
 abbrev pub HaveOutcomes : List Command → List Done → Type 0
 HaveOutcomes [] [] = Unit {0}
 HaveOutcomes (command ∷ commands) (outcome ∷ outcomes) =
-    IsOutcomeOf (request_of command) outcome × HaveOutcomes commands outcomes
+    IsOutcomeOf (command_request command) outcome × HaveOutcomes commands outcomes
 HaveOutcomes _ _ = ⊥
 
 -- The first of these commands have outcomes of their requests' kinds, in order.
 abbrev pub FirstHaveOutcomes : List Command → List Done → Type 0
 FirstHaveOutcomes commands [] = Unit {0}
 FirstHaveOutcomes (command ∷ commands) (outcome ∷ outcomes) =
-    IsOutcomeOf (request_of command) outcome × FirstHaveOutcomes commands outcomes
+    IsOutcomeOf (command_request command) outcome × FirstHaveOutcomes commands outcomes
 FirstHaveOutcomes [] (outcome ∷ outcomes) = ⊥
 
 -- The lines of outcomes.
@@ -84,24 +84,24 @@ WritesFront script written =
     × ((n : ℕ) × (written ≡ take n (transcript outcomes)))
 
 -- What is written where a loop ends. No fault wraps the want of memory.
-abbrev pub Loops : Result (Unit {0}) ServeFault → List ℕ → List ℕ → Type 0
-Loops (Ok done) script written = DoesScript script written
-Loops (Err (serve.Script n)) script written =
+abbrev pub LoopPost : Result (Unit {0}) ServeFault → List ℕ → List ℕ → Type 0
+LoopPost (Ok done) script written = DoesScript script written
+LoopPost (Err (serve.Script n)) script written =
     ScriptFails (serve.Script n) script × (written ≡ [])
-Loops (Err serve.Sync) script written = ⊥
-Loops (Err serve.NoRandom) script written = ⊥
-Loops (Err serve.Write) script written = WritesFront script written
-Loops (Err serve.Read) script written = written ≡ []
-Loops (Err serve.NoMemory) script written = StopsWithin script written
-Loops (Err serve.Network) script written = StopsWithin script written
-Loops (Err (serve.Target target.NoMemory)) script written = ⊥
-Loops (Err (serve.Target fault)) script written = StopsWithin script written
-Loops (Err (serve.Initiator initiator.NoMemory)) script written = ⊥
-Loops (Err (serve.Initiator fault)) script written = StopsWithin script written
+LoopPost (Err serve.Sync) script written = ⊥
+LoopPost (Err serve.NoRandom) script written = ⊥
+LoopPost (Err serve.Write) script written = WritesFront script written
+LoopPost (Err serve.Read) script written = written ≡ []
+LoopPost (Err serve.NoMemory) script written = StopsWithin script written
+LoopPost (Err serve.Network) script written = StopsWithin script written
+LoopPost (Err (serve.Target target.NoMemory)) script written = ⊥
+LoopPost (Err (serve.Target fault)) script written = StopsWithin script written
+LoopPost (Err (serve.Initiator initiator.NoMemory)) script written = ⊥
+LoopPost (Err (serve.Initiator fault)) script written = StopsWithin script written
 
 -- The script is read to its end before anything is sent or written.
-abbrev pub ReadsFirst : Result (Unit {0}) ServeFault → List ℕ → Option (List ℕ) → Type 0
-ReadsFirst (Err (serve.Script n)) written left = Unit {0}
-ReadsFirst (Err serve.Read) written left = Unit {0}
-ReadsFirst (Err serve.NoMemory) written left = (written ≡ []) ⊎ IsAtEnd left
-ReadsFirst result written left = IsAtEnd left
+abbrev pub ReadsScriptFirst : Result (Unit {0}) ServeFault → List ℕ → Option (List ℕ) → Type 0
+ReadsScriptFirst (Err (serve.Script n)) written left = Unit {0}
+ReadsScriptFirst (Err serve.Read) written left = Unit {0}
+ReadsScriptFirst (Err serve.NoMemory) written left = (written ≡ []) ⊎ IsAtEnd left
+ReadsScriptFirst result written left = IsAtEnd left

@@ -1,5 +1,5 @@
 -- Scripts: lines of words, and the command that each line means.
-use Rattle.std.specs.Prelude.{◌≡◌, ◌≤◌, ◌<◌, ◌⊎◌, ℕ, ◌+◌, ◌-◌, ◌*◌, ◌^◌, ◌==◌, ◌&&◌, if◌then◌else◌, nat_le, nat_lt, List, [], ◌∷◌, ◌++◌, length, take, map, count_by, Option, Some, None, Result, Ok, Err, codes}
+use Rattle.std.specs.Prelude.{◌≡◌, ◌≤◌, ◌<◌, ◌⊎◌, ℕ, ◌+◌, ◌-◌, ◌*◌, ◌==◌, ◌&&◌, if◌then◌else◌, nat_le, nat_lt, List, [], ◌∷◌, ◌++◌, length, take, map, count_by, Option, Some, None, Result, Ok, Err, codes}
 use Rattle.std.specs.Char.{is_ascii_digit}
 use Rattle.std.specs.Str.{bytes_eq}
 use Rattle.hex.specs.Hex.{decode_of, decode_sized}
@@ -32,9 +32,9 @@ number_behind most n (c ∷ digits) =
     else None
 
 -- The number that one decimal digit or more make, if it is at most this.
-abbrev pub number : ℕ → List ℕ → Option ℕ
-number most [] = None
-number most (c ∷ digits) = number_behind most 0 (c ∷ digits)
+abbrev pub decimal_number : ℕ → List ℕ → Option ℕ
+decimal_number most [] = None
+decimal_number most (c ∷ digits) = number_behind most 0 (c ∷ digits)
 
 -- The word before the first blank.
 abbrev pub first_word : List ℕ → List ℕ
@@ -45,44 +45,44 @@ abbrev pub other_words : List ℕ → Option (List ℕ)
 other_words words = (parted 0x20 words).1
 
 -- The byte, where decoding gave one alone.
-abbrev pub only : Result (List ℕ) FromHexError → Option ℕ
-only (Ok (byte ∷ [])) = Some byte
-only _ = None
+abbrev pub lone_byte : Result (List ℕ) FromHexError → Option ℕ
+lone_byte (Ok (byte ∷ [])) = Some byte
+lone_byte _ = None
 
 -- The byte that two hex digits mean.
 abbrev pub byte_of : List ℕ → Option ℕ
-byte_of word = only (decode_sized word 1)
+byte_of word = lone_byte (decode_sized word 1)
 
 -- ---- commands by their arguments
 
 -- `U`: the unit, below 256.
 abbrev pub test_unit_ready : List ℕ → Option Command
 test_unit_ready words = do
-  unit ← number 255 words
+  unit ← decimal_number 255 words
   Some (TestUnitReady unit)
 
 -- `U A`: the unit, below 256, and the most bytes, below 65536.
-abbrev pub inquiry : List ℕ → Option Command
-inquiry words = do
-  unit ← number 255 (first_word words)
+abbrev pub inquiry_command : List ℕ → Option Command
+inquiry_command words = do
+  unit ← decimal_number 255 (first_word words)
   others ← other_words words
-  allocation_length ← number 65535 others
+  allocation_length ← decimal_number 65535 others
   Some (Inquiry unit allocation_length)
 
 -- `LBA N`: the first block, below 2^64, and how many, at most 8192.
 abbrev pub read : List ℕ → Option Command
 read words = do
-  logical_block_address ← number 18446744073709551615 (first_word words)
+  logical_block_address ← decimal_number 18446744073709551615 (first_word words)
   others ← other_words words
-  blocks ← number 8192 others
+  blocks ← decimal_number 8192 others
   Some (Read logical_block_address blocks)
 
 -- `LBA N BB`: the first block, below 2^64, how many, at most 8192, and what each byte is.
 abbrev pub write : List ℕ → Option Command
 write words = do
-  logical_block_address ← number 18446744073709551615 (first_word words)
+  logical_block_address ← decimal_number 18446744073709551615 (first_word words)
   others ← other_words words
-  blocks ← number 8192 (first_word others)
+  blocks ← decimal_number 8192 (first_word others)
   last ← other_words others
   byte ← byte_of last
   Some (Write logical_block_address blocks byte)
@@ -90,9 +90,9 @@ write words = do
 -- `LBA N`: the first block, below 2^32, and how many, below 65536.
 abbrev pub sync : List ℕ → Option Command
 sync words = do
-  logical_block_address ← number 4294967295 (first_word words)
+  logical_block_address ← decimal_number 4294967295 (first_word words)
   others ← other_words words
-  blocks ← number 65535 others
+  blocks ← decimal_number 65535 others
   Some (Sync logical_block_address blocks)
 
 -- A ping of these bytes, 1 to 8192.
@@ -102,29 +102,8 @@ ping_of (Ok bytes) =
 ping_of (Err fault) = None
 
 -- `HEX`: the bytes, 1 to 8192.
-abbrev pub ping : List ℕ → Option Command
-ping word = ping_of (decode_of word)
-
--- The numbers of a command are within these bounds.
-abbrev pub IsInRange : Command → Type 0
-IsInRange (TestUnitReady unit) = unit < 256
-IsInRange (Inquiry unit allocation_length) = (unit < 256) × (allocation_length < 65536)
-IsInRange Capacity = Unit {0}
-IsInRange Capacity16 = Unit {0}
-IsInRange Luns = Unit {0}
-IsInRange (Read logical_block_address blocks) =
-    (logical_block_address < 2 ^ 64) × (blocks ≤ 8192)
-IsInRange (Write logical_block_address blocks byte) =
-    (logical_block_address < 2 ^ 64) × (blocks ≤ 8192) × (byte < 256)
-IsInRange (Sync logical_block_address blocks) =
-    (logical_block_address < 2 ^ 32) × (blocks < 65536)
-IsInRange (Ping bytes) = (0 < length bytes) × (length bytes ≤ 8192)
-IsInRange Logout = Unit {0}
-
--- The numbers of each command are within these bounds.
-abbrev pub AreInRange : List Command → Type 0
-AreInRange [] = Unit {0}
-AreInRange (command ∷ commands) = IsInRange command × AreInRange commands
+abbrev pub ping_command : List ℕ → Option Command
+ping_command word = ping_of (decode_of word)
 
 -- ---- lines
 
@@ -138,24 +117,24 @@ alone name =
     else None)))
 
 -- A command of several words.
-abbrev pub followed : List ℕ → List ℕ → Option Command
-followed name words =
+abbrev pub command_of_words : List ℕ → List ℕ → Option Command
+command_of_words name words =
     if bytes_eq name (codes "tur") then test_unit_ready words
-    else (if bytes_eq name (codes "inquiry") then inquiry words
+    else (if bytes_eq name (codes "inquiry") then inquiry_command words
     else (if bytes_eq name (codes "read") then read words
     else (if bytes_eq name (codes "write") then write words
     else (if bytes_eq name (codes "sync") then sync words
-    else (if bytes_eq name (codes "ping") then ping words
+    else (if bytes_eq name (codes "ping") then ping_command words
     else None)))))
 
 -- The command of this name with these other words, if it has some.
-abbrev pub named : List ℕ → Option (List ℕ) → Option Command
-named name None = alone name
-named name (Some words) = followed name words
+abbrev pub command_named : List ℕ → Option (List ℕ) → Option Command
+command_named name None = alone name
+command_named name (Some words) = command_of_words name words
 
 -- What a line means, if it means a command.
 abbrev pub meaning : List ℕ → Option Command
-meaning line = named (first_word line) (other_words line)
+meaning line = command_named (first_word line) (other_words line)
 
 -- ---- scripts
 
@@ -165,13 +144,13 @@ begin b [] = (b ∷ []) ∷ []
 begin b (line ∷ lines) = (b ∷ line) ∷ lines
 
 -- The lines, of which the last may lack its end.
-abbrev pub lines_of : List ℕ → List (List ℕ)
-lines_of [] = []
-lines_of (b ∷ bs) = if b == 0x0a then [] ∷ lines_of bs else begin b (lines_of bs)
+abbrev pub script_lines : List ℕ → List (List ℕ)
+script_lines [] = []
+script_lines (b ∷ bs) = if b == 0x0a then [] ∷ script_lines bs else begin b (script_lines bs)
 
 -- What each line means.
 abbrev pub meanings : List ℕ → List (Option Command)
-meanings script = map meaning (lines_of script)
+meanings script = map meaning (script_lines script)
 
 -- The most bytes of a script.
 abbrev pub longest_script : ℕ
@@ -192,18 +171,6 @@ abbrev pub IsTooLongAt : List ℕ → ℕ → Type 0
 IsTooLongAt script n =
     (longest_script < length script)
     × (n ≡ count_by (λ b. b == 0x0a) (take longest_script script) + 1)
-
--- When the lines of a script are refused.
-abbrev pub LinesFail : ServeFault → List ℕ → Type 0
-LinesFail (serve.Script n) script = IsFirstBad script n
-LinesFail serve.NoMemory script = Unit {0}
-LinesFail serve.Read script = ⊥
-LinesFail (serve.Target fault) script = ⊥
-LinesFail (serve.Initiator fault) script = ⊥
-LinesFail serve.Network script = ⊥
-LinesFail serve.Sync script = ⊥
-LinesFail serve.NoRandom script = ⊥
-LinesFail serve.Write script = ⊥
 
 -- What was read is a script of these commands.
 abbrev pub IsScript : List ℕ → List Command → Type 0

@@ -1,8 +1,9 @@
 //! The commands of a script, and the requests that they are.
 
 ghost use Rattle.std.specs.Prelude.{◌≡◌, IfOk};
-ghost use Rattle.scsi_cdb.specs.Blocks.{Fits};
-ghost use Rattle.iscsi_loop.specs.Commands.{HasNumbers, request_of, is_logout, data_in_request, written};
+ghost use Rattle.scsi_cdb.specs.Blocks.{CdbFits};
+ghost use Rattle.iscsi_loop.specs.Commands.{command_request, is_logout, data_in_request, write_request};
+ghost use Rattle.iscsi_loop.specs.inner.Commands.{HasNumbers};
 
 use iscsi_initiator::Request;
 use scsi_cdb::{Bytes, Cdb};
@@ -69,7 +70,7 @@ impl Command {
     /// What an initiator is asked for: the command's descriptor block, and as many bytes as it can
     /// give (SPC-4 and SBC-3). The unit's number is byte 1 of the LUN (SAM-5, section 4.7).
     pub fn into_request(self, alloc: Global) -> Result<Request, AllocError>
-        ensures request { IfOk result (λ request. request ≡ request_of self) }
+        ensures request { IfOk result (λ request. request ≡ command_request self) }
         ensures numbers { HasNumbers self }
     {
         match self {
@@ -112,7 +113,7 @@ impl Command {
 
 // A command that may return `n` bytes.
 fn data_in_request(unit: u8, cdb: Cdb, expected: u32) -> Request
-    requires { Fits cdb }
+    requires { CdbFits cdb }
     ensures { result ≡ data_in_request unit cdb expected }
 {
     Request::In {
@@ -129,7 +130,7 @@ fn written(
     blocks: u16,
     byte: u8,
 ) -> Result<Request, AllocError>
-    ensures { IfOk result (λ request. request ≡ written logical_block_address blocks byte) }
+    ensures { IfOk result (λ request. request ≡ write_request logical_block_address blocks byte) }
 {
     let bytes = vec![in alloc; byte; 512 * usize::from(blocks)]?;
     Ok(Request::Out {

@@ -4,20 +4,23 @@
 ghost use Rattle.std.specs.Prelude.{◌≡◌, ◌<◌, ◌≤◌, ◌∷◌, [], ℕ, List, Option, IfOk, IfErr, OnOk};
 ghost use Rattle.scsi_disk.specs.Disk.{most_blocks};
 ghost use Rattle.std.specs.Io.KnownBytes.{Appends, Consumes, IsAtEnd};
-ghost use Rattle.iscsi_initiator.specs.State.{opening};
-ghost use Rattle.iscsi_initiator.specs.Calls.{opening_connection};
+ghost use Rattle.iscsi_initiator.specs.State.{new_session};
+ghost use Rattle.iscsi_initiator.specs.Calls.{opening_initiator};
 ghost use Rattle.iscsi_initiator.specs.declared.fault.InitiatorFault.TheVariants as faults;
 ghost use Rattle.iscsi_initiator.specs.declared.request.Done.{Done};
 ghost use Rattle.iscsi_initiator.specs.declared.request.Request.{Request};
 ghost use Rattle.iscsi_serving.specs.declared.fault.ServeFault.TheVariants as serve;
 ghost use Rattle.iscsi_loop.specs.Reports.{report};
-ghost use Rattle.iscsi_loop.specs.Commands.{request_of};
-ghost use Rattle.iscsi_loop.specs.Script.{AreInRange, IsInRange, IsScript};
+ghost use Rattle.iscsi_loop.specs.Commands.{command_request};
+ghost use Rattle.iscsi_loop.specs.Script.{IsScript};
+ghost use Rattle.iscsi_loop.specs.inner.Script.{AreCommandsInRange, IsCommandInRange};
 ghost use Rattle.iscsi_stream.specs.Normalising.{WroteFront};
-ghost use Rattle.iscsi_loop.specs.Looping.{initiator_settings, Loops, ReadsFirst};
-ghost use Rattle.scsi_disk.specs.Sparse.{disk_in};
-ghost use Rattle.iscsi_loop.specs.LoopPairs.{AreOneDisk, AreOpen, AreSomeDisk, GoOn, IsBlameless, IsFaithful, LoopsOnDisk, Performs, WritesLine, WritesOnDisk, asked, ends_of, new_ends};
-ghost use Rattle.iscsi_loop.specs.LoopSteps.{BlamesNoEnd, Continues, Fails, IsOfSession, Runs, Stops, refusal_fault};
+ghost use Rattle.iscsi_loop.specs.Looping.{initiator_settings, LoopPost, ReadsScriptFirst};
+ghost use Rattle.scsi_disk.specs.Sparse.{extents_disk};
+ghost use Rattle.iscsi_loop.specs.LoopPairs.{IsFaithful, LoopsOnDisk};
+ghost use Rattle.iscsi_loop.specs.inner.LoopPairs.{AreOneDisk, AreOpen, AreSomeDisk, GoOn, IsBlameless, PerformsOnDisk, WritesLine, WritesOnDisk, asked, ends_of, new_ends};
+ghost use Rattle.iscsi_loop.specs.LoopSteps.{BlamesNoEnd};
+ghost use Rattle.iscsi_loop.specs.inner.LoopSteps.{InitiatorContinues, CommandFails, IsSessionFault, ScriptRuns, ScriptStops, refusal_fault};
 
 use crate::carrier::Carrier;
 use crate::command::Command;
@@ -28,7 +31,7 @@ use iscsi_initiator::{Config, Done, Initiator, InitiatorFault, SubmitFault};
 use iscsi_login::{Auth, Offers, Phase, Preferences, Session, Stage};
 use iscsi_options::LONGEST_PIECE;
 use iscsi_pdu::LOGIN_SEGMENT;
-use iscsi_service::{FIRST_STAT_SN, TARGET_NAME, configuration};
+use iscsi_serve::{FIRST_STAT_SN, TARGET_NAME, configuration};
 use iscsi_serving::ServeFault;
 use iscsi_stream::write_fully;
 use iscsi_target::Target;
@@ -74,7 +77,7 @@ pub fn run_loop<R: Read, W: Write>(
     ensures loops { (script : List ℕ) × (written : List ℕ)
         × Consumes (R.remaining r.old) (R.remaining r.new) script
         × Appends (W.contents w.old) (W.contents w.new) written
-        × Loops result script written × ReadsFirst result written (R.remaining r.new) }
+        × LoopPost result script written × ReadsScriptFirst result written (R.remaining r.new) }
 {
     run_over::<Wire, R, W>(rt, blocks, piece, r, w)
 }
@@ -95,7 +98,7 @@ pub fn run_over<C: Carrier, R: Read, W: Write>(
     ensures loops { (script : List ℕ) × (written : List ℕ)
         × Consumes (R.remaining r.old) (R.remaining r.new) script
         × Appends (W.contents w.old) (W.contents w.new) written
-        × Loops result script written × ReadsFirst result written (R.remaining r.new) }
+        × LoopPost result script written × ReadsScriptFirst result written (R.remaining r.new) }
     // Over a connection that returns what was written to it, the lines are those of one local disk.
     ensures on_disk { IsFaithful C.carries → (script : List ℕ) × (written : List ℕ)
         × Consumes (R.remaining r.old) (R.remaining r.new) script
@@ -116,18 +119,18 @@ fn run_session<C: Carrier, W: Write>(
     commands: Vec<Command>,
     w: &mut W,
 ) -> Result<(), ServeFault>
-    requires begins { ends.old.initiator ≡ opening_connection initiator_settings }
+    requires begins { ends.old.initiator ≡ opening_initiator initiator_settings }
     ensures loops { (script : List ℕ) (left : Option (List ℕ)) → IsScript script commands.items
         → IsAtEnd left → (written : List ℕ) × Appends (W.contents w.old) (W.contents w.new) written
-        × Loops result script written × ReadsFirst result written left }
+        × LoopPost result script written × ReadsScriptFirst result written left }
     ensures on_disk { IsFaithful C.carries → (blocks : ℕ) (script : List ℕ)
-        → ends_of ends.old.initiator ends.old.target (disk_in ends.old.store) [] []
+        → ends_of ends.old.initiator ends.old.target (extents_disk ends.old.store) [] []
         ≡ new_ends blocks → IsScript script commands.items → (written : List ℕ)
         × Appends (W.contents w.old) (W.contents w.new) written
         × LoopsOnDisk blocks result script written }
     ensures blameless { IsFaithful C.carries → (blocks : ℕ)
-        → ends_of ends.old.initiator ends.old.target (disk_in ends.old.store) [] []
-        ≡ new_ends blocks → AreInRange commands.items → IfErr result BlamesNoEnd }
+        → ends_of ends.old.initiator ends.old.target (extents_disk ends.old.store) [] []
+        ≡ new_ends blocks → AreCommandsInRange commands.items → IfErr result BlamesNoEnd }
 {
     let mut carrier = C::open(rt)?;
     ends.log_in(&mut carrier)?;
@@ -144,20 +147,21 @@ fn run_commands<C: Carrier, W: Write>(
     commands: Vec<Command>,
     w: &mut W,
 ) -> Result<(), ServeFault>
-    requires begins { Continues (opening initiator_settings) [] [] ends.old.initiator.machine }
-    ensures runs { OnOk result (Runs commands.items (W.contents w.old) (W.contents w.new)) }
+    requires begins { InitiatorContinues (new_session initiator_settings) [] []
+        ends.old.initiator.machine }
+    ensures runs { OnOk result (ScriptRuns commands.items (W.contents w.old) (W.contents w.new)) }
     ensures err { IfErr result (λ fault.
-        Stops fault commands.items (W.contents w.old) (W.contents w.new)) }
+        ScriptStops fault commands.items (W.contents w.old) (W.contents w.new)) }
     ensures served { IsFaithful C.carries → (blocks : ℕ) → AreOneDisk blocks []
-        (ends_of ends.old.initiator ends.old.target (disk_in ends.old.store) [] [])
+        (ends_of ends.old.initiator ends.old.target (extents_disk ends.old.store) [] [])
         → WritesOnDisk blocks commands.items result (W.contents w.old) (W.contents w.new) }
     ensures stands { IsFaithful C.carries → (blocks : ℕ) → AreOneDisk blocks []
-        (ends_of ends.old.initiator ends.old.target (disk_in ends.old.store) [] [])
+        (ends_of ends.old.initiator ends.old.target (extents_disk ends.old.store) [] [])
         → OnOk result (AreSomeDisk blocks
-        (ends_of ends.new.initiator ends.new.target (disk_in ends.new.store) [] [])) }
+        (ends_of ends.new.initiator ends.new.target (extents_disk ends.new.store) [] [])) }
     ensures blameless { IsFaithful C.carries → (blocks : ℕ) → AreOneDisk blocks []
-        (ends_of ends.old.initiator ends.old.target (disk_in ends.old.store) [] [])
-        → AreInRange commands.items → IfErr result BlamesNoEnd }
+        (ends_of ends.old.initiator ends.old.target (extents_disk ends.old.store) [] [])
+        → AreCommandsInRange commands.items → IfErr result BlamesNoEnd }
 {
     for command in commands {
         let is_logout = command.is_logout();
@@ -177,21 +181,21 @@ fn run_command<C: Carrier, W: Write>(
     w: &mut W,
 ) -> Result<(), ServeFault>
     ensures ok { OnOk result ((done : Done)
-        × Continues ends.old.initiator.machine (request_of command ∷ []) (done ∷ [])
+        × InitiatorContinues ends.old.initiator.machine (command_request command ∷ []) (done ∷ [])
         ends.new.initiator.machine
         × Appends (W.contents w.old) (W.contents w.new) (report done)) }
-    ensures err { IfErr result (λ fault. Fails fault ends.old.initiator.machine command
+    ensures err { IfErr result (λ fault. CommandFails fault ends.old.initiator.machine command
         ends.new.initiator.machine (W.contents w.old) (W.contents w.new)) }
     ensures served { IsFaithful C.carries → (blocks : ℕ) (past : List Request)
         → AreOneDisk blocks past
-        (ends_of ends.old.initiator ends.old.target (disk_in ends.old.store) [] [])
-        → WritesLine result (asked blocks past (request_of command))
-        (ends_of ends.new.initiator ends.new.target (disk_in ends.new.store) [] [])
+        (ends_of ends.old.initiator ends.old.target (extents_disk ends.old.store) [] [])
+        → WritesLine result (asked blocks past (command_request command))
+        (ends_of ends.new.initiator ends.new.target (extents_disk ends.new.store) [] [])
         (W.contents w.old) (W.contents w.new) }
     ensures blameless { IsFaithful C.carries → (blocks : ℕ) (past : List Request)
         → AreOpen blocks past
-        (ends_of ends.old.initiator ends.old.target (disk_in ends.old.store) [] [])
-        → IsInRange command → IfErr result BlamesNoEnd }
+        (ends_of ends.old.initiator ends.old.target (extents_disk ends.old.store) [] [])
+        → IsCommandInRange command → IfErr result BlamesNoEnd }
 {
     let alloc = ends.alloc;
     let done = ends.perform(carrier, command)?;
@@ -231,11 +235,11 @@ impl LoopbackSession {
         requires moves { 0 < piece }
         requires short { piece ≤ 4096 }
         ensures opening { IfOk result (λ ends.
-            ends.initiator ≡ opening_connection initiator_settings) }
+            ends.initiator ≡ opening_initiator initiator_settings) }
         ensures new { IfOk result (λ ends.
-            ends_of ends.initiator ends.target (disk_in ends.store) [] [] ≡ new_ends blocks) }
+            ends_of ends.initiator ends.target (extents_disk ends.store) [] [] ≡ new_ends blocks) }
         ensures blameless { IfErr result BlamesNoEnd }
-        ensures err { IfErr result IsOfSession }
+        ensures err { IfErr result IsSessionFault }
     {
         // What may fail comes first, so that no end has to be let go.
         let initiator = initiator_configuration(alloc)?;
@@ -252,15 +256,15 @@ impl LoopbackSession {
     // Logs in.
     fn log_in<C: Carrier>(&mut self, carrier: &mut C) -> Result<(), ServeFault>
         ensures continues { OnOk result
-            (Continues self.old.initiator.machine [] [] self.new.initiator.machine) }
+            (InitiatorContinues self.old.initiator.machine [] [] self.new.initiator.machine) }
         ensures served { IsFaithful C.carries → (blocks : ℕ)
-            → ends_of self.old.initiator self.old.target (disk_in self.old.store) [] []
+            → ends_of self.old.initiator self.old.target (extents_disk self.old.store) [] []
             ≡ new_ends blocks → OnOk result (AreOneDisk blocks []
-            (ends_of self.new.initiator self.new.target (disk_in self.new.store) [] [])) }
+            (ends_of self.new.initiator self.new.target (extents_disk self.new.store) [] [])) }
         ensures blameless { IsFaithful C.carries → (blocks : ℕ)
-            → ends_of self.old.initiator self.old.target (disk_in self.old.store) [] []
+            → ends_of self.old.initiator self.old.target (extents_disk self.old.store) [] []
             ≡ new_ends blocks → IfErr result BlamesNoEnd }
-        ensures err { IfErr result IsOfSession }
+        ensures err { IfErr result IsSessionFault }
     {
         let mut out = Vec::new(self.alloc);
         self.initiator.start(&mut out)?;
@@ -273,17 +277,17 @@ impl LoopbackSession {
 
     // Hands in a command, and returns its outcome.
     fn perform<C: Carrier>(&mut self, carrier: &mut C, command: Command) -> Result<Done, ServeFault>
-        ensures continues { IfOk result (λ done. Continues self.old.initiator.machine
-            (request_of command ∷ []) (done ∷ []) self.new.initiator.machine) }
-        ensures served { IsFaithful C.carries → IfOk result (λ done. Performs
-            (ends_of self.old.initiator self.old.target (disk_in self.old.store) [] [])
-            (request_of command) done
-            (ends_of self.new.initiator self.new.target (disk_in self.new.store) [] [])) }
+        ensures continues { IfOk result (λ done. InitiatorContinues self.old.initiator.machine
+            (command_request command ∷ []) (done ∷ []) self.new.initiator.machine) }
+        ensures served { IsFaithful C.carries → IfOk result (λ done. PerformsOnDisk
+            (ends_of self.old.initiator self.old.target (extents_disk self.old.store) [] [])
+            (command_request command) done
+            (ends_of self.new.initiator self.new.target (extents_disk self.new.store) [] [])) }
         ensures blameless { IsFaithful C.carries → (blocks : ℕ) (past : List Request)
             → AreOpen blocks past
-            (ends_of self.old.initiator self.old.target (disk_in self.old.store) [] [])
-            → IsInRange command → IfErr result BlamesNoEnd }
-        ensures err { IfErr result IsOfSession }
+            (ends_of self.old.initiator self.old.target (extents_disk self.old.store) [] [])
+            → IsCommandInRange command → IfErr result BlamesNoEnd }
+        ensures err { IfErr result IsSessionFault }
     {
         let request = command.into_request(self.alloc)?;
         let mut out = Vec::new(self.alloc);
@@ -301,13 +305,14 @@ impl LoopbackSession {
     // Moves what the initiator sends to the target, and its answers back, until neither sends more.
     fn settle<C: Carrier>(&mut self, carrier: &mut C, requests: Vec<u8>) -> Result<(), ServeFault>
         ensures continues { OnOk result
-            (Continues self.old.initiator.machine [] [] self.new.initiator.machine) }
+            (InitiatorContinues self.old.initiator.machine [] [] self.new.initiator.machine) }
         ensures served { IsFaithful C.carries → OnOk result (GoOn
-            (ends_of self.old.initiator self.old.target (disk_in self.old.store) requests.items [])
-            (ends_of self.new.initiator self.new.target (disk_in self.new.store) [] [])) }
+            (ends_of self.old.initiator self.old.target (extents_disk self.old.store) requests.items
+            [])
+            (ends_of self.new.initiator self.new.target (extents_disk self.new.store) [] [])) }
         ensures blameless { IsFaithful C.carries → IfErr result (IsBlameless
-            (ends_of self.old.initiator self.old.target (disk_in self.old.store) requests.items [])) }
-        ensures err { IfErr result IsOfSession }
+            (ends_of self.old.initiator self.old.target (extents_disk self.old.store) requests.items [])) }
+        ensures err { IfErr result IsSessionFault }
     {
         let mut requests = requests;
         for _ in 0..TURNS {
@@ -328,12 +333,14 @@ impl LoopbackSession {
     ) -> Result<Vec<u8>, ServeFault>
         ensures kept { self.new.initiator ≡ self.old.initiator }
         ensures served { IsFaithful C.carries → IfOk result (λ answers. GoOn
-            (ends_of self.old.initiator self.old.target (disk_in self.old.store) requests.now [])
-            (ends_of self.new.initiator self.new.target (disk_in self.new.store) []
+            (ends_of self.old.initiator self.old.target (extents_disk self.old.store) requests.now
+            [])
+            (ends_of self.new.initiator self.new.target (extents_disk self.new.store) []
             answers.items)) }
         ensures blameless { IsFaithful C.carries → IfErr result (IsBlameless
-            (ends_of self.old.initiator self.old.target (disk_in self.old.store) requests.now [])) }
-        ensures err { IfErr result IsOfSession }
+            (ends_of self.old.initiator self.old.target (extents_disk self.old.store) requests.now
+            [])) }
+        ensures err { IfErr result IsSessionFault }
     {
         let mut answers = Vec::new(self.alloc);
         let mut buffer = [0u8; LONGEST_PIECE as usize];
@@ -357,14 +364,16 @@ impl LoopbackSession {
         answers: &[u8],
     ) -> Result<Vec<u8>, ServeFault>
         ensures continues { OnOk result
-            (Continues self.old.initiator.machine [] [] self.new.initiator.machine) }
+            (InitiatorContinues self.old.initiator.machine [] [] self.new.initiator.machine) }
         ensures served { IsFaithful C.carries → IfOk result (λ requests. GoOn
-            (ends_of self.old.initiator self.old.target (disk_in self.old.store) [] answers.now)
-            (ends_of self.new.initiator self.new.target (disk_in self.new.store)
+            (ends_of self.old.initiator self.old.target (extents_disk self.old.store) []
+            answers.now)
+            (ends_of self.new.initiator self.new.target (extents_disk self.new.store)
             requests.items [])) }
         ensures blameless { IsFaithful C.carries → IfErr result (IsBlameless
-            (ends_of self.old.initiator self.old.target (disk_in self.old.store) [] answers.now)) }
-        ensures err { IfErr result IsOfSession }
+            (ends_of self.old.initiator self.old.target (extents_disk self.old.store) []
+            answers.now)) }
+        ensures err { IfErr result IsSessionFault }
     {
         let mut requests = Vec::new(self.alloc);
         let mut buffer = [0u8; LONGEST_PIECE as usize];
@@ -382,8 +391,8 @@ impl LoopbackSession {
     // Ends the target's stream, unless the session was closed before.
     fn finish(&mut self) -> Result<(), ServeFault>
         ensures blameless { IfErr result (IsBlameless
-            (ends_of self.old.initiator self.old.target (disk_in self.old.store) [] [])) }
-        ensures err { IfErr result IsOfSession }
+            (ends_of self.old.initiator self.old.target (extents_disk self.old.store) [] [])) }
+        ensures err { IfErr result IsSessionFault }
     {
         if self.target.phase() != Phase::Closed {
             self.target.finish()?;

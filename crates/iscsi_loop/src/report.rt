@@ -3,7 +3,7 @@
 ghost use Rattle.std.specs.Prelude.{◌≡◌, false, IfOk, slice_index_or};
 ghost use Rattle.std.specs.Fmt.{digits};
 ghost use Rattle.std.specs.String.{string_bytes};
-ghost use Rattle.iscsi_loop.specs.Reports.{report, ended, good, check, two_digits, difference};
+ghost use Rattle.iscsi_loop.specs.Reports.{report, ended_report, good_report, check_report, two_digits, difference};
 
 use iscsi_initiator::Done;
 use scsi_cdb::Residual;
@@ -48,7 +48,7 @@ pub fn report(alloc: Global, done: &Done) -> Result<String, AllocError>
 
 // How a command with this status ended.
 fn ended(alloc: Global, status: u8, sense: &[u8], bytes: &[u8]) -> Result<String, AllocError>
-    ensures { IfOk result (λ text. string_bytes text ≡ ended status sense.now bytes.now) }
+    ensures { IfOk result (λ text. string_bytes text ≡ ended_report status sense.now bytes.now) }
 {
     if status == 0 {
         return good(alloc, bytes);
@@ -58,7 +58,7 @@ fn ended(alloc: Global, status: u8, sense: &[u8], bytes: &[u8]) -> Result<String
 
 // A command that ended well and gave these bytes.
 fn good(alloc: Global, bytes: &[u8]) -> Result<String, AllocError>
-    ensures { IfOk result (λ text. string_bytes text ≡ good bytes.now) }
+    ensures { IfOk result (λ text. string_bytes text ≡ good_report bytes.now) }
 {
     let len = bytes.len();
     if len == 0 {
@@ -70,7 +70,7 @@ fn good(alloc: Global, bytes: &[u8]) -> Result<String, AllocError>
 
 // A command that failed with these sense data.
 fn check(alloc: Global, sense: &[u8]) -> Result<String, AllocError>
-    ensures { IfOk result (λ text. string_bytes text ≡ check sense.now) }
+    ensures { IfOk result (λ text. string_bytes text ≡ check_report sense.now) }
 {
     let key = hexadecimal(alloc, byte_at(sense, 2) % 16)?;
     let code = two_digits(alloc, byte_at(sense, 12))?;

@@ -4,9 +4,10 @@ ghost use Rattle.std.specs.Prelude.{◌≡◌, ◌≤◌, ◌<◌, ◌∷◌, �
 ghost use Rattle.std.specs.Str.{bytes_eq};
 ghost use Rattle.std.specs.Io.KnownBytes.{Consumes, IsAtEnd};
 ghost use Rattle.iscsi_text.specs.Text.{HasNo};
-ghost use Rattle.iscsi_text.specs.Inside.{SplitsAt};
-ghost use Rattle.iscsi_loop.specs.Script.{parted, number, byte_of, test_unit_ready, inquiry, read, write, sync, ping, alone, followed, meaning, lines_of, longest_script};
-ghost use Rattle.iscsi_loop.specs.Script.{AreCommands, IsTooLongAt, LinesFail, IsScript, ScriptFails, IsInRange, AreInRange};
+ghost use Rattle.iscsi_text.specs.Shown.{SplitsAtByte};
+ghost use Rattle.iscsi_loop.specs.Script.{parted, decimal_number, byte_of, test_unit_ready, inquiry_command, read, write, sync, ping_command, alone, command_of_words, meaning, script_lines, longest_script};
+ghost use Rattle.iscsi_loop.specs.Script.{AreCommands, IsTooLongAt, IsScript, ScriptFails};
+ghost use Rattle.iscsi_loop.specs.inner.Script.{LinesFail, IsCommandInRange, AreCommandsInRange};
 
 use crate::command::Command;
 use hex::{FromHex, FromHexError};
@@ -59,7 +60,7 @@ pub fn read_script<R: Read>(alloc: Global, r: &mut R) -> Result<Vec<Command>, Se
     ensures ok { IfOk result (λ commands. (script : List ℕ)
         × Consumes (R.remaining r.old) (R.remaining r.new) script × IsAtEnd (R.remaining r.new)
         × IsScript script commands.items) }
-    ensures ranges { IfOk result (λ commands. AreInRange commands.items) }
+    ensures ranges { IfOk result (λ commands. AreCommandsInRange commands.items) }
     ensures err { IfErr result (λ fault. (script : List ℕ)
         × Consumes (R.remaining r.old) (R.remaining r.new) script × ScriptFails fault script) }
 {
@@ -100,7 +101,7 @@ fn too_long_at(script: &[u8]) -> u64
 #[tactic(auto, using(crate::proofs::ScriptLemmas::commands_more, crate::proofs::ScriptLemmas::commands_stop, crate::proofs::ScriptLemmas::commands_end))]
 fn commands(alloc: Global, script: &[u8]) -> Result<Vec<Command>, ServeFault>
     ensures ok { IfOk result (λ commands. AreCommands script.now commands.items) }
-    ensures ranges { IfOk result (λ commands. AreInRange commands.items) }
+    ensures ranges { IfOk result (λ commands. AreCommandsInRange commands.items) }
     ensures err { IfErr result (λ fault. LinesFail fault script.now) }
 {
     let mut commands = Vec::new(alloc);
@@ -122,7 +123,7 @@ fn commands(alloc: Global, script: &[u8]) -> Result<Vec<Command>, ServeFault>
 #[tactic(auto, using(crate::proofs::ScriptLemmas::lines_split, crate::proofs::ScriptLemmas::lines_last, crate::proofs::ScriptLemmas::shorter))]
 fn first_line(script: &[u8]) -> (&[u8], &[u8])
     requires { 0 < length script.now }
-    ensures lines { lines_of script.now ≡ result.0.now ∷ lines_of result.1.now }
+    ensures lines { script_lines script.now ≡ result.0.now ∷ script_lines result.1.now }
     ensures shorter { length result.1.now < length script.now }
 {
     match split_at_byte(script, b'\n') {
@@ -146,7 +147,7 @@ fn parted(bytes: &[u8], byte: u8) -> (&[u8], Option<&[u8]>)
 // The command that a line means.
 fn command_of(alloc: Global, line: &[u8]) -> Result<Option<Command>, AllocError>
     ensures means { IfOk result (λ command. command ≡ meaning line.now) }
-    ensures range { IfOk result (λ command. IfSome command IsInRange) }
+    ensures range { IfOk result (λ command. IfSome command IsCommandInRange) }
 {
     let (name, words) = parted(line, b' ');
     let Some(words) = words else {
@@ -161,7 +162,7 @@ fn command_of(alloc: Global, line: &[u8]) -> Result<Option<Command>, AllocError>
 // A command of one word.
 fn alone(name: &[u8]) -> Option<Command>
     ensures means { result ≡ alone name.now }
-    ensures range { IfSome result IsInRange }
+    ensures range { IfSome result IsCommandInRange }
 {
     if name == CAPACITY {
         return Some(Command::Capacity);
@@ -181,8 +182,8 @@ fn alone(name: &[u8]) -> Option<Command>
 // A command of several words, but for a ping.
 fn followed(name: &[u8], words: &[u8]) -> Option<Command>
     requires { bytes_eq name.now (codes "ping") ≡ false }
-    ensures means { result ≡ followed name.now words.now }
-    ensures range { IfSome result IsInRange }
+    ensures means { result ≡ command_of_words name.now words.now }
+    ensures range { IfSome result IsCommandInRange }
 {
     if name == TEST_UNIT_READY {
         return test_unit_ready(words);
@@ -204,15 +205,15 @@ fn followed(name: &[u8], words: &[u8]) -> Option<Command>
 
 fn test_unit_ready(words: &[u8]) -> Option<Command>
     ensures means { result ≡ test_unit_ready words.now }
-    ensures range { IfSome result IsInRange }
+    ensures range { IfSome result IsCommandInRange }
 {
     let unit = number(words, 255)? as u8;
     Some(Command::TestUnitReady { unit })
 }
 
 fn inquiry(words: &[u8]) -> Option<Command>
-    ensures means { result ≡ inquiry words.now }
-    ensures range { IfSome result IsInRange }
+    ensures means { result ≡ inquiry_command words.now }
+    ensures range { IfSome result IsCommandInRange }
 {
     let (unit, others) = parted(words, b' ');
     let unit = number(unit, 255)? as u8;
@@ -225,7 +226,7 @@ fn inquiry(words: &[u8]) -> Option<Command>
 
 fn read(words: &[u8]) -> Option<Command>
     ensures means { result ≡ read words.now }
-    ensures range { IfSome result IsInRange }
+    ensures range { IfSome result IsCommandInRange }
 {
     let (first, others) = parted(words, b' ');
     let logical_block_address = number(first, u64::MAX)?;
@@ -238,7 +239,7 @@ fn read(words: &[u8]) -> Option<Command>
 
 fn write(words: &[u8]) -> Option<Command>
     ensures means { result ≡ write words.now }
-    ensures range { IfSome result IsInRange }
+    ensures range { IfSome result IsCommandInRange }
 {
     let (first, others) = parted(words, b' ');
     let logical_block_address = number(first, u64::MAX)?;
@@ -254,7 +255,7 @@ fn write(words: &[u8]) -> Option<Command>
 
 fn sync(words: &[u8]) -> Option<Command>
     ensures means { result ≡ sync words.now }
-    ensures range { IfSome result IsInRange }
+    ensures range { IfSome result IsCommandInRange }
 {
     let (first, others) = parted(words, b' ');
     let logical_block_address = number(first, u64::from(u32::MAX))? as u32;
@@ -267,8 +268,8 @@ fn sync(words: &[u8]) -> Option<Command>
 
 // A ping, whose bytes are taken into memory.
 fn ping(alloc: Global, digits: &[u8]) -> Result<Option<Command>, AllocError>
-    ensures means { IfOk result (λ command. command ≡ ping digits.now) }
-    ensures range { IfOk result (λ command. IfSome command IsInRange) }
+    ensures means { IfOk result (λ command. command ≡ ping_command digits.now) }
+    ensures range { IfOk result (λ command. IfSome command IsCommandInRange) }
 {
     match hex::decode(alloc, digits) {
         Ok(bytes) if !bytes.is_empty() && bytes.len() <= LONGEST_PING => {
@@ -291,7 +292,7 @@ fn byte_of(digits: &[u8]) -> Option<u8>
 // The number that decimal digits make, leading zeros among them, if it is at most this.
 #[tactic(auto, using(crate::proofs::ScriptLemmas::number_more, crate::proofs::ScriptLemmas::number_no_digit, crate::proofs::ScriptLemmas::number_too_large))]
 fn number(digits: &[u8], most: u64) -> Option<u64>
-    ensures number { result ≡ number most digits.now }
+    ensures number { result ≡ decimal_number most digits.now }
     ensures most { IfSome result (λ n. n ≤ most) }
 {
     if digits.is_empty() {

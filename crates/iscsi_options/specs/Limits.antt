@@ -1,4 +1,4 @@
--- How long a peer may keep its seat.
+-- How long a peer may keep its slot.
 use Rattle.std.specs.Prelude.{ℕ, ◌*◌, ◌-◌, Option, Some, None, min}
 use Rattle.iscsi_login.specs.declared.phase.Phase.{Phase}
 use Rattle.iscsi_login.specs.declared.phase.Phase.TheVariants as phase
@@ -9,9 +9,9 @@ abbrev pub last_write : ℕ
 last_write = 30
 
 -- How many nanoseconds are left of a limit in seconds after n; no limit is never over.
-abbrev pub left_of : Option ℕ → ℕ → Option ℕ
-left_of (Some limit) gone = Some (limit * 1_000_000_000 - gone)
-left_of None gone = None
+abbrev pub limit_left : Option ℕ → ℕ → Option ℕ
+limit_left (Some limit) gone = Some (limit * 1_000_000_000 - gone)
+limit_left None gone = None
 
 -- The shorter of two times, of which none is the longest.
 abbrev pub shorter : Option ℕ → Option ℕ → Option ℕ
@@ -23,7 +23,7 @@ shorter None other = other
 -- nanoseconds ago, if no byte comes; none: any.
 abbrev pub time_left : Limits → Phase → ℕ → ℕ → Option ℕ
 time_left limits phase.Login accepted silent =
-    shorter (left_of limits.idle silent) (left_of limits.login_within accepted)
-time_left limits phase.Full accepted silent = left_of limits.idle silent
+    shorter (limit_left limits.idle silent) (limit_left limits.login_within accepted)
+time_left limits phase.Full accepted silent = limit_left limits.idle silent
 time_left limits phase.Closed accepted silent =
-    shorter (left_of limits.idle silent) (left_of (Some last_write) silent)
+    shorter (limit_left limits.idle silent) (limit_left (Some last_write) silent)

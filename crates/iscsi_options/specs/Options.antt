@@ -1,7 +1,7 @@
 -- What a service of several sessions at a time is asked for.
 use Rattle.std.specs.Prelude.{◌<◌, ◌≤◌, ℕ, IfSome}
 use Rattle.iscsi_login.specs.Name.{IsName}
-use Rattle.iscsi_login.specs.Negotiation.{IsInRange}
+use Rattle.iscsi_login.specs.Negotiation.{ArePreferencesInRange}
 use Rattle.iscsi_portal.specs.Portal.{IsPortal}
 use Rattle.scsi_unit.specs.LogicalUnit.{IsSerial}
 use Rattle.iscsi_login.specs.declared.preferences.Preferences.{Preferences}
@@ -15,7 +15,7 @@ longest_asked = 1048576
 -- Each preference is in its key's range (RFC 7143, sections 13.12 to 13.16), and no segment or burst
 -- is longer than may be asked for.
 pub record AreOffered (preferences : Preferences) : Type 0 where
-  pub range : IsInRange preferences
+  pub range : ArePreferencesInRange preferences
   pub segment : preferences.max_recv ≤ longest_asked
   pub burst : preferences.max_burst ≤ longest_asked
   pub first_burst : preferences.first_burst ≤ preferences.max_burst
@@ -32,8 +32,8 @@ IsMemory memory = (32768 ≤ memory) × (memory ≤ 562949953421312)
 -- 1 to 64 sessions at a time (own rule), a target's name, the address of its portal, if it is told
 -- (RFC 7143, sections 4.2.7 and 13.8), and the serial number of its disk, if it is told.
 pub record IsService (options : Options) : Type 0 where
-  pub some_seats : 0 < options.at_once
-  pub few_seats : options.at_once ≤ 64
+  pub some_slots : 0 < options.at_once
+  pub few_slots : options.at_once ≤ 64
   pub name : IsName options.name.now
   pub portal : IfSome options.portal (λ portal. IsPortal portal.now)
   pub unit : IfSome options.unit (λ unit. IsSerial unit.serial.now)

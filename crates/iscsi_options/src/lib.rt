@@ -1,5 +1,5 @@
 //! What a service of a disk is asked for: where it listens, how many sessions it takes, and how long a
-//! peer may keep its seat.
+//! peer may keep its slot.
 #![tactic(auto)]
 
 mod limits;

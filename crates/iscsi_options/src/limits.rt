@@ -1,8 +1,8 @@
-//! How long a peer may keep its seat.
+//! How long a peer may keep its slot.
 
 ghost use Rattle.std.specs.Prelude.{◌≡◌, option_map};
 ghost use Rattle.std.specs.Duration.{as_nanos};
-ghost use Rattle.iscsi_options.specs.Limits.{left_of, shorter, time_left};
+ghost use Rattle.iscsi_options.specs.Limits.{limit_left, shorter, time_left};
 
 use iscsi_login::Phase;
 use std::time::Duration;
@@ -10,10 +10,10 @@ use std::time::Duration;
 /// For how many seconds a peer may take none of the last answers of a closed session (own rule).
 pub const LAST_WRITE: u64 = 30;
 
-/// For how many seconds a connection may keep its seat without a login, if no other time is asked for.
+/// For how many seconds a connection may keep its slot without a login, if no other time is asked for.
 pub const LOGIN_WITHIN: u16 = 30;
 
-/// How long a peer may keep its seat, in seconds; RFC 7143 leaves that to the target.
+/// How long a peer may keep its slot, in seconds; RFC 7143 leaves that to the target.
 #[derive(Clone, Copy, Debug, PartialEq, Eq)]
 pub struct Limits {
     /// The longest silence, in which no byte goes either way, 1 to 65535; none: any.
@@ -40,7 +40,7 @@ impl Limits {
 
 // What is left of a limit in seconds after this time.
 fn left(limit: Option<u64>, gone: Duration) -> Option<Duration>
-    ensures { option_map as_nanos result ≡ left_of limit (as_nanos gone) }
+    ensures { option_map as_nanos result ≡ limit_left limit (as_nanos gone) }
 {
     match limit {
         Some(limit) => Some(Duration::from_secs(limit).saturating_sub(gone)),

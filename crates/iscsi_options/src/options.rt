@@ -10,7 +10,7 @@ pub const MOST_AT_ONCE: u16 = 64;
 /// The shortest segment and burst that a key can say, in bytes (RFC 7143, sections 13.12 to 13.14).
 pub const SHORTEST_ASKED: u32 = 512;
 
-/// The longest segment and burst that may be asked for, in bytes (own rule): 64 seats then hold
+/// The longest segment and burst that may be asked for, in bytes (own rule): 64 slots then hold
 /// segments of 64 MiB at most.
 pub const LONGEST_ASKED: u32 = 1_048_576;
 
@@ -57,7 +57,7 @@ pub struct Options<'a> {
     pub portal: Option<&'a [u8]>,
     /// What the disk tells of itself, if it tells more than the profile has.
     pub unit: Option<UnitOptions<'a>>,
-    /// How long a peer may keep its seat.
+    /// How long a peer may keep its slot.
     pub limits: Limits,
     /// What the target prefers in a login. `max_recv` and `max_burst` are 512 to 1048576 bytes, and
     /// `first_burst` is no longer than `max_burst`.

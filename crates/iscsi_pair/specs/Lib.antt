@@ -4,3 +4,4 @@ pub mod LocalDisk
 pub mod Served
 pub mod Outcomes
 pub mod Example
+pub mod inner

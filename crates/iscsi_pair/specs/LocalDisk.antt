@@ -3,6 +3,7 @@
 use Rattle.std.specs.Prelude.{◌≡◌, ◌⊎◌, ℕ, ◌+◌, ◌%◌, ◌<◌, ◌≤◌, ◌^◌, ◌==◌, zero, suc, false, not, List, [], ◌∷◌, ◌++◌, length, take, Option, Some, None}
 use Rattle.scsi_cdb.specs.Sense.{sense_bytes}
 use Rattle.scsi_cdb.specs.declared.sense.Sense.{Sense}
+use Rattle.scsi_cdb.specs.Blocks.{record_of}
 use Rattle.scsi_disk.specs.Disk.{Disk}
 use Rattle.scsi_disk.specs.Effect.{Effect, effect}
 use Rattle.scsi_disk.specs.declared.order.Order.{Order}
@@ -17,11 +18,10 @@ use Rattle.iscsi_target.specs.State as target
 use Rattle.iscsi_target.specs.Machine.{answers}
 use Rattle.iscsi_initiator.specs.declared.request.Done.{Done}
 use Rattle.iscsi_initiator.specs.declared.request.Done.TheVariants as done
-use Rattle.iscsi_initiator.specs.Block.{record_of}
 use Rattle.iscsi_initiator.specs.declared.request.Request.{Request}
 use Rattle.iscsi_initiator.specs.declared.request.Request.TheVariants as requests
 use Rattle.iscsi_initiator.specs.State as initiator
-use Rattle.iscsi_initiator.specs.Machine.{step, taken}
+use Rattle.iscsi_initiator.specs.Machine.{initiator_step, outcome_taken}
 use Rattle.iscsi_initiator.specs.Submitted.{submitted}
 
 -- What a request that may read orders of a disk (section 11.3).
@@ -99,7 +99,7 @@ window_of_eight cmd_sn = record {
 
 -- Both ends are in full feature phase of a normal session, hold the same, wait for the same
 -- numbers, and have nothing open (sections 4.2 and 6.3).
-pub record AreInStep (m : initiator.Machine) (t : target.Machine) : Type 0 where
+pub record AreInStep (m : initiator.InitiatorSession) (t : target.Machine) : Type 0 where
   pub initiator_phase : m.phase ≡ phases.Full
   pub target_phase : t.session.phase ≡ phases.Full
   pub session : t.session.session_type ≡ sessions.Normal
@@ -108,7 +108,7 @@ pub record AreInStep (m : initiator.Machine) (t : target.Machine) : Type 0 where
   pub no_task : t.tasks ≡ []
   pub held : t.session.held ≡ m.held
   pub is_held : IsHeld m.held
-  pub segment : m.held.target_max_recv ≤ target_session.limit t.session.settings
+  pub segment : m.held.target_max_recv ≤ target_session.target_limit t.session.settings
   -- its disk tells no more of itself than the profile has
   pub plain : t.session.settings.extras.unit ≡ None
   -- the tag of the last request, and the numbers that are due
@@ -121,13 +121,13 @@ pub record AreInStep (m : initiator.Machine) (t : target.Machine) : Type 0 where
   pub stat_sn_fits : t.session.stat_sn < 2 ^ 32
 
 -- Both sessions are over, and no request is open (section 11.14).
-pub record HaveParted (m : initiator.Machine) (t : target.Machine) : Type 0 where
+pub record HaveParted (m : initiator.InitiatorSession) (t : target.Machine) : Type 0 where
   pub initiator_phase : m.phase ≡ phases.Closed
   pub target_phase : t.session.phase ≡ phases.Closed
   pub none_open : m.outstanding ≡ None
 
 -- Both ends are in step and hold this, or have parted after this outcome, that of a logout.
-abbrev pub AreAtRest : Held → Done → initiator.Machine → target.Machine → Type 0
+abbrev pub AreAtRest : Held → Done → initiator.InitiatorSession → target.Machine → Type 0
 AreAtRest held outcome m t =
     (AreInStep m t × (m.held ≡ held)) ⊎ (HaveParted m t × (outcome ≡ done.Closed))
 
@@ -135,17 +135,17 @@ AreAtRest held outcome m t =
 
 -- Both ends, the disk, and the answers on their way, where the target has received all that was
 -- sent.
-pub record Exchange : Type 0 where
-  pub initiator : initiator.Machine
+pub record DiskExchange : Type 0 where
+  pub initiator : initiator.InitiatorSession
   pub target : target.Machine
   pub disk : Disk
   pub answers : List Message
 
 -- A message reaches the initiator, and what it sends then the target; these answers came before
 -- (section 4.2).
-abbrev pub after_answer : Exchange → Message → List Message → Exchange
+abbrev pub after_answer : DiskExchange → Message → List Message → DiskExchange
 after_answer x m more =
-    let received = step x.initiator m in
+    let received = initiator_step x.initiator m in
     let answered = answers false x.target x.disk received.output in
     record {
       initiator = received.machine;
@@ -155,17 +155,17 @@ after_answer x m more =
     }
 
 -- The next answer reaches the initiator, if one is on its way.
-abbrev pub after_next : Exchange → List Message → Exchange
+abbrev pub after_next : DiskExchange → List Message → DiskExchange
 after_next x [] = x
 after_next x (m ∷ more) = after_answer x m more
 
 -- N answers, one after another.
-abbrev pub after_answers : ℕ → Exchange → Exchange
+abbrev pub after_answers : ℕ → DiskExchange → DiskExchange
 after_answers zero x = x
 after_answers (suc more) x = after_answers more (after_next x x.answers)
 
 -- A request is handed in, and the target receives what is sent (section 4.2).
-abbrev pub handed_in : initiator.Machine → target.Machine → Disk → Request → Exchange
+abbrev pub handed_in : initiator.InitiatorSession → target.Machine → Disk → Request → DiskExchange
 handed_in m t disk request =
     let answered = answers false t disk (submitted m request).output in
     record {
@@ -177,12 +177,14 @@ handed_in m t disk request =
 
 -- The request has this outcome and left this disk, and no answer is on its way. Once the outcome is
 -- taken, both ends are in step and hold this, or have parted (section 4.2).
-pub record HasEnded (held : Held) (outcome : Done) (disk_now : Disk) (x : Exchange) : Type 0 where
+pub record RequestHasEnded (held : Held) (outcome : Done) (disk_now : Disk)
+    (x : DiskExchange) : Type 0 where
   pub done_is : x.initiator.done ≡ Some outcome
   pub silent : x.answers ≡ []
   pub disk_is : x.disk ≡ disk_now
-  pub at_rest : AreAtRest held outcome (taken x.initiator) x.target
+  pub at_rest : AreAtRest held outcome (outcome_taken x.initiator) x.target
 
 -- After some answers it has.
-abbrev pub ComesTo : Held → Done → Disk → Exchange → Type 0
-ComesTo held outcome disk_now x = (n : ℕ) × HasEnded held outcome disk_now (after_answers n x)
+abbrev pub EndsAfterAnswers : Held → Done → Disk → DiskExchange → Type 0
+EndsAfterAnswers held outcome disk_now x =
+    (n : ℕ) × RequestHasEnded held outcome disk_now (after_answers n x)

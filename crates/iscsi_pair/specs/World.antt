@@ -7,7 +7,7 @@ use Rattle.iscsi_login.specs.declared.phase.Phase.{Phase}
 use Rattle.iscsi_login.specs.declared.stage.Stage.TheVariants as stages
 use Rattle.iscsi_text.specs.declared.negotiated.Session.TheVariants as sessions
 use Rattle.iscsi_login.specs.declared.offers.Auth.TheVariants as auths
-use Rattle.iscsi_login.specs.Negotiation.{IsInRange}
+use Rattle.iscsi_login.specs.Negotiation.{ArePreferencesInRange}
 use Rattle.iscsi_target.specs.declared.fault.TargetFault.{TargetFault}
 use Rattle.iscsi_target.specs.declared.fault.TargetFault.TheVariants as target_faults
 use Rattle.iscsi_target_session.specs.Configured as target_settings
@@ -29,9 +29,9 @@ use Rattle.iscsi_pair.specs.declared.step.Step.TheVariants as steps
 -- Both ends, the bytes of the target's blocks, the bytes queued for each end, and the first fault
 -- of each end, if it has failed.
 pub record World : Type 0 where
-  pub target : target.Connection
+  pub target : target.TargetConnection
   pub blocks : List ℕ
-  pub initiator : initiator.Connection
+  pub initiator : initiator.InitiatorConnection
   pub to_target : List ℕ
   pub to_initiator : List ℕ
   pub target_fault : Option TargetFault
@@ -39,32 +39,32 @@ pub record World : Type 0 where
 
 -- What a pair is made of.
 pub record Opening : Type 0 where
-  pub initiator : initiator_state.Settings
-  pub target : target_settings.Settings
+  pub initiator : initiator_state.InitiatorSettings
+  pub target : target_settings.TargetSettings
   pub first_stat_sn : ℕ
   pub blocks : List ℕ
 
 -- The initiator that has started its login (section 6.3).
-abbrev pub started : Opening → initiator.Connection
-started c = record (initiator.opening_connection c.initiator) {
-  machine = (start_step (initiator_state.opening c.initiator)).machine;
+abbrev pub started : Opening → initiator.InitiatorConnection
+started c = record (initiator.opening_initiator c.initiator) {
+  machine = (start_step (initiator_state.new_session c.initiator)).machine;
 }
 
 -- A new pair: the initiator's first text is on its way (section 6.3).
 abbrev pub new_pair : Opening → World
 new_pair c = record {
-  target = target.opening_connection c.target c.first_stat_sn;
+  target = target.opening_target c.target c.first_stat_sn;
   blocks = c.blocks;
   initiator = started c;
-  to_target = canon (start_step (initiator_state.opening c.initiator)).output;
+  to_target = canon (start_step (initiator_state.new_session c.initiator)).output;
   to_initiator = [];
   target_fault = None;
   initiator_fault = None;
 }
 
 -- The store of the target: it never fails.
-abbrev pub store_of : List ℕ → target.Store
-store_of blocks = record { disk = disk_of blocks; failures = 0 }
+abbrev pub reliable_store : List ℕ → target.Store
+reliable_store blocks = record { disk = disk_of blocks; failures = 0 }
 
 -- ---- faults
 
@@ -96,20 +96,21 @@ keeps_no_memory w = target_ran_out w.target_fault || initiator_ran_out w.initiat
 -- ---- what can happen
 
 -- What happens to a pair: a step, or the taking of an outcome.
-pub data Event : Type 0 where
+pub data PairEvent : Type 0 where
   -- n bytes of a queue reach the end that they are for
-  ToTarget : ℕ → Event
-  ToInitiator : ℕ → Event
+  ToTarget : ℕ → PairEvent
+  ToInitiator : ℕ → PairEvent
   -- a request is handed in
-  Submits : Request → Event
+  Submits : Request → PairEvent
   -- the outcome is taken
-  Takes : Event
+  Takes : PairEvent
 
 -- Bytes reach the target, as one piece; a fault is kept (section 4).
 pub record TargetReceives (moved : List ℕ) (old new : World) : Type 0 where
   pub result : Result Phase TargetFault
-  pub fed : target.Fed false (target.scene old.target (store_of old.blocks) old.to_initiator) moved
-      result (target.scene new.target (store_of new.blocks) new.to_initiator)
+  pub fed : target.TargetFeedPost false (target.scene old.target (reliable_store old.blocks)
+      old.to_initiator) moved
+      result (target.scene new.target (reliable_store new.blocks) new.to_initiator)
   pub dropped : new.to_target ≡ drop (length moved) old.to_target
   pub initiator : new.initiator ≡ old.initiator
   pub fault : new.target_fault ≡ result_err result
@@ -118,7 +119,8 @@ pub record TargetReceives (moved : List ℕ) (old new : World) : Type 0 where
 -- Bytes reach the initiator, as one piece; a fault is kept (section 4).
 pub record InitiatorReceives (moved : List ℕ) (old new : World) : Type 0 where
   pub result : Result Phase InitiatorFault
-  pub fed : initiator.Feeds result old.initiator moved new.initiator old.to_target new.to_target
+  pub fed : initiator.InitiatorFeedPost result old.initiator moved new.initiator old.to_target
+      new.to_target
   pub dropped : new.to_initiator ≡ drop (length moved) old.to_initiator
   pub target : new.target ≡ old.target
   pub blocks : new.blocks ≡ old.blocks
@@ -128,7 +130,7 @@ pub record InitiatorReceives (moved : List ℕ) (old new : World) : Type 0 where
 -- A request is handed to the initiator; a refusal is kept.
 pub record InitiatorIsAsked (request : Request) (old new : World) : Type 0 where
   pub result : Result (Unit {0}) Refused
-  pub submitted : initiator.Submits result old.initiator request new.initiator
+  pub submitted : initiator.InitiatorSubmitPost result old.initiator request new.initiator
       old.to_target new.to_target
   pub target : new.target ≡ old.target
   pub blocks : new.blocks ≡ old.blocks
@@ -151,30 +153,31 @@ MovesToInitiator (Some fault) (byte ∷ bytes) old new =
     new ≡ record old { to_initiator = drop (length (byte ∷ bytes)) old.to_initiator }
 
 -- A request is handed in; an initiator that has failed drops it.
-abbrev pub Asks : Option EndFault → Request → World → World → Type 0
-Asks None request old new = InitiatorIsAsked request old new
-Asks (Some fault) request old new = new ≡ old
+abbrev pub RequestHandedIn : Option EndFault → Request → World → World → Type 0
+RequestHandedIn None request old new = InitiatorIsAsked request old new
+RequestHandedIn (Some fault) request old new = new ≡ old
 
 -- What an event may lead to. A growth may be refused in any of them; the end then keeps that memory
 -- ran out.
-abbrev pub Happens : World → Event → World → Type 0
-Happens old (ToTarget k) new = MovesToTarget old.target_fault (take k old.to_target) old new
-Happens old (ToInitiator k) new =
+abbrev pub PairEventStep : World → PairEvent → World → Type 0
+PairEventStep old (ToTarget k) new = MovesToTarget old.target_fault (take k old.to_target) old new
+PairEventStep old (ToInitiator k) new =
     MovesToInitiator old.initiator_fault (take k old.to_initiator) old new
-Happens old (Submits request) new = Asks old.initiator_fault request old new
-Happens old Takes new = new ≡ record old { initiator = initiator.after_taking old.initiator }
+PairEventStep old (Submits request) new = RequestHandedIn old.initiator_fault request old new
+PairEventStep old Takes new = new ≡ record old { initiator = initiator.after_taking old.initiator }
 
 -- Events, one after another.
-unfoldable pub Runs : World → List Event → World → Type 0
-Runs old [] new = new ≡ old
-Runs old (event ∷ events) new = (mid : World) × Happens old event mid × Runs mid events new
+unfoldable pub PairRuns : World → List PairEvent → World → Type 0
+PairRuns old [] new = new ≡ old
+PairRuns old (event ∷ events) new =
+    (mid : World) × PairEventStep old event mid × PairRuns mid events new
 
 -- A world that a new pair may come to.
-abbrev pub Reached : Opening → List Event → World → Type 0
-Reached c events w = Runs (new_pair c) events w
+abbrev pub Reached : Opening → List PairEvent → World → Type 0
+Reached c events w = PairRuns (new_pair c) events w
 
 -- The step that a program takes.
-abbrev pub event_of : Step → Event
+abbrev pub event_of : Step → PairEvent
 event_of (steps.ToTarget k) = ToTarget k
 event_of (steps.ToInitiator k) = ToInitiator k
 event_of (steps.Submit request) = Submits request
@@ -187,14 +190,14 @@ pub record IsOpening (c : Opening) : Type 0 where
   pub initiator : AreValid c.initiator
   pub isid : length c.initiator.isid ≡ 6
   pub cmd_sn : c.initiator.first_cmd_sn < 2 ^ 32
-  pub preferences : IsInRange c.target.preferences
+  pub preferences : ArePreferencesInRange c.target.preferences
   pub group : c.target.group < 2 ^ 16
   pub tsih : c.target.tsih < 2 ^ 16
   pub stat_sn : c.first_stat_sn < 2 ^ 32
 
 -- The initiator's name for the target is the target's, or it asks for none; neither end demands
 -- authentication; and the initiator may log in (sections 6.3, 11.13.5, 12.1 and 13.4).
-pub record Suits (c : Opening) : Type 0 where
+pub record SuitEachOther (c : Opening) : Type 0 where
   pub name : (c.initiator.proposal.session ≡ sessions.Discovery)
       ⊎ (c.initiator.proposal.target ≡ c.target.name)
   pub auth : (c.initiator.start ≡ stages.Operational) ⊎ (c.initiator.proposal.auth ≢ auths.Chap)
@@ -202,42 +205,33 @@ pub record Suits (c : Opening) : Type 0 where
   pub chap : c.target.extras.chap ≡ None
 
 -- A request is handed in once the initiator has completed its login.
-abbrev pub IsInTime : Event → World → Type 0
+abbrev pub IsInTime : PairEvent → World → Type 0
 IsInTime (Submits request) w = w.initiator.machine.stage ≡ stages.Full
 IsInTime _ w = Unit {0}
 
 -- Events, one after another, of which no request comes before its time.
-unfoldable pub RunsInTime : World → List Event → World → Type 0
+unfoldable pub RunsInTime : World → List PairEvent → World → Type 0
 RunsInTime old [] new = new ≡ old
 RunsInTime old (event ∷ events) new =
-    (mid : World) × Happens old event mid × IsInTime event old × RunsInTime mid events new
+    (mid : World) × PairEventStep old event mid × IsInTime event old × RunsInTime mid events new
 
 -- ---- runs in which memory is there
 
 -- Events, one after another, in which no growth is refused: none leaves an end that keeps that
 -- memory ran out.
-unfoldable pub RunsCalmly : World → List Event → World → Type 0
+unfoldable pub RunsCalmly : World → List PairEvent → World → Type 0
 RunsCalmly old [] new = new ≡ old
 RunsCalmly old (event ∷ events) new =
-    (mid : World) × Happens old event mid × (keeps_no_memory mid ≡ false)
+    (mid : World) × PairEventStep old event mid × (keeps_no_memory mid ≡ false)
     × RunsCalmly mid events new
 
 -- Two worlds of which nothing differs that matters from now on: an end whose session is over has no
 -- use for the bytes that it had of a PDU.
 pub record LooksAlike (v w : World) : Type 0 where
-  pub target : target.Alike v.target w.target
+  pub target : target.TargetsAlike v.target w.target
   pub disk : disk_of w.blocks ≡ disk_of v.blocks
-  pub initiator : initiator.Alike v.initiator w.initiator
+  pub initiator : initiator.InitiatorsAlike v.initiator w.initiator
   pub to_target : w.to_target ≡ v.to_target
   pub to_initiator : w.to_initiator ≡ v.to_initiator
   pub target_fault : w.target_fault ≡ v.target_fault
   pub initiator_fault : w.initiator_fault ≡ v.initiator_fault
-
--- ---- what every pair keeps
-
--- A pair of these is one that came here by some events from a new pair that may be.
-pub record HasCome (w : World) : Type 0 where
-  pub opening : Opening
-  pub events : List Event
-  pub is_opening : IsOpening opening
-  pub reached : Reached opening events w

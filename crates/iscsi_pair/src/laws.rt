@@ -12,30 +12,30 @@ ghost use Rattle.iscsi_target.specs.State as target;
 ghost use Rattle.iscsi_initiator.specs.declared.request.Done.{Done};
 ghost use Rattle.iscsi_initiator.specs.declared.request.Request.{Request};
 ghost use Rattle.iscsi_initiator.specs.declared.request.Request.TheVariants as requests;
-ghost use Rattle.iscsi_initiator.specs.Laws.{Input, listed};
-ghost use Rattle.iscsi_initiator.specs.Machine.{taken};
+ghost use Rattle.iscsi_initiator.specs.Laws.{SessionInput, listed};
+ghost use Rattle.iscsi_initiator.specs.Machine.{outcome_taken};
 ghost use Rattle.iscsi_initiator.specs.State as initiator;
-ghost use Rattle.iscsi_initiator.specs.Submitted.{is_too_long, submitted};
-ghost use Rattle.iscsi_pair.specs.LocalDisk.{AreInStep, ComesTo, handed_in, local};
-ghost use Rattle.iscsi_pair.specs.Example.{NameSame, first_read, first_written, good, standard_opening};
-ghost use Rattle.iscsi_pair.specs.Served.{AreAtEnd, IsAlwaysTaken, IsNormal, IsServed, RunsServed, SomeRunServes, requests_of, disk_after, disk_outcomes};
-ghost use Rattle.iscsi_pair.specs.World.{Event, IsOpening, LooksAlike, Opening, Reached, RunsCalmly, RunsInTime, Suits, World, keeps_no_memory, new_pair};
-ghost use Rattle.iscsi_pair.specs.Traffic.{Traffic, Traces, first_traffic, TargetStands, InitiatorStands};
+ghost use Rattle.iscsi_initiator.specs.Submitted.{is_request_too_long, submitted};
+ghost use Rattle.iscsi_pair.specs.LocalDisk.{AreInStep, EndsAfterAnswers, handed_in, local};
+ghost use Rattle.iscsi_pair.specs.Example.{NameSame, first_read, first_written, good_done, standard_opening};
+ghost use Rattle.iscsi_pair.specs.Served.{AreAtEnd, IsAlwaysTaken, IsNormal, IsServed, RunsServed, SomeRunServes, requests_of, local_disk_after, disk_outcomes};
+ghost use Rattle.iscsi_pair.specs.World.{PairEvent, IsOpening, LooksAlike, Opening, Reached, RunsCalmly, RunsInTime, SuitEachOther, World, keeps_no_memory, new_pair};
+ghost use Rattle.iscsi_pair.specs.Traffic.{Traffic, TracesTraffic, first_traffic, TargetStands, InitiatorStands};
 
 /// Every run can be traced.
 pub fn every_run_is_traced()
-    ensures traced { (c : Opening) (events : List Event) (w : World) → Reached c events w
-        → (t : Traffic) × Traces (first_traffic c) (new_pair c) events w t }
+    ensures traced { (c : Opening) (events : List PairEvent) (w : World) → Reached c events w
+        → (t : Traffic) × TracesTraffic (first_traffic c) (new_pair c) events w t }
 {}
 
 /// No byte is lost, added or moved out of order: what was moved to an end and what is still queued
 /// for it are all that was queued for it.
 pub fn queues()
-    ensures target { (c : Opening) (events : List Event) (w : World) (t : Traffic)
-        → Traces (first_traffic c) (new_pair c) events w t
+    ensures target { (c : Opening) (events : List PairEvent) (w : World) (t : Traffic)
+        → TracesTraffic (first_traffic c) (new_pair c) events w t
         → t.moved_to_target ++ w.to_target ≡ t.queued_for_target }
-    ensures initiator { (c : Opening) (events : List Event) (w : World) (t : Traffic)
-        → Traces (first_traffic c) (new_pair c) events w t
+    ensures initiator { (c : Opening) (events : List PairEvent) (w : World) (t : Traffic)
+        → TracesTraffic (first_traffic c) (new_pair c) events w t
         → t.moved_to_initiator ++ w.to_initiator ≡ t.queued_for_initiator }
 {}
 
@@ -43,24 +43,24 @@ pub fn queues()
 /// The machine of the initiator also gets the requests handed in and the outcomes taken, in the
 /// order of the events. What its machine sends is what was queued for the other end.
 pub fn ends()
-    ensures target { (c : Opening) (events : List Event) (w : World) (t : Traffic)
-        → Traces (first_traffic c) (new_pair c) events w t → w.target_fault ≡ None
+    ensures target { (c : Opening) (events : List PairEvent) (w : World) (t : Traffic)
+        → TracesTraffic (first_traffic c) (new_pair c) events w t → w.target_fault ≡ None
         → TargetStands c t w }
-    ensures initiator { (c : Opening) (events : List Event) (w : World) (t : Traffic)
-        → Traces (first_traffic c) (new_pair c) events w t → w.initiator_fault ≡ None
-        → (inputs : List Input) × InitiatorStands c inputs t w }
+    ensures initiator { (c : Opening) (events : List PairEvent) (w : World) (t : Traffic)
+        → TracesTraffic (first_traffic c) (new_pair c) events w t → w.initiator_fault ≡ None
+        → (inputs : List SessionInput) × InitiatorStands c inputs t w }
     // In the order of the events: however far they had come, what the initiator had met by then is
     // the first of what it has met after them all.
-    ensures order { (c : Opening) (past more : List Event) (mid w : World) (u t : Traffic)
-        (inputs : List Input) → Traces (first_traffic c) (new_pair c) past mid u
-        → InitiatorStands c inputs u mid → Traces u mid more w t → w.initiator_fault ≡ None
-        → (later : List Input) × InitiatorStands c (inputs ++ later) t w }
+    ensures order { (c : Opening) (past more : List PairEvent) (mid w : World) (u t : Traffic)
+        (inputs : List SessionInput) → TracesTraffic (first_traffic c) (new_pair c) past mid u
+        → InitiatorStands c inputs u mid → TracesTraffic u mid more w t → w.initiator_fault ≡ None
+        → (later : List SessionInput) × InitiatorStands c (inputs ++ later) t w }
 {}
 
 /// One world: where no growth is refused, the events alone determine to which world a pair comes,
 /// however its ends use their memory.
 pub fn one_world()
-    ensures one { (c : Opening) (events : List Event) (v w : World)
+    ensures one { (c : Opening) (events : List PairEvent) (v w : World)
         → RunsCalmly (new_pair c) events v → RunsCalmly (new_pair c) events w → LooksAlike v w }
 {}
 
@@ -68,10 +68,10 @@ pub fn one_world()
 /// same of every negotiated key and of what each takes in one segment. Later faults and the end of
 /// the session don't undo it (RFC 7143, section 6.3).
 pub fn login_agreement()
-    ensures both { (c : Opening) (events : List Event) (w : World) → IsOpening c
+    ensures both { (c : Opening) (events : List PairEvent) (w : World) → IsOpening c
         → Reached c events w → w.initiator.machine.stage ≡ stages.Full
         → w.target.machine.session.stage ≡ stages.Full }
-    ensures equal { (c : Opening) (events : List Event) (w : World) → IsOpening c
+    ensures equal { (c : Opening) (events : List PairEvent) (w : World) → IsOpening c
         → Reached c events w → w.initiator.machine.stage ≡ stages.Full
         → w.target.machine.session.held ≡ w.initiator.machine.held }
 {}
@@ -79,11 +79,11 @@ pub fn login_agreement()
 /// An idle pair has completed its login. If nothing is on its way and neither end has failed, both
 /// are in full feature phase, or were until they parted (RFC 7143, section 6.3).
 pub fn idle_pair()
-    ensures initiator { (c : Opening) (events : List Event) (w : World) → IsOpening c
+    ensures initiator { (c : Opening) (events : List PairEvent) (w : World) → IsOpening c
         → Reached c events w → w.to_target ≡ [] → w.to_initiator ≡ []
         → w.target_fault ≡ None → w.initiator_fault ≡ None
         → w.initiator.machine.stage ≡ stages.Full }
-    ensures target { (c : Opening) (events : List Event) (w : World) → IsOpening c
+    ensures target { (c : Opening) (events : List PairEvent) (w : World) → IsOpening c
         → Reached c events w → w.to_target ≡ [] → w.to_initiator ≡ []
         → w.target_fault ≡ None → w.initiator_fault ≡ None
         → w.target.machine.session.stage ≡ stages.Full }
@@ -93,10 +93,12 @@ pub fn idle_pair()
 /// the target lets in this initiator, no growth was refused, and no request came too early. Then an end
 /// that keeps a fault had completed its login (RFC 7143, sections 6.3, 11.13.5, 12.1 and 13.4).
 pub fn no_early_failure()
-    ensures target { (c : Opening) (events : List Event) (w : World) → IsOpening c → Suits c
+    ensures target { (c : Opening) (events : List PairEvent) (w : World) → IsOpening c
+        → SuitEachOther c
         → RunsInTime (new_pair c) events w → keeps_no_memory w ≡ false
         → (w.target_fault ≡ None) ⊎ (w.target.machine.session.stage ≡ stages.Full) }
-    ensures initiator { (c : Opening) (events : List Event) (w : World) → IsOpening c → Suits c
+    ensures initiator { (c : Opening) (events : List PairEvent) (w : World) → IsOpening c
+        → SuitEachOther c
         → RunsInTime (new_pair c) events w → keeps_no_memory w ≡ false
         → (w.initiator_fault ≡ None) ⊎ (w.initiator.machine.stage ≡ stages.Full) }
 {}
@@ -106,20 +108,22 @@ pub fn no_early_failure()
 /// disk that it leaves there. Both ends are in step then, or have parted (RFC 7143, sections 11.3,
 /// 11.4, 11.7, 11.8, 11.14 and 11.18).
 pub fn one_request()
-    ensures ends { (m : initiator.Machine) (t : target.Machine) (disk : Disk) (request : Request)
+    ensures ends { (m : initiator.InitiatorSession) (t : target.Machine) (disk : Disk)
+        (request : Request)
         → IsServed request → AreInStep m t → (submitted m request).refusal ≡ None
         → let here = local m.held.initiator_max_recv disk request in
-        ComesTo m.held here.outcome here.disk (handed_in m t disk request) }
+        EndsAfterAnswers m.held here.outcome here.disk (handed_in m t disk request) }
     // Each is accepted that isn't too long.
-    ensures accepted { (m : initiator.Machine) (t : target.Machine) (request : Request)
-        → AreInStep m t → is_too_long m request ≡ false → (submitted m request).refusal ≡ None }
+    ensures accepted { (m : initiator.InitiatorSession) (t : target.Machine) (request : Request)
+        → AreInStep m t → is_request_too_long m request ≡ false → (submitted m request).refusal
+        ≡ None }
 {}
 
 /// The end of a run shows that it was served. If no end keeps that memory ran out, and the
 /// initiator keeps no fault, no growth was refused in it, and each request was accepted. They are
 /// to be commands, pings and logouts.
 pub fn served_runs()
-    ensures served { (c : Opening) (events : List Event) (w : World) → Reached c events w
+    ensures served { (c : Opening) (events : List PairEvent) (w : World) → Reached c events w
         → AllByRecursion IsServed (requests_of events) → keeps_no_memory w ≡ false
         → w.initiator_fault ≡ None
         → (outcomes : List Done) × RunsServed (new_pair c) events w outcomes }
@@ -130,29 +134,29 @@ pub fn served_runs()
 /// request is a command, a ping or a logout, and is accepted (RFC 7143, section 4.2).
 pub fn one_local_disk()
     // No end fails.
-    ensures well { (c : Opening) (events : List Event) (w : World) (outcomes : List Done)
+    ensures well { (c : Opening) (events : List PairEvent) (w : World) (outcomes : List Done)
         → IsNormal c → RunsServed (new_pair c) events w outcomes
         → (w.target_fault ≡ None) × (w.initiator_fault ≡ None) }
     // The outcomes that were taken are, in their order, those of one local disk; that of the last
     // request may be still to come.
-    ensures outcomes { (c : Opening) (events : List Event) (w : World) (outcomes : List Done)
+    ensures outcomes { (c : Opening) (events : List PairEvent) (w : World) (outcomes : List Done)
         → IsNormal c → RunsServed (new_pair c) events w outcomes → (later : List Done)
         × (length later ≤ 1) × (outcomes ++ later ≡ disk_outcomes c (requests_of events)) }
     // With nothing on its way no request is open,
-    ensures idle { (c : Opening) (events : List Event) (w : World) (outcomes : List Done)
+    ensures idle { (c : Opening) (events : List PairEvent) (w : World) (outcomes : List Done)
         → IsNormal c → RunsServed (new_pair c) events w outcomes
         → w.to_target ≡ [] → w.to_initiator ≡ [] → w.initiator.machine.outstanding ≡ None }
     // each has its outcome, and the blocks are those that all of them leave,
-    ensures whole { (c : Opening) (events : List Event) (w : World) (outcomes : List Done)
+    ensures whole { (c : Opening) (events : List PairEvent) (w : World) (outcomes : List Done)
         → IsNormal c → RunsServed (new_pair c) events w outcomes
         → w.to_target ≡ [] → w.to_initiator ≡ []
         → (outcomes ++ listed w.initiator.machine.done ≡ disk_outcomes c (requests_of events))
-        × (disk_of w.blocks ≡ disk_after c (requests_of events)) }
+        × (disk_of w.blocks ≡ local_disk_after c (requests_of events)) }
     // and once the last outcome is taken both ends are in step, or have parted after a logout.
-    ensures rests { (c : Opening) (events : List Event) (w : World) (outcomes : List Done)
+    ensures rests { (c : Opening) (events : List PairEvent) (w : World) (outcomes : List Done)
         → IsNormal c → RunsServed (new_pair c) events w outcomes
         → w.to_target ≡ [] → w.to_initiator ≡ []
-        → AreAtEnd (requests_of events) (taken w.initiator.machine) w.target.machine }
+        → AreAtEnd (requests_of events) (outcome_taken w.initiator.machine) w.target.machine }
 {}
 
 /// Every list of commands and pings can be served, if each is one that any target takes. Some
@@ -175,7 +179,7 @@ pub fn what_is_written_is_read()
     ensures read { (c : Opening) (write_cdb read_cdb bytes : List ℕ) → IsNormal c
         → NameSame c write_cdb read_cdb bytes → SomeRunServes c
         (requests.Out 0 write_cdb bytes ∷ requests.In 0 read_cdb (length bytes) ∷ [])
-        (good [] ∷ good bytes ∷ []) }
+        (good_done [] ∷ good_done bytes ∷ []) }
     // These descriptor blocks name the first block of a disk that has one,
     ensures first { (c : Opening) (bytes : List ℕ) → 512 ≤ length c.blocks → length bytes ≡ 512
         → NameSame c first_written first_read bytes }

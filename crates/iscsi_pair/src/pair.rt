@@ -2,16 +2,16 @@
 
 ghost use Rattle.std.specs.Prelude.{◌≡◌, ◌≤◌, false, Some, None, [], ◌++◌, ◌↔◌, IsTrue, IsSome, OnOk, IfSome, length, drop, map, IfOk, IfErr, MatchOption};
 ghost use Rattle.iscsi_initiator.specs.declared.fault.InitiatorFault.TheVariants as faults;
-ghost use Rattle.iscsi_pair.specs.World.{IsOpening, Suits, new_pair, Happens, Runs, RunsCalmly, event_of, keeps_no_memory};
-ghost use Rattle.iscsi_initiator.specs.Calls.{Starts};
+ghost use Rattle.iscsi_pair.specs.World.{IsOpening, SuitEachOther, new_pair, PairEventStep, PairRuns, RunsCalmly, event_of, keeps_no_memory};
+ghost use Rattle.iscsi_initiator.specs.Calls.{InitiatorStartPost};
 ghost use Rattle.iscsi_initiator.specs.Calls as initiator_calls;
 ghost use Rattle.iscsi_target.specs.Feed as target_calls;
 ghost use Rattle.iscsi_pair.specs.World as worlds;
 ghost use Rattle.std.specs.List.{AllByRecursion};
 ghost use Rattle.scsi_disk.specs.Disk.{disk_of};
 ghost use Rattle.iscsi_initiator.specs.Laws.{listed};
-ghost use Rattle.iscsi_pair.specs.Served.{IsServed, disk_after, disk_outcomes};
-ghost use Rattle.iscsi_pair.specs.Outcomes.{Gives, HasRun, IsIdle, events_of, opening_of, requests_among};
+ghost use Rattle.iscsi_pair.specs.Served.{IsServed, local_disk_after, disk_outcomes};
+ghost use Rattle.iscsi_pair.specs.Outcomes.{GivesOutcomes, HasRun, IsIdle, step_events, opening_of, requests_among};
 ghost use Rattle.iscsi_text.specs.declared.negotiated.Session.TheVariants as sessions;
 ghost use Rattle.iscsi_login.specs.declared.stage.Stage.TheVariants as stages;
 
@@ -38,7 +38,8 @@ pub struct Pair {
 }
 
 impl Model for Pair {
-    ghost use Rattle.iscsi_pair.specs.World.{World, HasCome};
+    ghost use Rattle.iscsi_pair.specs.World.{World};
+    ghost use Rattle.iscsi_pair.specs.inner.World.{HasCome};
 
     ghost Value = { World };
 
@@ -171,13 +172,13 @@ impl Pair {
     /// Takes the initiator's outcome, once it is there.
     pub fn outcome(&mut self) -> Option<Done>
         ensures outcome { result ≡ self.old.initiator.machine.done }
-        ensures taken { Happens self.old worlds.Takes self.new }
+        ensures taken { PairEventStep self.old worlds.Takes self.new }
     {
         self.ends.outcome()
     }
 
     pub(crate) fn step(&mut self, step: Step)
-        ensures { Happens self.old (event_of step) self.new }
+        ensures { PairEventStep self.old (event_of step) self.new }
     {
         self.ends.step(step);
     }
@@ -192,7 +193,7 @@ impl Pair {
     /// Takes these steps, one after another. Where memory runs out in a step, its end keeps that.
     #[tactic(auto, using(crate::proofs::Run::MemoryLemmas::calm))]
     pub fn run(&mut self, steps: Vec<Step>)
-        ensures ran { Runs self.old (map event_of steps.items) self.new }
+        ensures ran { PairRuns self.old (map event_of steps.items) self.new }
         // Where no end keeps that memory ran out, no growth was refused: then the steps alone
         // determine to which world they lead (`laws::one_world`).
         ensures calm { keeps_no_memory self.new ≡ false
@@ -219,12 +220,13 @@ pub fn outcomes_over(
     ensures on_disk { IfOk result (λ served.
         let c = opening_of configs.0 configs.1 first_statsn store in
         let requests = requests_among steps.items in
-        Suits c → c.initiator.proposal.session ≡ sessions.Normal → c.target.extras.unit ≡ None
+        SuitEachOther c → c.initiator.proposal.session ≡ sessions.Normal → c.target.extras.unit
+        ≡ None
         → AllByRecursion IsServed requests
-        → (served.0.items ≡ disk_outcomes c requests) × (disk_of served.1 ≡ disk_after c requests)) }
+        → (served.0.items ≡ disk_outcomes c requests) × (disk_of served.1 ≡ local_disk_after c requests)) }
     // They are those of the pair, which took these steps and no others.
     ensures ran { IfOk result (λ served.
-        HasRun (opening_of configs.0 configs.1 first_statsn store) (events_of steps.items)
+        HasRun (opening_of configs.0 configs.1 first_statsn store) (step_events steps.items)
         served.0.items served.1) }
 {
     let Ok(mut pair) = Pair::new(alloc, configs.0, configs.1, first_statsn, store) else {
@@ -242,7 +244,7 @@ pub fn outcomes_over(
 // The outcomes behind these steps.
 fn outcomes_behind(pair: &mut Pair, alloc: Global, steps: Vec<Step>) -> Result<Vec<Done>, RunFault>
     ensures gives { IfOk result (λ outcomes.
-        Gives pair.old (events_of steps.items) pair.new outcomes.items) }
+        GivesOutcomes pair.old (step_events steps.items) pair.new outcomes.items) }
     ensures none_left { OnOk result (pair.old.initiator.machine.done ≡ None
         → pair.new.initiator.machine.done ≡ None) }
     ensures idle { OnOk result (IsIdle pair.new) }
@@ -340,9 +342,9 @@ impl Ends {
         store: MemoryStore,
     ) -> Ends
         ensures ends { result ≡ record {
-          target = target_calls.opening_connection target first_statsn;
+          target = target_calls.opening_target target first_statsn;
           blocks = store;
-          initiator = initiator_calls.opening_connection initiator;
+          initiator = initiator_calls.opening_initiator initiator;
           to_target = [];
           to_initiator = [];
           target_fault = None;
@@ -368,7 +370,7 @@ impl Ends {
 
     // Starts the login of the initiator.
     fn start(&mut self) -> Result<(), InitiatorFault>
-        ensures starts { Starts result self.old.initiator self.new.initiator
+        ensures starts { InitiatorStartPost result self.old.initiator self.new.initiator
             self.old.to_target self.new.to_target }
         ensures others { self.new ≡ record self.old {
           initiator = self.new.initiator;
@@ -381,14 +383,14 @@ impl Ends {
     // Takes the initiator's outcome, once it is there.
     fn outcome(&mut self) -> Option<Done>
         ensures outcome { result ≡ self.old.initiator.machine.done }
-        ensures taken { Happens self.old worlds.Takes self.new }
+        ensures taken { PairEventStep self.old worlds.Takes self.new }
     {
         self.initiator.outcome()
     }
 
     // Moves bytes to the target.
     fn move_to_target(&mut self, k: usize)
-        ensures { Happens self.old (worlds.ToTarget k) self.new }
+        ensures { PairEventStep self.old (worlds.ToTarget k) self.new }
     {
         let n = k.min(self.to_target.len());
         if n == 0 {
@@ -409,7 +411,7 @@ impl Ends {
 
     // Moves bytes to the initiator.
     fn move_to_initiator(&mut self, k: usize)
-        ensures { Happens self.old (worlds.ToInitiator k) self.new }
+        ensures { PairEventStep self.old (worlds.ToInitiator k) self.new }
     {
         let n = k.min(self.to_initiator.len());
         if n == 0 {
@@ -428,7 +430,7 @@ impl Ends {
 
     // Hands a request to the initiator.
     fn submit(&mut self, request: Request)
-        ensures { Happens self.old (worlds.Submits request) self.new }
+        ensures { PairEventStep self.old (worlds.Submits request) self.new }
     {
         if self.initiator_fault.is_some() {
             return;
@@ -438,7 +440,7 @@ impl Ends {
     }
 
     fn step(&mut self, step: Step)
-        ensures { Happens self.old (event_of step) self.new }
+        ensures { PairEventStep self.old (event_of step) self.new }
     {
         match step {
             Step::ToTarget(k) => self.move_to_target(k),

@@ -7,9 +7,9 @@ ghost use Rattle.iscsi_initiator.specs.declared.request.Done.{Done};
 ghost use Rattle.iscsi_text.specs.declared.negotiated.Session.TheVariants as sessions;
 ghost use Rattle.iscsi_pair.specs.declared.step.RunFault.TheVariants as faults;
 ghost use Rattle.iscsi_pair.specs.declared.step.Step.{Step};
-ghost use Rattle.iscsi_pair.specs.Outcomes.{CanBeServed, Gives, HasRun, IsIdle, opening_of, requests_among};
-ghost use Rattle.iscsi_pair.specs.Served.{IsNormal, IsServed, RunsServed, disk_after, disk_outcomes, requests_of};
-ghost use Rattle.iscsi_pair.specs.World.{Event, Happens, Opening, Runs, Suits, World, event_of, keeps_no_memory, new_pair};
+ghost use Rattle.iscsi_pair.specs.Outcomes.{CanBeServed, GivesOutcomes, HasRun, IsIdle, opening_of, requests_among};
+ghost use Rattle.iscsi_pair.specs.Served.{IsNormal, IsServed, RunsServed, local_disk_after, disk_outcomes, requests_of};
+ghost use Rattle.iscsi_pair.specs.World.{PairEvent, PairEventStep, Opening, PairRuns, SuitEachOther, World, event_of, keeps_no_memory, new_pair};
 ghost use Rattle.iscsi_pair.specs.World as worlds;
 
 use crate::pair::{Pair, push_some};
@@ -37,16 +37,18 @@ pub fn serve_requests(
 ) -> Result<(Vec<Done>, MemoryStore), RunFault>
     ensures on_disk { IfOk result (λ served.
         let c = opening_of configs.0 configs.1 first_statsn store in
-        Suits c → c.initiator.proposal.session ≡ sessions.Normal → c.target.extras.unit ≡ None
+        SuitEachOther c → c.initiator.proposal.session ≡ sessions.Normal → c.target.extras.unit
+        ≡ None
         → AllByRecursion IsServed requests.items
         → (served.0.items ≡ disk_outcomes c requests.items)
-        × (disk_of served.1 ≡ disk_after c requests.items)) }
+        × (disk_of served.1 ≡ local_disk_after c requests.items)) }
     // They are those of a pair to which these requests were handed in, in their order.
-    ensures ran { IfOk result (λ served. (events : List Event)
+    ensures ran { IfOk result (λ served. (events : List PairEvent)
         × (requests_of events ≡ requests.items)
         × HasRun (opening_of configs.0 configs.1 first_statsn store) events served.0.items served.1) }
     ensures served { let c = opening_of configs.0 configs.1 first_statsn store in
-        Suits c → c.initiator.proposal.session ≡ sessions.Normal → c.target.extras.unit ≡ None
+        SuitEachOther c → c.initiator.proposal.session ≡ sessions.Normal → c.target.extras.unit
+        ≡ None
         → CanBeServed requests.items
         → IfErr result (λ fault. fault ≡ faults.NoMemory) }
 {
@@ -64,9 +66,9 @@ pub fn serve_requests(
 
 // Hands in these requests, and returns their outcomes.
 fn serve_all(pair: &mut Pair, alloc: Global, requests: Vec<Request>) -> Result<Vec<Done>, RunFault>
-    ensures gives { IfOk result (λ outcomes. (events : List Event)
+    ensures gives { IfOk result (λ outcomes. (events : List PairEvent)
         × (requests_of events ≡ requests.items)
-        × Gives pair.old events pair.new outcomes.items) }
+        × GivesOutcomes pair.old events pair.new outcomes.items) }
     ensures none_left { OnOk result ((pair.new.initiator.machine.done ≡ None)
         ⊎ (requests.items ≡ [])) }
     ensures idle { OnOk result (IsIdle pair.new) }
@@ -89,11 +91,11 @@ fn serve_all(pair: &mut Pair, alloc: Global, requests: Vec<Request>) -> Result<V
 // Moves what is on its way, and all that it leads to.
 fn settle(pair: &mut Pair) -> Result<(), RunFault>
     ensures ran { (steps : List Step) × (requests_among steps ≡ [])
-        × Runs pair.old (map event_of steps) pair.new }
+        × PairRuns pair.old (map event_of steps) pair.new }
     ensures ok { OnOk result (IsIdle pair.new) }
     ensures err { IfErr result (λ fault. (fault ≡ faults.NoMemory)
         ⊎ ((keeps_no_memory pair.new ≡ false)
-        × ((c : Opening) (events : List Event) (outcomes : List Done) → IsNormal c
+        × ((c : Opening) (events : List PairEvent) (outcomes : List Done) → IsNormal c
         → RunsServed (new_pair c) events pair.old outcomes → ⊥))) }
 {
     for _ in 0..TURNS {
@@ -108,8 +110,9 @@ fn settle(pair: &mut Pair) -> Result<(), RunFault>
 // All that is on its way to the target reaches it, and then all that is on its way back the
 // initiator.
 fn turn(pair: &mut Pair)
-    ensures { (mid : World) × Happens pair.old (worlds.ToTarget (length pair.old.to_target)) mid
-        × Happens mid (worlds.ToInitiator (length mid.to_initiator)) pair.new }
+    ensures { (mid : World) × PairEventStep pair.old (worlds.ToTarget (length pair.old.to_target))
+        mid
+        × PairEventStep mid (worlds.ToInitiator (length mid.to_initiator)) pair.new }
 {
     let (there, _) = pair.queued();
     pair.step(Step::ToTarget(there));

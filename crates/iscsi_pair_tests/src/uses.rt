@@ -6,7 +6,7 @@ ghost use Rattle.iscsi_text.specs.declared.negotiated.Session.TheVariants as ses
 ghost use Rattle.iscsi_pair.specs.declared.step.RunFault.TheVariants as faults;
 ghost use Rattle.iscsi_pair.specs.Outcomes.{CanBeServed, opening_of, requests_among};
 ghost use Rattle.iscsi_pair.specs.Served.{IsServed, disk_outcomes};
-ghost use Rattle.iscsi_pair.specs.World.{World, Happens, Runs, Suits, Takes, event_of};
+ghost use Rattle.iscsi_pair.specs.World.{World, PairEventStep, PairRuns, SuitEachOther, Takes, event_of};
 
 use iscsi_initiator::{Done, Request};
 use iscsi_login::NegKey;
@@ -16,8 +16,8 @@ use std::alloc::Global;
 
 /// Takes the outcome of the last request after these steps, if it is there.
 pub fn outcome_after(pair: &mut Pair, steps: Vec<Step>) -> Option<Done>
-    ensures ran { (w : World) × Runs pair.old (map event_of steps.items) w
-        × (result ≡ w.initiator.machine.done) × Happens w Takes pair.new }
+    ensures ran { (w : World) × PairRuns pair.old (map event_of steps.items) w
+        × (result ≡ w.initiator.machine.done) × PairEventStep w Takes pair.new }
 {
     pair.run(steps);
     pair.outcome()
@@ -43,7 +43,8 @@ pub fn outcomes_in_steps(
     ensures outcomes { IfOk result (λ outcomes.
         let c = opening_of configs.0 configs.1 1 store in
         let requests = requests_among steps.items in
-        Suits c → c.initiator.proposal.session ≡ sessions.Normal → c.target.extras.unit ≡ None
+        SuitEachOther c → c.initiator.proposal.session ≡ sessions.Normal → c.target.extras.unit
+        ≡ None
         → AllByRecursion IsServed requests → outcomes.items ≡ disk_outcomes c requests) }
 {
     let (outcomes, _) = outcomes_over(alloc, configs, 1, store, steps)?;
@@ -58,11 +59,13 @@ pub fn outcomes_of(
     requests: Vec<Request>,
 ) -> Result<Vec<Done>, RunFault>
     ensures outcomes { IfOk result (λ outcomes. let c = opening_of configs.0 configs.1 1 store in
-        Suits c → c.initiator.proposal.session ≡ sessions.Normal → c.target.extras.unit ≡ None
+        SuitEachOther c → c.initiator.proposal.session ≡ sessions.Normal → c.target.extras.unit
+        ≡ None
         → AllByRecursion IsServed requests.items
         → outcomes.items ≡ disk_outcomes c requests.items) }
     ensures served { let c = opening_of configs.0 configs.1 1 store in
-        Suits c → c.initiator.proposal.session ≡ sessions.Normal → c.target.extras.unit ≡ None
+        SuitEachOther c → c.initiator.proposal.session ≡ sessions.Normal → c.target.extras.unit
+        ≡ None
         → CanBeServed requests.items
         → IfErr result (λ fault. fault ≡ faults.NoMemory) }
 {

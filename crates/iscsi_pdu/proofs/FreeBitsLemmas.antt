@@ -5,12 +5,12 @@ use Rattle.std.specs.Prelude.{◌&&◌, ◌||◌, bit_and}
 use Rattle.std.specs.List.{list_any}
 use Rattle.std.proofs.lemmas.Bool.{and_parts, cases_lt, eq-eqb, le-ltb}
 use Rattle.std.proofs.lemmas.List.{get_or-replicate, get_or_past}
-use Rattle.scsi_cdb.specs.Layout.{Row, HasRoom, HaveRoom, Hold, put, put_all, put_bit, put_number, put_bytes, put_raw}
+use Rattle.scsi_cdb.specs.Layout.{Row, HasRoom, HaveRoom, RowsHold, put, put_all, put_bit, put_number, put_bytes, put_raw}
 use Rattle.scsi_cdb.specs.Layout.Row.{bit, bits, bytes, raw}
 use Rattle.scsi_cdb.proofs.LayoutLemmas.{Writes, is_place, is_table, is_apart_from_all, put-writes, put_all-holds}
 use Rattle.iscsi_pdu.specs.declared.head.Head.{Head}
 use Rattle.iscsi_pdu.specs.Meaning.{opcode, rows, ones, blocks, frame, header, IsWritable}
-use Rattle.iscsi_pdu.specs.FreeBits.{are_apart, are_free, is_among, uses, written}
+use Rattle.iscsi_pdu.specs.FreeBits.{are_apart, are_free, is_between, uses, written_rows}
 use Rattle.iscsi_pdu.proofs.HeaderLemmas.{HaveRoom-append, Hold-first, all_rows, all_rows-table, blocks-room, ones-room, opcode-small, put_all-append, room-reads}
 
 -- what a mask sees of byte n
@@ -39,7 +39,7 @@ none_second false b e = e
 
 -- a byte that a row does not reach
 beyond : (n mask : ℕ) (r : Row) (b c : List ℕ) (first last : ℕ) → ((k : ℕ) → k < first → get_or c k 0 ≡ get_or b k 0)
-    → ((k : ℕ) → last < k → get_or c k 0 ≡ get_or b k 0) → is_among n first last ≡ false → at_mask n mask c ≡ at_mask n mask b
+    → ((k : ℕ) → last < k → get_or c k 0 ≡ get_or b k 0) → is_between n first last ≡ false → at_mask n mask c ≡ at_mask n mask b
 beyond n mask r b c first last below above out =
     elim (cases_lt n first) [
       | inl before ↦ ap (λ (x : ℕ). bit_and x mask) (below n before)
@@ -147,13 +147,13 @@ pub zero_where_free : (h : Head) (len n mask : ℕ) → IsWritable h len → are
 unfolding all_rows
 zero_where_free h len n mask w free =
     ap (λ (b : List ℕ). at_mask n mask b) (sym (header_is h len))
-    ∙ stays_free n mask (all_rows h len) (replicate 48 0) refl (all_rows-table h len) (room_of h len w) (not_false (list_any (uses n mask) (written h len)) free)
+    ∙ stays_free n mask (all_rows h len) (replicate 48 0) refl (all_rows-table h len) (room_of h len w) (not_false (list_any (uses n mask) (written_rows h len)) free)
     ∙ zero_at n mask
 
 -- the ones of a header are there
-pub ones_there : (h : Head) (len : ℕ) → IsWritable h len → Hold (header h len) (ones h)
+pub ones_there : (h : Head) (len : ℕ) → IsWritable h len → RowsHold (header h len) (ones h)
 unfolding all_rows
 ones_there h len w =
     Hold-first (ones h) (frame (opcode h) len ++ (rows h ++ blocks h)) (header h len)
-    (subst (λ (b : List ℕ). Hold b (all_rows h len)) (header_is h len)
+    (subst (λ (b : List ℕ). RowsHold b (all_rows h len)) (header_is h len)
     (put_all-holds 48 (all_rows h len) (replicate 48 0) refl (all_rows-table h len) (room_of h len w)))

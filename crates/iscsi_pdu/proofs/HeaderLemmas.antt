@@ -1,12 +1,12 @@
 -- A header has one head, and the canonical header of a head has that head.
 use Rattle.std.proofs.Common.{◌≡◌, ℕ, ◌+◌, ◌-◌, ◌^◌, ◌<◌, ◌≤◌, slice_range, Bool, true, false, ltb, List, [], ◌∷◌, ◌++◌, length, get_or, take, drop, replicate}
 use Rattle.std.proofs.Common.{Some, None, Result, Ok, Err, refl, sym, ap, subst, ◌∙◌, arith, rules, inl, inr, length-take, length-append, append_assoc, lit<}
-use Rattle.std.specs.Prelude.{◌&&◌, IfOk}
+use Rattle.std.specs.Prelude.{◌&&◌, IfOk, IfSome, MatchOption, Option}
 use Rattle.std.specs.Result.{result_err}
 use Rattle.std.specs.Bool.{OnTrue}
 use Rattle.std.proofs.lemmas.Bool.{cases_lt, le-ltb}
 use Rattle.std.proofs.lemmas.List.{get_or-take, get_or-drop, get_or_past, take_at, drop_at, length-replicate}
-use Rattle.scsi_cdb.specs.Layout.{Row, Hold, HaveRoom, put_all, bits_at, number_at, part}
+use Rattle.scsi_cdb.specs.Layout.{Row, RowsHold, HaveRoom, put_all, bits_at, number_at, part}
 use Rattle.scsi_cdb.proofs.LayoutLemmas.{is_table, put_all-holds, length-put_all, Hold-room, HaveRoom-filled}
 use Rattle.scsi_cdb.specs.Blocks as cdb
 use Rattle.scsi_cdb.proofs.RecordLemmas as records
@@ -15,7 +15,7 @@ use Rattle.iscsi_pdu.specs.declared.head.Head.TheVariants.{NopOut, ScsiCommand, 
 use Rattle.iscsi_pdu.specs.declared.head.Head.TheVariants.{ScsiResponse, TaskResponse, LoginResponse, TextResponse, DataIn, LogoutResponse, ReadyToTransfer}
 use Rattle.iscsi_pdu.specs.declared.head.Head.TheVariants.{AsyncMessage, Reject}
 use Rattle.iscsi_pdu.specs.declared.head.HeadFault.{HeadFault}
-use Rattle.iscsi_pdu.specs.Meaning.{opcode, rows, ones, blocks, frame, header, is_login, is_opcode, fault_of, Fits, FitsBlock, HasBlock, HasBlockRoom}
+use Rattle.iscsi_pdu.specs.Meaning.{opcode, rows, ones, blocks, frame, header, is_login, is_opcode, head_fault, HeadFits, FitsBlock, HasBlock, HasBlockRoom}
 use Rattle.iscsi_pdu.specs.Meaning.{ReadsBlock, IsHeader, IsWritable, Means, whole, padding}
 use Rattle.iscsi_pdu.proofs.OneHeadLaw.{nop_out-unique, scsi_command-unique, task_request-unique, login_request-unique, text_request-unique, data_out-unique}
 use Rattle.iscsi_pdu.proofs.OneHeadLaw.{logout_request-unique, nop_in-unique, scsi_response-unique, task_response-unique, login_response-unique}
@@ -24,7 +24,7 @@ use Rattle.iscsi_pdu.proofs.OneHeadLaw.{reject-unique}
 
 -- ---- a header has one head
 
-kind-unique : (b : List ℕ) (x y : Head) → opcode x ≡ opcode y → Hold b (rows x) → Hold b (rows y) → HasBlock b x → HasBlock b y → x ≡ y
+kind-unique : (b : List ℕ) (x y : Head) → opcode x ≡ opcode y → RowsHold b (rows x) → RowsHold b (rows y) → HasBlock b x → HasBlock b y → x ≡ y
 kind-unique b (NopOut x) (NopOut y) e p q m n = ap NopOut (nop_out-unique b x y p q)
 kind-unique b (ScsiCommand x) (ScsiCommand y) e p q m n = ap ScsiCommand (scsi_command-unique b x y p q
     (records.IsRecord-unique (part 32 47 b) x.cdb y.cdb m n))
@@ -64,11 +64,11 @@ pub HaveRoom-append : (xs ys : List Row) → HaveRoom xs → HaveRoom ys → Hav
 HaveRoom-append [] ys p q = q
 HaveRoom-append (x ∷ xs) ys p q = (p.0, HaveRoom-append xs ys p.1 q)
 
-pub Hold-first : (xs ys : List Row) (b : List ℕ) → Hold b (xs ++ ys) → Hold b xs
+pub Hold-first : (xs ys : List Row) (b : List ℕ) → RowsHold b (xs ++ ys) → RowsHold b xs
 Hold-first [] ys b h = tt
 Hold-first (x ∷ xs) ys b h = (h.0, Hold-first xs ys b h.1)
 
-Hold-second : (xs ys : List Row) (b : List ℕ) → Hold b (xs ++ ys) → Hold b ys
+Hold-second : (xs ys : List Row) (b : List ℕ) → RowsHold b (xs ++ ys) → RowsHold b ys
 Hold-second [] ys b h = h
 Hold-second (x ∷ xs) ys b h = Hold-second xs ys b h.1
 
@@ -98,11 +98,31 @@ pub blocks-room : (h : Head) → ReadsBlock h → HaveRoom (blocks h)
 blocks-room (ScsiCommand h) reads = ((refl, reads.size), tt)
 blocks-room _ reads = tt
 
-blocks-has : (b : List ℕ) (h : Head) → ReadsBlock h → Hold b (blocks h) → HasBlock b h
+blocks-has : (b : List ℕ) (h : Head) → ReadsBlock h → RowsHold b (blocks h) → HasBlock b h
 blocks-has b (ScsiCommand h) reads held =
     let e : cdb.canonical h.cdb ≡ part 32 47 b = cc (held.0) in
     subst (λ (x : List ℕ). cdb.IsRecord x h.cdb) e reads
 blocks-has b _ reads held = tt
+
+-- the rows have room
+all-room : (h : Head) (len : ℕ) → HaveRoom (rows h) → ReadsBlock h → len < 2 ^ 24 → HaveRoom (all_rows h len)
+unfolding all_rows
+all-room h len own reads short =
+    HaveRoom-append (ones h) _ (ones-room h)
+    (HaveRoom-append (frame (opcode h) len) (rows h ++ blocks h) ((refl, opcode-small h), ((refl, lit< tt), ((refl, short), tt)))
+    (HaveRoom-append (rows h) (blocks h) own (blocks-room h reads)))
+
+-- they are written in three steps
+all-same : (h : Head) (len : ℕ) → put_all (all_rows h len) (replicate 48 0) ≡ header h len
+unfolding all_rows header
+all-same h len =
+    put_all-append (ones h) (frame (opcode h) len ++ (rows h ++ blocks h)) (replicate 48 0)
+    ∙ put_all-append (frame (opcode h) len) (rows h ++ blocks h) (put_all (ones h) (replicate 48 0))
+
+-- the canonical header has 48 bytes
+pub header-size : (h : Head) (len : ℕ) → HaveRoom (rows h) → ReadsBlock h → len < 2 ^ 24 → length (header h len) ≡ 48
+header-size h len own reads short =
+    ap length (sym (all-same h len)) ∙ length-put_all 48 (all_rows h len) (replicate 48 0) refl (all_rows-table h len) (all-room h len own reads short)
 
 -- The canonical header of a head has that head.
 pub header-means : (h : Head) (len : ℕ) → HaveRoom (rows h) → ReadsBlock h → len < 2 ^ 24 → OnTrue (is_login (opcode h)) (len ≤ 8192) →
@@ -111,17 +131,14 @@ unfolding all_rows header
 header-means h len own reads short login =
     let fields = rows h ++ blocks h in
     let zeros : List ℕ = replicate 48 0 in
-    let room : HaveRoom (all_rows h len) = HaveRoom-append (ones h) _ (ones-room h)
-    (HaveRoom-append (frame (opcode h) len) fields ((refl, opcode-small h), ((refl, lit< tt), ((refl, short), tt)))
-    (HaveRoom-append (rows h) (blocks h) own (blocks-room h reads))) in
-    let same : put_all (all_rows h len) zeros ≡ header h len = put_all-append (ones h) (frame (opcode h) len ++ fields) zeros
-    ∙ put_all-append (frame (opcode h) len) fields (put_all (ones h) zeros) in
-    let held : Hold (header h len) (all_rows h len) = subst (λ (b : List ℕ). Hold b (all_rows h len)) same
+    let room : HaveRoom (all_rows h len) = all-room h len own reads short in
+    let same : put_all (all_rows h len) zeros ≡ header h len = all-same h len in
+    let held : RowsHold (header h len) (all_rows h len) = subst (λ (b : List ℕ). RowsHold b (all_rows h len)) same
     (put_all-holds 48 (all_rows h len) zeros refl (all_rows-table h len) room) in
     let after = Hold-second (ones h) (frame (opcode h) len ++ fields) (header h len) held in
     let last = Hold-second (frame (opcode h) len) fields (header h len) after in
     record {
-      size = ap length (sym same) ∙ length-put_all 48 (all_rows h len) zeros refl (all_rows-table h len) room;
+      size = header-size h len own reads short;
       frame = Hold-first (frame (opcode h) len) fields (header h len) after;
       rows = Hold-first (rows h) (blocks h) (header h len) last;
       block = blocks-has (header h len) h reads (Hold-second (rows h) (blocks h) (header h len) last);
@@ -153,7 +170,7 @@ HasBlock-reads b _ bytes has = tt
 pub IsHeader-reads : (b : List ℕ) (h : Head) (len : ℕ) → ((k : ℕ) → get_or b k 0 < 256) → IsHeader b h len → ReadsBlock h
 IsHeader-reads b h len bytes r = HasBlock-reads b h bytes r.block
 
-pub IsHeader-fits : (b : List ℕ) (h : Head) (len : ℕ) → ((k : ℕ) → get_or b k 0 < 256) → IsHeader b h len → Fits h
+pub IsHeader-fits : (b : List ℕ) (h : Head) (len : ℕ) → ((k : ℕ) → get_or b k 0 < 256) → IsHeader b h len → HeadFits h
 IsHeader-fits b h len bytes r = record { filled = HaveRoom-filled (rows h) (IsHeader-room b h len bytes r); block = HasBlock-fits b h bytes r.block }
 
 -- ---- refusals
@@ -171,7 +188,7 @@ login-fits true len le = le-ltb 8192 len le
 login-fits false len le = refl
 
 -- bytes that have a head have no fault
-pub IsHeader-faultless : (b : List ℕ) (h : Head) (len : ℕ) → IsHeader b h len → fault_of b ≡ None
+pub IsHeader-faultless : (b : List ℕ) (h : Head) (len : ℕ) → IsHeader b h len → head_fault b ≡ None
 IsHeader-faultless b h len r =
     let op : bits_at 0 63 b ≡ opcode h = cc (r.frame.0) in
     let four : number_at 4 4 b ≡ 0 = cc (r.frame.1.0) in
@@ -179,7 +196,7 @@ IsHeader-faultless b h len r =
     rw (op, opcode-listed h, four, size, login-fits (is_login (opcode h)) len r.login) refl
 
 -- what a reader answered, by its two clauses, is every head that the bytes have
-pub only_answer : (b : List ℕ) (r : Result (Head × ℕ) HeadFault) → IfOk r (λ x. IsHeader b x.0 x.1) → result_err r ≡ fault_of b → (h : Head) (len : ℕ) →
+pub only_answer : (b : List ℕ) (r : Result (Head × ℕ) HeadFault) → IfOk r (λ x. IsHeader b x.0 x.1) → result_err r ≡ head_fault b → (h : Head) (len : ℕ) →
     IsHeader b h len → r ≡ Ok (h, len)
 only_answer b (Ok x) means fault h len header =
     let same = IsHeader-unique b x.0 h x.1 len means header in
@@ -188,9 +205,23 @@ only_answer b (Err f) means fault h len header =
     let none = IsHeader-faultless b h len header in
     absurd (cc)
 
-pub fits_answer : (b : List ℕ) (r : Result (Head × ℕ) HeadFault) → ((k : ℕ) → get_or b k 0 < 256) → IfOk r (λ x. IsHeader b x.0 x.1) → IfOk r (λ x. Fits x.0)
+pub fits_answer : (b : List ℕ) (r : Result (Head × ℕ) HeadFault) → ((k : ℕ) → get_or b k 0 < 256) → IfOk r (λ x. IsHeader b x.0 x.1)
+    → IfOk r (λ x. HeadFits x.0)
 fits_answer b (Ok x) bytes means = IsHeader-fits b x.0 x.1 bytes means
 fits_answer b (Err f) bytes means = tt
+
+-- the same of a reader of headers that say no segment
+pub only_bare : (b : List ℕ) (r : Option Head) (P : Head → Type 0) → MatchOption r (is_opcode (bits_at 0 63 b) ≡ false) P →
+    IfSome r (λ h. IsHeader b h 0) → (h : Head) → IsHeader b h 0 → r ≡ Some h
+only_bare b (Some x) P read means h header = ap Some (IsHeader-unique b x h 0 0 means header).0
+only_bare b None P read means h header =
+    let op : bits_at 0 63 b ≡ opcode h = cc (header.frame.0) in
+    let listed : is_opcode (bits_at 0 63 b) ≡ true = ap is_opcode op ∙ opcode-listed h in
+    absurd (cc)
+
+pub fits_bare : (b : List ℕ) (r : Option Head) → ((k : ℕ) → get_or b k 0 < 256) → IfSome r (λ h. IsHeader b h 0) → IfSome r (λ h. HeadFits h)
+fits_bare b (Some h) bytes means = IsHeader-fits b h 0 bytes means
+fits_bare b None bytes means = tt
 
 frame-table : (op len : ℕ) → is_table 48 (frame op len) ≡ true
 unfolding lib.Count.ones lib.Count.count_trailing_zeros

@@ -1,6 +1,6 @@
 -- Bytes have one head.
 use Rattle.std.proofs.Common.{◌≡◌, ℕ, List}
-use Rattle.scsi_cdb.specs.Layout.{Hold}
+use Rattle.scsi_cdb.specs.Layout.{RowsHold}
 use Rattle.iscsi_pdu.specs.declared.head.nop_out.NopOut.{NopOut}
 use Rattle.iscsi_pdu.specs.declared.head.scsi_command.ScsiCommand.{ScsiCommand}
 use Rattle.iscsi_pdu.specs.declared.head.task_request.TaskRequest.{TaskRequest}
@@ -21,55 +21,55 @@ use Rattle.iscsi_pdu.specs.declared.head.reject.Reject.{Reject}
 use Rattle.iscsi_pdu.specs.Fields.{nop_out, scsi_command, task_request, login_request, text_request, data_out, logout_request, nop_in, scsi_response}
 use Rattle.iscsi_pdu.specs.Fields.{task_response, login_response, text_response, data_in, logout_response, ready_to_transfer, async_message, reject}
 
-pub nop_out-unique : (b : List ℕ) (x y : NopOut) → Hold b (nop_out x) → Hold b (nop_out y) → x ≡ y
+pub nop_out-unique : (b : List ℕ) (x y : NopOut) → RowsHold b (nop_out x) → RowsHold b (nop_out y) → x ≡ y
 nop_out-unique b x y p q = let e : ◌≡◌ {A = NopOut} (record x { immediate = x.immediate }) (record y { immediate = y.immediate }) = cc in e
 
-pub scsi_command-unique : (b : List ℕ) (x y : ScsiCommand) → Hold b (scsi_command x) → Hold b (scsi_command y) → x.cdb ≡ y.cdb → x ≡ y
+pub scsi_command-unique : (b : List ℕ) (x y : ScsiCommand) → RowsHold b (scsi_command x) → RowsHold b (scsi_command y) → x.cdb ≡ y.cdb → x ≡ y
 scsi_command-unique b x y p q c = let e : ◌≡◌ {A = ScsiCommand} (record x { immediate = x.immediate }) (record y { immediate = y.immediate }) = cc in e
 
-pub task_request-unique : (b : List ℕ) (x y : TaskRequest) → Hold b (task_request x) → Hold b (task_request y) → x ≡ y
+pub task_request-unique : (b : List ℕ) (x y : TaskRequest) → RowsHold b (task_request x) → RowsHold b (task_request y) → x ≡ y
 task_request-unique b x y p q = let e : ◌≡◌ {A = TaskRequest} (record x { immediate = x.immediate }) (record y { immediate = y.immediate }) = cc in e
 
-pub login_request-unique : (b : List ℕ) (x y : LoginRequest) → Hold b (login_request x) → Hold b (login_request y) → x ≡ y
+pub login_request-unique : (b : List ℕ) (x y : LoginRequest) → RowsHold b (login_request x) → RowsHold b (login_request y) → x ≡ y
 login_request-unique b x y p q = let e : ◌≡◌ {A = LoginRequest} (record x { transits = x.transits }) (record y { transits = y.transits }) = cc in e
 
-pub text_request-unique : (b : List ℕ) (x y : TextRequest) → Hold b (text_request x) → Hold b (text_request y) → x ≡ y
+pub text_request-unique : (b : List ℕ) (x y : TextRequest) → RowsHold b (text_request x) → RowsHold b (text_request y) → x ≡ y
 text_request-unique b x y p q = let e : ◌≡◌ {A = TextRequest} (record x { immediate = x.immediate }) (record y { immediate = y.immediate }) = cc in e
 
-pub data_out-unique : (b : List ℕ) (x y : DataOut) → Hold b (data_out x) → Hold b (data_out y) → x ≡ y
+pub data_out-unique : (b : List ℕ) (x y : DataOut) → RowsHold b (data_out x) → RowsHold b (data_out y) → x ≡ y
 data_out-unique b x y p q = let e : ◌≡◌ {A = DataOut} (record x { is_final = x.is_final }) (record y { is_final = y.is_final }) = cc in e
 
-pub logout_request-unique : (b : List ℕ) (x y : LogoutRequest) → Hold b (logout_request x) → Hold b (logout_request y) → x ≡ y
+pub logout_request-unique : (b : List ℕ) (x y : LogoutRequest) → RowsHold b (logout_request x) → RowsHold b (logout_request y) → x ≡ y
 logout_request-unique b x y p q = let e : ◌≡◌ {A = LogoutRequest} (record x { immediate = x.immediate }) (record y { immediate = y.immediate }) = cc in e
 
-pub nop_in-unique : (b : List ℕ) (x y : NopIn) → Hold b (nop_in x) → Hold b (nop_in y) → x ≡ y
+pub nop_in-unique : (b : List ℕ) (x y : NopIn) → RowsHold b (nop_in x) → RowsHold b (nop_in y) → x ≡ y
 nop_in-unique b x y p q = let e : ◌≡◌ {A = NopIn} (record x { initiator_task_tag = x.initiator_task_tag })
     (record y { initiator_task_tag = y.initiator_task_tag }) = cc in e
 
-pub scsi_response-unique : (b : List ℕ) (x y : ScsiResponse) → Hold b (scsi_response x) → Hold b (scsi_response y) → x ≡ y
+pub scsi_response-unique : (b : List ℕ) (x y : ScsiResponse) → RowsHold b (scsi_response x) → RowsHold b (scsi_response y) → x ≡ y
 scsi_response-unique b x y p q = let e : ◌≡◌ {A = ScsiResponse} (record x { bidirectional_overflow = x.bidirectional_overflow })
     (record y { bidirectional_overflow = y.bidirectional_overflow }) = cc in e
 
-pub task_response-unique : (b : List ℕ) (x y : TaskResponse) → Hold b (task_response x) → Hold b (task_response y) → x ≡ y
+pub task_response-unique : (b : List ℕ) (x y : TaskResponse) → RowsHold b (task_response x) → RowsHold b (task_response y) → x ≡ y
 task_response-unique b x y p q = let e : ◌≡◌ {A = TaskResponse} (record x { response = x.response }) (record y { response = y.response }) = cc in e
 
-pub login_response-unique : (b : List ℕ) (x y : LoginResponse) → Hold b (login_response x) → Hold b (login_response y) → x ≡ y
+pub login_response-unique : (b : List ℕ) (x y : LoginResponse) → RowsHold b (login_response x) → RowsHold b (login_response y) → x ≡ y
 login_response-unique b x y p q = let e : ◌≡◌ {A = LoginResponse} (record x { transits = x.transits }) (record y { transits = y.transits }) = cc in e
 
-pub text_response-unique : (b : List ℕ) (x y : TextResponse) → Hold b (text_response x) → Hold b (text_response y) → x ≡ y
+pub text_response-unique : (b : List ℕ) (x y : TextResponse) → RowsHold b (text_response x) → RowsHold b (text_response y) → x ≡ y
 text_response-unique b x y p q = let e : ◌≡◌ {A = TextResponse} (record x { is_final = x.is_final }) (record y { is_final = y.is_final }) = cc in e
 
-pub data_in-unique : (b : List ℕ) (x y : DataIn) → Hold b (data_in x) → Hold b (data_in y) → x ≡ y
+pub data_in-unique : (b : List ℕ) (x y : DataIn) → RowsHold b (data_in x) → RowsHold b (data_in y) → x ≡ y
 data_in-unique b x y p q = let e : ◌≡◌ {A = DataIn} (record x { is_final = x.is_final }) (record y { is_final = y.is_final }) = cc in e
 
-pub logout_response-unique : (b : List ℕ) (x y : LogoutResponse) → Hold b (logout_response x) → Hold b (logout_response y) → x ≡ y
+pub logout_response-unique : (b : List ℕ) (x y : LogoutResponse) → RowsHold b (logout_response x) → RowsHold b (logout_response y) → x ≡ y
 logout_response-unique b x y p q = let e : ◌≡◌ {A = LogoutResponse} (record x { response = x.response }) (record y { response = y.response }) = cc in e
 
-pub ready_to_transfer-unique : (b : List ℕ) (x y : ReadyToTransfer) → Hold b (ready_to_transfer x) → Hold b (ready_to_transfer y) → x ≡ y
+pub ready_to_transfer-unique : (b : List ℕ) (x y : ReadyToTransfer) → RowsHold b (ready_to_transfer x) → RowsHold b (ready_to_transfer y) → x ≡ y
 ready_to_transfer-unique b x y p q = let e : ◌≡◌ {A = ReadyToTransfer} (record x { lun = x.lun }) (record y { lun = y.lun }) = cc in e
 
-pub async_message-unique : (b : List ℕ) (x y : AsyncMessage) → Hold b (async_message x) → Hold b (async_message y) → x ≡ y
+pub async_message-unique : (b : List ℕ) (x y : AsyncMessage) → RowsHold b (async_message x) → RowsHold b (async_message y) → x ≡ y
 async_message-unique b x y p q = let e : ◌≡◌ {A = AsyncMessage} (record x { stat_sn = x.stat_sn }) (record y { stat_sn = y.stat_sn }) = cc in e
 
-pub reject-unique : (b : List ℕ) (x y : Reject) → Hold b (reject x) → Hold b (reject y) → x ≡ y
+pub reject-unique : (b : List ℕ) (x y : Reject) → RowsHold b (reject x) → RowsHold b (reject y) → x ≡ y
 reject-unique b x y p q = let e : ◌≡◌ {A = Reject} (record x { reason = x.reason }) (record y { reason = y.reason }) = cc in e

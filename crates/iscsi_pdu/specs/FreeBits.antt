@@ -11,20 +11,20 @@ abbrev pub are_apart : ℕ → ℕ → Bool
 are_apart mask other = (bit_and mask other == 0) && (bit_and (255 - mask) other == other)
 
 -- byte n is one of those from the first to the last
-abbrev pub is_among : ℕ → ℕ → ℕ → Bool
-is_among n first last = not (nat_lt n first) && not (nat_lt last n)
+abbrev pub is_between : ℕ → ℕ → ℕ → Bool
+is_between n first last = not (nat_lt n first) && not (nat_lt last n)
 
 -- the row has a value, and a bit of it is one of a mask in byte n
 abbrev pub uses : ℕ → ℕ → Row → Bool
 uses n mask (bit at own field) = is_some field.value && ((at == n) && not (are_apart own mask))
 uses n mask (bits at own field) = is_some field.value && ((at == n) && not (are_apart own mask))
-uses n mask (bytes first last field) = is_some field.value && is_among n first last
-uses n mask (raw first last field) = is_some field.value && is_among n first last
+uses n mask (bytes first last field) = is_some field.value && is_between n first last
+uses n mask (raw first last field) = is_some field.value && is_between n first last
 
 -- all that is written in the header of a head and a length
-abbrev pub written : Head → ℕ → List Row
-written h len = ones h ++ (frame (opcode h) len ++ (rows h ++ blocks h))
+abbrev pub written_rows : Head → ℕ → List Row
+written_rows h len = ones h ++ (frame (opcode h) len ++ (rows h ++ blocks h))
 
 -- The bits of a mask in byte n are free: no row with a value has one of them.
 abbrev pub are_free : ℕ → ℕ → Head → ℕ → Bool
-are_free n mask h len = not (list_any (uses n mask) (written h len))
+are_free n mask h len = not (list_any (uses n mask) (written_rows h len))

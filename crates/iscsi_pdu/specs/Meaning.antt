@@ -3,7 +3,7 @@
 use Rattle.std.specs.Prelude.{◌≡◌, ℕ, ◌+◌, ◌%◌, ◌-◌, ◌^◌, ◌<◌, ◌≤◌, Bool, true, not, ◌==◌, nat_lt, ◌&&◌, ◌||◌, if◌then◌else◌, List, [], ◌∷◌, ◌++◌, length, take, slice_index, slice_range, replicate, Option, Some, None}
 use Rattle.std.specs.Bool.{OnTrue}
 use Rattle.std.specs.List.{list_any}
-use Rattle.scsi_cdb.specs.Layout.{Row, always, Hold, AreFilled, HaveRoom, put_all, bits_at, number_at, part}
+use Rattle.scsi_cdb.specs.Layout.{Row, always, RowsHold, AreFilled, HaveRoom, put_all, bits_at, number_at, part}
 use Rattle.scsi_cdb.specs.Layout.Row.{bit, bits, bytes}
 use Rattle.scsi_cdb.specs.Blocks as cdb
 use Rattle.iscsi_pdu.specs.declared.head.Head.{Head}
@@ -79,7 +79,7 @@ HasBlock b _ = Unit {0}
 
 -- the descriptor block of a SCSI Command fits its table
 abbrev pub FitsBlock : Head → Type 0
-FitsBlock (ScsiCommand h) = cdb.Fits h.cdb
+FitsBlock (ScsiCommand h) = cdb.CdbFits h.cdb
 FitsBlock _ = Unit {0}
 
 -- the descriptor block of a SCSI Command is read back from its canonical spelling
@@ -105,14 +105,14 @@ is_login op = op == 0x03 || op == 0x23
 -- most 8,192 bytes (RFC 7143, section 13.12).
 pub record IsHeader (b : List ℕ) (h : Head) (len : ℕ) : Type 0 where
   pub size : length b ≡ 48
-  pub frame : Hold b (frame (opcode h) len)
-  pub rows : Hold b (rows h)
+  pub frame : RowsHold b (frame (opcode h) len)
+  pub rows : RowsHold b (rows h)
   pub block : HasBlock b h
   pub login : OnTrue (is_login (opcode h)) (len ≤ 8192)
 
 -- The head fits the table: each field is there exactly under its condition, and its mask has room
 -- for it.
-pub record Fits (h : Head) : Type 0 where
+pub record HeadFits (h : Head) : Type 0 where
   pub filled : AreFilled (rows h)
   pub block : FitsBlock h
 
@@ -144,13 +144,13 @@ AreBytes b = (k : ℕ) → slice_index b k < 256
 -- the descriptor block of a SCSI Command has room for each field, as it has for each value of the
 -- field's type
 abbrev pub HasBlockRoom : Head → Type 0
-HasBlockRoom (ScsiCommand h) = HaveRoom (cdb.rows h.cdb)
+HasBlockRoom (ScsiCommand h) = HaveRoom (cdb.cdb_rows h.cdb)
 HasBlockRoom _ = Unit {0}
 
 -- A head that fits the table, with numbers of their types, before a segment that a header can tell
 -- the length of.
 pub record IsWritable (h : Head) (len : ℕ) : Type 0 where
-  pub fits : Fits h
+  pub fits : HeadFits h
   pub room : HaveRoom (rows h)
   pub block_room : HasBlockRoom h
   pub short : len < 2 ^ 24
@@ -171,8 +171,8 @@ is_opcode op = list_any (λ n. n == op) opcodes
 
 -- why 48 bytes have no head, the first reason of three; the refusals and their order are own
 -- profile
-abbrev pub fault_of : List ℕ → Option HeadFault
-fault_of b =
+abbrev pub head_fault : List ℕ → Option HeadFault
+head_fault b =
     if not (is_opcode (bits_at 0 0x3f b)) then Some UnknownOpcode
     else (if not (number_at 4 4 b == 0) then Some Additional
     else (if is_login (bits_at 0 0x3f b) && nat_lt 8192 (number_at 5 7 b) then Some TooLong

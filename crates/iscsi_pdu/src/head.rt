@@ -1,11 +1,11 @@
 //! Any head, and the header that it is read from and written to (RFC 7143, section 11.2).
 
-ghost use Rattle.std.specs.Prelude.{◌≡◌, ◌↔◌, ◌++◌, ◌<◌, ◌≤◌, ◌^◌, ℕ, false, Ok, IfOk, MatchOption, length, replicate};
+ghost use Rattle.std.specs.Prelude.{◌≡◌, ◌↔◌, ◌++◌, ◌<◌, ◌≤◌, ◌^◌, ℕ, false, Ok, Some, IfOk, IfSome, MatchOption, length, replicate};
 ghost use Rattle.std.specs.Bool.{OnTrue};
 ghost use Rattle.std.specs.Result.{result_err};
-ghost use Rattle.scsi_cdb.specs.Layout.{Hold, AreFilled, HaveRoom, put_all, bits_at};
+ghost use Rattle.scsi_cdb.specs.Layout.{RowsHold, AreFilled, HaveRoom, put_all, bits_at};
 ghost use Rattle.iscsi_pdu.specs.declared.head.Head.{Head};
-ghost use Rattle.iscsi_pdu.specs.Meaning.{opcode, rows, ones, blocks, frame, header, is_login, is_opcode, fault_of, Fits, FitsBlock, HasBlock, ReadsBlock, IsHeader};
+ghost use Rattle.iscsi_pdu.specs.Meaning.{opcode, rows, ones, blocks, frame, header, is_login, is_opcode, head_fault, HeadFits, FitsBlock, HasBlock, ReadsBlock, IsHeader};
 
 mod async_message;
 mod data_in;
@@ -136,7 +136,7 @@ impl Head {
     #[inline(never)]
     fn read(bytes: &[u8; 48]) -> Option<Head>
         ensures { MatchOption result (is_opcode (bits_at 0 63 bytes.now) ≡ false)
-            (λ h. (opcode h ≡ bits_at 0 63 bytes.now) × Hold bytes.now (rows h)
+            (λ h. (opcode h ≡ bits_at 0 63 bytes.now) × RowsHold bytes.now (rows h)
             × HasBlock bytes.now h) }
     {
         match bits(bytes, 0, 0x3f) {
@@ -218,20 +218,35 @@ impl Head {
 pub fn read_head(bytes: &[u8; 48]) -> Result<(Head, u32), HeadFault>
     // What is read is the head that the field table gives, and it fits the table.
     ensures means { IfOk result (λ x. IsHeader bytes.now x.0 x.1) }
-    ensures fits { IfOk result (λ x. Fits x.0) }
+    ensures fits { IfOk result (λ x. HeadFits x.0) }
     ensures short { IfOk result (λ x. x.1 < 2 ^ 24) }
     // A header that has a head is read.
     ensures only { (h : Head) (len : ℕ) → IsHeader bytes.now h len → result ≡ Ok (h, len) }
     // Which fault it is.
-    ensures fault { result_err result ≡ fault_of bytes.now }
+    ensures fault { result_err result ≡ head_fault bytes.now }
 {
     checked(bytes)
+}
+
+/// The head of a header that says no data segment, if it has one. A head has 80 bytes: it lies where it
+/// was read, while `read_head` moves it beside the length.
+#[inline(always)]
+pub fn read_bare_head(bytes: &[u8; 48]) -> Option<Head>
+    ensures means { IfSome result (λ h. IsHeader bytes.now h 0) }
+    ensures fits { IfSome result (λ h. HeadFits h) }
+    // A header that has a head and says no segment is read.
+    ensures only { (h : Head) → IsHeader bytes.now h 0 → result ≡ Some h }
+{
+    if u8_at(bytes, 4) != 0 || u24_at(bytes, 5) != 0 {
+        return None;
+    }
+    Head::read(bytes)
 }
 
 /// The head and length of a header that passes each check.
 fn checked(bytes: &[u8; 48]) -> Result<(Head, u32), HeadFault>
     ensures means { IfOk result (λ x. IsHeader bytes.now x.0 x.1) }
-    ensures fault { result_err result ≡ fault_of bytes.now }
+    ensures fault { result_err result ≡ head_fault bytes.now }
 {
     let Some(head) = Head::read(bytes) else {
         return Err(HeadFault::UnknownOpcode);
@@ -255,29 +270,31 @@ fn checked(bytes: &[u8; 48]) -> Result<(Head, u32), HeadFault>
 /// - Each field with a condition is there exactly if its condition holds.
 /// - An unknown descriptor block is one of no other record.
 pub fn write_head(head: &Head, len: u32) -> [u8; 48]
-    requires fits { Fits head.now }
+    requires fits { HeadFits head.now }
     requires short { len < 2 ^ 24 }
     ensures canonical { result ≡ header head.now len }
     // It is read back, but for a login PDU of more than 8,192 bytes.
     ensures back { OnTrue (is_login (opcode head.now)) (len ≤ 8192) → IsHeader result head.now len }
 {
-    canonical(head, len)
+    let mut out = [0; 48];
+    put_head(head, len, &mut out);
+    out
 }
 
-/// The header of a head, each row of the tables written after the other.
+/// Writes the canonical header of a head over these bytes, before a data segment of `len` bytes: each row
+/// of the tables after the other. The head has to fit the table, as for `write_head`.
 #[tactic(auto, unfolding(crate::specs::Meaning::header))]
-fn canonical(head: &Head, len: u32) -> [u8; 48]
-    requires fits { Fits head.now }
+pub fn put_head(head: &Head, len: u32, out: &mut [u8; 48])
+    requires fits { HeadFits head.now }
     requires short { len < 2 ^ 24 }
-    ensures written { result ≡ header head.now len }
+    ensures canonical { out.new ≡ header head.now len }
     ensures room { HaveRoom (rows head.now) }
     ensures block { ReadsBlock head.now }
 {
-    let mut out = [0; 48];
-    head.write_ones(&mut out);
-    put_number(&mut out, 0, 0x3f, head.opcode());
-    put_u8(&mut out, 4, 0);
-    put_u24(&mut out, 5, len);
-    head.write_fields(&mut out);
-    out
+    *out = [0; 48];
+    head.write_ones(out);
+    put_number(out, 0, 0x3f, head.opcode());
+    put_u8(out, 4, 0);
+    put_u24(out, 5, len);
+    head.write_fields(out);
 }

@@ -3,9 +3,9 @@
 ghost use Rattle.std.specs.Prelude.{◌≡◌, ◌↔◌, ◌<◌, ◌≤◌, ◌^◌, ℕ, List, Ok, true, bit_and, length, slice_index};
 ghost use Rattle.std.specs.Bool.{OnTrue};
 ghost use Rattle.iscsi_pdu.specs.declared.head.Head.{Head};
-ghost use Rattle.scsi_cdb.specs.Layout.{Hold};
+ghost use Rattle.scsi_cdb.specs.Layout.{RowsHold};
 ghost use Rattle.iscsi_pdu.specs.FreeBits.{are_free};
-ghost use Rattle.iscsi_pdu.specs.Meaning.{opcode, header, is_login, ones, whole, AreBytes, Fits, IsWritable, Means};
+ghost use Rattle.iscsi_pdu.specs.Meaning.{opcode, header, is_login, ones, whole, AreBytes, HeadFits, IsWritable, Means};
 
 use crate::{Head, HeadFault, read_head, write_head};
 
@@ -45,12 +45,12 @@ pub fn same_meaning()
 pub fn free_bits()
     ensures zero { (h : Head) (len n mask : ℕ) → IsWritable h len → are_free n mask h len ≡ true
         → bit_and (slice_index (header h len) n) mask ≡ 0 }
-    ensures ones { (h : Head) (len : ℕ) → IsWritable h len → Hold (header h len) (ones h) }
+    ensures ones { (h : Head) (len : ℕ) → IsWritable h len → RowsHold (header h len) (ones h) }
 {}
 
 /// Reads the header of a head, and gives the head back.
 pub fn read_written(head: &Head, len: u32) -> Result<(Head, u32), HeadFault>
-    requires fits { Fits head.now }
+    requires fits { HeadFits head.now }
     requires short { len < 2 ^ 24 }
     requires login { OnTrue (is_login (opcode head.now)) (len ≤ 8192) }
     ensures { result ≡ Ok (head.now, len) }

@@ -11,7 +11,7 @@ mod serial;
 pub use head::{
     AsyncMessage, DataIn, DataOut, Head, HeadFault, LoginRequest, LoginResponse, LogoutRequest,
     LogoutResponse, NopIn, NopOut, ReadyToTransfer, Reject, ScsiCommand, ScsiResponse, TaskRequest,
-    TaskResponse, TextRequest, TextResponse, read_head, write_head,
+    TaskResponse, TextRequest, TextResponse, put_head, read_bare_head, read_head, write_head,
 };
 pub use pdu::{Pdu, pad};
 pub use serial::{Serial, Window};

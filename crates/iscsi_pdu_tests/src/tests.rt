@@ -4,7 +4,8 @@
 use iscsi_pdu::{
     AsyncMessage, DataIn, DataOut, Head, HeadFault, LoginRequest, LoginResponse, LogoutRequest,
     LogoutResponse, NopIn, NopOut, ReadyToTransfer, Reject, ScsiCommand, ScsiResponse, Serial,
-    TaskRequest, TaskResponse, TextRequest, TextResponse, Window, laws, pad, read_head, write_head,
+    TaskRequest, TaskResponse, TextRequest, TextResponse, Window, laws, pad, put_head,
+    read_bare_head, read_head, write_head,
 };
 use scsi_cdb::{Cdb, Transfer10};
 use std::alloc::Global;
@@ -28,15 +29,21 @@ fn header(words: [u32; 12]) -> [u8; 48] {
 /// Whether a header that comes is written so again.
 fn is_written(came: [u32; 12], written: [u32; 12]) -> bool {
     match read_head(&header(came)) {
-        Ok((head, len)) => write_head(&head, len) == header(written),
+        Ok((head, len)) => {
+            let mut placed = [0xff; 48];
+            put_head(&head, len, &mut placed);
+            placed == header(written) && write_head(&head, len) == header(written)
+        }
         Err(_) => false,
     }
 }
 
-/// A header has this head.
+/// A header has this head, and has it bare where it says no data segment.
 fn check_head(rt: &impl Abort, words: [u32; 12], head: &Head) {
     let read = read_head(&header(words)).map(|(read, _)| read);
     same(rt, &read, &Ok(*head), &words);
+    let bare = if words[1] == 0 { Some(*head) } else { None };
+    same(rt, &read_bare_head(&header(words)), &bare, &words);
 }
 
 /// All bits of a word.

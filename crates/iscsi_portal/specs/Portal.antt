@@ -15,7 +15,7 @@ pub record IsPortal (portal : List ℕ) : Type 0 where
   pub each : All IsInPortal portal
 
 -- A portal keeps the address that it was given; each fault has its cause.
-abbrev pub Keeps : List ℕ → Result (List ℕ) PortalFault → Type 0
-Keeps bytes (Ok portal) = IsPortal bytes × (portal ≡ bytes)
-Keeps bytes (Err BadPortal) = ¬ IsPortal bytes
-Keeps bytes (Err NoMemory) = IsPortal bytes
+abbrev pub NewPortalPost : List ℕ → Result (List ℕ) PortalFault → Type 0
+NewPortalPost bytes (Ok portal) = IsPortal bytes × (portal ≡ bytes)
+NewPortalPost bytes (Err BadPortal) = ¬ IsPortal bytes
+NewPortalPost bytes (Err NoMemory) = IsPortal bytes

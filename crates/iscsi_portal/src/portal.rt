@@ -1,7 +1,7 @@
 //! The address of a portal.
 
 ghost use Rattle.std.specs.Prelude.{◌≡◌, ◌↔◌, IsTrue};
-ghost use Rattle.iscsi_portal.specs.Portal.{IsInPortal, IsPortal, Keeps};
+ghost use Rattle.iscsi_portal.specs.Portal.{IsInPortal, IsPortal, NewPortalPost};
 
 use std::alloc::Global;
 use std::marker::Model;
@@ -46,7 +46,7 @@ impl Portal {
     ///
     /// Other bytes are `BadPortal`; `NoMemory` comes last.
     pub fn new(alloc: Global, bytes: &[u8]) -> Result<Portal, PortalFault>
-        ensures keeps { Keeps bytes.now result }
+        ensures keeps { NewPortalPost bytes.now result }
     {
         if !is_portal(bytes) {
             return Err(PortalFault::BadPortal);

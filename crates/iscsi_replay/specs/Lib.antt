@@ -1,2 +1,3 @@
 pub mod Rules
 pub mod Outcomes
+pub mod inner

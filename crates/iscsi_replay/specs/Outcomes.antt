@@ -39,8 +39,3 @@ abbrev pub is_unit_attention_end : Ended → List ℕ → Bool
 is_unit_attention_end (ended.Command response status _) sense =
     (response == 0) && ((status == 2) && (sense_key sense == 6))
 is_unit_attention_end _ _ = false
-
--- A command was done: its target completed it with status GOOD (SAM-5, section 5.3.1).
-abbrev pub is_good_end : Ended → Bool
-is_good_end (ended.Command response status _) = (response == 0) && (status == 0)
-is_good_end _ = false

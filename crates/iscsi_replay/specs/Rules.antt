@@ -19,10 +19,10 @@ changes (code ∷ _) = list_any (λ n. n == code) writing_codes
 changes [] = false
 
 -- A request may change what a disk holds: it sends data with a command, or its command changes a medium.
-abbrev pub writes : Asked → Bool
-writes (asked.Command lun cdb moves.Out n) = true
-writes (asked.Command lun cdb moves.In n) = changes cdb
-writes _ = false
+abbrev pub may_write : Asked → Bool
+may_write (asked.Command lun cdb moves.Out n) = true
+may_write (asked.Command lun cdb moves.In n) = changes cdb
+may_write _ = false
 
 -- The operation codes whose data are left out, by what is asked for: INQUIRY, REPORT LUNS, MODE SENSE.
 abbrev pub ignores : Ignored → ℕ → Bool

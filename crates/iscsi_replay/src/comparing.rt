@@ -1,7 +1,8 @@
 //! Whether two outcomes of a request are the same.
 
 ghost use Rattle.std.specs.Prelude.{◌≡◌, ◌↔◌, true};
-ghost use Rattle.iscsi_replay.specs.Outcomes.{AreSame, compared_data, compared_end, is_good_end, is_unit_attention_end, sense_key, without_residual};
+ghost use Rattle.iscsi_replay.specs.Outcomes.{AreSame, compared_data, compared_end, is_unit_attention_end, sense_key, without_residual};
+ghost use Rattle.iscsi_replay.specs.inner.Outcomes.{is_good_end};
 
 use iscsi_job::{Ended, Outcome};
 use scsi_cdb::Residual;

@@ -1,7 +1,7 @@
 //! Requests that change what a disk holds.
 
 ghost use Rattle.std.specs.Prelude.{◌≡◌, ◌↔◌, false, All, IsTrue};
-ghost use Rattle.iscsi_replay.specs.Rules.{changes, writes};
+ghost use Rattle.iscsi_replay.specs.Rules.{changes, may_write};
 
 use iscsi_job::{Asked, Item, Moves};
 
@@ -14,7 +14,7 @@ const WRITING: &[u8] = &[
 /// Whether doing the request again may change what a disk holds: it is a command that sends data, or
 /// one of an operation code that changes a medium.
 pub fn writes(item: &Item) -> bool
-    ensures value { result ≡ writes item.now.asked }
+    ensures value { result ≡ may_write item.now.asked }
 {
     match item.asked {
         Asked::Command {
@@ -28,7 +28,7 @@ pub fn writes(item: &Item) -> bool
 
 /// Whether no request of a job writes.
 pub fn writes_nothing(items: &[Item]) -> bool
-    ensures value { IsTrue result ↔ All (λ item. writes item.asked ≡ false) items.now }
+    ensures value { IsTrue result ↔ All (λ item. may_write item.asked ≡ false) items.now }
 {
     items.iter().all(|item| !writes(item))
 }

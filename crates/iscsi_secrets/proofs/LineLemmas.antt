@@ -5,7 +5,7 @@ use Rattle.std.specs.List.{AllByRecursion}
 use Rattle.std.proofs.lemmas.Bool.{ne_eqb}
 use Rattle.std.proofs.lemmas.List.Elements.{recursion_from_All}
 use Rattle.iscsi_text.specs.Text.{HasNo}
-use Rattle.iscsi_text.specs.Inside.{SplitsAt}
+use Rattle.iscsi_text.specs.Shown.{SplitsAtByte}
 use Rattle.iscsi_secrets.specs.Secrets.{uncommented}
 
 -- another byte than the one that begins a comment
@@ -20,7 +20,7 @@ whole : (line : List ℕ) → AllByRecursion (λ b. b ≢ 35) line → uncomment
 whole [] none = refl
 whole (b ∷ line) none = other_byte b line line none.0 (whole line none.1)
 
-pub comment_behind : (line said comment : List ℕ) → SplitsAt line 35 said comment → said ≡ uncommented line
+pub comment_behind : (line said comment : List ℕ) → SplitsAtByte line 35 said comment → said ≡ uncommented line
 comment_behind line said comment splits =
     sym (ap uncommented splits.whole ∙ front said comment (recursion_from_All (λ b. b ≢ 35) said splits.first))
 

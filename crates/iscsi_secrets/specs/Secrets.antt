@@ -20,8 +20,8 @@ nobody = record { accounts = []; own = None }
 -- ---- words
 
 -- The lines of a text are parted by line feeds.
-abbrev pub lines_of : List ℕ → List (List ℕ)
-lines_of text = slice_split (λ b. b == 10) text
+abbrev pub secrets_lines : List ℕ → List (List ℕ)
+secrets_lines text = slice_split (λ b. b == 10) text
 
 -- What a line says before its comment, which a `#` begins.
 abbrev pub uncommented : List ℕ → List ℕ
@@ -33,19 +33,19 @@ abbrev pub is_blank : ℕ → Bool
 is_blank b = b == 32 || b == 9 || b == 13
 
 -- There is a byte in it.
-abbrev pub is_word : List ℕ → Bool
-is_word [] = false
-is_word (b ∷ word) = true
+abbrev pub has_byte : List ℕ → Bool
+has_byte [] = false
+has_byte (b ∷ word) = true
 
 -- The words of a line: what stands between blanks.
 abbrev pub words_of : List ℕ → List (List ℕ)
-words_of line = filter is_word (slice_split is_blank (uncommented line))
+words_of line = filter has_byte (slice_split is_blank (uncommented line))
 
 -- ---- one line more
 
 -- A name has at most 255 bytes, and no control character (RFC 7143, section 6.1).
-abbrev pub is_name : List ℕ → Bool
-is_name name = nat_le (length name) 255 && not (list_any is_ascii_control name)
+abbrev pub is_account_name : List ℕ → Bool
+is_account_name name = nat_le (length name) 255 && not (list_any is_ascii_control name)
 
 -- A secret has 12 to 255 bytes.
 abbrev pub is_secret : List ℕ → Bool
@@ -54,7 +54,7 @@ is_secret secret = nat_le 12 (length secret) && nat_le (length secret) 255
 -- What is wrong with the name and the secret of this line, if anything is: the name's fault comes first.
 unfoldable pub wrong_account : ℕ → List ℕ → List ℕ → Option SecretsFault
 wrong_account line name secret =
-    if not (is_name name) then Some (BadName line)
+    if not (is_account_name name) then Some (BadName line)
     else if not (is_secret secret) then Some (BadSecret line)
     else None
 
@@ -148,7 +148,7 @@ with_lines line s (text ∷ texts) =
 -- What a text of at most 65,536 bytes means, its lines counted from 1.
 abbrev pub secrets_in : List ℕ → Result Secrets SecretsFault
 secrets_in text =
-    if nat_lt 65536 (length text) then Err TooLong else with_lines 1 nobody (lines_of text)
+    if nat_lt 65536 (length text) then Err TooLong else with_lines 1 nobody (secrets_lines text)
 
 -- What a target with these secrets demands in one login, by this identifier and challenge.
 abbrev pub demand_of : Secrets → ℕ → List ℕ → Chap

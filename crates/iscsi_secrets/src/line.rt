@@ -1,7 +1,7 @@
 //! The words of a line.
 
 ghost use Rattle.std.specs.Prelude.{◌≡◌, IfOk, map};
-ghost use Rattle.iscsi_secrets.specs.Secrets.{is_blank, lines_of, uncommented, words_of};
+ghost use Rattle.iscsi_secrets.specs.Secrets.{is_blank, secrets_lines, uncommented, words_of};
 
 use iscsi_text::split_at_byte;
 use std::alloc::{AllocError, Global};
@@ -9,7 +9,7 @@ use std::alloc::{AllocError, Global};
 /// The lines of a text, which line feeds part. The error is want of memory.
 pub fn lines_of(alloc: Global, text: &[u8]) -> Result<Vec<&[u8]>, AllocError>
     ensures lines { IfOk result (λ lines. map (λ line. line.now) lines.items
-        ≡ lines_of text.now) }
+        ≡ secrets_lines text.now) }
 {
     text.split(|b| *b == b'\n').collect(alloc)
 }

@@ -5,7 +5,7 @@ ghost use Rattle.std.specs.Char.{is_ascii_control};
 ghost use Rattle.std.specs.List.{list_any};
 ghost use Rattle.iscsi_access.specs.Chap.{has_secret};
 ghost use Rattle.iscsi_secrets.specs.declared.fault.SecretsFault.TheVariants as faults;
-ghost use Rattle.iscsi_secrets.specs.Secrets.{account_of, demand_of, has_name, is_name, is_own_name, is_own_secret, secrets_in, with_four, with_three, with_user, with_target, with_words, words_of, wrong_account};
+ghost use Rattle.iscsi_secrets.specs.Secrets.{account_of, demand_of, has_name, is_account_name, is_own_name, is_own_secret, secrets_in, with_four, with_three, with_user, with_target, with_words, words_of, wrong_account};
 
 use crate::fault::SecretsFault;
 use crate::line::{lines_of, words_of};
@@ -241,7 +241,7 @@ fn account_of(alloc: Global, line: u64, name: &[u8], secret: &[u8]) -> Result<Ac
 
 // Whether a name is none too long, and has no control character.
 fn is_name(name: &[u8]) -> bool
-    ensures { result ≡ is_name name.now }
+    ensures { result ≡ is_account_name name.now }
 {
     name.len() <= LONGEST_NAME && !has_control(name)
 }

@@ -27,9 +27,9 @@ IsStorage (storage.Image image) = IsOrigin image.origin
 IsStorage (storage.Nbd export) = IfSome export.blocks (λ n. (0 < n) × (n ≤ most_blocks))
 
 -- An image or an export has as many blocks as were asked for, if a number was.
-abbrev pub IsAsked : Option ℕ → ℕ → Type 0
-IsAsked None count = Unit {0}
-IsAsked (Some asked) count = count ≡ asked
+abbrev pub HasAskedBlocks : Option ℕ → ℕ → Type 0
+HasAskedBlocks None count = Unit {0}
+HasAskedBlocks (Some asked) count = count ≡ asked
 
 -- A number of blocks is blamed only where the image has another one.
 abbrev pub IsOtherImage : Option ℕ → ImageFault → Type 0
@@ -44,7 +44,7 @@ asked_by (origin.New blocks) = Some blocks
 
 -- An image that is found or made has as many blocks as were asked for, if a number was.
 abbrev pub HasAsked : Origin → ℕ → Type 0
-HasAsked origin count = IsAsked (asked_by origin) count
+HasAsked origin count = HasAskedBlocks (asked_by origin) count
 
 -- A number of blocks is blamed only where the image that is there has another one.
 abbrev pub IsOther : Origin → ImageFault → Type 0

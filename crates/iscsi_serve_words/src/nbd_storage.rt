@@ -1,10 +1,10 @@
 //! A served disk whose blocks an NBD server keeps.
 
 ghost use Rattle.std.specs.Prelude.{◌≡◌, IfErr, IfOk, IfSome};
-ghost use Rattle.scsi_file.specs.FileStore.{medium_of};
-ghost use Rattle.nbd_client.specs.Ended.{line_of};
-ghost use Rattle.nbd_client.specs.Tcp.{blocks_of};
-ghost use Rattle.iscsi_serve_words.specs.Storage.{IsAsked, IsOtherExport};
+ghost use Rattle.scsi_file.specs.FileStore.{store_medium};
+ghost use Rattle.nbd_client.specs.Ended.{medium_line};
+ghost use Rattle.nbd_client.specs.Tcp.{line_blocks};
+ghost use Rattle.iscsi_serve_words.specs.Storage.{HasAskedBlocks, IsOtherExport};
 
 use libc::net::{POLLOUT, poll};
 use libc::types::pollfd;
@@ -118,7 +118,7 @@ impl<'a> NbdExport<'a> {
         rt: &HostRuntime,
     ) -> Result<FileStore<NbdMedium<TcpLine, FaultLine<'a>>>, NbdFault>
         ensures blocks { IfOk result (λ store.
-            IsAsked self.now.blocks (blocks_of (line_of (medium_of store)))) }
+            HasAskedBlocks self.now.blocks (line_blocks (medium_line (store_medium store)))) }
         ensures other { IfErr result (IsOtherExport self.now.blocks) }
     {
         let name = self.name.as_bytes();

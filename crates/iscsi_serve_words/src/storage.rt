@@ -1,10 +1,10 @@
 //! What a served disk is kept in: memory, an image, or an export of an NBD server.
 
 ghost use Rattle.std.specs.Prelude.{◌≡◌, IfOk, IfErr};
-ghost use Rattle.scsi_file.specs.FileStore.{medium_of};
-ghost use Rattle.scsi_file.specs.HostFile.{blocks_of};
+ghost use Rattle.scsi_file.specs.FileStore.{store_medium};
+ghost use Rattle.scsi_file.specs.HostFile.{file_blocks};
 ghost use Rattle.scsi_disk.specs.ReadOnly.{store_in};
-ghost use Rattle.iscsi_serve_words.specs.Storage.{CanBeOpened, HasAsked, IsAsked, IsOther, IsOtherImage, asked_by};
+ghost use Rattle.iscsi_serve_words.specs.Storage.{CanBeOpened, HasAsked, HasAskedBlocks, IsOther, IsOtherImage, asked_by};
 
 use crate::nbd_storage::NbdExport;
 use scsi_disk::{BlockStore, ReadOnly};
@@ -92,7 +92,7 @@ impl Image<'_> {
     pub fn open(&self, rt: &HostRuntime) -> Result<FileStore<HostFile>, ImageFault>
         requires origin { CanBeOpened self.now.origin }
         ensures blocks { IfOk result (λ store.
-            HasAsked self.now.origin (blocks_of (medium_of store))) }
+            HasAsked self.now.origin (file_blocks (store_medium store))) }
         ensures other { IfErr result (IsOther self.now.origin) }
     {
         match self.origin {
@@ -108,7 +108,7 @@ impl Image<'_> {
         rt: &HostRuntime,
     ) -> Result<ReadOnly<FileStore<HostFile>>, ImageFault>
         ensures blocks { IfOk result (λ store.
-            HasAsked self.now.origin (blocks_of (medium_of (store_in store)))) }
+            HasAsked self.now.origin (file_blocks (store_medium (store_in store)))) }
         ensures other { IfErr result (IsOtherImage (asked_by self.now.origin)) }
     {
         let store = settled(HostFile::open_read_only(rt, self.path)?)?;
@@ -118,7 +118,7 @@ impl Image<'_> {
 
 // A store on a file, all of which lasts.
 fn settled(file: HostFile) -> Result<FileStore<HostFile>, ImageFault>
-    ensures blocks { IfOk result (λ store. blocks_of (medium_of store) ≡ blocks_of file) }
+    ensures blocks { IfOk result (λ store. file_blocks (store_medium store) ≡ file_blocks file) }
     ensures fault { IfErr result (λ fault. fault ≡ ImageFault.Open OpenFault.NotSynced) }
 {
     match FileStore::new(file) {
@@ -129,7 +129,8 @@ fn settled(file: HostFile) -> Result<FileStore<HostFile>, ImageFault>
 
 // The store, if it has as many blocks as were asked for.
 fn sized(store: FileStore<HostFile>, asked: Option<u64>) -> Result<FileStore<HostFile>, ImageFault>
-    ensures blocks { IfOk result (λ store. IsAsked asked (blocks_of (medium_of store))) }
+    ensures blocks { IfOk result (λ store. HasAskedBlocks asked
+        (file_blocks (store_medium store))) }
     ensures other { IfErr result (IsOtherImage asked) }
 {
     if let Some(asked) = asked {

@@ -1,13 +1,13 @@
 -- The blocks of a service are those that commands left.
 use Rattle.std.proofs.Common.{Bool, [], ◌++◌, refl}
 use Rattle.scsi_disk.specs.Disk.{Disk}
-use Rattle.iscsi_target.specs.Laws.{Leads}
-use Rattle.iscsi_target.proofs.FailingDiskLemmas.{leads_append}
+use Rattle.iscsi_target.specs.Laws.{ExecutionsLead}
+use Rattle.iscsi_target.proofs.Steps.FailingDiskLemmas.{leads_append}
 use Rattle.iscsi_serving.specs.Executed.{HasExecuted}
 
 -- no command leaves a disk as it is
-pub nothing_executed : (protected : Bool) (disk : Disk) → Leads protected disk [] disk
-unfolding Leads
+pub nothing_executed : (protected : Bool) (disk : Disk) → ExecutionsLead protected disk [] disk
+unfolding ExecutionsLead
 nothing_executed protected disk = refl
 
 -- the blocks of a disk are those that no command left

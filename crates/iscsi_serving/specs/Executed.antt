@@ -4,9 +4,9 @@
 use Rattle.std.specs.Prelude.{Bool, List}
 use Rattle.scsi_disk.specs.Disk.{Disk}
 use Rattle.iscsi_target.specs.State.{Execution}
-use Rattle.iscsi_target.specs.Laws.{Leads}
+use Rattle.iscsi_target.specs.Laws.{ExecutionsLead}
 
 -- Commands that were executed, one after another, lead from one disk to another.
 abbrev pub HasExecuted : Bool → Disk → Disk → Type 0
 HasExecuted protected before after = (executed : List Execution)
-    × Leads protected before executed after
+    × ExecutionsLead protected before executed after

@@ -9,33 +9,33 @@ use Rattle.iscsi_serving.specs.declared.fault.ServeFault.TheVariants as serve
 
 -- The exit status of a fault: 1 where what came is refused, 3 for memory, 4 for reading, writing,
 -- a sync, random bytes and the network.
-abbrev pub exit_status : ServeFault → ℕ
-exit_status serve.NoMemory = 3
-exit_status (serve.Target fault) = 1
-exit_status (serve.Initiator fault) = 1
-exit_status (serve.Script line) = 1
-exit_status serve.Network = 4
-exit_status serve.Read = 4
-exit_status serve.Sync = 4
-exit_status serve.NoRandom = 4
-exit_status serve.Write = 4
+abbrev pub serve_exit_status : ServeFault → ℕ
+serve_exit_status serve.NoMemory = 3
+serve_exit_status (serve.Target fault) = 1
+serve_exit_status (serve.Initiator fault) = 1
+serve_exit_status (serve.Script line) = 1
+serve_exit_status serve.Network = 4
+serve_exit_status serve.Read = 4
+serve_exit_status serve.Sync = 4
+serve_exit_status serve.NoRandom = 4
+serve_exit_status serve.Write = 4
 
 -- A target's fault; its `NoMemory` is the session's own.
-abbrev pub target_fault : TargetFault → ServeFault
-target_fault target.NoMemory = serve.NoMemory
-target_fault (target.Stream fault) = serve.Target (target.Stream fault)
-target_fault (target.Protocol rule) = serve.Target (target.Protocol rule)
-target_fault target.Closed = serve.Target target.Closed
+abbrev pub target_serve_fault : TargetFault → ServeFault
+target_serve_fault target.NoMemory = serve.NoMemory
+target_serve_fault (target.Stream fault) = serve.Target (target.Stream fault)
+target_serve_fault (target.Protocol rule) = serve.Target (target.Protocol rule)
+target_serve_fault target.Closed = serve.Target target.Closed
 
 -- An initiator's fault; its `NoMemory` is the session's own.
-abbrev pub initiator_fault : InitiatorFault → ServeFault
-initiator_fault initiator.NoMemory = serve.NoMemory
-initiator_fault (initiator.Stream fault) = serve.Initiator (initiator.Stream fault)
-initiator_fault (initiator.Protocol rule) = serve.Initiator (initiator.Protocol rule)
-initiator_fault (initiator.Refused status detail) =
+abbrev pub initiator_serve_fault : InitiatorFault → ServeFault
+initiator_serve_fault initiator.NoMemory = serve.NoMemory
+initiator_serve_fault (initiator.Stream fault) = serve.Initiator (initiator.Stream fault)
+initiator_serve_fault (initiator.Protocol rule) = serve.Initiator (initiator.Protocol rule)
+initiator_serve_fault (initiator.Refused status detail) =
     serve.Initiator (initiator.Refused status detail)
-initiator_fault (initiator.BadAnswer key) = serve.Initiator (initiator.BadAnswer key)
-initiator_fault initiator.Closed = serve.Initiator initiator.Closed
+initiator_serve_fault (initiator.BadAnswer key) = serve.Initiator (initiator.BadAnswer key)
+initiator_serve_fault initiator.Closed = serve.Initiator initiator.Closed
 
 -- The faults of a session that end the service.
 abbrev pub EndsService : ServeFault → Type 0

@@ -2,7 +2,7 @@
 
 ghost use Rattle.std.specs.Prelude.{◌≡◌, ◌&&◌, IfErr, IfOk, None, Some, is_none, map};
 ghost use Rattle.std.specs.Option.{option_map};
-ghost use Rattle.iscsi_serving.specs.Access.{Demands, named};
+ghost use Rattle.iscsi_serving.specs.Access.{DemandsSecret, settings_with_names};
 ghost use Rattle.iscsi_serving.specs.declared.access.AccessFault.TheVariants.{NoMemory};
 
 use iscsi_secrets::Secrets;
@@ -56,8 +56,8 @@ impl Access<'_> {
         random: &R,
         config: Config,
     ) -> Result<Config, AccessFault>
-        ensures demands { IfOk result (Demands (option_map (λ secrets. secrets.now) self.now.secrets)
-            (named (option_map (λ names. map (λ name. name.now) names.now)
+        ensures demands { IfOk result (DemandsSecret (option_map (λ secrets. secrets.now) self.now.secrets)
+            (settings_with_names (option_map (λ names. map (λ name. name.now) names.now)
             self.now.initiators) config)) }
         ensures drawn { IfErr result (λ fault. self.now.secrets ≡ None → fault ≡ NoMemory) }
     {
@@ -70,7 +70,7 @@ impl Access<'_> {
 
     // The configuration with the names that are listed, if some are.
     fn named(&self, alloc: Global, config: Config) -> Result<Config, AllocError>
-        ensures { IfOk result (λ made. made ≡ named (option_map (λ names. map (λ name. name.now) names.now)
+        ensures { IfOk result (λ made. made ≡ settings_with_names (option_map (λ names. map (λ name. name.now) names.now)
             self.now.initiators) config) }
     {
         match self.initiators {
@@ -87,7 +87,7 @@ fn challenged<R: RandomSource>(
     secrets: &Secrets,
     config: Config,
 ) -> Result<Config, AccessFault>
-    ensures { IfOk result (Demands (Some secrets.now) config) }
+    ensures { IfOk result (DemandsSecret (Some secrets.now) config) }
 {
     let mut drawn = [0; DRAWN];
     if random.fill_bytes(&mut drawn).is_err() {

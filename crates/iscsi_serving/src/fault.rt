@@ -1,7 +1,7 @@
 //! Why a service, or a session over a socket, ends early.
 
 ghost use Rattle.std.specs.Prelude.{◌≡◌};
-ghost use Rattle.iscsi_serving.specs.Faults.{exit_status};
+ghost use Rattle.iscsi_serving.specs.Faults.{serve_exit_status};
 
 use iscsi_initiator::InitiatorFault;
 use iscsi_target::TargetFault;
@@ -45,7 +45,7 @@ impl ServeFault {
     /// The exit status of the fault: 1 where what came is refused, 3 for memory, 4 for reading,
     /// writing, a sync, random bytes and the network.
     pub fn status(&self) -> u8
-        ensures status { result ≡ exit_status self.now }
+        ensures status { result ≡ serve_exit_status self.now }
     {
         match self {
             ServeFault::Target(_) | ServeFault::Initiator(_) | ServeFault::Script(_) => 1,
@@ -72,9 +72,9 @@ impl From<AllocError> for ServeFault {
 
 impl From<TargetFault> for ServeFault {
     ghost use Rattle.std.specs.Prelude.{◌≡◌};
-    ghost use Rattle.iscsi_serving.specs.Faults.{target_fault};
+    ghost use Rattle.iscsi_serving.specs.Faults.{target_serve_fault};
 
-    ghost from_gives = { λ fault e. e ≡ target_fault fault };
+    ghost from_gives = { λ fault e. e ≡ target_serve_fault fault };
 
     fn from(fault: TargetFault) -> ServeFault {
         match fault {
@@ -86,9 +86,9 @@ impl From<TargetFault> for ServeFault {
 
 impl From<InitiatorFault> for ServeFault {
     ghost use Rattle.std.specs.Prelude.{◌≡◌};
-    ghost use Rattle.iscsi_serving.specs.Faults.{initiator_fault};
+    ghost use Rattle.iscsi_serving.specs.Faults.{initiator_serve_fault};
 
-    ghost from_gives = { λ fault e. e ≡ initiator_fault fault };
+    ghost from_gives = { λ fault e. e ≡ initiator_serve_fault fault };
 
     fn from(fault: InitiatorFault) -> ServeFault {
         match fault {

@@ -1,4 +1,4 @@
-//! Why a session of a seat ends, where it has a line.
+//! Why a session of a slot ends, where it has a line.
 
 ghost use Rattle.std.specs.Prelude.{◌≡◌};
 ghost use Rattle.iscsi_serving.specs.Ending.{broken_limit, end_of, is_passed};
@@ -8,7 +8,7 @@ use iscsi_options::{LAST_WRITE, Limits};
 use iscsi_target::TargetFault;
 use thiserror::Error;
 
-/// Why a session of a seat ends, but for a logout, a refused login and an end between two PDUs. The
+/// Why a session of a slot ends, but for a logout, a refused login and an end between two PDUs. The
 /// service goes on.
 #[derive(Clone, Copy, Debug, PartialEq, Eq, Error)]
 pub enum SessionEnd {
@@ -37,7 +37,7 @@ pub enum SessionEnd {
     /// 7143, section 6.3.5).
     #[error("session: taken over")]
     TakenOver,
-    /// All seats were taken by connections that had not logged in, and another one came. This one was
+    /// All slots were taken by connections that had not logged in, and another one came. This one was
     /// the oldest.
     #[error("session: made room")]
     MadeRoom,

@@ -13,7 +13,7 @@ use Rattle.std.proofs.lemmas.List.{get_or_past, get_or-drop, get_or-set_same, ge
 use Rattle.std.proofs.lemmas.List.Concat.{flat_map-cons}
 use Rattle.std.specs.Str.Parse.{AllDigits}
 use Rattle.std.proofs.Math.Nat.{mod-lt}
-use Rattle.scsi_cdb.specs.Layout.{Row, Hold, Holds, HasRoom, HaveRoom, put, put_all, put_bits, put_part, put_bit, put_number, put_bytes, put_raw, part, unit}
+use Rattle.scsi_cdb.specs.Layout.{Row, RowsHold, RowHolds, HasRoom, HaveRoom, put, put_all, put_bits, put_part, put_bit, put_number, put_bytes, put_raw, part, unit}
 use Rattle.scsi_cdb.specs.Layout.{with_bits}
 use Rattle.scsi_cdb.specs.Layout.Row.{bit, bits, bytes as number, raw}
 use Rattle.scsi_cdb.specs.Blocks as cdb
@@ -23,10 +23,10 @@ use Rattle.scsi_cdb.proofs.RecordLemmas.{IsRecord-room}
 use Rattle.iscsi_text.specs.declared.key.KeyKind.{KeyKind}
 use Rattle.iscsi_text.specs.declared.key.KeyKind.TheVariants as kinds
 use Rattle.iscsi_text.specs.Key.{kind_of}
-use Rattle.iscsi_text.specs.Numeral.{Spells, IsHexadecimal, canonical_number}
+use Rattle.iscsi_text.specs.Numeral.{SpellsNumber, IsHexadecimal, canonical_number}
 use Rattle.iscsi_text.specs.Value.{Typed, Number, Boolean, Items, Plain, Odd, value_text}
 use Rattle.iscsi_text.specs.Value as texts
-use Rattle.iscsi_text.specs.Text.{Pairs, Field, IsField, IsEntry, entry_bytes, pairs_of, TextMeans}
+use Rattle.iscsi_text.specs.Text.{Pairs, Field, IsField, IsTextEntry, entry_bytes, pairs_of, TextMeans}
 use Rattle.iscsi_text.specs.Canonical.{pair_text, canonical_text}
 use Rattle.iscsi_text.specs.Reading.{text_in, in_order}
 use Rattle.iscsi_text.proofs.NumeralLemmas.{canonical_spells}
@@ -37,7 +37,7 @@ use Rattle.iscsi_pdu.specs.declared.head.Head.TheVariants.{NopOut, ScsiCommand}
 use Rattle.iscsi_pdu.specs.Meaning.{AreBytes, opcode, rows, ones, blocks, frame, header, padding, whole, HasBlock, IsHeader, Means}
 use Rattle.iscsi_pdu.proofs.HeaderLemmas.{IsHeader-room, IsHeader-short, put_all-append, ones-room, opcode-small}
 use Rattle.iscsi_stream.specs.declared.logins.Logins.{Logins}
-use Rattle.iscsi_stream.specs.Segment.{Segment, continues, after, is_last, text_or_bytes, segment_if, segment_of, segment_bytes}
+use Rattle.iscsi_stream.specs.Segment.{Segment, continues, logins_after, is_last_login_pdu, text_or_bytes, segment_if, segment_of, segment_bytes}
 use Rattle.iscsi_stream.specs.Stream.{Message, ReadsAs}
 use Rattle.iscsi_stream.specs.Canonical.{canon, canonical_bytes}
 use Rattle.iscsi_stream.proofs.HeadLemmas.{AreBytes-take, means-data}
@@ -144,13 +144,13 @@ part_bytes : (b : List ℕ) (first last : ℕ) → AreBytes b → AreBytes (part
 unfolding part
 part_bytes b first last h = AreBytes-take (last + 1 - first) (drop first b) (AreBytes-drop first b h)
 
-held_raw : (b : List ℕ) (r : Row) → AreBytes b → Holds b r → IsRaw r
+held_raw : (b : List ℕ) (r : Row) → AreBytes b → RowHolds b r → IsRaw r
 held_raw b (bit at mask field) h holds = tt
 held_raw b (bits at mask field) h holds = tt
 held_raw b (number first last field) h holds = tt
 held_raw b (raw first last field) h holds = raw_in field.wanted field.value (part first last b) holds (part_bytes b first last h)
 
-pub held_raws : (b : List ℕ) (rows : List Row) → AreBytes b → Hold b rows → AllByRecursion IsRaw rows
+pub held_raws : (b : List ℕ) (rows : List Row) → AreBytes b → RowsHold b rows → AllByRecursion IsRaw rows
 held_raws b [] h hold = tt
 held_raws b (r ∷ rows) h hold = (held_raw b r h hold.0, held_raws b rows h hold.1)
 
@@ -178,7 +178,7 @@ digits_bytes : (radix : ℕ) (text : List ℕ) → radix ≤ 36 → AllDigits ra
 digits_bytes radix [] le all = λ i. omega arith
 digits_bytes radix (c ∷ text) le all = cons_bytes c text (digit_byte c (omega (arith, le, all.0))) (digits_bytes radix text le all.1)
 
-spelled_bytes : (text : List ℕ) (n : ℕ) → Spells text n → AreBytes text
+spelled_bytes : (text : List ℕ) (n : ℕ) → SpellsNumber text n → AreBytes text
 spelled_bytes text n spelled = elim spelled.form [ inl d ↦ digits_bytes 10 text (omega arith) d.digits.1 | inr h ↦ hexadecimal_bytes text h ]
   where
     hexadecimal_bytes : (text : List ℕ) → IsHexadecimal text n → AreBytes text
@@ -190,7 +190,7 @@ spelled_bytes text n spelled = elim spelled.form [ inl d ↦ digits_bytes 10 tex
 
 -- ---- texts
 
-value_bytes : (kind : Option KeyKind) (bytes : List ℕ) (v : Typed) → texts.Means kind bytes v → AreBytes bytes → AreBytes (value_text v)
+value_bytes : (kind : Option KeyKind) (bytes : List ℕ) (v : Typed) → texts.MeansValue kind bytes v → AreBytes bytes → AreBytes (value_text v)
 value_bytes (Some kinds.Number) bytes (Number n) m h = spelled_bytes (canonical_number n) n (canonical_spells n m.fits)
 value_bytes (Some kinds.Number) bytes (Odd odd) m h = subst AreBytes (sym m.0) h
 value_bytes (Some kinds.Boolean) bytes (Boolean b) m h = subst AreBytes m h
@@ -213,7 +213,7 @@ field_bytes f is h =
     (AreBytes-append f.key (61 ∷ value_text f.value) (AreBytes-front f.key (61 ∷ f.bytes) front) (cons_bytes 61 (value_text f.value) (omega arith) spelled))
     (zeros_bytes 1)
 
-entries_bytes : (entries : List (Option Field)) → AllByRecursion IsEntry entries → AreBytes (flat_map entry_bytes entries) →
+entries_bytes : (entries : List (Option Field)) → AllByRecursion IsTextEntry entries → AreBytes (flat_map entry_bytes entries) →
     AllByRecursion IsPairOfBytes (pairs_of entries)
 entries_bytes [] each h = tt
 entries_bytes (None ∷ entries) each h =
@@ -249,7 +249,7 @@ if_bytes false d h = h
 
 of_bytes : (c : Bool) (h : Head) (d : List ℕ) → AreBytes d → AreBytes (segment_bytes (segment_of c h d))
 unfolding segment_of
-of_bytes c h d are = if_bytes (not c && is_last h) d are
+of_bytes c h d are = if_bytes (not c && is_last_login_pdu h) d are
 
 -- ---- headers
 
@@ -265,13 +265,14 @@ ones_raw : (h : Head) → AllByRecursion IsRaw (ones h)
 ones_raw (NopOut _) = search rules
 ones_raw _ = search rules
 
-block_narrow : (c : Cdb) → are_narrow (cdb.rows c) ≡ true
+block_narrow : (c : Cdb) → are_narrow (cdb.cdb_rows c) ≡ true
 block_narrow (Unknown _) = refl
 block_narrow _ = refl
 
 -- the descriptor block in its canonical spelling
 block_bytes : (b : List ℕ) (c : Cdb) → AreBytes b → cdb.IsRecord b c → AreBytes (cdb.canonical c)
-block_bytes b c h r = put_all_bytes (cdb.rows c) (replicate 16 0) (block_narrow c) (IsRecord-room b c h r) (held_raws b (cdb.rows c) h r.rows) (zeros_bytes 16)
+block_bytes b c h r =
+    put_all_bytes (cdb.cdb_rows c) (replicate 16 0) (block_narrow c) (IsRecord-room b c h r) (held_raws b (cdb.cdb_rows c) h r.rows) (zeros_bytes 16)
 
 with_block : (b : List ℕ) (h : Head) (x : List ℕ) → AreBytes b → HasBlock b h → AreBytes x → AreBytes (put_all (blocks h) x)
 unfolding put_raw
@@ -313,4 +314,4 @@ canon_bytes limit logins s (m ∷ ms) are reads =
     let one = message_bytes begins.bytes begins.segment (continues logins m.head) m.head (AreBytes-front begins.bytes begins.rest split) begins.means in
     subst AreBytes (sym (flat_map-cons canonical_bytes m ms)) (AreBytes-append (canonical_bytes m) (canon ms)
     (subst (λ (x : Segment). AreBytes (whole m.head (segment_bytes x))) (sym begins.meaning) one)
-    (canon_bytes limit (after logins m.head) begins.rest ms (AreBytes-back begins.bytes begins.rest split) reads.1))
+    (canon_bytes limit (logins_after logins m.head) begins.rest ms (AreBytes-back begins.bytes begins.rest split) reads.1))

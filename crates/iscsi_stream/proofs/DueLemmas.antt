@@ -8,11 +8,11 @@ use Rattle.iscsi_stream.specs.declared.normalising.Form.{Form}
 use Rattle.iscsi_stream.specs.declared.normalising.Form.TheVariants.{Canonical, Line}
 use Rattle.iscsi_stream.specs.Stream.{Message, ReadsAs}
 use Rattle.iscsi_stream.specs.Canonical.{canon, canonical_bytes}
-use Rattle.iscsi_stream.specs.Shown.{IsLine, AreLines}
-use Rattle.iscsi_stream.specs.Passing.{IsDue}
+use Rattle.iscsi_stream.specs.Shown.{IsShownLine, AreLines}
+use Rattle.iscsi_stream.specs.inner.Passing.{IsDueOutput}
 use Rattle.iscsi_stream.proofs.OneMeaningLaw.{canon-shorter, count-shorter}
 
-pub due_none : (form : Form) → IsDue form [] []
+pub due_none : (form : Form) → IsDueOutput form [] []
 due_none Canonical = refl
 due_none Line = refl
 
@@ -21,15 +21,15 @@ lines_append [] ns a b none more = rw none more
 lines_append (m ∷ ms) ns a b lines more =
     (lines.0, lines.1 ++ b, lines.2, ap (λ (x : List ℕ). x ++ b) lines.3 ∙ append_assoc lines.0 lines.1 b, lines_append ms ns lines.1 b lines.4 more)
 
-pub due_append : (form : Form) (ms ns : List Message) (a b : List ℕ) → IsDue form ms a → IsDue form ns b → IsDue form (ms ++ ns) (a ++ b)
+pub due_append : (form : Form) (ms ns : List Message) (a b : List ℕ) → IsDueOutput form ms a → IsDueOutput form ns b → IsDueOutput form (ms ++ ns) (a ++ b)
 due_append Canonical ms ns a b due more = ap (λ (x : List ℕ). x ++ b) due ∙ ap (λ (x : List ℕ). canon ms ++ x) more
     ∙ sym (flat_map-append canonical_bytes ms ns)
 due_append Line ms ns a b due more = lines_append ms ns a b due more
 
-pub due_canonical : (m : Message) (bytes : List ℕ) → bytes ≡ canonical_bytes m → IsDue Canonical (m ∷ []) bytes
+pub due_canonical : (m : Message) (bytes : List ℕ) → bytes ≡ canonical_bytes m → IsDueOutput Canonical (m ∷ []) bytes
 due_canonical m bytes is = is ∙ sym (flat_map-cons canonical_bytes m [] ∙ append-nil (canonical_bytes m))
 
-pub due_line : (m : Message) (line : List ℕ) → IsLine line → IsDue Line (m ∷ []) line
+pub due_line : (m : Message) (line : List ℕ) → IsShownLine line → IsDueOutput Line (m ∷ []) line
 due_line m line is = (line, [], is, sym (append-nil line), refl)
 
 lines_short : (ms : List Message) (bytes : List ℕ) → AreLines ms bytes → length bytes ≤ 320 * length ms
@@ -39,6 +39,6 @@ lines_short (m ∷ ms) bytes lines =
 
 -- a line is not longer than 320 times its PDU
 pub due_short : (form : Form) (limit : ℕ) (logins : Logins) (s : List ℕ) (ms : List Message) (bytes : List ℕ) → AreBytes s → ReadsAs limit logins s ms →
-    IsDue form ms bytes → length bytes ≤ 320 * length s
+    IsDueOutput form ms bytes → length bytes ≤ 320 * length s
 due_short Canonical limit logins s ms bytes are reads due = omega (arith, ap length due, canon-shorter limit logins s ms are reads)
 due_short Line limit logins s ms bytes are reads due = omega (arith, lines_short ms bytes due, count-shorter limit logins s ms reads)

@@ -3,14 +3,14 @@ use Rattle.std.proofs.Common.{◌≡◌, ◌⊎◌, inl, inr, ◌<◌, ◌≤◌
 use Rattle.std.proofs.Common.{arith, append_assoc}
 use Rattle.std.proofs.lemmas.List.{append-nil, append_cancel_left}
 use Rattle.iscsi_pdu.specs.declared.head.Head.{Head}
-use Rattle.iscsi_pdu.specs.Meaning.{IsHeader, fault_of}
+use Rattle.iscsi_pdu.specs.Meaning.{IsHeader, head_fault}
 use Rattle.iscsi_pdu.proofs.HeaderLemmas.{IsHeader-unique}
 use Rattle.iscsi_stream.specs.declared.fault.StreamFault.{StreamFault}
 use Rattle.iscsi_stream.specs.declared.fault.StreamFault.TheVariants as faults
 use Rattle.iscsi_stream.specs.declared.logins.Logins.{Logins}
-use Rattle.iscsi_stream.specs.Segment.{no_login, continues, after, segment_of}
-use Rattle.iscsi_stream.specs.Stream.{Message, ReadsAs, NoPdu, after_all}
-use Rattle.iscsi_stream.specs.Framing.{Framing, HasTaken, FeedFails, IsBegun, is_ready, is_whole, length_at, begun_len, longest_of, settled, last_place}
+use Rattle.iscsi_stream.specs.Segment.{no_login, continues, logins_after, segment_of}
+use Rattle.iscsi_stream.specs.Stream.{Message, ReadsAs, NoPdu, logins_after_all}
+use Rattle.iscsi_stream.specs.Framing.{Framing, HasTaken, FramerFeedFails, IsBegun, is_ready, is_whole_pdu, length_at, begun_len, longest_of, settled, last_place}
 use Rattle.iscsi_stream.proofs.HeadLemmas.{bad_header}
 use Rattle.iscsi_stream.proofs.SettledBytesLemmas.{settled-short, length-settled, is_whole-settled}
 use Rattle.iscsi_stream.proofs.ReadyLemmas.{apart, unready_of}
@@ -53,7 +53,8 @@ one_is_front limit logins given (m ∷ ms) rest given' (n ∷ ns) rest' p q e =
     b.meaning ∙ ap (λ (h : Head). segment_of (continues logins h) h b.segment) same.head ∙ ap (segment_of (continues logins n.head) n.head) same.segment
     ∙ sym c.meaning in
     let one : m ≡ n = same_message m n same.head segment in
-    elim (one_is_front limit (after logins m.head) b.rest ms rest c.rest ns rest' p.1 (subst (λ (h : Head). ReadsAs limit (after logins h) c.rest ns)
+    elim (one_is_front limit (logins_after logins m.head) b.rest ms rest c.rest ns rest' p.1
+    (subst (λ (h : Head). ReadsAs limit (logins_after logins h) c.rest ns)
     (sym same.head) q.1) same.rest) [
       | inl f ↦ inl (front_on m n ms ns one f)
       | inr f ↦ inr (record { front = front_on n m ns ms (sym one) f.front; pdu = f.pdu })
@@ -152,7 +153,7 @@ receive_alike c limit stream before ms ns x y a b =
 
 -- Why the bytes behind the PDUs are refused.
 abbrev pub IsRefused : Sight → StreamFault → Type 0
-IsRefused x (faults.Head fault place) = (fault_of (take 48 x.rest) ≡ Some fault) × (place ≡ x.place) × (48 ≤ length x.rest)
+IsRefused x (faults.Head fault place) = (head_fault (take 48 x.rest) ≡ Some fault) × (place ≡ x.place) × (48 ≤ length x.rest)
 IsRefused x (faults.OverLimit place) = ((head : Head) × (len : ℕ) × IsHeader (take 48 x.rest) head len × (x.limit < len)) × (place ≡ x.place)
     × (48 ≤ length x.rest)
 IsRefused x faults.NoMemory = ⊥
@@ -225,12 +226,12 @@ held_is s ms v t lt =
 
 -- what it refuses is refused
 pub framer_refuses : (s : List ℕ) (ms : List Message) (v : Framing) (piece : List ℕ) (fault : StreamFault) → (t : HasTaken s ms v) →
-    (fault ≡ faults.NoMemory → ⊥) → FeedFails v piece fault
+    (fault ≡ faults.NoMemory → ⊥) → FramerFeedFails v piece fault
     → IsRefused (sight s ms v t piece) fault
 unfolding sight
 framer_refuses s ms v piece (faults.Head f p) t none fails =
     let held = held_is s ms v t fails.1.before in (
-      subst (λ (x : List ℕ). fault_of (take 48 (x ++ piece)) ≡ Some f) held fails.2,
+      subst (λ (x : List ℕ). head_fault (take 48 (x ++ piece)) ≡ Some f) held fails.2,
       fails.3,
       subst (λ (x : List ℕ). 48 ≤ length (x ++ piece)) held fails.1.reached,
     )
@@ -250,7 +251,7 @@ pub framer : Sight → Framing
 framer x = record {
   limit = x.limit;
   place = x.place;
-  logins = after_all no_login x.received;
+  logins = logins_after_all no_login x.received;
   held = settled x.rest;
   room = max x.longest (begun_len x.rest);
   failed = false;
@@ -267,7 +268,7 @@ pub framer_leaves : (s : List ℕ) (ms : List Message) (v : Framing) (behind : L
 unfolding sight framer
 framer_leaves s ms v behind t unready nil =
     let all : t.rest ≡ t.rest ++ behind = sym (append-nil t.rest) ∙ ap (λ (x : List ℕ). t.rest ++ x) (sym nil) in
-    let part : is_whole t.rest ≡ false = sym (is_whole-settled t.rest) ∙ ap is_whole (sym t.held) ∙ unready_of v.failed v.held t.live unready in
+    let part : is_whole_pdu t.rest ≡ false = sym (is_whole-settled t.rest) ∙ ap is_whole_pdu (sym t.held) ∙ unready_of v.failed v.held t.live unready in
     record {
       begun = subst (IsBegun v.limit) all t.begun;
       none = subst (NoPdu v.limit) all (no_pdu_begun v.limit t.rest t.begun part);

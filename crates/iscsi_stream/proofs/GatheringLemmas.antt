@@ -10,8 +10,8 @@ use Rattle.iscsi_pdu.specs.Meaning.{IsHeader, padding}
 use Rattle.iscsi_stream.specs.declared.fault.StreamFault.{StreamFault}
 use Rattle.iscsi_stream.specs.declared.fault.StreamFault.TheVariants as faults
 use Rattle.iscsi_stream.specs.Stream.{pdu_len}
-use Rattle.iscsi_stream.specs.Framing.{length_at, content_len, settled, is_whole, begun_len, IsBegun, ReachesHeader}
-use Rattle.iscsi_stream.specs.Gathering.{filling, IsBody, Gathers, FillsBody, HeaderFails, GatherFails}
+use Rattle.iscsi_stream.specs.Framing.{length_at, content_len, settled, is_whole_pdu, begun_len, IsBegun, ReachesHeader}
+use Rattle.iscsi_stream.specs.inner.Gathering.{filling, IsBody, GathersPdu, FillsBody, HeaderFails, GatherFails}
 use Rattle.iscsi_stream.proofs.HeadLemmas.{length_at-same, header-length}
 use Rattle.iscsi_stream.proofs.SettledBytesLemmas.{settled-short}
 
@@ -21,8 +21,8 @@ take-add n m xs =
     sym (take-append-drop n (take (n + m) xs)) ∙ ap (λ (l : List ℕ). l ++ drop n (take (n + m) xs)) (take-take n (n + m) xs (omega arith))
     ∙ ap (λ (l : List ℕ). take n xs ++ l) (drop-take n m xs)
 
-pub is_full : (bytes : List ℕ) → 48 ≤ length bytes → length bytes ≡ pdu_len (length_at bytes) → is_whole bytes ≡ true
-unfolding is_whole
+pub is_full : (bytes : List ℕ) → 48 ≤ length bytes → length bytes ≡ pdu_len (length_at bytes) → is_whole_pdu bytes ≡ true
+unfolding is_whole_pdu
 is_full bytes long e = grind (arith, nat_tests)
 
 pub short_begun : (limit : ℕ) (bytes : List ℕ) → length bytes < 48 → IsBegun limit bytes
@@ -98,7 +98,7 @@ begun_body limit header segment room padded len h size body long =
     )
 
 whole_body : (header segment : List ℕ) (padded len : ℕ) (h : Head) → length header ≡ 48 → IsHeader header h len → length segment ≡ len → padded ≡ padding len →
-    is_whole (header ++ (segment ++ replicate padded 0)) ≡ true
+    is_whole_pdu (header ++ (segment ++ replicate padded 0)) ≡ true
 whole_body header segment padded len h size r full all =
     let at = length_at-front header (segment ++ replicate padded 0) h len size r in
     is_full (header ++ (segment ++ replicate padded 0)) (omega (arith, length-body header segment padded size))
@@ -159,7 +159,7 @@ zeros_of s p n d q len t r a b c le order =
 pub gathers_body : (limit : ℕ) (header segment : List ℕ) (room : ℕ) (h : Head) (len padded : ℕ) (piece : List ℕ) (n : ℕ) (segment_new : List ℕ)
     (room_new padded_new : ℕ) → length header ≡ 48
     → IsBody limit header (filling segment padded) room h len → FillsBody len (filling segment padded) piece n (filling segment_new padded_new) → len ≤ room_new
-    → Gathers limit (header ++ (segment ++ replicate padded 0)) piece n (header ++ (segment_new ++ replicate padded_new 0))
+    → GathersPdu limit (header ++ (segment ++ replicate padded 0)) piece n (header ++ (segment_new ++ replicate padded_new 0))
     × IsBody limit header (filling segment_new padded_new) room_new h len
 gathers_body limit header segment room h len padded piece n segment_new room_new padded_new size body fills fit =
     let body_new : IsBody limit header (filling segment_new padded_new) room_new h len = record {
@@ -210,7 +210,7 @@ gathers_body limit header segment room h len padded piece n segment_new room_new
 pub gathers_header : (limit : ℕ) (header header_new : List ℕ) (filled : ℕ) (piece : List ℕ) (n : ℕ) → length header ≡ 48 → length header_new ≡ 48 → filled + n
     < 48 → n ≤ length piece
     → take (filled + n) header_new ≡ take filled header ++ take n piece → (n < length piece → filled + n ≡ 48)
-    → Gathers limit (take filled header) piece n (take (filled + n) header_new)
+    → GathersPdu limit (take filled header) piece n (take (filled + n) header_new)
 gathers_header limit header header_new filled piece n size size_new short bound taken stops =
     let len : length (take (filled + n) header_new) ≡ filled + n = omega (arith, length-take (filled + n) header_new) in
     record {
@@ -251,7 +251,7 @@ pub gathers_both : (limit : ℕ) (header header_new : List ℕ) (filled : ℕ) (
     → length header ≡ 48 → length header_new ≡ 48 → filled < 48 → filled + n ≡ 48 → n ≤ length piece → take (filled + n) header_new ≡ take filled header
     ++ take n piece → rest ≡ drop n piece
     → IsBody limit header_new (filling [] 0) room h len → FillsBody len (filling [] 0) rest m (filling segment_new padded_new) → len ≤ room_new
-    → Gathers limit (take filled header) piece (n + m) (header_new ++ (segment_new ++ replicate padded_new 0))
+    → GathersPdu limit (take filled header) piece (n + m) (header_new ++ (segment_new ++ replicate padded_new 0))
     × IsBody limit header_new (filling segment_new padded_new) room_new h len
 gathers_both limit header header_new filled piece rest n h len room m segment_new room_new padded_new size size_new short full bound taken is body fills fit =
     let both = gathers_body limit header_new [] room h len 0 rest m segment_new room_new padded_new size_new body fills fit in

@@ -6,7 +6,7 @@ use Rattle.std.proofs.lemmas.List.{get_or-take, get_or_past, take-take, length-t
 use Rattle.scsi_cdb.specs.Layout.{number_at}
 use Rattle.iscsi_pdu.specs.declared.head.Head.{Head}
 use Rattle.iscsi_pdu.specs.declared.head.HeadFault.{HeadFault}
-use Rattle.iscsi_pdu.specs.Meaning.{IsHeader, Means, fault_of, is_login, opcode, whole, AreBytes}
+use Rattle.iscsi_pdu.specs.Meaning.{IsHeader, Means, head_fault, is_login, opcode, whole, AreBytes}
 use Rattle.iscsi_pdu.proofs.HeaderLemmas.{IsHeader-room, IsHeader-reads, IsHeader-short, IsHeader-faultless, whole-means}
 use Rattle.iscsi_stream.specs.Stream.{pdu_len}
 use Rattle.iscsi_stream.specs.Framing.{length_at}
@@ -76,5 +76,5 @@ whole-again b h d e bytes m le =
 some_not_none : (f : HeadFault) → Some f ≡ None → ⊥
 some_not_none f e = absurd cc
 
-pub bad_header : (b : List ℕ) (h : Head) (n : ℕ) (f : HeadFault) → IsHeader b h n → fault_of b ≡ Some f → ⊥
+pub bad_header : (b : List ℕ) (h : Head) (n : ℕ) (f : HeadFault) → IsHeader b h n → head_fault b ≡ Some f → ⊥
 bad_header b h n f r bad = some_not_none f (sym bad ∙ IsHeader-faultless b h n r)

@@ -6,7 +6,7 @@ use Rattle.iscsi_stream.specs.Stream.{Message, longest_segment}
 use Rattle.iscsi_pdu.specs.Meaning.{AreBytes}
 use Rattle.iscsi_stream.specs.declared.normalising.Form.{Form}
 use Rattle.iscsi_stream.specs.Framing.{Framing, HasTaken, is_ready}
-use Rattle.iscsi_stream.specs.Passing.{IsDue, Progress, PassesOn}
+use Rattle.iscsi_stream.specs.inner.Passing.{IsDueOutput, PassingProgress, PassesOn}
 
 -- the bytes before the rest are written
 pub record WroteUpTo (bytes rest : List ℕ) (old new : Option (List ℕ)) : Type 0 where
@@ -15,7 +15,7 @@ pub record WroteUpTo (bytes rest : List ℕ) (old new : Option (List ℕ)) : Typ
   pub written : Appends old new before
 
 -- the bytes of the piece before the rest are passed on
-pub record PassedUpTo (form : Form) (piece rest : List ℕ) (old new : Progress) : Type 0 where
+pub record PassedUpTo (form : Form) (piece rest : List ℕ) (old new : PassingProgress) : Type 0 where
   pub before : List ℕ
   pub more : List Message
   pub parts : piece ≡ before ++ rest
@@ -39,7 +39,7 @@ pub record WrittenUpTo (form : Form) (v : Framing) (counts : Counts) (turn : ℕ
   pub taken : HasTaken read ms v
   pub limit : v.limit ≡ longest_segment
   pub unready : is_ready v ≡ false
-  pub due : IsDue form ms out
+  pub due : IsDueOutput form ms out
   pub consumed : Consumes old.remaining new.remaining read
   pub written : Appends old.contents new.contents out
   pub small : length read ≤ 4096 * turn

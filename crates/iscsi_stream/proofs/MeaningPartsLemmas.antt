@@ -7,17 +7,17 @@ use Rattle.iscsi_stream.specs.declared.counts.Counts.{Counts}
 use Rattle.iscsi_stream.specs.Segment.{no_login}
 use Rattle.iscsi_stream.specs.Stream.{Message, StreamMeans, ReadsAs, longest_segment}
 use Rattle.iscsi_stream.specs.Canonical.{canon}
-use Rattle.iscsi_stream.specs.Normalising.{IsCanonical, IsNormalised, Writes, WritesUntil}
+use Rattle.iscsi_stream.specs.Normalising.{IsCanonical, IsNormalised, WriteDuePost, WritesUntil}
 use Rattle.iscsi_stream.proofs.OneMeaningLaw.{canon_again, one_meaning}
 
 pub ok_part : (P : List ℕ → Type 0) (Q : List ℕ → Type 0) (result : Result Counts ToolFault)
-    → ((read : List ℕ) × (written : List ℕ) × AreBytes read × P read × Q written × Writes IsCanonical result read written)
+    → ((read : List ℕ) × (written : List ℕ) × AreBytes read × P read × Q written × WriteDuePost IsCanonical result read written)
     → IfOk result (λ counts. (read : List ℕ) × (written : List ℕ) × AreBytes read × P read × Q written × IsNormalised counts read written)
 ok_part P Q (Ok counts) h = h
 ok_part P Q (Err fault) h = tt
 
 pub fault_part : (P : List ℕ → Type 0) (Q : List ℕ → Type 0) (result : Result Counts ToolFault)
-    → ((read : List ℕ) × (written : List ℕ) × AreBytes read × P read × Q written × Writes IsCanonical result read written)
+    → ((read : List ℕ) × (written : List ℕ) × AreBytes read × P read × Q written × WriteDuePost IsCanonical result read written)
     → IfErr result (λ fault. (read : List ℕ) × (written : List ℕ) × AreBytes read × P read × Q written × WritesUntil IsCanonical fault read written)
 fault_part P Q (Ok counts) h = tt
 fault_part P Q (Err fault) h = h

@@ -13,12 +13,12 @@ use Rattle.iscsi_stream.specs.declared.fault.ToolFault.TheVariants as tool
 use Rattle.iscsi_stream.specs.declared.counts.Counts.{Counts}
 use Rattle.iscsi_stream.specs.Faults.{tool_fault}
 use Rattle.iscsi_stream.specs.Segment.{no_login}
-use Rattle.iscsi_stream.specs.Stream.{Message, StreamMeans, ReadsAs, longest_segment, Splits}
+use Rattle.iscsi_stream.specs.Stream.{Message, StreamMeans, ReadsAs, longest_segment, SplitsStream}
 use Rattle.iscsi_pdu.specs.Meaning.{AreBytes}
 use Rattle.iscsi_stream.specs.declared.normalising.Form.{Form}
-use Rattle.iscsi_stream.specs.Framing.{Framing, opening, is_ready, IsBegun, HasTaken, FinishFails}
-use Rattle.iscsi_stream.specs.Normalising.{RestFails, AreCounts, WritesUntil, AtEnd, WroteFront}
-use Rattle.iscsi_stream.specs.Passing.{IsDue, progress, PassesOn, Appended, StopsAt, PassFails}
+use Rattle.iscsi_stream.specs.Framing.{Framing, opening_framing, is_ready, IsBegun, HasTaken, FinishFails}
+use Rattle.iscsi_stream.specs.Normalising.{StreamRestFails, AreCounts, WritesUntil, AtEnd, WroteFront}
+use Rattle.iscsi_stream.specs.inner.Passing.{IsDueOutput, passing_progress, PassesOn, AppendedDue, PassingStops, PassFails}
 use Rattle.iscsi_stream.proofs.SettledBytesLemmas.{length-settled}
 use Rattle.iscsi_stream.proofs.ReadyLemmas.{apart, unready_of, not_whole-nil}
 use Rattle.iscsi_stream.proofs.GatheringLemmas.{take-add}
@@ -43,7 +43,7 @@ take_past xs ys n =
     ∙ ap (λ (x : List ℕ). xs ++ take n x) (drop_at xs ys (length xs) refl)
 
 pub at_start : (form : Form) (a b : Option (List ℕ)) → (let k : Counts = record { pdus = 0; bytes_in = 0; bytes_out = 0 } in
-    WrittenUpTo form (opening longest_segment) k 0 (sides a b) (sides a b))
+    WrittenUpTo form (opening_framing longest_segment) k 0 (sides a b) (sides a b))
 at_start form a b = record {
   read = [];
   ms = [];
@@ -66,12 +66,13 @@ abbrev pub Answered : Option (List ℕ) → Option (List ℕ) → Option (List �
 Answered r0 r1 w0 w1 P = (read : List ℕ) × (written : List ℕ) × AreBytes read × Consumes r0 r1 read × Appends w0 w1 written × P read written
 
 splits_at : (v : Framing) (s : List ℕ) (ms : List Message) (t : HasTaken s ms v) → v.limit ≡ longest_segment → is_ready v ≡ false →
-    Splits longest_segment s ms t.given t.rest
-splits_at v s ms t limit unready = subst (λ (n : ℕ). Splits n s ms t.given t.rest) limit (splits_taken s ms v t (unready_of v.failed v.held t.live unready))
+    SplitsStream longest_segment s ms t.given t.rest
+splits_at v s ms t limit unready =
+    subst (λ (n : ℕ). SplitsStream n s ms t.given t.rest) limit (splits_taken s ms v t (unready_of v.failed v.held t.live unready))
 
 pub read_stops : (form : Form) (v : Framing) (k : Counts) (i : ℕ) (r0 r1 r2 w0 w1 : Option (List ℕ))
     → WrittenUpTo form v k i (sides r0 w0) (sides r1 w1) → Keeps r1 r2 →
-    Answered r0 r2 w0 w1 (WritesUntil (IsDue form) tool.Read)
+    Answered r0 r2 w0 w1 (WritesUntil (IsDueOutput form) tool.Read)
 read_stops form v k i r0 r1 r2 w0 w1 up kept = (
   up.read,
   up.out,
@@ -85,7 +86,8 @@ consumed_none : (r0 r1 r2 : Option (List ℕ)) (read : List ℕ) → Consumes r0
 consumed_none r0 r1 r2 read p q = subst (Consumes r0 r2) (append-nil read) (Consumes-trans r0 r1 r2 read [] p q)
 
 pub finish_stops : (e : StreamFault) (form : Form) (v : Framing) (k : Counts) (i : ℕ) (r0 r1 r2 w0 w1 : Option (List ℕ)) → i < 16777216 →
-    WrittenUpTo form v k i (sides r0 w0) (sides r1 w1) → Consumes r1 r2 [] → FinishFails v e → Answered r0 r2 w0 w1 (WritesUntil (IsDue form) (tool_fault e))
+    WrittenUpTo form v k i (sides r0 w0) (sides r1 w1) → Consumes r1 r2 [] → FinishFails v e
+    → Answered r0 r2 w0 w1 (WritesUntil (IsDueOutput form) (tool_fault e))
 finish_stops stream.NoMemory form v k i r0 r1 r2 w0 w1 lt up read fails = absurd fails
 finish_stops (stream.Head f p) form v k i r0 r1 r2 w0 w1 lt up read fails = absurd fails
 finish_stops (stream.OverLimit p) form v k i r0 r1 r2 w0 w1 lt up read fails = absurd fails
@@ -112,7 +114,7 @@ finish_stops stream.Failed form v k i r0 r1 r2 w0 w1 lt up read fails = absurd (
 pub finish_done : (form : Form) (v : Framing) (k : Counts) (i : ℕ) (r0 r1 r2 w0 w1 : Option (List ℕ))
     → WrittenUpTo form v k i (sides r0 w0) (sides r1 w1) → Consumes r1 r2 [] →
     (v.held ≡ []) ⊎ IsTrue (is_ready v)
-    → Answered r0 r2 w0 w1 (λ read written. (ms : List Message) × StreamMeans read ms × IsDue form ms written × AreCounts k ms read written)
+    → Answered r0 r2 w0 w1 (λ read written. (ms : List Message) × StreamMeans read ms × IsDueOutput form ms written × AreCounts k ms read written)
 finish_done form v k i r0 r1 r2 w0 w1 up read (inr ready) = absurd (apart ready up.unready)
 finish_done form v k i r0 r1 r2 w0 w1 up read (inl none) =
     let t = up.taken in
@@ -133,7 +135,7 @@ wrote_on : (w0 w1 w2 : Option (List ℕ)) (before more out : List ℕ) → Appen
 wrote_on w0 w1 w2 before more out first is after = Appends-trans w0 w1 w2 before more first (subst (Appends w1 w2) is after)
 
 stop_of : (f : StreamFault) (form : Form) (v : Framing) (piece before after : List ℕ) → PassFails form v piece before after (tool.Stream f) →
-    StopsAt form v piece before after (RestFails f)
+    PassingStops form v piece before after (StreamRestFails f)
 stop_of (stream.Truncated p) form v piece before after fails = absurd fails
 stop_of stream.NoMemory form v piece before after fails = fails
 stop_of (stream.Head f p) form v piece before after fails = fails
@@ -158,7 +160,7 @@ not_truncated (tool.Protocol rule) form v piece before after Ended fails = tt
 
 pub pass_stops : (e : ToolFault) (form : Form) (v : Framing) (k : Counts) (i : ℕ) (r0 r1 r2 w0 w1 w2 : Option (List ℕ)) (piece out : List ℕ) → i < 16777216 →
     length piece ≤ 4096 → AreBytes piece → WrittenUpTo form v k i (sides r0 w0) (sides r1 w1) → Consumes r1 r2 piece
-    → Appended form v piece [] out → PassFails form v piece [] out e → Appends w1 w2 out → Answered r0 r2 w0 w2 (WritesUntil (IsDue form) e)
+    → AppendedDue form v piece [] out → PassFails form v piece [] out e → Appends w1 w2 out → Answered r0 r2 w0 w2 (WritesUntil (IsDueOutput form) e)
 pass_stops tool.NoMemory form v k i r0 r1 r2 w0 w1 w2 piece out lt le bytes up read part fails wrote =
     let r = part.reaches up.read up.ms up.taken in (
       up.read ++ piece,
@@ -194,11 +196,11 @@ pass_stops (tool.Protocol rule) form v k i r0 r1 r2 w0 w1 w2 piece out lt le byt
 
 pub write_stops : (e : ToolFault) (form : Form) (v : Framing) (k : Counts) (i : ℕ) (r0 r1 r2 w0 w1 w2 : Option (List ℕ)) (piece out : List ℕ) → AreBytes piece →
     WrittenUpTo form v k i (sides r0 w0) (sides r1 w1) → Consumes r1 r2 piece
-    → Appended form v piece [] out → e ≡ tool.Write → WroteFront w1 w2 out → Answered r0 r2 w0 w2 (WritesUntil (IsDue form) e)
+    → AppendedDue form v piece [] out → e ≡ tool.Write → WroteFront w1 w2 out → Answered r0 r2 w0 w2 (WritesUntil (IsDueOutput form) e)
 write_stops e form v k i r0 r1 r2 w0 w1 w2 piece out bytes up read part is front =
     let r = part.reaches up.read up.ms up.taken in
     let n = front.0 in
-    subst (λ (f : ToolFault). Answered r0 r2 w0 w2 (WritesUntil (IsDue form) f)) (sym is) (
+    subst (λ (f : ToolFault). Answered r0 r2 w0 w2 (WritesUntil (IsDueOutput form) f)) (sym is) (
       up.read ++ piece,
       up.out ++ take n out,
       AreBytes-append up.read piece up.bytes bytes,
@@ -221,7 +223,7 @@ write_stops e form v k i r0 r1 r2 w0 w1 w2 piece out bytes up read part is front
 pub read_more : (form : Form) (v w : Framing) (k n : Counts) (i sum : ℕ) (r0 r1 r2 w0 w1 w2 : Option (List ℕ)) (piece out : List ℕ) (more : List Message) → i
     < 16777216 → length piece ≤ 4096 → AreBytes piece → WrittenUpTo form v k i (sides r0 w0) (sides r1 w1) → Consumes r1 r2 piece
     → sum ≡ min (k.bytes_in + length piece) (2 ^ 64 - 1)
-    → (let m : Counts = record k { bytes_in = sum } in PassesOn form (progress v [] m) (progress w out n) piece more) →
+    → (let m : Counts = record k { bytes_in = sum } in PassesOn form (passing_progress v [] m) (passing_progress w out n) piece more) →
     Appends w1 w2 out → WrittenUpTo form w n (i + 1) (sides r0 w0) (sides r2 w2)
 read_more form v w k n i sum r0 r1 r2 w0 w1 w2 piece out more lt le bytes up read sum-is passes wrote =
     let taken = passes.moves up.read up.ms up.taken in

@@ -11,13 +11,13 @@ use Rattle.std.proofs.lemmas.List.{length-append, take-append-le, take_at, drop_
 use Rattle.std.proofs.lemmas.List.Concat.{flat_map-cons}
 use Rattle.iscsi_pdu.specs.declared.head.Head.{Head}
 use Rattle.iscsi_pdu.specs.declared.head.HeadFault.{HeadFault}
-use Rattle.iscsi_pdu.specs.Meaning.{IsHeader, Means, fault_of, AreBytes}
+use Rattle.iscsi_pdu.specs.Meaning.{IsHeader, Means, head_fault, AreBytes}
 use Rattle.iscsi_pdu.proofs.HeaderLemmas.{IsHeader-unique}
 use Rattle.iscsi_stream.specs.declared.logins.Logins.{Logins}
-use Rattle.iscsi_stream.specs.Segment.{Segment, no_login, continues, after, is_last, text_or_bytes, segment_if, segment_of, segment_bytes}
-use Rattle.iscsi_stream.specs.Stream.{pdu_len, Message, Begins, ReadsAs, StreamMeans, after_all, NoPdu, Splits, longest_segment}
+use Rattle.iscsi_stream.specs.Segment.{Segment, no_login, continues, logins_after, is_last_login_pdu, text_or_bytes, segment_if, segment_of, segment_bytes}
+use Rattle.iscsi_stream.specs.Stream.{pdu_len, Message, BeginsWithPdu, ReadsAs, StreamMeans, logins_after_all, NoPdu, SplitsStream, longest_segment}
 use Rattle.iscsi_stream.specs.Canonical.{canonical_bytes, canon}
-use Rattle.iscsi_stream.specs.Framing.{length_at, is_whole, IsBegun}
+use Rattle.iscsi_stream.specs.Framing.{length_at, is_whole_pdu, IsBegun}
 use Rattle.iscsi_stream.proofs.HeadLemmas.{front-length, means-data, whole-again, bad_header}
 use Rattle.iscsi_stream.proofs.GatheringLemmas.{is_full}
 use Rattle.iscsi_stream.proofs.ReadyLemmas.{apart}
@@ -26,7 +26,7 @@ use Rattle.iscsi_stream.proofs.ReadyLemmas.{apart}
 
 pub reads_one_more : (limit : ℕ) (logins : Logins) (given : List ℕ) (ms : List Message) (rest : List ℕ) (h : Head) (d : List ℕ) → ReadsAs limit logins given ms
     → Means rest h d → length d ≤ limit
-    → ReadsAs limit logins (given ++ rest) (ms ++ record { head = h; segment = segment_of (continues (after_all logins ms) h) h d } ∷ [])
+    → ReadsAs limit logins (given ++ rest) (ms ++ record { head = h; segment = segment_of (continues (logins_after_all logins ms) h) h d } ∷ [])
 unfolding ReadsAs
 reads_one_more limit logins given [] rest h d reads means le = (
   record {
@@ -51,12 +51,13 @@ reads_one_more limit logins given (m ∷ ms) rest h d reads means le =
         within = begins.within;
         meaning = begins.meaning;
       },
-      reads_one_more limit (after logins m.head) begins.rest ms rest h d reads.1 means le,
+      reads_one_more limit (logins_after logins m.head) begins.rest ms rest h d reads.1 means le,
     )
 
-pub after_all-snoc : (logins : Logins) (ms : List Message) (m : Message) → after_all logins (ms ++ m ∷ []) ≡ after (after_all logins ms) m.head
+pub after_all-snoc : (logins : Logins) (ms : List Message) (m : Message) → logins_after_all logins (ms ++ m ∷ [])
+    ≡ logins_after (logins_after_all logins ms) m.head
 after_all-snoc logins [] m = refl
-after_all-snoc logins (k ∷ ms) m = after_all-snoc (after logins k.head) ms m
+after_all-snoc logins (k ∷ ms) m = after_all-snoc (logins_after logins k.head) ms m
 
 -- ---- what begins a stream
 
@@ -70,7 +71,7 @@ starts rest b more h d e m = (
   omega (arith, ap length e, length-append b more, m.size),
 )
 
-pub no_pdu_begun : (limit : ℕ) (rest : List ℕ) → IsBegun limit rest → is_whole rest ≡ false → NoPdu limit rest
+pub no_pdu_begun : (limit : ℕ) (rest : List ℕ) → IsBegun limit rest → is_whole_pdu rest ≡ false → NoPdu limit rest
 no_pdu_begun limit rest begun part b d more h e m le =
     let s = starts rest b more h d e m in
     let long : 48 ≤ length rest = omega (arith, s.1) in
@@ -78,7 +79,7 @@ no_pdu_begun limit rest begun part b d more h e m le =
     let n : length d ≡ length_at rest = front-length rest h (length d) s.0 in
     apart (is_full rest long (omega (arith, good.no_more, s.1, ap pdu_len n))) part
 
-pub no_pdu_bad : (limit : ℕ) (rest : List ℕ) (f : HeadFault) → fault_of (take 48 rest) ≡ Some f → NoPdu limit rest
+pub no_pdu_bad : (limit : ℕ) (rest : List ℕ) (f : HeadFault) → head_fault (take 48 rest) ≡ Some f → NoPdu limit rest
 no_pdu_bad limit rest f bad b d more h e m le = bad_header (take 48 rest) h (length d) f (starts rest b more h d e m).0 bad
 
 pub no_pdu_over : (limit : ℕ) (rest : List ℕ) (h : Head) (n : ℕ) → IsHeader (take 48 rest) h n → limit < n → NoPdu limit rest
@@ -153,8 +154,8 @@ same_split limit logins given (m ∷ ms) rest given' (n ∷ ns) rest' p ends p' 
     ∙ append_assoc begins'.bytes begins'.rest rest' in
     let same = same_begin begins.bytes (begins.rest ++ rest) begins'.bytes (begins'.rest ++ rest') m.head n.head begins.segment begins'.segment whole
     begins.means begins'.means in
-    let more = same_split limit (after logins m.head) begins.rest ms rest begins'.rest ns rest' p.1 ends
-    (subst (λ (h : Head). ReadsAs limit (after logins h) begins'.rest ns)
+    let more = same_split limit (logins_after logins m.head) begins.rest ms rest begins'.rest ns rest' p.1 ends
+    (subst (λ (h : Head). ReadsAs limit (logins_after logins h) begins'.rest ns)
     (sym same.head) p'.1) ends' same.rest in
     let segment : m.segment ≡ n.segment =
     begins.meaning ∙ ap (λ (h : Head). segment_of (continues logins h) h begins.segment) same.head ∙ ap (segment_of (continues logins n.head) n.head)
@@ -185,8 +186,8 @@ longest limit logins given (m ∷ ms) rest p (n ∷ ns) q g ends r e =
     ∙ append_assoc begins'.bytes begins'.rest q in
     let same = same_begin begins.bytes (begins.rest ++ rest) begins'.bytes (begins'.rest ++ q) m.head n.head begins.segment begins'.segment whole
     begins.means begins'.means in
-    let more = longest limit (after logins m.head) begins.rest ms rest begins'.rest ns q g.1 ends
-    (subst (λ (h : Head). ReadsAs limit (after logins h) begins'.rest ns)
+    let more = longest limit (logins_after logins m.head) begins.rest ms rest begins'.rest ns q g.1 ends
+    (subst (λ (h : Head). ReadsAs limit (logins_after logins h) begins'.rest ns)
     (sym same.head) r.1) same.rest in
     omega (
       arith,
@@ -199,11 +200,11 @@ longest limit logins given (m ∷ ms) rest p (n ∷ ns) q g ends r e =
     )
 
 -- A header that is refused stays so, whatever follows.
-pub splits_more : (limit : ℕ) (stream more : List ℕ) (ms : List Message) (given rest : List ℕ) (f : HeadFault) → Splits limit stream ms given rest → 48
-    ≤ length rest → fault_of (take 48 rest) ≡ Some f
-    → Splits limit (stream ++ more) ms given (rest ++ more) × (48 ≤ length (rest ++ more)) × (fault_of (take 48 (rest ++ more)) ≡ Some f)
+pub splits_more : (limit : ℕ) (stream more : List ℕ) (ms : List Message) (given rest : List ℕ) (f : HeadFault) → SplitsStream limit stream ms given rest → 48
+    ≤ length rest → head_fault (take 48 rest) ≡ Some f
+    → SplitsStream limit (stream ++ more) ms given (rest ++ more) × (48 ≤ length (rest ++ more)) × (head_fault (take 48 (rest ++ more)) ≡ Some f)
 splits_more limit stream more ms given rest f s long bad =
-    let front : fault_of (take 48 (rest ++ more)) ≡ Some f = ap fault_of (take-append-le 48 rest more long) ∙ bad in (
+    let front : head_fault (take 48 (rest ++ more)) ≡ Some f = ap head_fault (take-append-le 48 rest more long) ∙ bad in (
       record {
         reaches = record {
           whole = ap (λ (x : List ℕ). x ++ more) s.reaches.whole ∙ append_assoc given rest more;
@@ -230,7 +231,7 @@ segment_if-again false d = refl
 -- what stands for a segment means it
 pub segment_again : (c : Bool) (h : Head) (d : List ℕ) → segment_of c h (segment_bytes (segment_of c h d)) ≡ segment_of c h d
 unfolding segment_of
-segment_again c h d = segment_if-again (not c && is_last h) d
+segment_again c h d = segment_if-again (not c && is_last_login_pdu h) d
 
 text-shorter : (r : Option Pairs) (d : List ℕ) → text_in d ≡ r → length (segment_bytes (text_or_bytes r d)) ≤ length d
 unfolding segment_bytes
@@ -245,7 +246,7 @@ segment_if-shorter false d = omega arith
 -- and is no longer
 pub segment-shorter : (c : Bool) (h : Head) (d : List ℕ) → length (segment_bytes (segment_of c h d)) ≤ length d
 unfolding segment_of
-segment-shorter c h d = segment_if-shorter (not c && is_last h) d
+segment-shorter c h d = segment_if-shorter (not c && is_last_login_pdu h) d
 
 pub AreBytes-front : (a b : List ℕ) → AreBytes (a ++ b) → AreBytes a
 AreBytes-front a b bytes i =
@@ -258,7 +259,7 @@ pub AreBytes-back : (a b : List ℕ) → AreBytes (a ++ b) → AreBytes b
 AreBytes-back a b bytes i = subst (λ (x : ℕ). x < 256) (get_or-append-add a b i 0) (bytes (length a + i))
 
 -- a message's canonical form means it
-again : (logins : Logins) (limit : ℕ) (stream : List ℕ) (m : Message) (b : Begins limit logins stream m) → AreBytes b.bytes
+again : (logins : Logins) (limit : ℕ) (stream : List ℕ) (m : Message) (b : BeginsWithPdu limit logins stream m) → AreBytes b.bytes
     → (length (segment_bytes m.segment) ≤ length b.segment) × Means (canonical_bytes m) m.head (segment_bytes m.segment)
 again logins limit stream m b are =
     let shorter : length (segment_bytes m.segment) ≤ length b.segment = omega (
@@ -286,7 +287,7 @@ canon_again limit logins s (m ∷ ms) bytes reads =
         meaning = begins.meaning ∙ sym (segment_again c m.head begins.segment) ∙ ap (λ (x : Segment). segment_of c m.head (segment_bytes x))
             (sym begins.meaning);
       },
-      canon_again limit (after logins m.head) begins.rest ms (AreBytes-back begins.bytes begins.rest both) reads.1,
+      canon_again limit (logins_after logins m.head) begins.rest ms (AreBytes-back begins.bytes begins.rest both) reads.1,
     )
 
 pdu_len-le : (m n : ℕ) → m ≤ n → pdu_len m ≤ pdu_len n
@@ -299,7 +300,7 @@ canon-shorter limit logins s (m ∷ ms) bytes reads =
     let begins = reads.0 in
     let both = subst AreBytes begins.whole bytes in
     let one = again logins limit s m begins (AreBytes-front begins.bytes begins.rest both) in
-    let more = canon-shorter limit (after logins m.head) begins.rest ms (AreBytes-back begins.bytes begins.rest both) reads.1 in
+    let more = canon-shorter limit (logins_after logins m.head) begins.rest ms (AreBytes-back begins.bytes begins.rest both) reads.1 in
     omega (
       arith,
       ap length (flat_map-cons canonical_bytes m ms),
@@ -313,7 +314,7 @@ canon-shorter limit logins s (m ∷ ms) bytes reads =
     )
 
 -- a stream of the profile leaves no rest
-pub all_given : (stream given rest : List ℕ) (ms ns : List Message) → StreamMeans stream ns → Splits longest_segment stream ms given rest → rest ≡ []
+pub all_given : (stream given rest : List ℕ) (ms ns : List Message) → StreamMeans stream ns → SplitsStream longest_segment stream ms given rest → rest ≡ []
 all_given stream given rest ms ns means s =
     let same = (same_split longest_segment no_login stream ns [] given ms rest means (no_pdu_none longest_segment) s.reaches.reads s.no_more (append-nil stream
     ∙ s.reaches.whole)).1 in
@@ -329,5 +330,5 @@ count-shorter limit logins s (m ∷ ms) reads =
       reads.0.means.size,
       ap length reads.0.whole,
       length-append reads.0.bytes reads.0.rest,
-      count-shorter limit (after logins m.head) reads.0.rest ms reads.1,
+      count-shorter limit (logins_after logins m.head) reads.0.rest ms reads.1,
     )

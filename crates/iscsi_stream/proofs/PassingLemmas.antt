@@ -6,18 +6,18 @@ use Rattle.std.proofs.lemmas.Bool.{cases_lt}
 use Rattle.std.proofs.lemmas.List.{length-append, length-take, take_all, take-append-drop, take_rest, nil_from_length}
 use Rattle.iscsi_pdu.specs.declared.head.Head.{Head}
 use Rattle.iscsi_pdu.specs.declared.head.HeadFault.{HeadFault}
-use Rattle.iscsi_pdu.specs.Meaning.{IsHeader, Means, fault_of, AreBytes}
+use Rattle.iscsi_pdu.specs.Meaning.{IsHeader, Means, head_fault, AreBytes}
 use Rattle.iscsi_pdu.proofs.HeaderLemmas.{IsHeader-short}
 use Rattle.iscsi_stream.specs.declared.fault.StreamFault.{StreamFault}
 use Rattle.iscsi_stream.specs.declared.fault.StreamFault.TheVariants as stream
 use Rattle.iscsi_stream.specs.declared.counts.Counts.{Counts}
 use Rattle.iscsi_stream.specs.Faults.{tool_fault}
 use Rattle.iscsi_stream.specs.Segment.{no_login}
-use Rattle.iscsi_stream.specs.Stream.{Message, pdu_len, longest_segment, Splits, ReadsAs}
+use Rattle.iscsi_stream.specs.Stream.{Message, pdu_len, longest_segment, SplitsStream, ReadsAs}
 use Rattle.iscsi_stream.specs.declared.normalising.Form.{Form}
-use Rattle.iscsi_stream.specs.Framing.{Framing, holding, length_at, begun_len, is_whole, is_ready, settled, Takes, FeedFails, HasTaken, Moves, given_up, message_of, last_place}
+use Rattle.iscsi_stream.specs.Framing.{Framing, holding, length_at, begun_len, is_whole_pdu, is_ready, settled, FramerTakes, FramerFeedFails, HasTaken, FramerMoves, pdu_given_up, message_of, last_place}
 use Rattle.iscsi_stream.specs.Headers.{skipped}
-use Rattle.iscsi_stream.specs.Passing.{IsDue, progress, PassesOn, Counted, Appended, PassFails}
+use Rattle.iscsi_stream.specs.inner.Passing.{IsDueOutput, passing_progress, PassesOn, CountedMore, AppendedDue, PassFails}
 use Rattle.iscsi_stream.proofs.GatheringLemmas.{begun_len-long, is_full}
 use Rattle.iscsi_stream.proofs.HeadLemmas.{AreBytes-take, header-length, means-length, means_of}
 use Rattle.iscsi_stream.proofs.SettledBytesLemmas.{settled-short, length-settled, is_whole-settled}
@@ -27,12 +27,13 @@ use Rattle.iscsi_stream.proofs.TakingLemmas.{moves_none, moves_fed, moves_gave, 
 use Rattle.iscsi_stream.proofs.DueLemmas.{due_none, due_append}
 use Rattle.iscsi_stream.proofs.LoopInvariants.{PassedUpTo}
 
-pub unready_after : (v : Framing) (h : Head) → is_ready (given_up v h) ≡ false
-unready_after v h = elim v.failed as (λ b. (not b && is_whole []) ≡ false) [ true ↦ refl | false ↦ not_whole-nil ]
+pub unready_after : (v : Framing) (h : Head) → is_ready (pdu_given_up v h) ≡ false
+unready_after v h = elim v.failed as (λ b. (not b && is_whole_pdu []) ≡ false) [ true ↦ refl | false ↦ not_whole-nil ]
 
 -- ---- one PDU
 
-pub pass_none : (form : Form) (v : Framing) (out : List ℕ) (k : Counts) → is_ready v ≡ false → PassesOn form (progress v out k) (progress v out k) [] []
+pub pass_none : (form : Form) (v : Framing) (out : List ℕ) (k : Counts) → is_ready v ≡ false
+    → PassesOn form (passing_progress v out k) (passing_progress v out k) [] []
 pass_none form v out k unready = record {
   moves = moves_none v;
   limit = refl;
@@ -43,14 +44,15 @@ pass_none form v out k unready = record {
   counted = record { pdus = λ _. omega arith; bytes_in = refl; bytes_out = λ _. omega arith };
 }
 
-pub pass_one : (form : Form) (v w : Framing) (h : Head) (d before after bytes : List ℕ) (k n : Counts) → Means v.held h d → w ≡ given_up v h → after ≡ before
-    ++ bytes → IsDue form (message_of v h d ∷ []) bytes
+pub pass_one : (form : Form) (v w : Framing) (h : Head) (d before after bytes : List ℕ) (k n : Counts) → Means v.held h d → w ≡ pdu_given_up v h → after
+    ≡ before
+    ++ bytes → IsDueOutput form (message_of v h d ∷ []) bytes
     → n.pdus ≡ min (k.pdus + 1) (2 ^ 64 - 1) → n.bytes_in ≡ k.bytes_in → n.bytes_out ≡ min (k.bytes_out + length bytes) (2 ^ 64 - 1) →
-    PassesOn form (progress v before k) (progress w after n) [] (message_of v h d ∷ [])
+    PassesOn form (passing_progress v before k) (passing_progress w after n) [] (message_of v h d ∷ [])
 pass_one form v w h d before after bytes k n means is appended due pdus bytes_in bytes_out =
     let m = message_of v h d in
     record {
-      moves = subst (λ (x : Framing). Moves v x [] (m ∷ [])) (sym is) (moves_gave v h d means);
+      moves = subst (λ (x : Framing). FramerMoves v x [] (m ∷ [])) (sym is) (moves_gave v h d means);
       limit = ap (λ (x : Framing). x.limit) is;
       unready = ap is_ready is ∙ unready_after v h;
       out = bytes;
@@ -66,15 +68,14 @@ bare_means : (bytes : List ℕ) (h : Head) → length bytes ≡ 48 → IsHeader 
 bare_means bytes h size header = means_of bytes h [] header size refl
 
 -- Where nothing is held the framer takes them, and then a PDU is ready.
-pub bare_taken : (v : Framing) (piece : List ℕ) (h : Head) (n : ℕ) → v.failed ≡ false → v.held ≡ [] → 48 ≤ length piece → IsHeader (take 48 piece) h n →
-    length_at (take 48 piece) ≡ 0 → Takes v piece 48 (holding v (take 48 piece)) × Means (take 48 piece) h []
-bare_taken v piece h n live empty long header none =
+pub bare_taken : (v : Framing) (piece : List ℕ) (h : Head) → v.failed ≡ false → v.held ≡ [] → 48 ≤ length piece → IsHeader (take 48 piece) h 0 →
+    FramerTakes v piece 48 (holding v (take 48 piece)) × Means (take 48 piece) h []
+bare_taken v piece h live empty long header =
     let bytes = take 48 piece in
     let size : length bytes ≡ 48 = omega (arith, length-take 48 piece, long) in
     let same : take 48 bytes ≡ bytes = take_all 48 bytes (omega (arith, size)) in
-    let len : 0 ≡ length_at bytes = sym none in
-    let zero : n ≡ 0 = header-length bytes h n header ∙ none in
-    let says : IsHeader (take 48 bytes) h 0 = subst (λ (x : List ℕ). IsHeader x h 0) (sym same) (subst (IsHeader bytes h) zero header) in
+    let len : 0 ≡ length_at bytes = header-length bytes h 0 header in
+    let says : IsHeader (take 48 bytes) h 0 = subst (λ (x : List ℕ). IsHeader x h 0) (sym same) header in
     let held : settled (v.held ++ bytes) ≡ bytes = ap (λ (x : List ℕ). settled (x ++ bytes)) empty ∙ settled-short bytes (omega (arith, size)) in (
       record {
         live = live;
@@ -94,7 +95,7 @@ bare_taken v piece h n live empty long header none =
     )
 
 -- given up whole it is passed by
-pub bare_passed : (v : Framing) (bytes : List ℕ) (h : Head) → v.held ≡ [] → Means bytes h [] → skipped v h 0 ≡ given_up (holding v bytes) h
+pub bare_passed : (v : Framing) (bytes : List ℕ) (h : Head) → v.held ≡ [] → Means bytes h [] → skipped v h 0 ≡ pdu_given_up (holding v bytes) h
 bare_passed v bytes h empty means =
     let len : 0 ≡ length_at bytes = means-length bytes h [] means in
     let size : pdu_len 0 ≡ length bytes = sym means.size in
@@ -103,7 +104,7 @@ bare_passed v bytes h empty means =
 
 -- ---- a piece
 
-counted_then : (k m n : Counts) (xs ys : List Message) (a b : List ℕ) → Counted k m xs a → Counted m n ys b → Counted k n (xs ++ ys) (a ++ b)
+counted_then : (k m n : Counts) (xs ys : List Message) (a b : List ℕ) → CountedMore k m xs a → CountedMore m n ys b → CountedMore k n (xs ++ ys) (a ++ b)
 counted_then k m n xs ys a b p q =
     let more = length-append a b in
     let count = length-append xs ys in
@@ -114,8 +115,8 @@ counted_then k m n xs ys a b p q =
     }
 
 passes_then : (form : Form) (u v w : Framing) (x y : List ℕ) (ms ns : List Message) (a b c : List ℕ) (k m n : Counts) →
-    PassesOn form (progress u a k) (progress v b m) x ms →
-    PassesOn form (progress v b m) (progress w c n) y ns → PassesOn form (progress u a k) (progress w c n) (x ++ y) (ms ++ ns)
+    PassesOn form (passing_progress u a k) (passing_progress v b m) x ms →
+    PassesOn form (passing_progress v b m) (passing_progress w c n) y ns → PassesOn form (passing_progress u a k) (passing_progress w c n) (x ++ y) (ms ++ ns)
 passes_then form u v w x y ms ns a b c k m n p q = record {
   moves = moves_then u v w x y ms ns p.moves q.moves;
   limit = q.limit ∙ p.limit;
@@ -128,8 +129,9 @@ passes_then form u v w x y ms ns a b c k m n p q = record {
 
 -- feed and then the ready PDU
 pub passed_more : (form : Form) (piece rest : List ℕ) (old v u w : Framing) (a b c : List ℕ) (k m n : Counts) (taken : ℕ) (more : List Message) →
-    PassedUpTo form piece rest (progress old a k) (progress v b m) → Takes v rest taken u → PassesOn form (progress u b m) (progress w c n) [] more
-    → PassedUpTo form piece (take (length rest - taken) (drop taken rest)) (progress old a k) (progress w c n)
+    PassedUpTo form piece rest (passing_progress old a k) (passing_progress v b m) → FramerTakes v rest taken u
+    → PassesOn form (passing_progress u b m) (passing_progress w c n) [] more
+    → PassedUpTo form piece (take (length rest - taken) (drop taken rest)) (passing_progress old a k) (passing_progress w c n)
 passed_more form piece rest old v u w a b c k m n taken more upto takes one = record {
   before = upto.before ++ take taken rest;
   more = upto.more ++ more;
@@ -149,7 +151,7 @@ passed_more form piece rest old v u w a b c k m n taken more upto takes one = re
 }
 
 -- a framer in which no PDU is ready takes a byte at least
-pub takes_some : (v : Framing) (rest : List ℕ) (n : ℕ) (u : Framing) → is_ready v ≡ false → Takes v rest n u → 0 < length rest → 0 < n
+pub takes_some : (v : Framing) (rest : List ℕ) (n : ℕ) (u : Framing) → is_ready v ≡ false → FramerTakes v rest n u → 0 < length rest → 0 < n
 takes_some v rest n u unready takes some =
     elim (cases_lt 0 n) [
       | inl lt ↦ lt
@@ -157,24 +159,25 @@ takes_some v rest n u unready takes some =
           let none : n ≡ 0 = omega arith in
           let same : u.held ≡ settled v.held = ap (λ (x : Framing). x.held) takes.gathered ∙ ap (λ (k : ℕ). settled (v.held ++ take k rest)) none
           ∙ ap settled (append-nil v.held) in
-          let whole : is_whole v.held ≡ true = sym (is_whole-settled v.held) ∙ ap is_whole (sym same) ∙ takes.stops (omega arith) in
-          absurd (apart (ap (λ (b : Bool). not b && is_whole v.held) takes.live ∙ whole) unready)
+          let whole : is_whole_pdu v.held ≡ true = sym (is_whole-settled v.held) ∙ ap is_whole_pdu (sym same) ∙ takes.stops (omega arith) in
+          absurd (apart (ap (λ (b : Bool). not b && is_whole_pdu v.held) takes.live ∙ whole) unready)
     ]
 
 pub passed_none : (form : Form) (piece : List ℕ) (v : Framing) (out : List ℕ) (k : Counts) → is_ready v ≡ false →
-    PassedUpTo form piece piece (progress v out k) (progress v out k)
+    PassedUpTo form piece piece (passing_progress v out k) (passing_progress v out k)
 passed_none form piece v out k unready = record { before = []; more = []; parts = refl; passes = pass_none form v out k unready }
 
 pub passed_all : (form : Form) (piece rest : List ℕ) (old v : Framing) (a b : List ℕ) (k m : Counts) → length rest ≡ 0 →
-    PassedUpTo form piece rest (progress old a k) (progress v b m) → (more : List Message) × PassesOn form (progress old a k) (progress v b m) piece more
+    PassedUpTo form piece rest (passing_progress old a k) (passing_progress v b m) → (more : List Message)
+    × PassesOn form (passing_progress old a k) (passing_progress v b m) piece more
 passed_all form piece rest old v a b k m none upto =
     let same : piece ≡ upto.before = upto.parts ∙ ap (λ (x : List ℕ). upto.before ++ x) (nil_from_length rest none) ∙ append-nil upto.before in
-    (upto.more, subst (λ (x : List ℕ). PassesOn form (progress old a k) (progress v b m) x upto.more) (sym same) upto.passes)
+    (upto.more, subst (λ (x : List ℕ). PassesOn form (passing_progress old a k) (passing_progress v b m) x upto.more) (sym same) upto.passes)
 
 -- ---- where it stops
 
 whole_is : (form : Form) (piece rest : List ℕ) (old v : Framing) (a b : List ℕ) (k m : Counts)
-    (upto : PassedUpTo form piece rest (progress old a k) (progress v b m)) (s : List ℕ)
+    (upto : PassedUpTo form piece rest (passing_progress old a k) (passing_progress v b m)) (s : List ℕ)
     (ms : List Message) (now : HasTaken (s ++ upto.before) ms v) → s ++ piece ≡ now.given ++ (now.rest ++ rest)
 whole_is form piece rest old v a b k m upto s ms now =
     ap (λ (x : List ℕ). s ++ x) upto.parts ∙ sym (append_assoc s upto.before rest) ∙ ap (λ (x : List ℕ). x ++ rest) now.whole
@@ -185,8 +188,8 @@ now_reads s ms v now limit = subst (λ (n : ℕ). ReadsAs n no_login now.given m
 
 -- what is passed on so far begins the whole
 pub passed_part : (form : Form) (piece rest : List ℕ) (old v : Framing) (a b c : List ℕ) (k m : Counts) →
-    PassedUpTo form piece rest (progress old a k) (progress v b m) → old.limit
-    ≡ longest_segment → c ≡ b → Appended form old piece a c
+    PassedUpTo form piece rest (passing_progress old a k) (passing_progress v b m) → old.limit
+    ≡ longest_segment → c ≡ b → AppendedDue form old piece a c
 passed_part form piece rest old v a b c k m upto limit same = record {
   more = upto.more;
   out = upto.passes.out;
@@ -215,11 +218,11 @@ long_rest : (v : Framing) (rest s : List ℕ) (ms : List Message) (now : HasTake
 long_rest v rest s ms now le = omega (arith, length-append v.held rest, length-append now.rest rest, ap length now.held, length-settled now.rest)
 
 -- a framer's fault of a header, of the bytes that it took and the piece
-pub header_splits : (s p : List ℕ) (ms : List Message) (f : HeadFault) (place : ℕ) (v : Framing) → HasTaken s ms v → FeedFails v p (stream.Head f place)
-    → (given : List ℕ) × (rest : List ℕ) × Splits v.limit (s ++ p) ms given rest × (48 ≤ length rest) × (fault_of (take 48 rest) ≡ Some f)
+pub header_splits : (s p : List ℕ) (ms : List Message) (f : HeadFault) (place : ℕ) (v : Framing) → HasTaken s ms v → FramerFeedFails v p (stream.Head f place)
+    → (given : List ℕ) × (rest : List ℕ) × SplitsStream v.limit (s ++ p) ms given rest × (48 ≤ length rest) × (head_fault (take 48 rest) ≡ Some f)
     × (place ≡ min (length given) last_place)
 header_splits s p ms f place v t fails =
-    let bad = ap fault_of (sym (refused v p s ms t fails.1.before)) ∙ fails.2 in (
+    let bad = ap head_fault (sym (refused v p s ms t fails.1.before)) ∙ fails.2 in (
       t.given,
       t.rest ++ p,
       record {
@@ -235,8 +238,8 @@ header_splits s p ms f place v t fails =
     )
 
 -- the same of a segment that is over the limit
-pub limit_splits : (s p : List ℕ) (ms : List Message) (place : ℕ) (v : Framing) → HasTaken s ms v → FeedFails v p (stream.OverLimit place)
-    → (given : List ℕ) × (rest : List ℕ) × Splits v.limit (s ++ p) ms given rest × (48 ≤ length rest)
+pub limit_splits : (s p : List ℕ) (ms : List Message) (place : ℕ) (v : Framing) → HasTaken s ms v → FramerFeedFails v p (stream.OverLimit place)
+    → (given : List ℕ) × (rest : List ℕ) × SplitsStream v.limit (s ++ p) ms given rest × (48 ≤ length rest)
     × ((head : Head) × (len : ℕ) × IsHeader (take 48 rest) head len × (v.limit < len)) × (place ≡ min (length given) last_place)
 limit_splits s p ms place v t fails =
     let over = fails.1 in
@@ -259,7 +262,7 @@ limit_splits s p ms place v t fails =
 
 -- no segment is longer than a header can say
 never_over : (form : Form) (piece rest : List ℕ) (old v : Framing) (a b : List ℕ) (k m : Counts)
-    (upto : PassedUpTo form piece rest (progress old a k) (progress v b m)) (s : List ℕ)
+    (upto : PassedUpTo form piece rest (passing_progress old a k) (passing_progress v b m)) (s : List ℕ)
     (ms : List Message) (now : HasTaken (s ++ upto.before) ms v) (h : Head) (n : ℕ)
     → AreBytes (s ++ piece) → IsHeader (take 48 (now.rest ++ rest)) h n → longest_segment < n → ⊥
 never_over form piece rest old v a b k m upto s ms now h n bytes r lt =
@@ -267,7 +270,7 @@ never_over form piece rest old v a b k m upto s ms now h n bytes r lt =
     omega (arith, lt, IsHeader-short (take 48 (now.rest ++ rest)) h n (AreBytes-take 48 (now.rest ++ rest) behind) r)
 
 pub feed_stops : (e : StreamFault) (form : Form) (piece rest : List ℕ) (old v : Framing) (a b : List ℕ) (k m : Counts) →
-    PassedUpTo form piece rest (progress old a k) (progress v b m) → old.limit ≡ longest_segment → FeedFails v rest e
+    PassedUpTo form piece rest (passing_progress old a k) (passing_progress v b m) → old.limit ≡ longest_segment → FramerFeedFails v rest e
     → PassFails form old piece a b (tool_fault e)
 feed_stops stream.NoMemory form piece rest old v a b k m upto limit fails = tt
 feed_stops (stream.Head f p) form piece rest old v a b k m upto limit fails = record {
@@ -279,7 +282,7 @@ feed_stops (stream.Head f p) form piece rest old v a b k m upto limit fails = re
       let now = upto.passes.moves s ms t in
       let front = refused v rest (s ++ upto.before) (ms ++ upto.more) now fails.1.before in
       let whole = whole_is form piece rest old v a b k m upto s (ms ++ upto.more) now in
-      let bad = ap fault_of (sym front) ∙ fails.2 in (
+      let bad = ap head_fault (sym front) ∙ fails.2 in (
         now.given,
         now.rest ++ rest,
         record { whole = whole; reads = now_reads (s ++ upto.before) (ms ++ upto.more) v now (upto.passes.limit ∙ limit) },

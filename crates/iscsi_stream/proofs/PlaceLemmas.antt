@@ -6,8 +6,8 @@ use Rattle.iscsi_pdu.specs.Meaning.{IsHeader, Means}
 use Rattle.iscsi_stream.specs.declared.fault.StreamFault.TheVariants as faults
 use Rattle.iscsi_stream.specs.declared.logins.Logins.{Logins}
 use Rattle.iscsi_stream.specs.Segment.{no_login, continues}
-use Rattle.iscsi_stream.specs.Stream.{pdu_len, Message, ReadsAs, after_all, Splits}
-use Rattle.iscsi_stream.specs.Framing.{Framing, length_at, is_whole, HasTaken, FinishFails, last_place}
+use Rattle.iscsi_stream.specs.Stream.{pdu_len, Message, ReadsAs, logins_after_all, SplitsStream}
+use Rattle.iscsi_stream.specs.Framing.{Framing, length_at, is_whole_pdu, HasTaken, FinishFails, last_place}
 use Rattle.iscsi_stream.proofs.HeadLemmas.{means-data, means_of}
 use Rattle.iscsi_stream.proofs.SettledBytesLemmas.{length-settled, is_whole-settled, Means-from_settled}
 use Rattle.iscsi_stream.proofs.ReadyLemmas.{is_whole-is, false_if}
@@ -17,7 +17,7 @@ use Rattle.iscsi_stream.proofs.TakingLemmas.{splits_taken}
 pub stands_at : (stream segment : List ℕ) (ms : List Message) (head : Head) (v : Framing) → HasTaken stream ms v → Means v.held head segment
     → (place : ℕ) × (v.place ≡ min place last_place) × ReadsAs v.limit no_login (take place stream) ms
     × IsHeader (take 48 (drop place stream)) head (length segment)
-    × (segment ≡ take (length segment) (drop (place + 48) stream)) × (continues v.logins head ≡ continues (after_all no_login ms) head)
+    × (segment ≡ take (length segment) (drop (place + 48) stream)) × (continues v.logins head ≡ continues (logins_after_all no_login ms) head)
 stands_at stream segment ms head v t m =
     let means = Means-from_settled t.rest head segment (subst (λ (x : List ℕ). Means x head segment) t.held m) in
     let place = length t.given in
@@ -36,7 +36,7 @@ stands_at stream segment ms head v t m =
 
 abbrev EndsWithin : List ℕ → List Message → ℕ → ℕ → Type 0
 EndsWithin stream ms place limit =
-    (given : List ℕ) × (rest : List ℕ) × Splits limit stream ms given rest × (0 < length rest) × (place ≡ min (length given) last_place)
+    (given : List ℕ) × (rest : List ℕ) × SplitsStream limit stream ms given rest × (0 < length rest) × (place ≡ min (length given) last_place)
 
 pub end_is : (stream : List ℕ) (ms : List Message) (place : ℕ) (v : Framing) → HasTaken stream ms v → FinishFails v (faults.Truncated place) →
     EndsWithin stream ms place v.limit
@@ -44,8 +44,8 @@ end_is stream ms place v t fails =
     (t.given, t.rest, splits_taken stream ms v t fails.2, omega (arith, fails.1, ap length t.held, length-settled t.rest), fails.3 ∙ t.place)
 
 -- a PDU that is ready is the stream's next, so the bytes before the rest are not all
-ready_not : (stream : List ℕ) (ms : List Message) (v : Framing) (t : HasTaken stream ms v) (given rest : List ℕ) → Splits v.limit stream ms given rest → 0
-    < length rest → is_whole t.rest ≡ true → ⊥
+ready_not : (stream : List ℕ) (ms : List Message) (v : Framing) (t : HasTaken stream ms v) (given rest : List ℕ) → SplitsStream v.limit stream ms given rest → 0
+    < length rest → is_whole_pdu t.rest ≡ true → ⊥
 ready_not stream ms v t given rest s some whole =
     let is = is_whole-is t.rest whole in
     let good = t.begun is.0 in
@@ -63,8 +63,8 @@ pub is_end : (stream : List ℕ) (ms : List Message) (place : ℕ) (v : Framing)
     FinishFails v (faults.Truncated place)
 is_end stream ms place v t ends =
     let s = ends.2 in
-    let part : is_whole v.held ≡ false = ap is_whole t.held ∙ is_whole-settled t.rest
-    ∙ false_if (is_whole t.rest) (ready_not stream ms v t ends.0 ends.1 s ends.3) in
+    let part : is_whole_pdu v.held ≡ false = ap is_whole_pdu t.held ∙ is_whole-settled t.rest
+    ∙ false_if (is_whole_pdu t.rest) (ready_not stream ms v t ends.0 ends.1 s ends.3) in
     let mine = splits_taken stream ms v t part in
     let same : t.given ≡ ends.0 = (same_split v.limit no_login t.given ms t.rest ends.0 ms ends.1 t.reads mine.no_more s.reaches.reads s.no_more (sym t.whole
     ∙ s.reaches.whole)).1 in

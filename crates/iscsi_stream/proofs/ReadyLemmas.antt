@@ -6,10 +6,10 @@ use Rattle.std.proofs.lemmas.List.{take_at, drop_at}
 use Rattle.iscsi_pdu.specs.declared.head.Head.{Head}
 use Rattle.iscsi_pdu.specs.Meaning.{IsHeader, Means, padding}
 use Rattle.iscsi_stream.specs.declared.logins.Logins.{Logins}
-use Rattle.iscsi_stream.specs.Segment.{after}
+use Rattle.iscsi_stream.specs.Segment.{logins_after}
 use Rattle.iscsi_stream.specs.Stream.{pdu_len}
-use Rattle.iscsi_stream.specs.Framing.{Framing, length_at, is_whole, is_ready, given_up, last_place}
-use Rattle.iscsi_stream.specs.Gathering.{filling, IsBody}
+use Rattle.iscsi_stream.specs.Framing.{Framing, length_at, is_whole_pdu, is_ready, pdu_given_up, last_place}
+use Rattle.iscsi_stream.specs.inner.Gathering.{filling, IsBody}
 use Rattle.iscsi_stream.proofs.HeadLemmas.{means_of}
 use Rattle.iscsi_stream.proofs.GatheringLemmas.{is_full, length-body, length_at-front}
 
@@ -30,17 +30,17 @@ not_true : (a : Bool) → not a ≡ true → a ≡ false
 not_true true e = absurd cc
 not_true false e = refl
 
-pub is_whole-is : (b : List ℕ) → is_whole b ≡ true → (48 ≤ length b) × (length b ≡ pdu_len (length_at b))
-unfolding is_whole
+pub is_whole-is : (b : List ℕ) → is_whole_pdu b ≡ true → (48 ≤ length b) × (length b ≡ pdu_len (length_at b))
+unfolding is_whole_pdu
 is_whole-is b e =
     let both = both_true (not (nat_lt (length b) 48)) (length b == pdu_len (length_at b)) e in
     (ltb-false _ _ (not_true (nat_lt (length b) 48) both.0), eqb-true _ _ both.1)
 
-pub short_not : (b : List ℕ) → length b < 48 → is_whole b ≡ true → ⊥
+pub short_not : (b : List ℕ) → length b < 48 → is_whole_pdu b ≡ true → ⊥
 short_not b lt e = omega (arith, (is_whole-is b e).0)
 
-pub not_whole-nil : is_whole [] ≡ false
-unfolding is_whole
+pub not_whole-nil : is_whole_pdu [] ≡ false
+unfolding is_whole_pdu
 not_whole-nil = refl
 
 -- ---- a body
@@ -49,7 +49,7 @@ not_whole-nil = refl
 pub body_not : (limit : ℕ) (header segment : List ℕ) (room : ℕ) (h : Head) (len padded : ℕ) → length header ≡ 48 →
     IsBody limit header (filling segment padded) room h len
     → length segment + padded < len + padding len
-    → is_whole (header ++ (segment ++ replicate padded 0)) ≡ true → ⊥
+    → is_whole_pdu (header ++ (segment ++ replicate padded 0)) ≡ true → ⊥
 body_not limit header segment room h len padded size body lt e =
     omega (
       arith,
@@ -60,7 +60,7 @@ body_not limit header segment room h len padded size body lt e =
 
 pub body_whole : (limit : ℕ) (header segment : List ℕ) (room : ℕ) (h : Head) (len padded : ℕ) → length header ≡ 48 →
     IsBody limit header (filling segment padded) room h len → len ≤ length segment → padding len ≤ padded
-    → is_whole (header ++ (segment ++ replicate padded 0)) ≡ true
+    → is_whole_pdu (header ++ (segment ++ replicate padded 0)) ≡ true
 body_whole limit header segment room h len padded size body full all =
     let at = length_at-front header (segment ++ replicate padded 0) h len size body.says in
     is_full (header ++ (segment ++ replicate padded 0)) (omega (arith, length-body header segment padded size))
@@ -79,21 +79,21 @@ body_means limit header segment room h len padded size body full all =
 
 -- ---- readiness
 
-pub ready_of : (failed : Bool) (held : List ℕ) → failed ≡ false → is_whole held ≡ true → (not failed && is_whole held) ≡ true
+pub ready_of : (failed : Bool) (held : List ℕ) → failed ≡ false → is_whole_pdu held ≡ true → (not failed && is_whole_pdu held) ≡ true
 ready_of failed held live whole = rw (live, whole) refl
 
-pub whole_of : (failed : Bool) (held : List ℕ) → (not failed && is_whole held) ≡ true → is_whole held ≡ true
-whole_of failed held e = (both_true (not failed) (is_whole held) e).1
+pub whole_of : (failed : Bool) (held : List ℕ) → (not failed && is_whole_pdu held) ≡ true → is_whole_pdu held ≡ true
+whole_of failed held e = (both_true (not failed) (is_whole_pdu held) e).1
 
-pub live_of : (failed : Bool) (held : List ℕ) → (not failed && is_whole held) ≡ true → failed ≡ false
-live_of failed held e = not_true failed (both_true (not failed) (is_whole held) e).0
+pub live_of : (failed : Bool) (held : List ℕ) → (not failed && is_whole_pdu held) ≡ true → failed ≡ false
+live_of failed held e = not_true failed (both_true (not failed) (is_whole_pdu held) e).0
 
 pub false_if : (b : Bool) → (b ≡ true → ⊥) → b ≡ false
 false_if true f = absurd (f refl)
 false_if false f = refl
 
-pub unready_of : (failed : Bool) (held : List ℕ) → failed ≡ false → (not failed && is_whole held) ≡ false → is_whole held ≡ false
-unready_of failed held live e = false_if (is_whole held) (λ whole. apart (ready_of failed held live whole) e)
+pub unready_of : (failed : Bool) (held : List ℕ) → failed ≡ false → (not failed && is_whole_pdu held) ≡ false → is_whole_pdu held ≡ false
+unready_of failed held live e = false_if (is_whole_pdu held) (λ whole. apart (ready_of failed held live whole) e)
 
 pub none_not : {P : Type 0} → (let f : Bool = false in f ≡ true) → P
 none_not e = absurd (apart {b = false} e refl)
@@ -104,6 +104,6 @@ unready_if v f = false_if (is_ready v) (λ e. none_not (f e))
 
 -- what is left of a framer that gives a PDU up
 pub given_up-is : (v : Framing) (limit place : ℕ) (logins : Logins) (room : ℕ) (h : Head) → limit ≡ v.limit → place ≡ min (v.place + length v.held) last_place →
-    logins ≡ after v.logins h → room ≡ v.room → v.failed ≡ false
-    → (let w : Framing = record { limit = limit; place = place; logins = logins; held = []; room = room; failed = false } in w ≡ given_up v h)
+    logins ≡ logins_after v.logins h → room ≡ v.room → v.failed ≡ false
+    → (let w : Framing = record { limit = limit; place = place; logins = logins; held = []; room = room; failed = false } in w ≡ pdu_given_up v h)
 given_up-is v limit place logins room h a b c d e = rw (a, b, c, d, e) refl

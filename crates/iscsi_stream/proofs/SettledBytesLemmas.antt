@@ -6,7 +6,7 @@ use Rattle.std.proofs.lemmas.List.{length-append, length-take, length-replicate,
 use Rattle.iscsi_pdu.specs.declared.head.Head.{Head}
 use Rattle.iscsi_pdu.specs.Meaning.{IsHeader, Means}
 use Rattle.iscsi_stream.specs.Stream.{pdu_len}
-use Rattle.iscsi_stream.specs.Framing.{length_at, content_len, settled, is_whole, IsBegun}
+use Rattle.iscsi_stream.specs.Framing.{length_at, content_len, settled, is_whole_pdu, IsBegun}
 use Rattle.iscsi_stream.proofs.HeadLemmas.{length_at-same, means-length, means-data, means_of}
 
 pub settled-short : (b : List ℕ) → length b ≤ content_len b → settled b ≡ b
@@ -42,8 +42,8 @@ length_at-settled b = length_at-same (settled b) b (take48-settled b)
 pair_is : (a b c d : ℕ) → a ≡ b → c ≡ d → (let p : ℕ × ℕ = (a, c) in p ≡ (b, d))
 pair_is a b c d p q = cc
 
-pub is_whole-settled : (b : List ℕ) → is_whole (settled b) ≡ is_whole b
-unfolding is_whole
+pub is_whole-settled : (b : List ℕ) → is_whole_pdu (settled b) ≡ is_whole_pdu b
+unfolding is_whole_pdu
 is_whole-settled b = ap (λ (x : ℕ × ℕ). not (nat_lt x.0 48) && (x.0 == pdu_len x.1))
     (pair_is (length (settled b)) (length b) (length_at (settled b)) (length_at b) (length-settled b) (length_at-settled b))
 

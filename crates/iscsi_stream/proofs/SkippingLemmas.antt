@@ -9,11 +9,12 @@ use Rattle.iscsi_pdu.specs.Meaning.{IsHeader, Means, padding}
 use Rattle.iscsi_stream.specs.declared.fault.StreamFault.{StreamFault}
 use Rattle.iscsi_stream.specs.declared.fault.StreamFault.TheVariants as faults
 use Rattle.iscsi_stream.specs.declared.logins.Logins.{Logins}
-use Rattle.iscsi_stream.specs.Segment.{after}
+use Rattle.iscsi_stream.specs.Segment.{logins_after}
 use Rattle.iscsi_stream.specs.Stream.{pdu_len}
-use Rattle.iscsi_stream.specs.Framing.{Framing, Takes, FeedFails, ReachesHeader, settled, begun_len, is_whole, is_ready, given_up, last_place}
-use Rattle.iscsi_stream.specs.Gathering.{filling, IsBody, FillsBody}
-use Rattle.iscsi_stream.specs.Headers.{TakesHeader, skipped, with_body}
+use Rattle.iscsi_stream.specs.Framing.{Framing, FramerTakes, FramerFeedFails, ReachesHeader, settled, begun_len, is_whole_pdu, is_ready, pdu_given_up, last_place}
+use Rattle.iscsi_stream.specs.inner.Gathering.{filling, IsBody, FillsBody}
+use Rattle.iscsi_stream.specs.Headers.{TakesHeader, skipped}
+use Rattle.iscsi_stream.specs.inner.Headers.{with_body}
 use Rattle.iscsi_stream.proofs.SettledBytesLemmas.{length-settled, settled-append}
 use Rattle.iscsi_stream.proofs.GatheringLemmas.{gathers_body, take-add, room-body, length-body}
 use Rattle.iscsi_stream.proofs.TakingLemmas.{begun_len-settled, begun_len-more}
@@ -22,7 +23,7 @@ use Rattle.iscsi_stream.proofs.ReadyLemmas.{is_whole-is, false_if, body_not, bod
 -- ---- up to the end of a header
 
 -- all of the bytes that reach no farther than the end of a header are taken
-all_taken : (v : Framing) (k n : ℕ) (piece : List ℕ) (w : Framing) → k ≡ min (length piece) (48 - length v.held) → Takes v (take k piece) n w → n ≡ k
+all_taken : (v : Framing) (k n : ℕ) (piece : List ℕ) (w : Framing) → k ≡ min (length piece) (48 - length v.held) → FramerTakes v (take k piece) n w → n ≡ k
 all_taken v k n piece w is t =
     let size : length (take k piece) ≡ k = omega (arith, length-take k piece, is) in
     elim (cases_lt n k) [
@@ -33,7 +34,7 @@ all_taken v k n piece w is t =
       | inr ge ↦ omega (arith, t.bound, size)
     ]
 
-pub takes_header : (v : Framing) (k n : ℕ) (piece : List ℕ) (w : Framing) → k ≡ min (length piece) (48 - length v.held) → Takes v (take k piece) n w →
+pub takes_header : (v : Framing) (k n : ℕ) (piece : List ℕ) (w : Framing) → k ≡ min (length piece) (48 - length v.held) → FramerTakes v (take k piece) n w →
     TakesHeader v piece n w
 takes_header v k n piece w is t =
     let same = all_taken v k n piece w is t in
@@ -42,7 +43,7 @@ takes_header v k n piece w is t =
     ∙ omega (arith, length-append v.held (take n (take k piece)), length-take n (take k piece), size, same) in
     record {
       bound = omega (arith, same, is);
-      takes = subst (λ (j : ℕ). Takes v (take j piece) n w) (sym same) t;
+      takes = subst (λ (j : ℕ). FramerTakes v (take j piece) n w) (sym same) t;
       no_more = omega (arith, same, is);
       stops = λ lt. omega (arith, held, is, same);
     }
@@ -60,7 +61,7 @@ reaches_more held piece k r =
       sym (take-append-le 48 (held ++ take k piece) (drop k piece) r.reached) ∙ ap (take 48) whole,
     )
 
-pub fails_header : (v : Framing) (piece : List ℕ) (k : ℕ) (e : StreamFault) → FeedFails v (take k piece) e → FeedFails v piece e
+pub fails_header : (v : Framing) (piece : List ℕ) (k : ℕ) (e : StreamFault) → FramerFeedFails v (take k piece) e → FramerFeedFails v piece e
 fails_header v piece k faults.NoMemory f =
     let more = reaches_more v.held piece k f.1.2.reaches in
     (f.0, (f.1.0, f.1.1, record { reaches = more.0; header = subst (λ (b : List ℕ). IsHeader b f.1.0 f.1.1) more.1 f.1.2.header }, f.1.3, f.1.4))
@@ -87,8 +88,8 @@ framing_is : (limit limit' place place' : ℕ) (logins logins' : Logins) (held h
 framing_is limit limit' place place' logins logins' held held' room room' failed failed' a b c d e f = rw (a, b, c, d, e, f) refl
 
 -- a header, and then more bytes
-pub takes_both : (old mid new : Framing) (piece rest : List ℕ) (n m : ℕ) → rest ≡ drop n piece → TakesHeader old piece n mid → Takes mid rest m new →
-    Takes old piece (n + m) new
+pub takes_both : (old mid new : Framing) (piece rest : List ℕ) (n m : ℕ) → rest ≡ drop n piece → TakesHeader old piece n mid → FramerTakes mid rest m new →
+    FramerTakes old piece (n + m) new
 takes_both old mid new piece rest n m is h t =
     let size : length rest ≡ length piece - n = ap length is ∙ length-drop n piece in
     let front : take n (take n piece) ≡ take n piece = take_all n (take n piece) (omega (arith, length-take n piece)) in
@@ -120,7 +121,7 @@ takes_both old mid new piece rest n m is h t =
     }
 
 -- behind a header that was taken no byte is refused
-pub none_fails : (old mid : Framing) (piece rest : List ℕ) (n : ℕ) (e : StreamFault) → rest ≡ drop n piece → TakesHeader old piece n mid → FeedFails mid rest e → ⊥
+pub none_fails : (old mid : Framing) (piece rest : List ℕ) (n : ℕ) (e : StreamFault) → rest ≡ drop n piece → TakesHeader old piece n mid → FramerFeedFails mid rest e → ⊥
 none_fails old mid piece rest n e is h f = at e f
   where
     size : length rest ≡ length piece - n
@@ -132,7 +133,7 @@ none_fails old mid piece rest n e is h f = at e f
       | inr ge ↦ omega (arith, r.before, r.reached, length-append mid.held rest, size)
     ]
 
-    at : (e : StreamFault) → FeedFails mid rest e → ⊥
+    at : (e : StreamFault) → FramerFeedFails mid rest e → ⊥
     at faults.NoMemory f = never f.1.2.reaches
     at (faults.Head fault place) f = never f.1
     at (faults.OverLimit place) f = never f.1.2.reaches
@@ -142,7 +143,7 @@ none_fails old mid piece rest n e is h f = at e f
 -- ---- a PDU that is given up at its header
 
 pub skipped_is : (v : Framing) (limit place : ℕ) (logins : Logins) (room : ℕ) (h : Head) (len : ℕ) → limit ≡ v.limit → place ≡ min (v.place + pdu_len len) last_place →
-    logins ≡ after v.logins h → room ≡ v.room → v.failed ≡ false
+    logins ≡ logins_after v.logins h → room ≡ v.room → v.failed ≡ false
     → (let w : Framing = record { limit = limit; place = place; logins = logins; held = []; room = room; failed = false } in w ≡ skipped v h len)
 skipped_is v limit place logins room h len a b c d e = rw (a, b, c, d, e) refl
 
@@ -151,7 +152,7 @@ skipped_is v limit place logins room h len a b c d e = rw (a, b, c, d, e) refl
 -- bytes that go to it are taken as the framer takes them
 pub fills : (v : Framing) (segment : List ℕ) (padded : ℕ) (h : Head) (len : ℕ) (piece : List ℕ) (n : ℕ) (segment_new : List ℕ) (padded_new : ℕ) →
     v.failed ≡ false → IsBody v.limit v.held (filling segment padded) v.room h len → FillsBody len (filling segment padded) piece n (filling segment_new padded_new) →
-    Takes (with_body v segment padded) piece n (with_body v segment_new padded_new) × IsBody v.limit v.held (filling segment_new padded_new) v.room h len
+    FramerTakes (with_body v segment padded) piece n (with_body v segment_new padded_new) × IsBody v.limit v.held (filling segment_new padded_new) v.room h len
 fills v segment padded h len piece n segment_new padded_new live body f =
     let both = gathers_body v.limit v.held segment v.room h len padded piece n segment_new v.room padded_new body.says.size body f body.has_room in
     let room : v.room ≡ max v.room (begun_len (v.held ++ (segment_new ++ replicate padded_new 0))) =
@@ -175,9 +176,9 @@ body_ready v segment padded h len live body full all =
     ready_of v.failed (v.held ++ (segment ++ replicate padded 0)) live (body_whole v.limit v.held segment v.room h len padded body.says.size body full all)
 
 pub body_unready : (v : Framing) (segment : List ℕ) (padded : ℕ) (h : Head) (len : ℕ) → IsBody v.limit v.held (filling segment padded) v.room h len →
-    length segment + padded < len + padding len → is_whole (with_body v segment padded).held ≡ false
+    length segment + padded < len + padding len → is_whole_pdu (with_body v segment padded).held ≡ false
 body_unready v segment padded h len body lt =
-    false_if (is_whole (v.held ++ (segment ++ replicate padded 0))) (body_not v.limit v.held segment v.room h len padded body.says.size body lt)
+    false_if (is_whole_pdu (v.held ++ (segment ++ replicate padded 0))) (body_not v.limit v.held segment v.room h len padded body.says.size body lt)
 
 pub body_stands : (v : Framing) (segment : List ℕ) (padded : ℕ) (h : Head) (len : ℕ) → IsBody v.limit v.held (filling segment padded) v.room h len →
     len ≤ length segment → padding len ≤ padded → Means (with_body v segment padded).held h segment
@@ -185,7 +186,7 @@ body_stands v segment padded h len body full all = body_means v.limit v.held seg
 
 -- given up whole it is given up as at its header
 pub given_up-skipped : (v : Framing) (segment : List ℕ) (padded : ℕ) (h : Head) (len : ℕ) → IsBody v.limit v.held (filling segment padded) v.room h len →
-    len ≤ length segment → padding len ≤ padded → skipped v h len ≡ given_up (with_body v segment padded) h
+    len ≤ length segment → padding len ≤ padded → skipped v h len ≡ pdu_given_up (with_body v segment padded) h
 given_up-skipped v segment padded h len body full all =
     let size : pdu_len len ≡ length (v.held ++ (segment ++ replicate padded 0)) =
     omega (arith, length-body v.held segment padded body.says.size, body.no_more, body.no_more_padding, full, all) in

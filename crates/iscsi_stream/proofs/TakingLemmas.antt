@@ -6,9 +6,9 @@ use Rattle.std.proofs.lemmas.List.{length-append, take-append-drop, take-append-
 use Rattle.iscsi_pdu.specs.declared.head.Head.{Head}
 use Rattle.iscsi_pdu.specs.Meaning.{Means}
 use Rattle.iscsi_stream.specs.declared.logins.Logins.{Logins}
-use Rattle.iscsi_stream.specs.Segment.{no_login, continues, after, segment_of}
-use Rattle.iscsi_stream.specs.Stream.{Message, ReadsAs, after_all, Splits, pdu_len}
-use Rattle.iscsi_stream.specs.Framing.{Framing, opening, settled, is_whole, length_at, begun_len, longest_of, IsBegun, Takes, HasTaken, Moves, given_up}
+use Rattle.iscsi_stream.specs.Segment.{no_login, continues, logins_after, segment_of}
+use Rattle.iscsi_stream.specs.Stream.{Message, ReadsAs, logins_after_all, SplitsStream, pdu_len}
+use Rattle.iscsi_stream.specs.Framing.{Framing, opening_framing, settled, is_whole_pdu, length_at, begun_len, longest_of, IsBegun, FramerTakes, HasTaken, FramerMoves, pdu_given_up}
 use Rattle.iscsi_stream.specs.Framing.{message_of}
 use Rattle.iscsi_stream.proofs.HeadLemmas.{length_at-same, means-length}
 use Rattle.iscsi_stream.proofs.GatheringLemmas.{begun_len-short, begun_len-long}
@@ -70,12 +70,12 @@ longest-snoc limit logins given (k ∷ ms) rest m reads =
     let behind' : drop (pdu_len (length_at (given ++ rest))) (given ++ rest) ≡ b.rest ++ rest =
     ap (λ (j : ℕ). drop (pdu_len j) (given ++ rest)) first' ∙ ap (λ (j : ℕ). drop j (given ++ rest)) size ∙ ap (drop (length bytes)) whole
     ∙ drop_at bytes (b.rest ++ rest) (length bytes) refl in
-    let more = longest-snoc limit (after logins k.head) b.rest ms rest m reads.1 in
+    let more = longest-snoc limit (logins_after logins k.head) b.rest ms rest m reads.1 in
     omega (arith, first, first', ap (longest_of ms) behind, ap (longest_of (ms ++ m ∷ [])) behind', more)
 
 -- ---- what it takes and gives up
 
-pub at_opening : (limit : ℕ) → HasTaken [] [] (opening limit)
+pub at_opening : (limit : ℕ) → HasTaken [] [] (opening_framing limit)
 unfolding ReadsAs longest_of begun_len
 at_opening limit = record {
   given = [];
@@ -90,7 +90,8 @@ at_opening limit = record {
   live = refl;
 }
 
-pub fed : (s : List ℕ) (ms : List Message) (v : Framing) (p : List ℕ) (n : ℕ) (w : Framing) → HasTaken s ms v → Takes v p n w → HasTaken (s ++ take n p) ms w
+pub fed : (s : List ℕ) (ms : List Message) (v : Framing) (p : List ℕ) (n : ℕ) (w : Framing) → HasTaken s ms v → FramerTakes v p n w
+    → HasTaken (s ++ take n p) ms w
 fed s ms v p n w h t =
     let q = take n p in
     let held : settled (v.held ++ q) ≡ settled (h.rest ++ q) = ap (λ (x : List ℕ). settled (x ++ q)) h.held ∙ settled-append h.rest q in
@@ -109,12 +110,12 @@ fed s ms v p n w h t =
     })
 
 pub gave : (s : List ℕ) (ms : List Message) (v : Framing) (h : Head) (d : List ℕ) → HasTaken s ms v → Means v.held h d →
-    HasTaken s (ms ++ message_of v h d ∷ []) (given_up v h)
+    HasTaken s (ms ++ message_of v h d ∷ []) (pdu_given_up v h)
 gave s ms v h d t m =
     let means = Means-from_settled t.rest h d (subst (λ (x : List ℕ). Means x h d) t.held m) in
     let good = (t.begun (omega (arith, means.size))).1 in
     let within : length d ≤ v.limit = omega (arith, means-length t.rest h d means, good.within) in
-    let flag : continues (after_all no_login ms) h ≡ continues v.logins h = ap (λ (x : Logins). continues x h) (sym t.logins) in
+    let flag : continues (logins_after_all no_login ms) h ≡ continues v.logins h = ap (λ (x : Logins). continues x h) (sym t.logins) in
     let held : length v.held ≡ length t.rest = ap length t.held ∙ length-settled t.rest in
     record {
       given = t.given ++ t.rest;
@@ -123,7 +124,7 @@ gave s ms v h d t m =
       reads = subst (λ (c : Bool). ReadsAs v.limit no_login (t.given ++ t.rest) (ms ++ record { head = h; segment = segment_of c h d } ∷ [])) flag
           (reads_one_more v.limit no_login t.given ms t.rest h d t.reads means within);
       place = omega (arith, t.place, held, length-append t.given t.rest);
-      logins = ap (λ (x : Logins). after x h) t.logins ∙ sym (after_all-snoc no_login ms (message_of v h d));
+      logins = ap (λ (x : Logins). logins_after x h) t.logins ∙ sym (after_all-snoc no_login ms (message_of v h d));
       held = sym settled-nil;
       room = omega (
         arith,
@@ -139,26 +140,26 @@ gave s ms v h d t m =
 pub taken_at : (s s' : List ℕ) (ms ms' : List Message) (v : Framing) → s ≡ s' → ms ≡ ms' → HasTaken s ms v → HasTaken s' ms' v
 taken_at s s' ms ms' v p q t = subst (λ (x : List ℕ). HasTaken x ms' v) p (subst (λ (x : List Message). HasTaken s x v) q t)
 
-pub moves_none : (v : Framing) → Moves v v [] []
+pub moves_none : (v : Framing) → FramerMoves v v [] []
 moves_none v s ms t = taken_at s (s ++ []) ms (ms ++ []) v (sym (append-nil s)) (sym (append-nil ms)) t
 
-pub moves_fed : (v : Framing) (p : List ℕ) (n : ℕ) (w : Framing) → Takes v p n w → Moves v w (take n p) []
+pub moves_fed : (v : Framing) (p : List ℕ) (n : ℕ) (w : Framing) → FramerTakes v p n w → FramerMoves v w (take n p) []
 moves_fed v p n w takes s ms t = taken_at (s ++ take n p) (s ++ take n p) ms (ms ++ []) w refl (sym (append-nil ms)) (fed s ms v p n w t takes)
 
-pub moves_gave : (v : Framing) (h : Head) (d : List ℕ) → Means v.held h d → Moves v (given_up v h) [] (message_of v h d ∷ [])
-moves_gave v h d means s ms t = taken_at s (s ++ []) (ms ++ message_of v h d ∷ []) (ms ++ message_of v h d ∷ []) (given_up v h)
+pub moves_gave : (v : Framing) (h : Head) (d : List ℕ) → Means v.held h d → FramerMoves v (pdu_given_up v h) [] (message_of v h d ∷ [])
+moves_gave v h d means s ms t = taken_at s (s ++ []) (ms ++ message_of v h d ∷ []) (ms ++ message_of v h d ∷ []) (pdu_given_up v h)
     (sym (append-nil s)) refl (gave s ms v h d t means)
 
-pub moves_then : (a b c : Framing) (x y : List ℕ) (ms ns : List Message) → Moves a b x ms → Moves b c y ns → Moves a c (x ++ y) (ms ++ ns)
+pub moves_then : (a b c : Framing) (x y : List ℕ) (ms ns : List Message) → FramerMoves a b x ms → FramerMoves b c y ns → FramerMoves a c (x ++ y) (ms ++ ns)
 moves_then a b c x y ms ns p q s ks t =
     taken_at ((s ++ x) ++ y) (s ++ (x ++ y)) ((ks ++ ms) ++ ns) (ks ++ (ms ++ ns)) c (append_assoc s x y) (append_assoc ks ms ns)
     (q (s ++ x) (ks ++ ms) (p s ks t))
 
 -- where no PDU is ready, the bytes taken split where the framer says
-pub splits_taken : (s : List ℕ) (ms : List Message) (v : Framing) (t : HasTaken s ms v) → is_whole v.held ≡ false → Splits v.limit s ms t.given t.rest
+pub splits_taken : (s : List ℕ) (ms : List Message) (v : Framing) (t : HasTaken s ms v) → is_whole_pdu v.held ≡ false → SplitsStream v.limit s ms t.given t.rest
 splits_taken s ms v t part = record {
   reaches = record { whole = t.whole; reads = t.reads };
-  no_more = no_pdu_begun v.limit t.rest t.begun (sym (is_whole-settled t.rest) ∙ ap is_whole (sym t.held) ∙ part);
+  no_more = no_pdu_begun v.limit t.rest t.begun (sym (is_whole-settled t.rest) ∙ ap is_whole_pdu (sym t.held) ∙ part);
 }
 
 -- ---- bytes that complete no PDU
@@ -166,7 +167,7 @@ splits_taken s ms v t part = record {
 pub taken_more : (piece front rest : List ℕ) (n : ℕ) → piece ≡ front ++ rest → piece ≡ (front ++ take n rest) ++ drop n rest
 taken_more piece front rest n e = e ∙ ap (λ (x : List ℕ). front ++ x) (sym (take-append-drop n rest)) ∙ sym (append_assoc front (take n rest) (drop n rest))
 
-pub moves_taken : (a b c : Framing) (x : List ℕ) (n : ℕ) (rest : List ℕ) (ms : List Message) → Moves a b x ms → Takes b rest n c →
-    Moves a c (x ++ take n rest) ms
-moves_taken a b c x n rest ms p t = subst (λ (ks : List Message). Moves a c (x ++ take n rest) ks) (append-nil ms)
+pub moves_taken : (a b c : Framing) (x : List ℕ) (n : ℕ) (rest : List ℕ) (ms : List Message) → FramerMoves a b x ms → FramerTakes b rest n c →
+    FramerMoves a c (x ++ take n rest) ms
+moves_taken a b c x n rest ms p t = subst (λ (ks : List Message). FramerMoves a c (x ++ take n rest) ks) (append-nil ms)
     (moves_then a b c x (take n rest) ms [] p (moves_fed b rest n c t))

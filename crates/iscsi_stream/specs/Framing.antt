@@ -2,12 +2,12 @@
 use Rattle.std.specs.Prelude.{◌≡◌, ◌≤◌, ◌<◌, ℕ, ◌+◌, ◌-◌, ◌^◌, Bool, true, false, not, ◌&&◌, ◌==◌, nat_lt, if◌then◌else◌, List, [], ◌∷◌, ◌++◌, length, take, drop, min, max, Some, replicate}
 use Rattle.scsi_cdb.specs.Layout.{number_at}
 use Rattle.iscsi_pdu.specs.declared.head.Head.{Head}
-use Rattle.iscsi_pdu.specs.Meaning.{IsHeader, fault_of}
+use Rattle.iscsi_pdu.specs.Meaning.{IsHeader, head_fault}
 use Rattle.iscsi_stream.specs.declared.fault.StreamFault.{StreamFault}
 use Rattle.iscsi_stream.specs.declared.fault.StreamFault.TheVariants as faults
 use Rattle.iscsi_stream.specs.declared.logins.Logins.{Logins}
-use Rattle.iscsi_stream.specs.Segment.{no_login, continues, after}
-use Rattle.iscsi_stream.specs.Stream.{pdu_len, Message, message, ReadsAs, after_all}
+use Rattle.iscsi_stream.specs.Segment.{no_login, continues, logins_after}
+use Rattle.iscsi_stream.specs.Stream.{pdu_len, Message, message, ReadsAs, logins_after_all}
 
 -- A framer as its callers see it: the longest segment that it takes, and the place of the PDU that
 -- is ready, begun or next. It also has what the login PDUs before that PDU said, the bytes gathered
@@ -22,8 +22,8 @@ pub record Framing : Type 0 where
   pub failed : Bool
 
 -- a framer at the beginning of a stream
-abbrev pub opening : ℕ → Framing
-opening limit = record {
+abbrev pub opening_framing : ℕ → Framing
+opening_framing limit = record {
   limit = limit;
   place = 0;
   logins = no_login;
@@ -45,8 +45,8 @@ unfoldable pub settled : List ℕ → List ℕ
 settled bytes = take (content_len bytes) bytes ++ replicate (length bytes - content_len bytes) 0
 
 -- the bytes are as many as their header says
-unfoldable pub is_whole : List ℕ → Bool
-is_whole bytes = not (nat_lt (length bytes) 48) && (length bytes == pdu_len (length_at bytes))
+unfoldable pub is_whole_pdu : List ℕ → Bool
+is_whole_pdu bytes = not (nat_lt (length bytes) 48) && (length bytes == pdu_len (length_at bytes))
 
 -- the length of the segment of a PDU that is begun, where its header is whole
 unfoldable pub begun_len : List ℕ → ℕ
@@ -67,19 +67,19 @@ abbrev pub IsBegun : ℕ → List ℕ → Type 0
 IsBegun limit bytes = 48 ≤ length bytes → (head : Head) × IsGood limit bytes head
 
 abbrev pub is_ready : Framing → Bool
-is_ready v = not v.failed && is_whole v.held
+is_ready v = not v.failed && is_whole_pdu v.held
 
 -- the farthest place that is told
 abbrev pub last_place : ℕ
 last_place = 2 ^ 64 - 1
 
 -- The framer takes the first n bytes of the piece. It leaves bytes only where a PDU is ready.
-pub record Takes (old : Framing) (piece : List ℕ) (n : ℕ) (new : Framing) : Type 0 where
+pub record FramerTakes (old : Framing) (piece : List ℕ) (n : ℕ) (new : Framing) : Type 0 where
   pub live : old.failed ≡ false
   pub bound : n ≤ length piece
   pub gathered : new ≡ holding old (settled (old.held ++ take n piece))
   pub begun : IsBegun new.limit new.held
-  pub stops : n < length piece → is_whole new.held ≡ true
+  pub stops : n < length piece → is_whole_pdu new.held ≡ true
 
 -- The piece reaches the last byte of a header.
 pub record ReachesHeader (held piece : List ℕ) : Type 0 where
@@ -87,23 +87,24 @@ pub record ReachesHeader (held piece : List ℕ) : Type 0 where
   pub reached : 48 ≤ length (held ++ piece)
 
 -- The piece completes a header of this head and length.
-pub record Completes (held piece : List ℕ) (head : Head) (len : ℕ) : Type 0 where
+pub record CompletesHeader (held piece : List ℕ) (head : Head) (len : ℕ) : Type 0 where
   pub reaches : ReachesHeader held piece
   pub header : IsHeader (take 48 (held ++ piece)) head len
 
 -- When feed answers each fault: `NoMemory` where a header is whole, for its segment alone, and
 -- where the buffer has no room for it.
-abbrev pub FeedFails : Framing → List ℕ → StreamFault → Type 0
-FeedFails old piece faults.NoMemory = (old.failed ≡ false)
-    × ((head : Head) × (len : ℕ) × Completes old.held piece head len × (old.room < len)
+abbrev pub FramerFeedFails : Framing → List ℕ → StreamFault → Type 0
+FramerFeedFails old piece faults.NoMemory = (old.failed ≡ false)
+    × ((head : Head) × (len : ℕ) × CompletesHeader old.held piece head len × (old.room < len)
     × (len ≤ old.limit))
-FeedFails old piece (faults.Head fault place) = (old.failed ≡ false) × ReachesHeader old.held piece
-    × (fault_of (take 48 (old.held ++ piece)) ≡ Some fault) × (place ≡ old.place)
-FeedFails old piece (faults.OverLimit place) = (old.failed ≡ false)
-    × ((head : Head) × (len : ℕ) × Completes old.held piece head len × (old.limit < len))
+FramerFeedFails old piece (faults.Head fault place) =
+    (old.failed ≡ false) × ReachesHeader old.held piece
+    × (head_fault (take 48 (old.held ++ piece)) ≡ Some fault) × (place ≡ old.place)
+FramerFeedFails old piece (faults.OverLimit place) = (old.failed ≡ false)
+    × ((head : Head) × (len : ℕ) × CompletesHeader old.held piece head len × (old.limit < len))
     × (place ≡ old.place)
-FeedFails old piece (faults.Truncated place) = ⊥
-FeedFails old piece faults.Failed = old.failed ≡ true
+FramerFeedFails old piece (faults.Truncated place) = ⊥
+FramerFeedFails old piece faults.Failed = old.failed ≡ true
 
 -- when finish answers each fault
 abbrev pub FinishFails : Framing → StreamFault → Type 0
@@ -111,7 +112,7 @@ FinishFails old faults.NoMemory = ⊥
 FinishFails old (faults.Head fault place) = ⊥
 FinishFails old (faults.OverLimit place) = ⊥
 FinishFails old (faults.Truncated place) = (old.failed ≡ false) × (0 < length old.held)
-    × (is_whole old.held ≡ false) × (place ≡ old.place)
+    × (is_whole_pdu old.held ≡ false) × (place ≡ old.place)
 FinishFails old faults.Failed = old.failed ≡ true
 
 -- a framer that answers Failed from now on, and holds nothing
@@ -119,10 +120,10 @@ abbrev pub stopped : Framing → Framing
 stopped v = record v { held = []; failed = true }
 
 -- A PDU with this head is given up.
-abbrev pub given_up : Framing → Head → Framing
-given_up v head = record v {
+abbrev pub pdu_given_up : Framing → Head → Framing
+pdu_given_up v head = record v {
   place = min (v.place + length v.held) last_place;
-  logins = after v.logins head;
+  logins = logins_after v.logins head;
   held = [];
 }
 
@@ -144,13 +145,13 @@ pub record HasTaken (stream : List ℕ) (ms : List Message) (v : Framing) : Type
   pub whole : stream ≡ given ++ rest
   pub reads : ReadsAs v.limit no_login given ms
   pub place : v.place ≡ min (length given) last_place
-  pub logins : v.logins ≡ after_all no_login ms
+  pub logins : v.logins ≡ logins_after_all no_login ms
   pub held : v.held ≡ settled rest
   pub room : v.room ≡ max (longest_of ms given) (begun_len rest)
   pub begun : IsBegun v.limit rest
   pub live : v.failed ≡ false
 
 -- Between the two states the framer took these bytes and gave up PDUs of these meanings.
-abbrev pub Moves : Framing → Framing → List ℕ → List Message → Type 0
-Moves old new bytes more = (stream : List ℕ) (ms : List Message) → HasTaken stream ms old →
+abbrev pub FramerMoves : Framing → Framing → List ℕ → List Message → Type 0
+FramerMoves old new bytes more = (stream : List ℕ) (ms : List Message) → HasTaken stream ms old →
     HasTaken (stream ++ bytes) (ms ++ more) new

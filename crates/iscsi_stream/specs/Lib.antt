@@ -4,10 +4,10 @@ pub mod Framing
 pub mod Gathering
 pub mod Headers
 pub mod Normalising
-pub mod Passing
 pub mod Pieces
 pub mod Runs
 pub mod Segment
 pub mod Shown
 pub mod Stream
 pub mod Texts
+pub mod inner

@@ -22,8 +22,8 @@ abbrev pub Pieces : Type 0
 Pieces = List (ℕ × List ℕ)
 
 -- the bytes of the pieces, one after another
-abbrev pub data_of : Pieces → List ℕ
-data_of pieces = flat_map (λ piece. piece.1) pieces
+abbrev pub piece_data : Pieces → List ℕ
+piece_data pieces = flat_map (λ piece. piece.1) pieces
 
 -- the pieces lie one behind the other from the first offset, and end at the second (section 11.7.5)
 abbrev pub TilesFrom : ℕ → Pieces → ℕ → Type 0

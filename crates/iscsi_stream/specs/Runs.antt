@@ -4,9 +4,9 @@ use Rattle.std.specs.Prelude.{◌≡◌, ℕ, List, [], ◌∷◌, ◌++◌, tak
 use Rattle.iscsi_pdu.specs.declared.head.Head.{Head}
 use Rattle.iscsi_pdu.specs.Meaning.{Means}
 use Rattle.iscsi_stream.specs.declared.logins.Logins.{Logins}
-use Rattle.iscsi_stream.specs.Segment.{continues, after, segment_of}
+use Rattle.iscsi_stream.specs.Segment.{continues, logins_after, segment_of}
 use Rattle.iscsi_stream.specs.Stream.{Message}
-use Rattle.iscsi_stream.specs.Framing.{Framing, Takes, given_up, is_ready}
+use Rattle.iscsi_stream.specs.Framing.{Framing, FramerTakes, pdu_given_up, is_ready}
 use Rattle.std.specs.Bool.{IsTrue}
 
 -- a call of feed that took n bytes of the piece, or a call of take that gave up the PDU
@@ -15,18 +15,18 @@ pub data Call : Type 0 where
   Take : (head : Head) (segment : List ℕ) → Call
 
 -- the calls lead from one state to the other
-unfoldable pub Runs : Framing → List Call → Framing → Type 0
-Runs old [] new = old ≡ new
-Runs old (Feed piece taken ∷ calls) new = (mid : Framing) × Takes old piece taken mid
-    × Runs mid calls new
-Runs old (Take head segment ∷ calls) new = IsTrue (is_ready old) × Means old.held head segment
-    × Runs (given_up old head) calls new
+unfoldable pub FramerRuns : Framing → List Call → Framing → Type 0
+FramerRuns old [] new = old ≡ new
+FramerRuns old (Feed piece taken ∷ calls) new = (mid : Framing) × FramerTakes old piece taken mid
+    × FramerRuns mid calls new
+FramerRuns old (Take head segment ∷ calls) new = IsTrue (is_ready old) × Means old.held head segment
+    × FramerRuns (pdu_given_up old head) calls new
 
 -- the bytes that the calls took, in order
-unfoldable pub bytes_of : List Call → List ℕ
-bytes_of [] = []
-bytes_of (Feed piece taken ∷ calls) = take taken piece ++ bytes_of calls
-bytes_of (Take head segment ∷ calls) = bytes_of calls
+unfoldable pub call_bytes : List Call → List ℕ
+call_bytes [] = []
+call_bytes (Feed piece taken ∷ calls) = take taken piece ++ call_bytes calls
+call_bytes (Take head segment ∷ calls) = call_bytes calls
 
 -- the meanings of the PDUs that they gave up, in order
 unfoldable pub messages_of : Logins → List Call → List Message
@@ -34,4 +34,4 @@ messages_of logins [] = []
 messages_of logins (Feed piece taken ∷ calls) = messages_of logins calls
 messages_of logins (Take head segment ∷ calls) =
     (record { head = head; segment = segment_of (continues logins head) head segment }) ∷
-    messages_of (after logins head) calls
+    messages_of (logins_after logins head) calls

@@ -24,16 +24,16 @@ continues logins (LoginResponse h) = logins.response
 continues logins _ = false
 
 -- what the login PDUs say of those that follow, once a PDU with this head is among them
-unfoldable pub after : Logins → Head → Logins
-after logins (LoginRequest h) = record logins { request = h.continues }
-after logins (LoginResponse h) = record logins { response = h.continues }
-after logins _ = logins
+unfoldable pub logins_after : Logins → Head → Logins
+logins_after logins (LoginRequest h) = record logins { request = h.continues }
+logins_after logins (LoginResponse h) = record logins { response = h.continues }
+logins_after logins _ = logins
 
 -- a login PDU that no other continues
-abbrev pub is_last : Head → Bool
-is_last (LoginRequest h) = not h.continues
-is_last (LoginResponse h) = not h.continues
-is_last _ = false
+abbrev pub is_last_login_pdu : Head → Bool
+is_last_login_pdu (LoginRequest h) = not h.continues
+is_last_login_pdu (LoginResponse h) = not h.continues
+is_last_login_pdu _ = false
 
 -- the map, or the bytes where they are no text
 abbrev pub text_or_bytes : Option Pairs → List ℕ → Segment
@@ -49,7 +49,7 @@ segment_if false bytes = Bytes bytes
 -- login PDU that neither continues one nor is continued has a whole text, and every other segment
 -- means its bytes.
 unfoldable pub segment_of : Bool → Head → List ℕ → Segment
-segment_of continued head bytes = segment_if (not continued && is_last head) bytes
+segment_of continued head bytes = segment_if (not continued && is_last_login_pdu head) bytes
 
 -- the bytes that stand for a segment in the canonical form
 unfoldable pub segment_bytes : Segment → List ℕ

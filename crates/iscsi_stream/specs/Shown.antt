@@ -9,7 +9,7 @@ has_no_end [] = true
 has_no_end (byte ∷ bytes) = not (byte == 10) && has_no_end bytes
 
 -- a line is ended by 0a, its first one, and has at most 320 bytes
-pub record IsLine (line : List ℕ) : Type 0 where
+pub record IsShownLine (line : List ℕ) : Type 0 where
   pub text : List ℕ
   pub ended : line ≡ text ++ 10 ∷ []
   pub one : has_no_end text ≡ true
@@ -18,5 +18,6 @@ pub record IsLine (line : List ℕ) : Type 0 where
 -- The bytes are a line for each of the PDUs, in their order.
 abbrev pub AreLines : List Message → List ℕ → Type 0
 AreLines [] bytes = bytes ≡ []
-AreLines (m ∷ ms) bytes = (line : List ℕ) × (more : List ℕ) × IsLine line × (bytes ≡ line ++ more)
+AreLines (m ∷ ms) bytes =
+    (line : List ℕ) × (more : List ℕ) × IsShownLine line × (bytes ≡ line ++ more)
     × AreLines ms more

@@ -4,7 +4,7 @@ use Rattle.std.specs.Prelude.{◌≡◌, ◌≤◌, ℕ, ◌+◌, Bool, List, []
 use Rattle.iscsi_pdu.specs.declared.head.Head.{Head}
 use Rattle.iscsi_pdu.specs.Meaning.{Means, padding}
 use Rattle.iscsi_stream.specs.declared.logins.Logins.{Logins}
-use Rattle.iscsi_stream.specs.Segment.{Segment, no_login, continues, after, segment_of}
+use Rattle.iscsi_stream.specs.Segment.{Segment, no_login, continues, logins_after, segment_of}
 
 -- the length of a PDU whose segment has n bytes
 abbrev pub pdu_len : ℕ → ℕ
@@ -21,7 +21,8 @@ message continued head bytes = record { head = head; segment = segment_of contin
 
 -- The stream begins with a PDU of this meaning, whose segment is within the limit; the rest follows
 -- it.
-pub record Begins (limit : ℕ) (logins : Logins) (stream : List ℕ) (m : Message) : Type 0 where
+pub record BeginsWithPdu (limit : ℕ) (logins : Logins) (stream : List ℕ) (m : Message) : Type
+    0 where
   pub bytes : List ℕ
   pub segment : List ℕ
   pub rest : List ℕ
@@ -33,8 +34,8 @@ pub record Begins (limit : ℕ) (logins : Logins) (stream : List ℕ) (m : Messa
 -- The stream is PDUs of these meanings, one after another, each with a segment within the limit.
 unfoldable pub ReadsAs : ℕ → Logins → List ℕ → List Message → Type 0
 ReadsAs limit logins stream [] = stream ≡ []
-ReadsAs limit logins stream (m ∷ ms) = (first : Begins limit logins stream m)
-    × ReadsAs limit (after logins m.head) first.rest ms
+ReadsAs limit logins stream (m ∷ ms) = (first : BeginsWithPdu limit logins stream m)
+    × ReadsAs limit (logins_after logins m.head) first.rest ms
 
 -- No segment is longer: its length has three bytes.
 abbrev pub longest_segment : ℕ
@@ -45,9 +46,9 @@ abbrev pub StreamMeans : List ℕ → List Message → Type 0
 StreamMeans stream ms = ReadsAs longest_segment no_login stream ms
 
 -- what the login PDUs among these say of those that follow
-abbrev pub after_all : Logins → List Message → Logins
-after_all logins [] = logins
-after_all logins (m ∷ ms) = after_all (after logins m.head) ms
+abbrev pub logins_after_all : Logins → List Message → Logins
+logins_after_all logins [] = logins
+logins_after_all logins (m ∷ ms) = logins_after_all (logins_after logins m.head) ms
 
 -- No PDU with a segment within the limit begins the bytes.
 abbrev pub NoPdu : ℕ → List ℕ → Type 0
@@ -55,14 +56,14 @@ NoPdu limit rest = (bytes segment more : List ℕ) (head : Head) → rest ≡ by
     Means bytes head segment → length segment ≤ limit → ⊥
 
 -- The stream begins with PDUs of these meanings, which have the given bytes; the rest follows them.
-pub record Reaches (limit : ℕ) (stream : List ℕ) (ms : List Message)
+pub record BeginsWithPdus (limit : ℕ) (stream : List ℕ) (ms : List Message)
     (given rest : List ℕ) : Type 0 where
   pub whole : stream ≡ given ++ rest
   pub reads : ReadsAs limit no_login given ms
 
 -- The same, and no PDU begins the rest: given is the longest prefix of the stream that is PDUs
 -- within the limit.
-pub record Splits (limit : ℕ) (stream : List ℕ) (ms : List Message)
+pub record SplitsStream (limit : ℕ) (stream : List ℕ) (ms : List Message)
     (given rest : List ℕ) : Type 0 where
-  pub reaches : Reaches limit stream ms given rest
+  pub reaches : BeginsWithPdus limit stream ms given rest
   pub no_more : NoPdu limit rest

@@ -25,17 +25,6 @@ abbrev pub CanonicalOf : List ℕ → List ℕ → Type 0
 CanonicalOf bytes canonical = (pairs : Pairs) × TextMeans bytes pairs
     × (canonical ≡ canonical_text pairs)
 
--- why bytes have no canonical text: their first fault, or that memory is out
-abbrev pub TextRefused : List ℕ → ToolFault → Type 0
-TextRefused bytes tool.NoMemory = Unit {0}
-TextRefused bytes (tool.Stream fault) = ⊥
-TextRefused bytes (tool.Text fault) = IsFirstFault bytes fault
-TextRefused bytes tool.TextTooLong = ⊥
-TextRefused bytes tool.Read = ⊥
-TextRefused bytes tool.Write = ⊥
-TextRefused bytes tool.NotHex = ⊥
-TextRefused bytes (tool.Protocol rule) = ⊥
-
 -- what normalise_text has read and written where it answers a fault
 abbrev pub TextFails : ToolFault → List ℕ → List ℕ → Type 0
 TextFails tool.NoMemory read written = written ≡ []

@@ -2,12 +2,12 @@
 
 ghost use Rattle.std.specs.Prelude.{◌≡◌, ◌≤◌, ◌<◌, ◌+◌, ◌^◌, ◌++◌, ℕ, List, Option, None, Some, true, false, not, ◌&&◌, length, IfOk, IfSome, IsOk, OnOk, OnErr, take, replicate, vec_len, vec_capacity};
 ghost use Rattle.iscsi_text.specs.Canonical.{canonical_text};
-ghost use Rattle.iscsi_pdu.specs.Meaning.{Fits, header, padding, whole};
-ghost use Rattle.iscsi_stream.specs.Segment.{is_last, text_or_bytes, segment_of};
+ghost use Rattle.iscsi_pdu.specs.Meaning.{HeadFits, header, padding, whole};
+ghost use Rattle.iscsi_stream.specs.Segment.{is_last_login_pdu, text_or_bytes, segment_of};
 ghost use Rattle.iscsi_stream.specs.Stream.{message};
 ghost use Rattle.iscsi_stream.specs.Canonical.{canonical_header, canonical_bytes};
 
-use iscsi_pdu::{Head, Pdu, pad, write_head};
+use iscsi_pdu::{Head, Pdu, pad, put_head, write_head};
 use iscsi_text::{Text, read_text};
 use std::alloc::{AllocError, Global};
 
@@ -15,7 +15,7 @@ const PADDING: [u8; 3] = [0; 3];
 
 // Whether the PDU is a login PDU that no other continues.
 fn is_last(head: &Head) -> bool
-    ensures { result ≡ is_last head.now }
+    ensures { result ≡ is_last_login_pdu head.now }
 {
     match head {
         Head::LoginRequest(request) => !request.continues,
@@ -38,8 +38,8 @@ pub fn text_of<'a>(
     ensures no_longer { IfOk result (λ text. IfSome text
         (λ pairs. length (canonical_text pairs) ≤ length pdu.now.bytes.now)) }
     ensures whole { IfOk result (λ text. IfSome text
-        (λ _. (continued ≡ false) × (is_last pdu.now.head ≡ true))) }
-    ensures memory { OnErr result ((continued ≡ false) × (is_last pdu.now.head ≡ true)) }
+        (λ _. (continued ≡ false) × (is_last_login_pdu pdu.now.head ≡ true))) }
+    ensures memory { OnErr result ((continued ≡ false) × (is_last_login_pdu pdu.now.head ≡ true)) }
 {
     text_in(alloc, &pdu.head, pdu.bytes, continued)
 }
@@ -56,8 +56,8 @@ fn text_in<'a>(
     ensures no_longer { IfOk result (λ text. IfSome text
         (λ pairs. length (canonical_text pairs) ≤ length bytes.now)) }
     ensures whole { IfOk result (λ text. IfSome text
-        (λ _. (continued ≡ false) × (is_last head.now ≡ true))) }
-    ensures memory { OnErr result ((continued ≡ false) × (is_last head.now ≡ true)) }
+        (λ _. (continued ≡ false) × (is_last_login_pdu head.now ≡ true))) }
+    ensures memory { OnErr result ((continued ≡ false) × (is_last_login_pdu head.now ≡ true)) }
 {
     if continued || !is_last(head) {
         return Ok(None);
@@ -69,11 +69,11 @@ fn text_in<'a>(
 /// continues another login PDU or does not. Returns `AllocError` where memory runs out, which it
 /// needs to read the segment of a PDU that neither continues another nor is continued.
 pub fn canonical_head(alloc: Global, pdu: &Pdu<'_>, continued: bool) -> Result<[u8; 48], AllocError>
-    requires fits { Fits pdu.now.head }
+    requires fits { HeadFits pdu.now.head }
     requires short { length pdu.now.bytes.now < 2 ^ 24 }
     ensures ok { IfOk result (λ bytes. bytes
         ≡ canonical_header (message continued pdu.now.head pdu.now.bytes.now)) }
-    ensures memory { OnErr result ((continued ≡ false) × (is_last pdu.now.head ≡ true)) }
+    ensures memory { OnErr result ((continued ≡ false) × (is_last_login_pdu pdu.now.head ≡ true)) }
 {
     match text_of(alloc, pdu, continued)? {
         Some(text) => Ok(write_head(&pdu.head, text.canonical_len() as u32)),
@@ -85,7 +85,7 @@ pub fn canonical_head(alloc: Global, pdu: &Pdu<'_>, continued: bool) -> Result<[
 /// are 0, or 1 if the profile says so, a whole login text is in canonical form, and padding is 00.
 /// Returns `AllocError` if memory runs out, and leaves `out` as it was.
 pub fn canonical(pdu: &Pdu<'_>, continued: bool, out: &mut Vec<u8>) -> Result<(), AllocError>
-    requires fits { Fits pdu.now.head }
+    requires fits { HeadFits pdu.now.head }
     requires short { length pdu.now.bytes.now < 2 ^ 24 }
     ensures ok { OnOk result (out.new.items ≡ out.old.items
         ++ canonical_bytes (message continued pdu.now.head pdu.now.bytes.now)) }
@@ -102,7 +102,7 @@ pub(crate) fn canonical_of(
     continued: bool,
     out: &mut Vec<u8>,
 ) -> Result<(), AllocError>
-    requires fits { Fits head.now }
+    requires fits { HeadFits head.now }
     requires short { length bytes.now < 2 ^ 24 }
     ensures ok { OnOk result (out.new.items ≡ out.old.items
         ++ canonical_bytes (message continued head.now bytes.now)) }
@@ -121,7 +121,7 @@ pub(crate) fn canonical_of(
 /// more than the segment it appends.
 #[tactic(auto, using(crate::proofs::PaddingLemmas::whole_is))]
 pub fn write_pdu(head: &Head, segment: &[u8], out: &mut Vec<u8>) -> Result<(), AllocError>
-    requires fits { Fits head.now }
+    requires fits { HeadFits head.now }
     requires short { length segment.now < 2 ^ 24 }
     ensures ok { OnOk result (out.new.items ≡ out.old.items ++ whole head.now segment.now) }
     ensures err { OnErr result (out.new.items ≡ out.old.items) }
@@ -138,7 +138,7 @@ pub fn write_pdu(head: &Head, segment: &[u8], out: &mut Vec<u8>) -> Result<(), A
 // Appends the canonical form, of which a front may stand where memory ran out.
 #[inline(always)]
 fn append(head: &Head, bytes: &[u8], continued: bool, out: &mut Vec<u8>) -> Result<(), AllocError>
-    requires fits { Fits head.now }
+    requires fits { HeadFits head.now }
     requires short { length bytes.now < 2 ^ 24 }
     ensures ok { OnOk result (out.new.items ≡ out.old.items
         ++ canonical_bytes (message continued head.now bytes.now)) }
@@ -152,7 +152,7 @@ fn append(head: &Head, bytes: &[u8], continued: bool, out: &mut Vec<u8>) -> Resu
 
 // Appends a header, a text in canonical form and its padding.
 fn append_text(head: &Head, text: &Text<'_>, out: &mut Vec<u8>) -> Result<(), AllocError>
-    requires fits { Fits head.now }
+    requires fits { HeadFits head.now }
     requires short { length (canonical_text text.now) < 2 ^ 24 }
     ensures ok { OnOk result (out.new.items ≡ out.old.items
         ++ (header head.now (length (canonical_text text.now)) ++ canonical_text text.now
@@ -168,10 +168,28 @@ fn append_text(head: &Head, text: &Text<'_>, out: &mut Vec<u8>) -> Result<(), Al
     Ok(())
 }
 
+// Appends a header, which is written where it stays.
+#[inline(always)]
+fn append_head(head: &Head, len: u32, out: &mut Vec<u8>) -> Result<(), AllocError>
+    requires fits { HeadFits head.now }
+    requires short { len < 2 ^ 24 }
+    ensures ok { OnOk result (out.new.items ≡ out.old.items ++ header head.now len) }
+    ensures err { OnErr result (out.new.items ≡ out.old.items) }
+    ensures len { OnOk result (vec_len out.new ≡ vec_len out.old + 48) }
+    ensures capacity { vec_capacity out.old ≤ vec_capacity out.new }
+    ensures room { vec_len out.old + 48 ≤ vec_capacity out.old → IsOk result }
+{
+    out.extend_from_slice(&[0; 48])?;
+    if let Some(place) = out.last_chunk_mut() {
+        put_head(head, len, place);
+    }
+    Ok(())
+}
+
 // Appends a header, a segment as it is and its padding.
 #[inline(always)]
 fn append_bytes(head: &Head, bytes: &[u8], out: &mut Vec<u8>) -> Result<(), AllocError>
-    requires fits { Fits head.now }
+    requires fits { HeadFits head.now }
     requires short { length bytes.now < 2 ^ 24 }
     ensures ok { OnOk result (out.new.items ≡ out.old.items ++ (header head.now (length bytes.now)
         ++ bytes.now ++ replicate (padding (length bytes.now)) 0)) }
@@ -181,7 +199,7 @@ fn append_bytes(head: &Head, bytes: &[u8], out: &mut Vec<u8>) -> Result<(), Allo
     let len = bytes.len() as u32;
     let padding = pad(len) as usize;
     out.reserve(48 + bytes.len() + padding)?;
-    out.extend_from_slice(&write_head(head, len))?;
+    append_head(head, len, out)?;
     // Most PDUs have no segment, and none of their bytes need to be moved.
     if bytes.is_empty() {
         return Ok(());

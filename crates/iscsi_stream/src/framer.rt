@@ -1,17 +1,16 @@
 //! PDUs out of a stream that comes in pieces.
 
 ghost use Rattle.std.specs.Prelude.{◌≡◌, ◌≢◌, ◌≤◌, ◌<◌, ◌^◌, ◌+◌, ◌↔◌, [], false, true, length, IfOk, IfErr, OnErr, OnOk, ◌⊎◌, IfSome, IsSome, IsTrue, ℕ, List, take};
-ghost use Rattle.iscsi_pdu.specs.Meaning.{IsHeader, Means, Fits};
+ghost use Rattle.iscsi_pdu.specs.Meaning.{IsHeader, Means, HeadFits};
 ghost use Rattle.iscsi_pdu.specs.declared.head.Head.{Head};
 ghost use Rattle.iscsi_stream.specs.Segment.{continues};
-ghost use Rattle.iscsi_stream.specs.Framing.{opening, is_ready, length_at, Takes, FeedFails, stopped, FinishFails, given_up};
+ghost use Rattle.iscsi_stream.specs.Framing.{opening_framing, is_ready, FramerTakes, FramerFeedFails, stopped, FinishFails, pdu_given_up};
 ghost use Rattle.iscsi_stream.specs.Headers.{TakesHeader, skipped};
 
 use crate::fault::StreamFault;
 use crate::gathering::{Buffer, HEADER, Stage, gather};
 use crate::logins::Logins;
 use iscsi_pdu::{Head, Pdu, pad};
-use scsi_cdb::layout::u24_at;
 use std::alloc::Global;
 use std::marker::Model;
 
@@ -33,7 +32,8 @@ impl Model for Framer {
     ghost use Rattle.std.specs.Prelude.{◌≡◌, ◌<◌, ◌^◌, [], false, if◌then◌else◌, IsTrue};
     ghost use Rattle.std.specs.Vec.{vec_capacity};
     ghost use Rattle.iscsi_stream.specs.Framing.{Framing};
-    ghost use Rattle.iscsi_stream.specs.Gathering.{gathered, HasRoom, IsKept};
+    ghost use Rattle.iscsi_stream.specs.Gathering.{gathered};
+    ghost use Rattle.iscsi_stream.specs.inner.Gathering.{HasSegmentRoom, FramerInv};
 
     ghost Value = { Framing };
 
@@ -47,8 +47,8 @@ impl Model for Framer {
     } };
 
     ghost invariant = { λ f. (f.limit < 2 ^ 24) × (f.failed ≡ false →
-        IsKept f.limit f.header f.buffer.segment.items f.buffer.room f.stage)
-        × HasRoom f.limit (vec_capacity f.buffer.segment) f.buffer.room };
+        FramerInv f.limit f.header f.buffer.segment.items f.buffer.room f.stage)
+        × HasSegmentRoom f.limit (vec_capacity f.buffer.segment) f.buffer.room };
 }
 
 impl Framer {
@@ -56,7 +56,7 @@ impl Framer {
     /// memory.
     pub fn new(alloc: Global, limit: u32) -> Framer
         requires { limit < 2 ^ 24 }
-        ensures { result ≡ opening limit }
+        ensures { result ≡ opening_framing limit }
     {
         Framer {
             limit,
@@ -82,8 +82,8 @@ impl Framer {
     ///
     /// After a fault it returns `Failed`, and holds nothing.
     pub fn feed(&mut self, piece: &[u8]) -> Result<usize, StreamFault>
-        ensures ok { IfOk result (λ n. Takes self.old piece.now n self.new) }
-        ensures err { IfErr result (FeedFails self.old piece.now) }
+        ensures ok { IfOk result (λ n. FramerTakes self.old piece.now n self.new) }
+        ensures err { IfErr result (FramerFeedFails self.old piece.now) }
         ensures stopped { OnErr result (self.new ≡ stopped self.old) }
         ensures bound { length self.new.held ≤ 48 + self.new.limit + 3 }
         ensures room { self.new.room ≤ self.new.limit }
@@ -110,7 +110,7 @@ impl Framer {
     /// what they leave, are those of `feed` with the piece.
     pub fn feed_header(&mut self, piece: &[u8]) -> Result<usize, StreamFault>
         ensures ok { IfOk result (λ n. TakesHeader self.old piece.now n self.new) }
-        ensures err { IfErr result (FeedFails self.old piece.now) }
+        ensures err { IfErr result (FramerFeedFails self.old piece.now) }
         ensures stopped { OnErr result (self.new ≡ stopped self.old) }
     {
         let lacking = HEADER.saturating_sub(self.held());
@@ -122,7 +122,7 @@ impl Framer {
     pub fn begun(&self) -> Option<(&Head, u32)>
         ensures begun { IsSome result ↔ ((self.now.failed ≡ false) × (length self.now.held ≡ 48)) }
         ensures header { IfSome result (λ begun. IsHeader self.now.held begun.0.now begun.1) }
-        ensures fits { IfSome result (λ begun. Fits begun.0.now) }
+        ensures fits { IfSome result (λ begun. HeadFits begun.0.now) }
         ensures within { IfSome result (λ begun. begun.1 ≤ self.now.limit) }
         ensures room { IfSome result (λ begun. begun.1 ≤ self.now.room) }
         ensures short { self.now.limit < 2 ^ 24 }
@@ -157,24 +157,19 @@ impl Framer {
         self.stage = Stage::Header(0);
     }
 
-    /// The header of the next PDU, where nothing is held, and that header lies whole at the
-    /// beginning of the piece and says no segment.
+    /// The header of the next PDU, where nothing is held, and that header lies whole at the beginning
+    /// of the piece.
     #[inline(always)]
-    pub(crate) fn bare<'a>(&self, piece: &'a [u8]) -> Option<&'a [u8; 48]>
+    pub(crate) fn next_header<'a>(&self, piece: &'a [u8]) -> Option<&'a [u8; 48]>
         ensures live { IsSome result → self.now.failed ≡ false }
         ensures empty { IsSome result → self.now.held ≡ [] }
         ensures whole { IsSome result → 48 ≤ length piece.now }
         ensures header { IfSome result (λ header. header.now ≡ take 48 piece.now) }
-        ensures none { IfSome result (λ header. length_at header.now ≡ 0) }
     {
         if self.failed || self.held() > 0 {
             return None;
         }
-        let header: &[u8; 48] = piece.first_chunk()?;
-        if u24_at(header, 5) > 0 {
-            return None;
-        }
-        Some(header)
+        piece.first_chunk()
     }
 
     /// Passes a PDU by, which has this head and no segment, where nothing is held.
@@ -197,7 +192,7 @@ impl Framer {
     pub fn pdu(&self) -> Option<Pdu<'_>>
         ensures ready { IsSome result ↔ IsTrue (is_ready self.now) }
         ensures means { IfSome result (λ p. Means self.now.held p.head p.bytes.now) }
-        ensures fits { IfSome result (λ p. Fits p.head) }
+        ensures fits { IfSome result (λ p. HeadFits p.head) }
         ensures within { IfSome result (λ p. length p.bytes.now ≤ self.now.limit) }
         ensures short { self.now.limit < 2 ^ 24 }
     {
@@ -211,7 +206,7 @@ impl Framer {
     pub(crate) fn ready(&self) -> Option<(&Head, &[u8])>
         ensures ready { IsSome result ↔ IsTrue (is_ready self.now) }
         ensures means { IfSome result (λ p. Means self.now.held p.0.now p.1.now) }
-        ensures fits { IfSome result (λ p. Fits p.0.now) }
+        ensures fits { IfSome result (λ p. HeadFits p.0.now) }
         ensures within { IfSome result (λ p. length p.1.now ≤ self.now.limit) }
         ensures short { self.now.limit < 2 ^ 24 }
     {
@@ -263,7 +258,7 @@ impl Framer {
     /// Gives the ready PDU up, and does nothing where none is ready.
     pub fn take(&mut self)
         ensures taken { (head : Head) (segment : List ℕ) → IsTrue (is_ready self.old)
-            → Means self.old.held head segment → self.new ≡ given_up self.old head }
+            → Means self.old.held head segment → self.new ≡ pdu_given_up self.old head }
         ensures none { is_ready self.old ≡ false → self.new ≡ self.old }
     {
         let Some((head, _)) = self.ready() else {

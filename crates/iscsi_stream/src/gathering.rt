@@ -4,7 +4,8 @@ ghost use Rattle.std.specs.Prelude.{◌≡◌, ◌≤◌, ◌<◌, ◌+◌, [], 
 ghost use Rattle.std.specs.Vec.{vec_capacity};
 ghost use Rattle.iscsi_pdu.specs.Meaning.{padding};
 ghost use Rattle.iscsi_stream.specs.Framing.{begun_len};
-ghost use Rattle.iscsi_stream.specs.Gathering.{gathered, HasRoom, filling, IsBody, IsKept, Gathers, FillsBody, HeaderFails, GatherFails};
+ghost use Rattle.iscsi_stream.specs.Gathering.{gathered};
+ghost use Rattle.iscsi_stream.specs.inner.Gathering.{HasSegmentRoom, filling, IsBody, FramerInv, GathersPdu, FillsBody, HeaderFails, GatherFails};
 
 use crate::fault::StreamFault;
 use iscsi_pdu::{Head, pad, read_head};
@@ -53,7 +54,7 @@ fn begin(
     place: u64,
 ) -> Result<(Head, u32), StreamFault>
     requires empty { buffer.old.segment.items ≡ [] }
-    requires room { HasRoom limit (vec_capacity buffer.old.segment) buffer.old.room }
+    requires room { HasSegmentRoom limit (vec_capacity buffer.old.segment) buffer.old.room }
     ensures ok { IfOk result (λ x. IsBody limit header.now (filling buffer.new.segment.items 0)
         buffer.new.room x.0 x.1) }
     ensures room { IfOk result (λ x. buffer.new.room ≡ max buffer.old.room x.1) }
@@ -62,7 +63,7 @@ fn begin(
     ensures err { IfErr result (HeaderFails header.now limit place buffer.old.room) }
     ensures same_room { OnErr result (buffer.new.room ≡ buffer.old.room) }
     ensures kept { buffer.new.segment.items ≡ [] }
-    ensures holds { HasRoom limit (vec_capacity buffer.new.segment) buffer.new.room }
+    ensures holds { HasSegmentRoom limit (vec_capacity buffer.new.segment) buffer.new.room }
 {
     let (head, len) = match read_head(header) {
         Ok(read) => read,
@@ -108,19 +109,19 @@ pub(crate) fn gather(
     place: u64,
     piece: &[u8],
 ) -> Result<usize, StreamFault>
-    requires kept { IsKept limit header.old buffer.old.segment.items buffer.old.room stage.old }
-    requires room { HasRoom limit (vec_capacity buffer.old.segment) buffer.old.room }
-    ensures ok { IfOk result (λ n. Gathers limit
+    requires kept { FramerInv limit header.old buffer.old.segment.items buffer.old.room stage.old }
+    requires room { HasSegmentRoom limit (vec_capacity buffer.old.segment) buffer.old.room }
+    ensures ok { IfOk result (λ n. GathersPdu limit
         (gathered header.old buffer.old.segment.items stage.old)
         piece.now n (gathered header.new buffer.new.segment.items stage.new)) }
-    ensures kept { OnOk result (IsKept limit header.new buffer.new.segment.items
+    ensures kept { OnOk result (FramerInv limit header.new buffer.new.segment.items
         buffer.new.room stage.new) }
     ensures room { OnOk result (buffer.new.room ≡ max buffer.old.room
         (begun_len (gathered header.new buffer.new.segment.items stage.new))) }
     ensures err { IfErr result (GatherFails limit place buffer.old.room
         (gathered header.old buffer.old.segment.items stage.old) piece.now) }
     ensures same_room { OnErr result (buffer.new.room ≡ buffer.old.room) }
-    ensures holds { HasRoom limit (vec_capacity buffer.new.segment) buffer.new.room }
+    ensures holds { HasSegmentRoom limit (vec_capacity buffer.new.segment) buffer.new.room }
 {
     match stage {
         Stage::Body { len, padded, .. } => {

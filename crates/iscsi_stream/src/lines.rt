@@ -1,8 +1,8 @@
 //! The line of text of a PDU.
 
 ghost use Rattle.std.specs.Prelude.{◌≡◌, ◌++◌, OnOk, OnErr, List, ℕ};
-ghost use Rattle.iscsi_pdu.specs.Meaning.{Fits};
-ghost use Rattle.iscsi_stream.specs.Shown.{IsLine};
+ghost use Rattle.iscsi_pdu.specs.Meaning.{HeadFits};
+ghost use Rattle.iscsi_stream.specs.Shown.{IsShownLine};
 
 mod fields;
 mod writing;
@@ -16,8 +16,8 @@ use std::alloc::AllocError;
 /// segment in decimal. The fields are those that have a value, in the order of the field table, in
 /// lower hex. Returns `AllocError` if memory runs out, and leaves `out` as it was.
 pub fn show_line(place: u64, pdu: &Pdu<'_>, out: &mut Vec<u8>) -> Result<(), AllocError>
-    requires { Fits pdu.now.head }
-    ensures ok { OnOk result ((line : List ℕ) × IsLine line
+    requires { HeadFits pdu.now.head }
+    ensures ok { OnOk result ((line : List ℕ) × IsShownLine line
         × (out.new.items ≡ out.old.items ++ line)) }
     ensures err { OnErr result (out.new.items ≡ out.old.items) }
 {
@@ -35,7 +35,7 @@ pub fn show_line(place: u64, pdu: &Pdu<'_>, out: &mut Vec<u8>) -> Result<(), All
 
 // The text of the line of a PDU.
 fn line_of(place: u64, pdu: &Pdu<'_>) -> Line
-    requires { Fits pdu.now.head }
+    requires { HeadFits pdu.now.head }
 {
     let mut line = Line::new();
     line.number(place);

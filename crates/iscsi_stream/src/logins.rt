@@ -1,7 +1,7 @@
 //! Which login PDU continues another.
 
 ghost use Rattle.std.specs.Prelude.{◌≡◌};
-ghost use Rattle.iscsi_stream.specs.Segment.{no_login, continues, after};
+ghost use Rattle.iscsi_stream.specs.Segment.{no_login, continues, logins_after};
 
 use iscsi_pdu::Head;
 
@@ -39,9 +39,9 @@ impl Logins {
     }
 
     /// What the login PDUs say once one with this head is among them.
-    #[tactic(auto, unfolding(crate::specs::Segment::after))]
+    #[tactic(auto, unfolding(crate::specs::Segment::logins_after))]
     pub fn after(self, head: &Head) -> Logins
-        ensures { result ≡ after self head.now }
+        ensures { result ≡ logins_after self head.now }
     {
         match head {
             Head::LoginRequest(request) => Logins {

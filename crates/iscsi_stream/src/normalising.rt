@@ -3,11 +3,11 @@
 
 ghost use Rattle.std.specs.Prelude.{◌≡◌, ◌<◌, ◌^◌, ◌++◌, ◌∷◌, ℕ, List, [], length, IfOk, IfErr, OnOk, OnErr, IsTrue, ◌↔◌, false};
 ghost use Rattle.std.specs.Io.KnownBytes.{Appends, Consumes, IsAtEnd};
-ghost use Rattle.iscsi_pdu.specs.Meaning.{AreBytes, Fits, Means};
+ghost use Rattle.iscsi_pdu.specs.Meaning.{AreBytes, HeadFits, Means};
 ghost use Rattle.iscsi_stream.specs.Stream.{Message, StreamMeans, message, longest_segment};
 ghost use Rattle.iscsi_stream.specs.Framing.{is_ready, holding, message_of};
-ghost use Rattle.iscsi_stream.specs.Normalising.{IsCanonical, IsNormalised, Shows, Writes, WritesUntil, AtEnd};
-ghost use Rattle.iscsi_stream.specs.Passing.{IsDue, progress, PassesOn, Appended, PassFails};
+ghost use Rattle.iscsi_stream.specs.Normalising.{IsCanonical, IsNormalised, ShowPost, WriteDuePost, WritesUntil, AtEnd};
+ghost use Rattle.iscsi_stream.specs.inner.Passing.{IsDueOutput, passing_progress, PassesOn, AppendedDue, PassFails};
 
 use crate::canonical_form::canonical_of;
 use crate::counts::Counts;
@@ -16,7 +16,7 @@ use crate::framer::Framer;
 use crate::gathering::HEADER;
 use crate::io::{PIECE, Reads, write_fully};
 use crate::lines::show_line;
-use iscsi_pdu::{Head, Pdu, read_head};
+use iscsi_pdu::{Head, Pdu, read_bare_head};
 use std::alloc::{AllocError, Global};
 use std::io::{Read, Write};
 
@@ -96,7 +96,7 @@ fn are_equal(first: &[u8], second: &[u8]) -> bool
 pub fn show<R: Read, W: Write>(alloc: Global, r: &mut R, w: &mut W) -> Result<Counts, ToolFault>
     ensures writes { (read : List ℕ) × (written : List ℕ) × AreBytes read
         × Consumes (R.remaining r.old) (R.remaining r.new) read
-        × Appends (W.contents w.old) (W.contents w.new) written × Shows result read written }
+        × Appends (W.contents w.old) (W.contents w.new) written × ShowPost result read written }
     ensures end { AtEnd result (IsAtEnd (R.remaining r.new)) }
 {
     write_stream(alloc, Form::Line, r, w)
@@ -112,7 +112,7 @@ fn write_stream<R: Read, W: Write>(
     ensures writes { (read : List ℕ) × (written : List ℕ) × AreBytes read
         × Consumes (R.remaining r.old) (R.remaining r.new) read
         × Appends (W.contents w.old) (W.contents w.new) written
-        × Writes (IsDue form) result read written }
+        × WriteDuePost (IsDueOutput form) result read written }
     ensures end { AtEnd result (IsAtEnd (R.remaining r.new)) }
 {
     let mut framer = Framer::new(alloc, LONGEST_SEGMENT);
@@ -142,19 +142,19 @@ fn pass_on(
     requires limit { framer.old.limit ≡ longest_segment }
     requires unready { is_ready framer.old ≡ false }
     ensures bytes { AreBytes piece.now }
-    ensures appended { Appended form framer.old piece.now out.old.items out.new.items }
+    ensures appended { AppendedDue form framer.old piece.now out.old.items out.new.items }
     ensures ok { OnOk result ((more : List Message)
-        × PassesOn form (progress framer.old out.old.items counts.old)
-        (progress framer.new out.new.items counts.new) piece.now more) }
+        × PassesOn form (passing_progress framer.old out.old.items counts.old)
+        (passing_progress framer.new out.new.items counts.new) piece.now more) }
     ensures err { IfErr result (PassFails form framer.old piece.now out.old.items out.new.items) }
 {
     let mut rest = piece;
     while !rest.is_empty() {
         // Most PDUs have no segment, and lie whole in a piece.
-        if let Some(header) = framer.bare(rest) {
+        if let Some(header) = framer.next_header(rest) {
             // A head has 80 bytes, so it is lent where it lies.
-            let read = read_head(header);
-            if let Ok((head, _)) = &read {
+            let bare = read_bare_head(header);
+            if let Some(head) = &bare {
                 append_bare(form, framer, head, out, counts)?;
                 rest = &rest[HEADER..];
                 continue;
@@ -176,11 +176,11 @@ fn append_bare(
     out: &mut Vec<u8>,
     counts: &mut Counts,
 ) -> Result<(), AllocError>
-    requires fits { Fits head.now }
+    requires fits { HeadFits head.now }
     requires empty { framer.old.held ≡ [] }
     ensures ok { OnOk result ((header : List ℕ) → Means header head.now []
-        → PassesOn form (progress (holding framer.old header) out.old.items counts.old)
-        (progress framer.new out.new.items counts.new) []
+        → PassesOn form (passing_progress (holding framer.old header) out.old.items counts.old)
+        (passing_progress framer.new out.new.items counts.new) []
         (message_of framer.old head.now [] ∷ [])) }
     ensures err { OnErr result (out.new.items ≡ out.old.items) }
 {
@@ -201,8 +201,8 @@ fn append_ready(
     counts: &mut Counts,
 ) -> Result<(), AllocError>
     ensures ok { OnOk result ((more : List Message)
-        × PassesOn form (progress framer.old out.old.items counts.old)
-        (progress framer.new out.new.items counts.new) [] more) }
+        × PassesOn form (passing_progress framer.old out.old.items counts.old)
+        (passing_progress framer.new out.new.items counts.new) [] more) }
     ensures err { OnErr result (out.new.items ≡ out.old.items) }
 {
     let Some((head, bytes)) = framer.ready() else {
@@ -227,10 +227,10 @@ fn append_pdu(
     continued: bool,
     out: &mut Vec<u8>,
 ) -> Result<(), AllocError>
-    requires fits { Fits head.now }
+    requires fits { HeadFits head.now }
     requires short { length bytes.now < 2 ^ 24 }
     ensures ok { OnOk result ((due : List ℕ)
-        × IsDue form (message continued head.now bytes.now ∷ []) due
+        × IsDueOutput form (message continued head.now bytes.now ∷ []) due
         × (out.new.items ≡ out.old.items ++ due)) }
     ensures err { OnErr result (out.new.items ≡ out.old.items) }
 {

@@ -2,7 +2,8 @@
 
 ghost use Rattle.std.specs.Prelude.{ℕ, List, IfOk, IfErr};
 ghost use Rattle.std.specs.Io.KnownBytes.{Appends, Consumes, IsAtEnd};
-ghost use Rattle.iscsi_stream.specs.Texts.{NormalisesText, TextAtEnd, CanonicalOf, TextRefused};
+ghost use Rattle.iscsi_stream.specs.Texts.{NormalisesText, TextAtEnd, CanonicalOf};
+ghost use Rattle.iscsi_stream.specs.inner.Texts.{TextRefused};
 
 use crate::fault::ToolFault;
 use crate::io::{read_within, write_fully};

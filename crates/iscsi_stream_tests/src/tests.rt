@@ -1,8 +1,8 @@
 //! Streams by example: headers in words of hex, worked out by hand from the tables of RFC 7143, section 11.
 
 use crate::asserts::same;
-use iscsi_examples::marked;
 use iscsi_stream::{Counts, Framer, ToolFault, canonical, normalise};
+use iscsi_test_support::marked;
 use std::alloc::Global;
 use std::process::Abort;
 

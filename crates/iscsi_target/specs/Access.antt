@@ -6,7 +6,7 @@ use Rattle.scsi_disk.specs.Disk.{Disk}
 use Rattle.iscsi_text.specs.Text.{Pairs}
 use Rattle.iscsi_stream.specs.Stream.{Message}
 use Rattle.iscsi_access.specs.Chap.{Chap}
-use Rattle.iscsi_access.specs.Laws.{Answers}
+use Rattle.iscsi_access.specs.Laws.{AnswersChallenge}
 use Rattle.iscsi_target_session.specs.Login.{text_ending}
 use Rattle.iscsi_target.specs.State.{Machine}
 use Rattle.iscsi_target.specs.Machine.{answers}
@@ -22,4 +22,4 @@ pub record HasResponded (protected : Bool) (s : Machine) (disk : Disk) (c : Chap
   pub pairs : Pairs
   pub text : text_ending (answers protected s disk before).machine.session.gathered message.segment
       ≡ Some pairs
-  pub right : Answers c initiator pairs
+  pub right : AnswersChallenge c initiator pairs

@@ -8,13 +8,13 @@ use Rattle.scsi_unit.specs.WriteCache.{asks_to_last, writes_back}
 use Rattle.iscsi_pdu.specs.declared.head.Head.{Head}
 use Rattle.iscsi_pdu.specs.declared.head.Head.TheVariants as heads
 use Rattle.iscsi_pdu.specs.Meaning.{Means}
-use Rattle.iscsi_stream.specs.Framing.{Framing, Takes, is_ready}
+use Rattle.iscsi_stream.specs.Framing.{Framing, FramerTakes}
 use Rattle.iscsi_login.specs.declared.phase.Phase.{Phase}
 use Rattle.iscsi_target.specs.declared.fault.TargetFault.{TargetFault}
 use Rattle.iscsi_target.specs.declared.tasks.Task.{Task}
-use Rattle.iscsi_target.specs.declared.tasks.Task.TheVariants.{Request, Data}
+use Rattle.iscsi_target.specs.declared.tasks.Task.TheVariants.{Command, Data, Request}
 use Rattle.iscsi_target.specs.State.{Machine, Execution}
-use Rattle.iscsi_target.specs.Feed.{Scene, FeedsOne}
+use Rattle.iscsi_target.specs.Feed.{Scene, FeedsOnePdu}
 
 -- The disk of a target has a write cache.
 abbrev pub has_cache : Machine → Bool
@@ -30,7 +30,7 @@ NoneAsks es = AllByRecursion (λ e. asks_to_last e.order.cdb ≡ false) es
 abbrev pub NotesAsking : Bool → Scene → List ℕ → Result (ℕ × Phase) TargetFault → Scene → Bool → Bool
     → Type 0
 NotesAsking protected old piece (Ok done) new noted notes =
-    (one : FeedsOne protected old piece done.0 done.1 new)
+    (one : FeedsOnePdu protected old piece done.0 done.1 new)
     × (has_cache old.connection.machine ≡ true → notes ≡ false
     → (noted ≡ false) × NoneAsks one.fed.stepped.executed)
 NotesAsking protected old piece (Err fault) new noted notes = Unit {0}
@@ -44,34 +44,24 @@ asks_head _ = false
 
 -- The command of a task asks so.
 abbrev pub asks_task : Task → Bool
-asks_task (Request m) = asks_head m.head
+asks_task (Command tag order) = asks_to_last order.cdb
 asks_task (Data w) = asks_to_last w.order.cdb
+asks_task (Request kept) = false
 
 -- A command that may be executed for a PDU of this head asks so: that of the PDU, or of a task.
-abbrev pub asks_at : Machine → Head → Bool
-asks_at s head = list_any asks_task s.tasks || asks_head head
-
--- No command that may be executed for the PDU that is ready asks so.
-abbrev pub NoneReadyAsks : Machine → Framing → Type 0
-NoneReadyAsks s framing =
-    (head : Head) (segment : List ℕ) → is_ready framing ≡ true → Means framing.held head segment
-    → asks_at s head ≡ false
+abbrev pub machine_asks : Machine → Head → Bool
+machine_asks s head = list_any asks_task s.tasks || asks_head head
 
 -- A command asks so that may be executed for the PDU that is ready.
 pub record SomeReadyAsks (s : Machine) (framing : Framing) : Type 0 where
   pub head : Head
   pub segment : List ℕ
   pub means : Means framing.held head segment
-  pub asks : asks_at s head ≡ true
+  pub asks : machine_asks s head ≡ true
 
 -- The same of the PDU that bytes of a piece complete.
 pub record SomeNextAsks (s : Machine) (old : Framing) (piece : List ℕ) : Type 0 where
   pub framing : Framing
   pub count : ℕ
-  pub takes : Takes old piece count framing
+  pub takes : FramerTakes old piece count framing
   pub ready : SomeReadyAsks s framing
-
--- The same of the PDU that the first n bytes of a piece complete.
-abbrev pub NoneNextAsks : Machine → Framing → List ℕ → ℕ → Type 0
-NoneNextAsks s old piece n =
-    (framing : Framing) → Takes old piece n framing → NoneReadyAsks s framing

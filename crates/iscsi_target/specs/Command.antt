@@ -14,15 +14,16 @@ use Rattle.iscsi_stream.specs.Segment.{segment_bytes}
 use Rattle.iscsi_stream.specs.Stream.{Message}
 use Rattle.iscsi_text.specs.declared.negotiated.NegKey.TheVariants as keys
 use Rattle.iscsi_login.specs.Held.{Held, is_on, unasked}
-use Rattle.iscsi_target_session.specs.Session.{Session, message, max_cmd_sn_with}
+use Rattle.iscsi_target_session.specs.Session.{Session, answer_message, max_cmd_sn_with}
+use Rattle.iscsi_target_session.specs.declared.inbound.InboundRequest.{InboundRequest}
+use Rattle.iscsi_target_session.specs.declared.inbound.Asks.{Asks}
+use Rattle.iscsi_target_session.specs.declared.inbound.Asks.TheVariants as asks
 use Rattle.iscsi_target.specs.Write.{Write}
 use Rattle.iscsi_target.specs.declared.tasks.Task.{Task}
-use Rattle.iscsi_target.specs.declared.tasks.Task.TheVariants.{Request, Data}
-use Rattle.iscsi_target.specs.State.{Machine, Stepped, unchanged, unit_of, waiting}
+use Rattle.iscsi_target.specs.declared.tasks.Task.TheVariants.{Command, Data, Request}
+use Rattle.iscsi_target.specs.State.{Machine, TargetStep, unchanged, unit_of, waiting_tasks}
 use Rattle.iscsi_target.specs.declared.due.Due.TheVariants.{Nothing, Unsolicited}
-use Rattle.iscsi_pdu.specs.Rules.{data_out_of_order}
-use Rattle.iscsi_target.specs.State.{breaks}
-use Rattle.iscsi_target.specs.Transfer.{received, with_piece, is_whole, with_r2t, desired, is_idle}
+use Rattle.iscsi_target.specs.Transfer.{bytes_received, with_piece, is_whole_write, with_r2t, desired, is_nothing_due}
 use Rattle.iscsi_target.specs.Execution.{Device, execute}
 
 -- ---- a command
@@ -70,7 +71,7 @@ r2t_head s waiting w = heads.ReadyToTransfer (record {
   exp_cmd_sn = s.exp_cmd_sn;
   max_cmd_sn = max_cmd_sn_with s waiting;
   r2t_sn = w.r2t_count;
-  buffer_offset = received w;
+  buffer_offset = bytes_received w;
   desired_data_transfer_length = desired s.held w;
 })
 
@@ -79,23 +80,23 @@ abbrev pub led_by : Write → Machine → Machine
 led_by w s = record s { tasks = Data w ∷ s.tasks }
 
 -- An R2T is sent, which advances no StatSN (section 11.8).
-abbrev pub send_r2t : Machine → Disk → Write → Stepped
+abbrev pub send_r2t : Machine → Disk → Write → TargetStep
 send_r2t s disk w = record (unchanged (led_by (with_r2t s.session.held w) s) disk) {
-  answers = message (r2t_head s.session (waiting (led_by w s).tasks) w) [] ∷ [];
+  answers = answer_message (r2t_head s.session (waiting_tasks (led_by w s).tasks) w) [] ∷ [];
 }
 
 -- The first task is a write, with these behind it. The write is executed when all its bytes are
 -- there; else an R2T is sent if no sequence is due (sections 4.2.5.2 and 11.8). All blocks are
 -- written at once (own rule).
-abbrev pub proceed : Device → Machine → Disk → Write → Stepped
+abbrev pub proceed : Device → Machine → Disk → Write → TargetStep
 proceed device s disk w =
-    if is_whole w then execute device s disk w.initiator_task_tag w.order w.pieces
-    else if is_idle w.due then send_r2t s disk w
+    if is_whole_write w then execute device s disk w.initiator_task_tag w.order w.pieces
+    else if is_nothing_due w.due then send_r2t s disk w
     else unchanged (led_by w s) disk
 
 -- The write of n bytes that a command with this order and these immediate bytes opens (section 11.3).
-abbrev pub opened : ScsiCommand → Order → ℕ → List ℕ → Write
-opened h order total bytes = record {
+abbrev pub write_opened : ScsiCommand → Order → ℕ → List ℕ → Write
+write_opened h order total bytes = record {
   initiator_task_tag = h.initiator_task_tag;
   immediate = h.immediate;
   order = order;
@@ -105,40 +106,42 @@ opened h order total bytes = record {
   r2t_count = 0;
 }
 
--- A command by its order and plan, with the tasks behind it: a write is opened, any other command is
--- executed. One that is refused doesn't wait for its data (section 11.4; own rule).
-abbrev pub planned : Device → Machine → Disk → ScsiCommand → Order → List ℕ → Plan → Stepped
-planned device s disk h order bytes (Take total) =
-    proceed device s disk (opened h order total bytes)
-planned device s disk h order bytes _ = execute device s disk h.initiator_task_tag order []
+-- ---- a request that comes
 
--- A SCSI Command, with the tasks behind it (section 11.3).
-abbrev pub scsi_command : Device → Machine → Disk → Message → ScsiCommand → List ℕ → Stepped
-scsi_command device s disk m h bytes =
-    if breaks_burst_rules s.session.held h (length bytes) then breaks s disk data_out_of_order m
-    else planned device s disk h (order_of (unit_of s.session) h) bytes
-    (plan_of (order_of (unit_of s.session) h) disk.count)
+-- A request with n bytes breaks the rules of the first burst (sections 13.10, 13.11 and 13.14).
+abbrev pub breaks_rules : Held → ℕ → Asks → Bool
+breaks_rules held n (asks.Command h) = breaks_burst_rules held h n
+breaks_rules held n (asks.Session request) = false
 
--- ---- a command that comes
+-- The task of a command with these immediate bytes, by its order and plan. A write takes its data while
+-- it waits, and any other command takes none; so does one that is refused (sections 11.3 and 11.4; own
+-- rule).
+abbrev pub task_planned : ScsiCommand → Order → List ℕ → Plan → Task
+task_planned h order bytes (Take total) = Data (write_opened h order total bytes)
+task_planned h order bytes _ = Command h.initiator_task_tag order
 
--- The task of a command with these immediate bytes, by its order and plan: a write takes its data while
--- it waits (section 11.3; own rule).
-abbrev pub task_planned : Message → ScsiCommand → Order → List ℕ → Plan → Task
-task_planned m h order bytes (Take total) = Data (opened h order total bytes)
-task_planned m h order bytes _ = Request m
+-- The task of a command with these immediate bytes, on a disk of n blocks that may tell more of itself
+-- (section 11.3).
+abbrev pub task_for : Option LogicalUnit → ℕ → ScsiCommand → List ℕ → Task
+task_for unit count h bytes =
+    task_planned h (order_of unit h) bytes (plan_of (order_of unit h) count)
 
--- The task of a request, on a disk of n blocks that may tell more of itself (section 11.3).
-abbrev pub task_by : Option LogicalUnit → ℕ → Message → Head → Task
-task_by unit count m (heads.ScsiCommand h) =
-    task_planned m h (order_of unit h) (segment_bytes m.segment) (plan_of (order_of unit h) count)
-task_by unit count m _ = Request m
+-- The task of a request, by what it asks for (section 11.3).
+abbrev pub task_by : Option LogicalUnit → ℕ → Message → Option ℕ → Asks → Task
+task_by unit count m tag (asks.Command h) = task_for unit count h (segment_bytes m.segment)
+task_by unit count m tag (asks.Session request) =
+    Request (record { initiator_task_tag = tag; message = m; request = request })
 
--- The task of a request, on a disk of n blocks that may tell more of itself (section 11.3).
-abbrev pub task_of : Option LogicalUnit → ℕ → Message → Task
-task_of unit count m = task_by unit count m m.head
+-- A request, in its PDU, that is presented to a disk of so many blocks.
+pub record Presented : Type 0 where
+  pub blocks : ℕ
+  pub message : Message
+  pub request : InboundRequest
 
--- A request with n bytes breaks the rules of the first burst (sections 13.10, 13.11 and
--- 13.14).
-abbrev pub breaks_rules : Held → ℕ → Head → Bool
-breaks_rules held n (heads.ScsiCommand h) = breaks_burst_rules held h n
-breaks_rules held n _ = false
+-- The request of a PDU is presented to a disk of n blocks.
+abbrev pub presented : ℕ → Message → InboundRequest → Presented
+presented n m r = record { blocks = n; message = m; request = r }
+
+-- The task of a request, on a disk that may tell more of itself (section 11.3).
+abbrev pub task_of : Option LogicalUnit → Presented → Task
+task_of unit p = task_by unit p.blocks p.message p.request.initiator_task_tag p.request.asks

@@ -11,14 +11,14 @@ use Rattle.scsi_disk.specs.Effect.{Effect, effect}
 use Rattle.scsi_disk.specs.declared.order.Order.{Order}
 use Rattle.scsi_disk.specs.declared.order.Outcome.{Outcome}
 use Rattle.scsi_unit.specs.LogicalUnit.{LogicalUnit}
-use Rattle.scsi_unit.specs.Telling.{told}
+use Rattle.scsi_unit.specs.Telling.{outcome_with_unit}
 use Rattle.iscsi_pdu.specs.declared.head.Head.{Head}
 use Rattle.iscsi_pdu.specs.declared.head.Head.TheVariants as heads
 use Rattle.iscsi_stream.specs.Stream.{Message}
 use Rattle.iscsi_login.specs.Held.{Held, max_burst}
-use Rattle.iscsi_target_session.specs.Session.{Session, message, counted, max_cmd_sn_with}
-use Rattle.iscsi_target.specs.State.{Machine, Execution, Stepped, unit_of, waiting}
-use Rattle.iscsi_stream.specs.Pieces.{Pieces, data_of, chunks}
+use Rattle.iscsi_target_session.specs.Session.{Session, answer_message, stat_sn_advanced, max_cmd_sn_with}
+use Rattle.iscsi_target.specs.State.{Machine, Execution, TargetStep, unit_of, waiting_tasks}
+use Rattle.iscsi_stream.specs.Pieces.{Pieces, piece_data, chunks}
 use Rattle.iscsi_pdu.specs.Fields.{reserved_tag}
 
 -- What a store does with the n-th order of a message, from 0, and its data.
@@ -41,14 +41,14 @@ device_after (e ∷ es) device = device_after es (device_next device)
 -- ---- data that a command returns
 
 -- The parts of a run, of which the last is marked (section 11.7.1).
-abbrev pub marked : List (List ℕ) → List (List ℕ × Bool)
-marked [] = []
-marked (part ∷ []) = (part, true) ∷ []
-marked (part ∷ next ∷ more) = (part, false) ∷ marked (next ∷ more)
+abbrev pub marked_parts : List (List ℕ) → List (List ℕ × Bool)
+marked_parts [] = []
+marked_parts (part ∷ []) = (part, true) ∷ []
+marked_parts (part ∷ next ∷ more) = (part, false) ∷ marked_parts (next ∷ more)
 
 -- A run of data in parts, each of at most what the initiator takes in one segment (section 13.12).
 abbrev pub sequence_parts : Held → List ℕ → List (List ℕ × Bool)
-sequence_parts held run = marked (chunks held.initiator_max_recv run)
+sequence_parts held run = marked_parts (chunks held.initiator_max_recv run)
 
 -- Data in runs of MaxBurstLength bytes (sections 11.7.1 and 13.13).
 abbrev pub data_in_parts : Held → List ℕ → List (List ℕ × Bool)
@@ -79,7 +79,7 @@ data_in_head s waiting tag data_sn offset is_final = heads.DataIn (record {
 abbrev pub data_ins : Session → ℕ → ℕ → ℕ → ℕ → List (List ℕ × Bool) → List Message
 data_ins s waiting tag data_sn offset [] = []
 data_ins s waiting tag data_sn offset (part ∷ more) =
-    message (data_in_head s waiting tag data_sn offset part.1) part.0
+    answer_message (data_in_head s waiting tag data_sn offset part.1) part.0
     ∷ data_ins s waiting tag (data_sn + 1) (offset + length part.0) more
 
 -- ---- the response
@@ -127,16 +127,17 @@ sense_segment (Some sense) = 0x00 ∷ 0x12 ∷ sense_bytes sense
 abbrev pub command_answers : Session → ℕ → ℕ → Outcome → List (List ℕ × Bool) → List Message
 command_answers s waiting tag outcome given =
     data_ins s waiting tag 0 0 given
-    ++ message (response_head s waiting tag outcome (length given)) (sense_segment outcome.sense)
+    ++ answer_message (response_head s waiting tag outcome (length given))
+    (sense_segment outcome.sense)
     ∷ []
 
 -- An order was executed with this effect: its data go out, and its response (section 11.4).
-abbrev pub send_outcome : Machine → Execution → Effect → Stepped
+abbrev pub send_outcome : Machine → Execution → Effect → TargetStep
 send_outcome s e effect = record {
-  machine = record s { session = counted s.session };
+  machine = record s { session = stat_sn_advanced s.session };
   disk = effect.disk;
   answers =
-      command_answers s.session (waiting s.tasks) e.initiator_task_tag effect.outcome
+      command_answers s.session (waiting_tasks s.tasks) e.initiator_task_tag effect.outcome
       (data_in_parts s.session.held effect.outcome.bytes);
   rule = None;
   accepted = [];
@@ -145,15 +146,16 @@ send_outcome s e effect = record {
 
 -- What an order led to, where the disk of n blocks may tell more of itself: that changes no block.
 abbrev pub as_told : Option LogicalUnit → ℕ → Order → Effect → Effect
-as_told unit count order after = record after { outcome = told unit count order after.outcome }
+as_told unit count order after =
+    record after { outcome = outcome_with_unit unit count order after.outcome }
 
 -- What was executed led to, over a store that doesn't fail.
 abbrev pub effect_of : Bool → Execution → Effect
 effect_of protected e =
-    as_told e.unit e.disk.count e.order (effect protected e.disk e.order (data_of e.pieces))
+    as_told e.unit e.disk.count e.order (effect protected e.disk e.order (piece_data e.pieces))
 
 -- An order of a task is executed, with the data of these pieces (section 11.4).
-abbrev pub execute : Device → Machine → Disk → ℕ → Order → Pieces → Stepped
+abbrev pub execute : Device → Machine → Disk → ℕ → Order → Pieces → TargetStep
 execute device s disk tag order pieces =
     send_outcome s
     (record {
@@ -163,4 +165,4 @@ execute device s disk tag order pieces =
       order = order;
       pieces = pieces;
     })
-    (as_told (unit_of s.session) disk.count order (device 0 disk order (data_of pieces)))
+    (as_told (unit_of s.session) disk.count order (device 0 disk order (piece_data pieces)))

@@ -5,7 +5,7 @@
 use Rattle.std.specs.Prelude.{◌≡◌, ◌⊎◌, ℕ, ◌+◌, ◌<◌, ◌^◌, ◌%◌, Bool, true, false, List, [], ◌∷◌, ◌++◌, length, map, slice_index, Option, Some, None}
 use Rattle.std.specs.List.{flat_map}
 use Rattle.scsi_disk.specs.Disk.{Disk}
-use Rattle.scsi_disk.specs.Effect.{Effect, effect, guarded, FailsBy}
+use Rattle.scsi_disk.specs.Effect.{Effect, effect, guarded, StoreFailureLeaves}
 use Rattle.scsi_disk.specs.Plan.{plan_of}
 use Rattle.scsi_disk.specs.Runs.{Supplied}
 use Rattle.scsi_disk.specs.declared.order.Order.{Order}
@@ -16,16 +16,20 @@ use Rattle.iscsi_pdu.specs.declared.head.Head.TheVariants as heads
 use Rattle.iscsi_stream.specs.Segment.{segment_bytes}
 use Rattle.iscsi_stream.specs.Stream.{Message}
 use Rattle.iscsi_login.specs.declared.phase.Phase.TheVariants as phases
+use Rattle.iscsi_target_session.specs.Inbound.{inbound, IsRequest}
+use Rattle.iscsi_target_session.specs.declared.inbound.Inbound.{Inbound}
+use Rattle.iscsi_target_session.specs.declared.inbound.Inbound.TheVariants as inbounds
+use Rattle.iscsi_target_session.specs.declared.inbound.InboundRequest.{InboundRequest}
 use Rattle.iscsi_target.specs.declared.tasks.Task.{Task}
-use Rattle.iscsi_target.specs.declared.tasks.Task.TheVariants.{Request, Data}
-use Rattle.iscsi_target.specs.State.{Machine, Execution, Stepped, max_cmd_sn, unit_of}
-use Rattle.iscsi_stream.specs.Pieces.{data_of}
+use Rattle.iscsi_target.specs.declared.tasks.Task.TheVariants as kinds
+use Rattle.iscsi_target.specs.State.{Machine, Execution, TargetStep, max_cmd_sn, unit_of}
+use Rattle.iscsi_stream.specs.Pieces.{piece_data}
 use Rattle.iscsi_pdu.specs.Serial.{is_within}
 use Rattle.iscsi_target.specs.Transfer.{with_piece}
-use Rattle.iscsi_target.specs.State.{joined}
+use Rattle.iscsi_target.specs.State.{writes_joined}
 use Rattle.iscsi_target.specs.Execution.{effect_of, is_over, is_under, residual_count, sense_segment}
 use Rattle.iscsi_target.specs.Command.{order_of}
-use Rattle.iscsi_target.specs.Machine.{is_closed, is_due_kind, is_too_long}
+use Rattle.iscsi_target.specs.Machine.{is_machine_closed, is_segment_too_long, may_ask}
 
 -- ---- numbers
 
@@ -58,14 +62,14 @@ abbrev pub cmd_sn_if : Bool → ℕ → Option ℕ
 cmd_sn_if true n = None
 cmd_sn_if false n = Some n
 
+-- The CmdSN of a PDU, if it is a request that isn't immediate (section 4.2.2.1).
+abbrev pub cmd_sn_in : Option Inbound → Option ℕ
+cmd_sn_in (Some (inbounds.Request r)) = cmd_sn_if r.immediate r.cmd_sn
+cmd_sn_in _ = None
+
 -- The CmdSN of a request that isn't immediate (section 4.2.2.1).
 abbrev pub cmd_sn_of : Head → Option ℕ
-cmd_sn_of (heads.NopOut h) = cmd_sn_if h.immediate h.cmd_sn
-cmd_sn_of (heads.ScsiCommand h) = cmd_sn_if h.immediate h.cmd_sn
-cmd_sn_of (heads.TaskRequest h) = cmd_sn_if h.immediate h.cmd_sn
-cmd_sn_of (heads.TextRequest h) = cmd_sn_if h.immediate h.cmd_sn
-cmd_sn_of (heads.LogoutRequest h) = cmd_sn_if h.immediate h.cmd_sn
-cmd_sn_of _ = None
+cmd_sn_of head = cmd_sn_in (inbound head)
 
 -- The CmdSN of the requests that aren't immediate (section 4.2.2.1).
 abbrev pub cmd_sns : List Message → List ℕ
@@ -111,32 +115,33 @@ tasks_done es = map task_of es
 
 -- An order that was executed, with its data (section 11.3).
 abbrev pub supplied : Execution → Supplied
-supplied e = (e.order, data_of e.pieces)
+supplied e = (e.order, piece_data e.pieces)
 
 -- What was executed did what the order does, or what it may do where the device fails, and left
 -- this.
 abbrev pub MayLeave : Bool → Execution → Effect → Type 0
 MayLeave protected e after =
-    (after ≡ effect protected e.disk e.order (data_of e.pieces))
-    ⊎ FailsBy (guarded protected (plan_of e.order e.disk.count)) e.disk e.order
-    (data_of e.pieces) after
+    (after ≡ effect protected e.disk e.order (piece_data e.pieces))
+    ⊎ StoreFailureLeaves (guarded protected (plan_of e.order e.disk.count)) e.disk e.order
+    (piece_data e.pieces) after
 
 -- What was executed, one after another, leads from one disk to another, each on the disk that the
 -- one before left.
-unfoldable pub Leads : Bool → Disk → List Execution → Disk → Type 0
-Leads protected disk [] last = last ≡ disk
-Leads protected disk (e ∷ es) last =
+unfoldable pub ExecutionsLead : Bool → Disk → List Execution → Disk → Type 0
+ExecutionsLead protected disk [] last = last ≡ disk
+ExecutionsLead protected disk (e ∷ es) last =
     (after : Effect) × (e.disk ≡ disk) × MayLeave protected e after
-    × Leads protected after.disk es last
+    × ExecutionsLead protected after.disk es last
 
 -- The command of a task, if it is one (section 11.3).
-abbrev pub task_open : Option LogicalUnit → Task → List Command
-task_open unit (Request m) = task_in unit m.head
-task_open unit (Data w) = (w.initiator_task_tag, w.order) ∷ []
+abbrev pub task_open : Task → List Command
+task_open (kinds.Command tag order) = (tag, order) ∷ []
+task_open (kinds.Data w) = (w.initiator_task_tag, w.order) ∷ []
+task_open (kinds.Request kept) = []
 
 -- The commands among tasks (section 11.3).
-abbrev pub tasks_open : Option LogicalUnit → List Task → List Command
-tasks_open unit tasks = flat_map (task_open unit) tasks
+abbrev pub tasks_open : List Task → List Command
+tasks_open tasks = flat_map task_open tasks
 
 -- The tag of the command that an answer is the response to (section 11.4).
 abbrev pub response_tag : Head → List ℕ
@@ -149,7 +154,7 @@ response_tags ms = flat_map (λ m. response_tag m.head) ms
 
 -- What the response to a command says (section 11.4). It gives the command's tag, its status, by how
 -- many bytes it had more or fewer than were expected, and the sense data behind their length.
-pub record Told : Type 0 where
+pub record ToldResponse : Type 0 where
   pub initiator_task_tag : ℕ
   pub status : Option ℕ
   pub overflow : Bool
@@ -158,8 +163,8 @@ pub record Told : Type 0 where
   pub sense : List ℕ
 
 -- What an answer says, if it is the response to a command (section 11.4).
-abbrev pub told_by : Head → List ℕ → List Told
-told_by (heads.ScsiResponse h) segment = record {
+abbrev pub answer_told : Head → List ℕ → List ToldResponse
+answer_told (heads.ScsiResponse h) segment = record {
   initiator_task_tag = h.initiator_task_tag;
   status = h.status;
   overflow = h.overflow;
@@ -167,14 +172,14 @@ told_by (heads.ScsiResponse h) segment = record {
   residual = h.residual;
   sense = segment;
 } ∷ []
-told_by _ segment = []
+answer_told _ segment = []
 
 -- What the responses among answers say (section 11.4).
-abbrev pub told_in : List Message → List Told
-told_in ms = flat_map (λ m. told_by m.head (segment_bytes m.segment)) ms
+abbrev pub told_in : List Message → List ToldResponse
+told_in ms = flat_map (λ m. answer_told m.head (segment_bytes m.segment)) ms
 
 -- What is to be told of this outcome (section 11.4).
-abbrev pub told_of : ℕ → Outcome → Told
+abbrev pub told_of : ℕ → Outcome → ToldResponse
 told_of tag outcome = record {
   initiator_task_tag = tag;
   status = Some outcome.status;
@@ -185,21 +190,21 @@ told_of tag outcome = record {
 }
 
 -- What is to be told of what was executed, over a store that doesn't fail (section 11.4).
-abbrev pub due_for : Bool → Execution → Told
+abbrev pub due_for : Bool → Execution → ToldResponse
 due_for protected e = told_of e.initiator_task_tag (effect_of protected e).outcome
 
 -- The commands that were accepted are those that were executed, in their order, and then those of
 -- the tasks that there are, unless the session is closed (section 4.2.2.1).
-pub record AreInOrder (r : Stepped) : Type 0 where
+pub record AreInOrder (r : TargetStep) : Type 0 where
   pub more : List Command
   pub order : tasks_in (unit_of r.machine.session) r.accepted ≡ tasks_done r.executed ++ more
-  pub open_ : is_closed r.machine ≡ false
-      → more ≡ tasks_open (unit_of r.machine.session) r.machine.tasks
+  pub open_ : is_machine_closed r.machine ≡ false
+      → more ≡ tasks_open r.machine.tasks
 
 -- ---- tasks in their turn
 
 -- What the first has answered and executed, the second has first.
-pub record BeginsAs (first all : Stepped) : Type 0 where
+pub record BeginsAs (first all : TargetStep) : Type 0 where
   pub answers : List Message
   pub wrote : all.answers ≡ first.answers ++ answers
   pub executed : List Execution
@@ -211,21 +216,22 @@ pub record BeginsAs (first all : Stepped) : Type 0 where
 -- (section 4.2.2.1).
 pub record IsOutside (s : Machine) (m : Message) : Type 0 where
   pub phase : s.session.phase ≡ phases.Full
-  pub kind : is_due_kind s.session.session_type m.head ≡ true
-  pub size : is_too_long s m ≡ false
-  pub number : ℕ
-  pub is_number : cmd_sn_of m.head ≡ Some number
-  pub outside : is_within number s.session.exp_cmd_sn (max_cmd_sn s) ≡ false
+  pub request : InboundRequest
+  pub came : IsRequest request m.head
+  pub may : may_ask s.session.session_type request.asks ≡ true
+  pub size : is_segment_too_long s m ≡ false
+  pub numbered : request.immediate ≡ false
+  pub outside : is_within request.cmd_sn s.session.exp_cmd_sn (max_cmd_sn s) ≡ false
 
 -- ---- pieces joined
 
 -- What was executed, with its bytes as one piece.
 abbrev pub joined_execution : Execution → Execution
-joined_execution e = record e { pieces = with_piece [] 0 (data_of e.pieces) }
+joined_execution e = record e { pieces = with_piece [] 0 (piece_data e.pieces) }
 
 -- What a message does, with the bytes of each write as one piece.
-abbrev pub joined_stepped : Stepped → Stepped
+abbrev pub joined_stepped : TargetStep → TargetStep
 joined_stepped r = record r {
-  machine = joined r.machine;
+  machine = writes_joined r.machine;
   executed = map joined_execution r.executed;
 }

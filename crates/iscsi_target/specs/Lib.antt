@@ -1,6 +1,6 @@
 pub mod Write
+pub mod QueuedRequest
 pub mod Transfer
-pub mod Staged
 pub mod State
 pub mod Queue
 pub mod Execution
@@ -12,9 +12,7 @@ pub mod Sessions
 pub mod Feed
 pub mod Crash
 pub mod Asking
-pub mod Reads
 pub mod Laws
 pub mod Access
-pub mod Inside
-pub mod Arrival
-pub mod Alike
+pub mod Advances
+pub mod inner

@@ -1,6 +1,6 @@
 -- The target machine: what each PDU leads to, over whole messages (RFC 7143, sections 4 to 11).
 --
--- `step` is one message, and `answers` any number of them. What comes of a PDU in full feature phase
+-- `target_step` is one message, and `answers` any number of them. What comes of a PDU in full feature phase
 -- (`full_met`) is apart from the tasks that are done (`done_in_turn`). A login stands in `Login`,
 -- SCSI commands in `Command`, the other requests in `Requests` and `TextRequests`.
 --
@@ -8,15 +8,12 @@
 use Rattle.std.specs.Prelude.{◌≡◌, ◌≤◌, ℕ, zero, suc, Bool, true, false, not, ◌==◌, ◌||◌, ◌&&◌, is_some, nat_lt, if◌then◌else◌, List, [], ◌∷◌, ◌++◌, length, Option, Some, None}
 use Rattle.std.specs.List.{list_any}
 use Rattle.scsi_disk.specs.Disk.{Disk}
-use Rattle.scsi_disk.specs.Effect.{Executes}
-use Rattle.iscsi_pdu.specs.Fields.{reserved_tag}
+use Rattle.scsi_disk.specs.Effect.{OrderExecuted}
 use Rattle.iscsi_pdu.specs.Serial.{next_sn, is_within}
 use Rattle.iscsi_pdu.specs.Rules.{kind_not_due, segment_too_long, data_out_of_order, command_out_of_turn, too_many_immediate}
 use Rattle.iscsi_pdu.specs.declared.head.data_out.DataOut.{DataOut}
 use Rattle.iscsi_pdu.specs.declared.head.task_request.TaskRequest.{TaskRequest}
-use Rattle.iscsi_pdu.specs.declared.head.Head.{Head}
-use Rattle.iscsi_pdu.specs.declared.head.Head.TheVariants as heads
-use Rattle.iscsi_stream.specs.Pieces.{data_of}
+use Rattle.iscsi_stream.specs.Pieces.{piece_data}
 use Rattle.iscsi_stream.specs.Segment.{Segment, Bytes, Text, segment_bytes}
 use Rattle.iscsi_stream.specs.Stream.{Message}
 use Rattle.iscsi_login.specs.declared.phase.Phase.{Phase}
@@ -24,53 +21,42 @@ use Rattle.iscsi_login.specs.declared.phase.Phase.TheVariants as phases
 use Rattle.iscsi_text.specs.declared.negotiated.Session.{Session as SessionType}
 use Rattle.iscsi_login.specs.Held.{first_burst}
 use Rattle.iscsi_login.specs.Stage.{is_closed_phase}
-use Rattle.iscsi_target_session.specs.Session.{Session, Reply, limit}
+use Rattle.iscsi_target_session.specs.Session.{Session, Reply, target_limit}
+use Rattle.iscsi_target_session.specs.Inbound.{inbound}
+use Rattle.iscsi_target_session.specs.declared.inbound.Inbound.{Inbound}
+use Rattle.iscsi_target_session.specs.declared.inbound.Inbound.TheVariants as inbounds
+use Rattle.iscsi_target_session.specs.declared.inbound.InboundRequest.{InboundRequest}
+use Rattle.iscsi_target_session.specs.declared.inbound.Asks.{Asks}
+use Rattle.iscsi_target_session.specs.declared.inbound.Asks.TheVariants as asks
+use Rattle.iscsi_target_session.specs.declared.inbound.SessionRequest.TheVariants as requests
 use Rattle.iscsi_target.specs.Write.{Write}
 use Rattle.iscsi_target.specs.declared.tasks.Task.{Task}
-use Rattle.iscsi_target.specs.declared.tasks.Task.TheVariants.{Request, Data}
-use Rattle.iscsi_target.specs.State.{Machine, Execution, Stepped, on, unchanged, shut_down, unit_of, waiting, max_cmd_sn}
-use Rattle.iscsi_target_session.specs.Rejecting.{reject, reject_and_close}
+use Rattle.iscsi_target.specs.declared.tasks.Task.TheVariants.{Command, Data, Request}
+use Rattle.iscsi_target.specs.State.{Machine, Execution, TargetStep, on, unchanged, shut_down, unit_of, waiting_tasks, max_cmd_sn}
+use Rattle.iscsi_target_session.specs.Rejecting.{message_rejected, reject_and_close}
 use Rattle.iscsi_target_session.specs.LoginText.{is_normal}
-use Rattle.iscsi_target_session.specs.Login.{login_step}
-use Rattle.iscsi_target.specs.Transfer.{taken}
-use Rattle.iscsi_target.specs.Execution.{Device, reliable, device_next, device_after}
-use Rattle.iscsi_target_session.specs.Requests.{nop_out, task_request, request_answered}
-use Rattle.iscsi_target.specs.Command.{scsi_command, proceed, task_of, breaks_rules}
-
--- ---- requests
-
--- The kinds of PDU that may come in a session (section 4.2.4; which come in a discovery session,
--- and that the others close it, is own rule).
-abbrev pub is_due_kind : SessionType → Head → Bool
-is_due_kind session (heads.NopOut h) = true
-is_due_kind session (heads.TextRequest h) = true
-is_due_kind session (heads.LogoutRequest h) = true
-is_due_kind session (heads.ScsiCommand h) = is_normal session
-is_due_kind session (heads.DataOut h) = is_normal session
-is_due_kind session (heads.TaskRequest h) = is_normal session
-is_due_kind session _ = false
-
--- A request that is the first task, with those behind it (section 4.2.4).
-abbrev pub handled : Device → Machine → Disk → Message → Head → Stepped
-handled device s disk m (heads.ScsiCommand h) =
-    scsi_command device s disk m h (segment_bytes m.segment)
-handled device s disk m head =
-    on disk s.tasks (request_answered s.session (waiting s.tasks) m head)
+use Rattle.iscsi_target_session.specs.Login.{target_login_step}
+use Rattle.iscsi_target.specs.Transfer.{data_out_taken}
+use Rattle.iscsi_target.specs.Execution.{Device, reliable, device_next, device_after, execute}
+use Rattle.iscsi_target_session.specs.Requests.{on_nop_out, on_task_request, request_answered}
+use Rattle.iscsi_target.specs.Command.{Presented, presented, proceed, task_of, breaks_rules}
 
 -- ---- tasks in their turn
 
 -- The first task, with those behind it (section 4.2.2.1).
-abbrev pub begun : Device → Machine → Disk → Task → Stepped
-begun device s disk (Request m) = handled device s disk m m.head
-begun device s disk (Data w) = proceed device s disk w
+abbrev pub task_begun : Device → Machine → Disk → Task → TargetStep
+task_begun device s disk (Command tag order) = execute device s disk tag order []
+task_begun device s disk (Data w) = proceed device s disk w
+task_begun device s disk (Request kept) =
+    on disk s.tasks (request_answered s.session (waiting_tasks s.tasks) kept.message kept.request)
 
 -- With these behind it the task stays the first: a write whose data are not all there.
-abbrev pub stays : List Task → Stepped → Bool
+abbrev pub stays : List Task → TargetStep → Bool
 stays more r = nat_lt (length more) (length r.machine.tasks)
 
 -- The session is over.
-abbrev pub is_closed : Machine → Bool
-is_closed s = is_closed_phase s.session.phase
+abbrev pub is_machine_closed : Machine → Bool
+is_machine_closed s = is_closed_phase s.session.phase
 
 -- There is a task.
 abbrev pub is_busy : List Task → Bool
@@ -83,7 +69,7 @@ first_rule None later = later
 first_rule (Some rule) later = Some rule
 
 -- What came first, and what came then.
-abbrev pub then_stepped : Stepped → Stepped → Stepped
+abbrev pub then_stepped : TargetStep → TargetStep → TargetStep
 then_stepped first later = record {
   machine = later.machine;
   disk = later.disk;
@@ -93,26 +79,21 @@ then_stepped first later = record {
   executed = first.executed ++ later.executed;
 }
 
--- Tasks in their order, up to a write whose data are not all there, or to the end of the session
--- (section 4.2.2.1; own rule).
-unfoldable pub done_in_turn : Device → Session → Disk → List Task → Stepped
-done_in_turn device s disk [] = unchanged (record { session = s; tasks = [] }) disk
-done_in_turn device s disk (task ∷ more) =
-    let r : Stepped = begun device (record { session = s; tasks = more }) disk task in
-    if not (is_busy more) || (stays more r || is_closed r.machine) then r
-    else then_stepped r
-    (done_in_turn (device_after r.executed device) r.machine.session r.disk more)
-
--- N tasks in their order, as far as they are done.
-unfoldable pub done_first : ℕ → Device → Session → Disk → List Task → Stepped
+-- So many of the tasks in their order, as far as they are done.
+unfoldable pub done_first : ℕ → Device → Session → Disk → List Task → TargetStep
 done_first zero device s disk tasks =
     unchanged (record { session = s; tasks = tasks }) disk
 done_first (suc k) device s disk [] = unchanged (record { session = s; tasks = [] }) disk
 done_first (suc k) device s disk (task ∷ more) =
-    let r : Stepped = begun device (record { session = s; tasks = more }) disk task in
-    if stays more r || is_closed r.machine then r
+    let r : TargetStep = task_begun device (record { session = s; tasks = more }) disk task in
+    if stays more r || is_machine_closed r.machine then r
     else then_stepped r
     (done_first k (device_after r.executed device) r.machine.session r.disk more)
+
+-- Tasks in their order, up to a write whose data are not all there, or to the end of the session
+-- (section 4.2.2.1; own rule).
+abbrev pub done_in_turn : Device → Session → Disk → List Task → TargetStep
+done_in_turn device s disk tasks = done_first (length tasks) device s disk tasks
 
 -- ---- what comes of a PDU
 
@@ -138,29 +119,24 @@ accepting m next = record { accepted = m ∷ []; next = next }
 
 -- The PDU broke the rule.
 abbrev pub broken : Machine → ℕ → Message → Next
-broken s rule m = Answered (reject_and_close s.session (waiting s.tasks) rule m)
+broken s rule m = Answered (reject_and_close s.session (waiting_tasks s.tasks) rule m)
 
 -- ---- a Data-Out
-
--- The task is a write with this tag (section 11.7).
-abbrev pub is_write_with : ℕ → Task → Bool
-is_write_with tag (Request m) = false
-is_write_with tag (Data w) = w.initiator_task_tag == tag
 
 -- The write of a task with this tag, if there is one (section 11.7).
 abbrev pub write_of : List Task → ℕ → Option Write
 write_of [] tag = None
-write_of (Request m ∷ more) tag = write_of more tag
 write_of (Data w ∷ more) tag =
     if w.initiator_task_tag == tag then Some w else write_of more tag
+write_of (task ∷ more) tag = write_of more tag
 
 -- The tasks with this write in place of the one with its tag.
 abbrev pub with_write : Write → List Task → List Task
 with_write v [] = []
-with_write v (Request m ∷ more) = Request m ∷ with_write v more
 with_write v (Data w ∷ more) =
     if w.initiator_task_tag == v.initiator_task_tag then Data v ∷ more
     else Data w ∷ with_write v more
+with_write v (task ∷ more) = task ∷ with_write v more
 
 -- The write with the Data-Out, or none where that wasn't due (section 11.7).
 abbrev pub data_taken : Machine → Message → Option Write → Next
@@ -171,28 +147,20 @@ data_taken s m (Some v) = Queued s.session (with_write v s.tasks)
 -- rule).
 abbrev pub data_for : Machine → Message → DataOut → List ℕ → Option Write → Next
 data_for s m h bytes None = Dropped
-data_for s m h bytes (Some w) = data_taken s m (taken (first_burst s.session.held) w h bytes)
+data_for s m h bytes (Some w) =
+    data_taken s m (data_out_taken (first_burst s.session.held) w h bytes)
 
 -- A Data-Out (section 11.7).
-abbrev pub data_out : Machine → Message → DataOut → List ℕ → Next
-data_out s m h bytes = data_for s m h bytes (write_of s.tasks h.initiator_task_tag)
+abbrev pub on_data_out : Machine → Message → DataOut → List ℕ → Next
+on_data_out s m h bytes = data_for s m h bytes (write_of s.tasks h.initiator_task_tag)
 
 -- ---- a request
 
--- The tag of a request; a ping may have none (sections 11.2.1.8 and 11.18).
-abbrev pub tag_of : Head → Option ℕ
-tag_of (heads.NopOut h) =
-    if h.initiator_task_tag == reserved_tag then None else Some h.initiator_task_tag
-tag_of (heads.ScsiCommand h) = Some h.initiator_task_tag
-tag_of (heads.TaskRequest h) = Some h.initiator_task_tag
-tag_of (heads.TextRequest h) = Some h.initiator_task_tag
-tag_of (heads.LogoutRequest h) = Some h.initiator_task_tag
-tag_of _ = None
-
--- The tag of a task (section 11.2.1.8).
+-- The tag of a task; a ping may have none (sections 11.2.1.8 and 11.18).
 abbrev pub task_tag : Task → Option ℕ
-task_tag (Request m) = tag_of m.head
+task_tag (Command tag order) = Some tag
 task_tag (Data w) = Some w.initiator_task_tag
+task_tag (Request kept) = kept.initiator_task_tag
 
 -- Both are there, and alike.
 abbrev pub is_same_tag : Option ℕ → Option ℕ → Bool
@@ -205,12 +173,12 @@ is_tag_of tasks tag = list_any (λ task. is_same_tag (task_tag task) tag) tasks
 
 -- A request that was accepted becomes the last task if its tag is no task's and it keeps the rules
 -- of the first burst (sections 11.2.1.8 and 13.14). The order of these two checks is own rule.
-abbrev pub admitted : Machine → ℕ → Message → Next
-admitted s count m =
-    if is_tag_of s.tasks (tag_of m.head) then broken s kind_not_due m
-    else if breaks_rules s.session.held (length (segment_bytes m.segment)) m.head
-    then broken s data_out_of_order m
-    else Queued s.session (s.tasks ++ task_of (unit_of s.session) count m ∷ [])
+abbrev pub admitted : Machine → Presented → Next
+admitted s p =
+    if is_tag_of s.tasks p.request.initiator_task_tag then broken s kind_not_due p.message
+    else if breaks_rules s.session.held (length (segment_bytes p.message.segment)) p.request.asks
+    then broken s data_out_of_order p.message
+    else Queued s.session (s.tasks ++ task_of (unit_of s.session) p ∷ [])
 
 -- ---- an immediate request
 
@@ -222,31 +190,31 @@ is_meant tasks h =
 
 -- There is no room for it (section 4.2.2.1).
 abbrev pub no_room : Machine → Message → Reply
-no_room s m = reject s.session (waiting s.tasks) too_many_immediate m
+no_room s m = message_rejected s.session (waiting_tasks s.tasks) too_many_immediate m
 
 -- There is room for a ping and for task management alone (section 4.2.2.1).
-abbrev pub answered_beside : Machine → Message → Head → Reply
-answered_beside s m (heads.NopOut h) =
-    nop_out s.session (waiting s.tasks) h (segment_bytes m.segment)
-answered_beside s m (heads.TaskRequest h) =
-    task_request s.session (waiting s.tasks) (is_meant s.tasks h) h
+abbrev pub answered_beside : Machine → Message → Asks → Reply
+answered_beside s m (asks.Session (requests.Ping h)) =
+    on_nop_out s.session (waiting_tasks s.tasks) h (segment_bytes m.segment)
+answered_beside s m (asks.Session (requests.Task h)) =
+    on_task_request s.session (waiting_tasks s.tasks) (is_meant s.tasks h) h
 answered_beside s m _ = no_room s m
 
 -- There is room beside the tasks where the disk tells more than the profile has, for a tag that is no
 -- task's (section 4.2.2.1; how much room there is, is own rule).
-abbrev pub has_room : Machine → Head → Bool
-has_room s head =
-    is_some (unit_of s.session) && not (is_tag_of s.tasks (tag_of head))
+abbrev pub has_task_room : Machine → Option ℕ → Bool
+has_task_room s tag = is_some (unit_of s.session) && not (is_tag_of s.tasks tag)
 
 -- An immediate request while there is a task is answered beside it, or rejected (section 4.2.2.1).
-abbrev pub beside : Machine → Message → Reply
-beside s m = if has_room s m.head then answered_beside s m m.head else no_room s m
+abbrev pub beside : Machine → Message → InboundRequest → Reply
+beside s m r =
+    if has_task_room s r.initiator_task_tag then answered_beside s m r.asks else no_room s m
 
 -- An immediate request takes no CmdSN; while there is a task it becomes none (section 4.2.2.1).
-abbrev pub immediate : Machine → ℕ → Message → Met
-immediate s count m =
-    if is_busy s.tasks then plainly (Answered (beside s m))
-    else accepting m (admitted s count m)
+abbrev pub immediate_request : Machine → Presented → Met
+immediate_request s p =
+    if is_busy s.tasks then plainly (Answered (beside s p.message p.request))
+    else accepting p.message (admitted s p)
 
 -- The CmdSN that was due is taken (section 4.2.2.1).
 abbrev pub advanced : Machine → Machine
@@ -256,116 +224,126 @@ advanced s = record s {
 
 -- A request outside the window is dropped; one inside it has the CmdSN that is due (section
 -- 4.2.2.1; that another one is a fault is own rule).
-abbrev pub in_turn : Machine → ℕ → Message → ℕ → Met
-in_turn s count m cmd_sn =
-    if not (is_within cmd_sn s.session.exp_cmd_sn (max_cmd_sn s)) then plainly Dropped
-    else if not (cmd_sn == s.session.exp_cmd_sn) then plainly (broken s command_out_of_turn m)
-    else accepting m (admitted (advanced s) count m)
-
--- A request that is immediate or has this CmdSN (section 11.2.1.1).
-abbrev pub request : Machine → ℕ → Message → Bool → ℕ → Met
-request s count m is_immediate cmd_sn =
-    if is_immediate then immediate s count m else in_turn s count m cmd_sn
+abbrev pub request_in_turn : Machine → Presented → Met
+request_in_turn s p =
+    if not (is_within p.request.cmd_sn s.session.exp_cmd_sn (max_cmd_sn s)) then plainly Dropped
+    else if not (p.request.cmd_sn == s.session.exp_cmd_sn)
+    then plainly (broken s command_out_of_turn p.message)
+    else accepting p.message (admitted (advanced s) p)
 
 -- ---- full feature phase
 
--- A PDU that is due, by its kind; a Data-Out has no CmdSN (section 4.2.2.1).
-abbrev pub due_met : Machine → ℕ → Message → Head → Met
-due_met s count m (heads.DataOut h) = plainly (data_out s m h (segment_bytes m.segment))
-due_met s count m (heads.NopOut h) = request s count m h.immediate h.cmd_sn
-due_met s count m (heads.TaskRequest h) = request s count m h.immediate h.cmd_sn
-due_met s count m (heads.TextRequest h) = request s count m h.immediate h.cmd_sn
-due_met s count m (heads.LogoutRequest h) = request s count m h.immediate h.cmd_sn
-due_met s count m (heads.ScsiCommand h) = request s count m h.immediate h.cmd_sn
-due_met s count m _ = plainly (broken s kind_not_due m)
+-- A session of discovery takes no command and no task management (section 4.2.4; own rule).
+abbrev pub may_ask : SessionType → Asks → Bool
+may_ask session (asks.Command h) = is_normal session
+may_ask session (asks.Session (requests.Task h)) = is_normal session
+may_ask session (asks.Session _) = true
+
+-- Nor does it take data (section 4.2.4; own rule).
+abbrev pub may_come : SessionType → Inbound → Bool
+may_come session (inbounds.Request r) = may_ask session r.asks
+may_come session (inbounds.Data h) = is_normal session
+
+-- What may come; a Data-Out has no CmdSN (section 4.2.2.1).
+abbrev pub due_met : Machine → ℕ → Message → Inbound → Met
+due_met s count m (inbounds.Data h) = plainly (on_data_out s m h (segment_bytes m.segment))
+due_met s count m (inbounds.Request r) =
+    if r.immediate then immediate_request s (presented count m r)
+    else request_in_turn s (presented count m r)
 
 -- The segment has more bytes than the target takes (section 13.12).
-abbrev pub is_too_long : Machine → Message → Bool
-is_too_long s m = nat_lt s.session.held.target_max_recv (length (segment_bytes m.segment))
+abbrev pub is_segment_too_long : Machine → Message → Bool
+is_segment_too_long s m = nat_lt s.session.held.target_max_recv (length (segment_bytes m.segment))
 
--- A PDU in full feature phase: its kind is judged before its length, and that before its CmdSN
--- (section 4.2.4; the order is own rule).
+-- A PDU by what it is to a target: that it may come is judged before its length, and that before its
+-- CmdSN (section 4.2.4; the order is own rule).
+abbrev pub inbound_met : Machine → ℕ → Message → Option Inbound → Met
+inbound_met s count m None = plainly (broken s kind_not_due m)
+inbound_met s count m (Some pdu) =
+    if not (may_come s.session.session_type pdu) then plainly (broken s kind_not_due m)
+    else if is_segment_too_long s m then plainly (broken s segment_too_long m)
+    else due_met s count m pdu
+
+-- A PDU in full feature phase (section 4.2.4).
 abbrev pub full_met : Machine → ℕ → Message → Met
-full_met s count m =
-    if not (is_due_kind s.session.session_type m.head) then plainly (broken s kind_not_due m)
-    else if is_too_long s m then plainly (broken s segment_too_long m)
-    else due_met s count m m.head
+full_met s count m = inbound_met s count m (inbound m.head)
 
 -- What comes of it, over a store that does so with orders.
-abbrev pub followed : Device → Machine → Disk → Next → Stepped
-followed device s disk Dropped = unchanged s disk
-followed device s disk (Answered r) = on disk s.tasks r
-followed device s disk (Queued session tasks) = done_in_turn device session disk tasks
+abbrev pub next_step : Device → Machine → Disk → Next → TargetStep
+next_step device s disk Dropped = unchanged s disk
+next_step device s disk (Answered r) = on disk s.tasks r
+next_step device s disk (Queued session tasks) = done_in_turn device session disk tasks
 
 -- These requests were accepted (section 4.2.2.1).
-abbrev pub having_accepted : List Message → Stepped → Stepped
+abbrev pub having_accepted : List Message → TargetStep → TargetStep
 having_accepted ms r = record r { accepted = ms }
 
 -- A PDU in full feature phase, over a store that does so with orders (section 4.2.4).
-abbrev pub full_step : Device → Machine → Disk → Message → Stepped
-full_step device s disk m =
+abbrev pub target_full_step : Device → Machine → Disk → Message → TargetStep
+target_full_step device s disk m =
     having_accepted (full_met s disk.count m).accepted
-    (followed device s disk (full_met s disk.count m).next)
+    (next_step device s disk (full_met s disk.count m).next)
 
 -- ---- one message
 
 -- A segment is longer than the framer takes.
 abbrev pub is_over_limit : Machine → Segment → Bool
-is_over_limit s (Bytes bytes) = nat_lt (limit s.session.settings) (length bytes)
+is_over_limit s (Bytes bytes) = nat_lt (target_limit s.session.settings) (length bytes)
 is_over_limit s (Text pairs) = false
 
 -- A message, by the phase; a closed session answers nothing (sections 4.2.3 and 4.2.4).
-abbrev pub phase_step : Device → Phase → Machine → Disk → Message → Stepped
-phase_step device phases.Login s disk m = on disk s.tasks (login_step s.session m)
-phase_step device phases.Full s disk m = full_step device s disk m
+abbrev pub phase_step : Device → Phase → Machine → Disk → Message → TargetStep
+phase_step device phases.Login s disk m = on disk s.tasks (target_login_step s.session m)
+phase_step device phases.Full s disk m = target_full_step device s disk m
 phase_step device phases.Closed s disk m = unchanged s disk
 
 -- One message, over a store that does so with orders; one over the limit closes the session (own
 -- rule).
-abbrev pub step_on : Device → Machine → Disk → Message → Stepped
+abbrev pub step_on : Device → Machine → Disk → Message → TargetStep
 step_on device s disk m =
-    if is_closed s then unchanged s disk
+    if is_machine_closed s then unchanged s disk
     else if is_over_limit s m.segment then shut_down s disk
     else phase_step device s.session.phase s disk m
 
 -- One message, over a store that doesn't fail.
-abbrev pub step : Bool → Machine → Disk → Message → Stepped
-step protected s disk m = step_on (reliable protected) s disk m
+abbrev pub target_step : Bool → Machine → Disk → Message → TargetStep
+target_step protected s disk m = step_on (reliable protected) s disk m
 
 -- ---- messages one after another
 
 -- Any messages, over a store that doesn't fail.
-unfoldable pub answers : Bool → Machine → Disk → List Message → Stepped
+unfoldable pub answers : Bool → Machine → Disk → List Message → TargetStep
 answers protected s disk [] = unchanged s disk
 answers protected s disk (m ∷ ms) =
-    then_stepped (step protected s disk m) (answers protected (step protected s disk m).machine
-    (step protected s disk m).disk ms)
+    then_stepped (target_step protected s disk m)
+    (answers protected (target_step protected s disk m).machine
+    (target_step protected s disk m).disk ms)
 
 -- ---- a store that may fail
 
 -- The orders were executed one after another, from one count of the store's failures to another.
 -- Each execution did what the order does if the count stayed, and failed if the count rose.
-abbrev pub RunsIn : Bool → Device → ℕ → List Execution → ℕ → Type 0
-RunsIn protected device before [] after = after ≡ before
-RunsIn protected device before (e ∷ es) after =
+abbrev pub ExecutionsRun : Bool → Device → ℕ → List Execution → ℕ → Type 0
+ExecutionsRun protected device before [] after = after ≡ before
+ExecutionsRun protected device before (e ∷ es) after =
     (now : ℕ)
-    × Executes protected before now e.disk e.order (data_of e.pieces)
-    (device 0 e.disk e.order (data_of e.pieces))
-    × RunsIn protected (device_next device) now es after
+    × OrderExecuted protected before now e.disk e.order (piece_data e.pieces)
+    (device 0 e.disk e.order (piece_data e.pieces))
+    × ExecutionsRun protected (device_next device) now es after
 
 -- One message, over a store that may fail, whose failures were counted before and behind it.
 pub record MayStep (protected : Bool) (s : Machine) (disk : Disk) (before : ℕ)
-    (m : Message) (r : Stepped)
+    (m : Message) (r : TargetStep)
     (after : ℕ) : Type 0 where
   pub device : Device
   pub is : r ≡ step_on device s disk m
-  pub runs : RunsIn protected device before r.executed after
+  pub runs : ExecutionsRun protected device before r.executed after
 
 -- One message at which memory ran out, over a store that may fail. Some of the tasks were done, in
 -- their order, and the one at which memory ran out changed nothing. No task before that one ended the
 -- session, as a broken rule and a logout do.
 pub record MayStop (protected : Bool) (s : Machine) (disk : Disk) (before : ℕ)
-    (m : Message) (r : Stepped)
+    (m : Message) (r : TargetStep)
     (after : ℕ) : Type 0 where
   pub full : s.session.phase ≡ phases.Full
   pub session : Session
@@ -374,16 +352,17 @@ pub record MayStop (protected : Bool) (s : Machine) (disk : Disk) (before : ℕ)
   pub done : ℕ
   pub device : Device
   pub is : r ≡ done_first done device session disk tasks
-  pub live : is_closed r.machine ≡ false
+  pub live : is_machine_closed r.machine ≡ false
   -- the failures that were counted behind the last of them
   pub failures : ℕ
-  pub runs : RunsIn protected device before r.executed failures
+  pub runs : ExecutionsRun protected device before r.executed failures
   pub rises : failures ≤ after
 
 -- Any messages, over a store that may fail.
-unfoldable pub MayAnswer : Bool → Machine → Disk → ℕ → List Message → Stepped → ℕ → Type 0
+unfoldable pub MayAnswer : Bool → Machine → Disk → ℕ → List Message → TargetStep → ℕ → Type 0
 MayAnswer protected s disk before [] r after = (r ≡ unchanged s disk) × (after ≡ before)
 MayAnswer protected s disk before (m ∷ ms) r after =
-    (first : Stepped) × (later : Stepped) × (now : ℕ) × MayStep protected s disk before m first now
+    (first : TargetStep) × (later : TargetStep) × (now : ℕ)
+    × MayStep protected s disk before m first now
     × MayAnswer protected first.machine first.disk now ms later after
     × (r ≡ then_stepped first later)

@@ -6,14 +6,14 @@ use Rattle.iscsi_pdu.specs.Serial.{distance}
 use Rattle.iscsi_target.specs.declared.due.Due.{Due}
 use Rattle.iscsi_target.specs.declared.due.Due.TheVariants.{Solicited}
 use Rattle.iscsi_target.specs.declared.tasks.Task.{Task}
-use Rattle.iscsi_target.specs.declared.tasks.Task.TheVariants.{Request, Data}
-use Rattle.iscsi_target.specs.State.{takes_place, waiting}
-use Rattle.iscsi_target.specs.Transfer.{is_whole, is_idle}
+use Rattle.iscsi_target.specs.declared.tasks.Task.TheVariants.{Data}
+use Rattle.iscsi_target.specs.State.{takes_place, waiting_tasks}
+use Rattle.iscsi_target.specs.Transfer.{is_whole_write, is_nothing_due}
 
 -- The tasks behind the first.
-abbrev pub behind : List Task → List Task
-behind [] = []
-behind (task ∷ more) = more
+abbrev pub tasks_behind : List Task → List Task
+tasks_behind [] = []
+tasks_behind (task ∷ more) = more
 
 -- Each of these takes a place of the window (section 4.2.2.1).
 abbrev pub TakePlaces : List Task → Type 0
@@ -22,8 +22,8 @@ TakePlaces tasks = AllByRecursion (λ task. takes_place task ≡ true) tasks
 -- The first task is a write that waits for data.
 abbrev pub IsPending : List Task → Type 0
 IsPending [] = Unit {0}
-IsPending (Request m ∷ more) = ⊥
-IsPending (Data w ∷ more) = (is_whole w ≡ false) × (is_idle w.due ≡ false)
+IsPending (Data w ∷ more) = (is_whole_write w ≡ false) × (is_nothing_due w.due ≡ false)
+IsPending (task ∷ more) = ⊥
 
 -- No R2T was sent for what is due (section 11.8).
 abbrev pub is_unasked : Due → Bool
@@ -32,16 +32,16 @@ is_unasked _ = true
 
 -- No R2T was sent for the task (section 11.8).
 abbrev pub IsUnasked : Task → Type 0
-IsUnasked (Request m) = Unit {0}
 IsUnasked (Data w) = is_unasked w.due ≡ true
+IsUnasked _ = Unit {0}
 
 -- At most eight take a place of the window, and the first alone may be one that takes none. The first
 -- is a write that waits for data, and no R2T was sent for one behind it (sections 4.2.2.1 and 11.8).
 pub record IsQueue (tasks : List Task) : Type 0 where
-  pub few : waiting tasks ≤ 8
-  pub places : TakePlaces (behind tasks)
+  pub few : waiting_tasks tasks ≤ 8
+  pub places : TakePlaces (tasks_behind tasks)
   pub pending : IsPending tasks
-  pub unasked : AllByRecursion IsUnasked (behind tasks)
+  pub unasked : AllByRecursion IsUnasked (tasks_behind tasks)
 
 -- The second number is not before the first, round the circle of 2^32 (section 4.2.2.1).
 abbrev pub IsNotBefore : ℕ → ℕ → Type 0

@@ -7,23 +7,22 @@ use Rattle.scsi_unit.specs.LogicalUnit.{LogicalUnit}
 use Rattle.iscsi_stream.specs.Pieces.{Pieces}
 use Rattle.iscsi_stream.specs.Stream.{Message}
 use Rattle.iscsi_login.specs.Stage.{is_closed_phase}
-use Rattle.iscsi_target_session.specs.Configured.{Settings}
-use Rattle.iscsi_target_session.specs.Session.{Session, Reply, opening_session, ended, max_cmd_sn_with}
+use Rattle.iscsi_target_session.specs.Configured.{TargetSettings}
+use Rattle.iscsi_target_session.specs.Session.{Session, Reply, opening_session, ended_session, max_cmd_sn_with}
 use Rattle.iscsi_target.specs.Transfer.{joined_write}
 use Rattle.iscsi_target.specs.declared.tasks.Task.{Task}
-use Rattle.iscsi_target.specs.declared.tasks.Task.TheVariants.{Request, Data}
-use Rattle.iscsi_target_session.specs.Rejecting.{reject_and_close}
+use Rattle.iscsi_target.specs.declared.tasks.Task.TheVariants.{Command, Data, Request}
 
 -- ---- tasks
 
--- The task takes a place of the window; an immediate command takes none (section 4.2.2.1).
+-- The task takes a place of the window; an immediate write that waits takes none (section 4.2.2.1).
 abbrev pub takes_place : Task → Bool
-takes_place (Request m) = true
 takes_place (Data w) = not w.immediate
+takes_place _ = true
 
 -- How many tasks take a place of the window (section 4.2.2.1).
-abbrev pub waiting : List Task → ℕ
-waiting tasks = length (filter takes_place tasks)
+abbrev pub waiting_tasks : List Task → ℕ
+waiting_tasks tasks = length (filter takes_place tasks)
 
 -- ---- the machine
 
@@ -33,14 +32,14 @@ pub record Machine : Type 0 where
   pub tasks : List Task
 
 -- Nothing came (section 6.3).
-abbrev pub opening : Settings → ℕ → Machine
-opening settings first_stat_sn =
+abbrev pub opening_machine : TargetSettings → ℕ → Machine
+opening_machine settings first_stat_sn =
     record { session = opening_session settings first_stat_sn; tasks = [] }
 
 -- The session is over: what was gathered and the CmdSN that was due are dropped, and so are the
 -- tasks.
-abbrev pub closed : Machine → Machine
-closed s = record { session = ended s.session; tasks = [] }
+abbrev pub closed_machine : Machine → Machine
+closed_machine s = record { session = ended_session s.session; tasks = [] }
 
 -- What the disk of a session tells of itself, where it tells more than the profile has.
 abbrev pub unit_of : Session → Option LogicalUnit
@@ -48,16 +47,17 @@ unit_of session = session.settings.extras.unit
 
 -- MaxCmdSN: the window, less the tasks that take a place of it (section 4.2.2.1).
 abbrev pub max_cmd_sn : Machine → ℕ
-max_cmd_sn s = max_cmd_sn_with s.session (waiting s.tasks)
+max_cmd_sn s = max_cmd_sn_with s.session (waiting_tasks s.tasks)
 
 -- The task with the bytes of its write as one piece.
 abbrev pub joined_task : Task → Task
-joined_task (Request m) = Request m
+joined_task (Command tag order) = Command tag order
 joined_task (Data w) = Data (joined_write w)
+joined_task (Request kept) = Request kept
 
 -- The session with the bytes of each of its writes as one piece.
-abbrev pub joined : Machine → Machine
-joined s = record s { tasks = map joined_task s.tasks }
+abbrev pub writes_joined : Machine → Machine
+writes_joined s = record s { tasks = map joined_task s.tasks }
 
 -- ---- what a message does
 
@@ -72,7 +72,7 @@ pub record Execution : Type 0 where
 
 -- What any message does. The last two fields have what laws speak of: the requests that were
 -- accepted, and the orders that were executed.
-pub record Stepped : Type 0 where
+pub record TargetStep : Type 0 where
   pub machine : Machine
   pub disk : Disk
   pub answers : List Message
@@ -85,7 +85,7 @@ abbrev pub left : Session → List Task → List Task
 left session tasks = if is_closed_phase session.phase then [] else tasks
 
 -- What a session replied, beside the disk and the tasks.
-abbrev pub on : Disk → List Task → Reply → Stepped
+abbrev pub on : Disk → List Task → Reply → TargetStep
 on disk tasks r = record {
   machine = record { session = r.session; tasks = left r.session tasks };
   disk = disk;
@@ -96,7 +96,7 @@ on disk tasks r = record {
 }
 
 -- Nothing is answered, and nothing changes.
-abbrev pub unchanged : Machine → Disk → Stepped
+abbrev pub unchanged : Machine → Disk → TargetStep
 unchanged s disk = record {
   machine = s;
   disk = disk;
@@ -107,11 +107,5 @@ unchanged s disk = record {
 }
 
 -- The session is closed without an answer.
-abbrev pub shut_down : Machine → Disk → Stepped
-shut_down s disk = unchanged (closed s) disk
-
--- ---- a broken rule
-
--- The PDU broke the rule: it is rejected, and the session is closed.
-abbrev pub breaks : Machine → Disk → ℕ → Message → Stepped
-breaks s disk rule m = on disk s.tasks (reject_and_close s.session (waiting s.tasks) rule m)
+abbrev pub shut_down : Machine → Disk → TargetStep
+shut_down s disk = unchanged (closed_machine s) disk

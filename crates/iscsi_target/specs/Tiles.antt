@@ -16,13 +16,13 @@ use Rattle.iscsi_login.specs.Held.{Held, first_burst, max_burst}
 use Rattle.iscsi_target.specs.Write.{Write}
 use Rattle.iscsi_target.specs.declared.tasks.Task.{Task}
 use Rattle.iscsi_target.specs.declared.tasks.Task.TheVariants.{Data}
-use Rattle.iscsi_target.specs.State.{Machine, Execution, Stepped}
+use Rattle.iscsi_target.specs.State.{Machine, Execution, TargetStep}
 use Rattle.iscsi_target.specs.Execution.{effect_of}
-use Rattle.iscsi_stream.specs.Pieces.{Pieces, data_of, TilesFrom, data_pieces}
+use Rattle.iscsi_stream.specs.Pieces.{Pieces, piece_data, TilesFrom, data_pieces}
 use Rattle.iscsi_target.specs.declared.due.Due.{Due}
 use Rattle.iscsi_target.specs.declared.due.Due.TheVariants.{Solicited}
-use Rattle.iscsi_target.specs.Transfer.{taken}
-use Rattle.iscsi_target.specs.Machine.{write_of, step}
+use Rattle.iscsi_target.specs.Transfer.{data_out_taken}
+use Rattle.iscsi_target.specs.Machine.{write_of, target_step}
 
 -- ---- pieces tile a transfer
 
@@ -33,7 +33,7 @@ Tiles pieces n = TilesFrom 0 pieces n
 
 -- Pieces that tile these bytes (section 11.7.5).
 abbrev pub TileBytes : Pieces → List ℕ → Type 0
-TileBytes pieces bytes = Tiles pieces (length bytes) × (data_of pieces ≡ bytes)
+TileBytes pieces bytes = Tiles pieces (length bytes) × (piece_data pieces ≡ bytes)
 
 -- The tag of a Data-In (section 11.7).
 abbrev pub data_in_tag : Head → List ℕ
@@ -64,7 +64,7 @@ GiveTiles given answers (e ∷ es) =
 
 -- The Data-In of what a message made the target execute have its tag, and tile what it gave, one
 -- execution after another; others there are none (section 11.7).
-abbrev pub TilesDataIn : Bool → Stepped → Type 0
+abbrev pub TilesDataIn : Bool → TargetStep → Type 0
 TilesDataIn protected r = GiveTiles (bytes_given protected) r.answers r.executed
 
 -- The pieces of the data of an order tile what it takes, by its plan (section 11.7).
@@ -106,7 +106,7 @@ ends_r2t _ _ = 0
 abbrev pub data_answers : ℕ → DataOut → List ℕ → Option Write → ℕ
 data_answers first_burst h bytes None = 0
 data_answers first_burst h bytes (Some w) =
-    if is_some (taken first_burst w h bytes) then ends_r2t w.due h.is_final else 0
+    if is_some (data_out_taken first_burst w h bytes) then ends_r2t w.due h.is_final else 0
 
 -- How many R2Ts a PDU answers (section 11.8).
 abbrev pub pdu_answers : Machine → Message → Head → ℕ
@@ -119,5 +119,5 @@ pdu_answers s m _ = 0
 unfoldable pub r2ts_answered : Bool → Machine → Disk → List Message → ℕ
 r2ts_answered protected s disk [] = 0
 r2ts_answered protected s disk (m ∷ ms) =
-    pdu_answers s m m.head + r2ts_answered protected (step protected s disk m).machine
-    (step protected s disk m).disk ms
+    pdu_answers s m m.head + r2ts_answered protected (target_step protected s disk m).machine
+    (target_step protected s disk m).disk ms

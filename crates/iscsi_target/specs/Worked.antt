@@ -15,10 +15,10 @@ use Rattle.iscsi_text.specs.declared.negotiated.Session.TheVariants as session_t
 use Rattle.iscsi_login.specs.declared.stage.Stage.TheVariants as stages
 use Rattle.iscsi_text.specs.declared.negotiated.Answered.TheVariants as answered
 use Rattle.iscsi_login.specs.Held.{Held}
-use Rattle.iscsi_login.specs.Negotiation.{standard}
-use Rattle.iscsi_target_session.specs.Configured.{Settings, no_extras}
+use Rattle.iscsi_login.specs.Negotiation.{standard_preferences}
+use Rattle.iscsi_target_session.specs.Configured.{TargetSettings, no_extras}
 use Rattle.iscsi_access.specs.declared.verdict.Progress.TheVariants as progress
-use Rattle.iscsi_target.specs.State.{Machine, opening}
+use Rattle.iscsi_target.specs.State.{Machine, opening_machine}
 use Rattle.iscsi_target.specs.Machine.{answers}
 
 -- ---- bytes
@@ -83,23 +83,9 @@ segment continued h bytes = record {
 abbrev pub says : LoginRequest → List ℕ → Message
 says h text = segment false h text
 
--- a ping with a tag
-abbrev pub ping : ℕ → Message
-ping tag = record {
-  head = heads.NopOut (record {
-    immediate = true;
-    lun = None;
-    initiator_task_tag = tag;
-    target_transfer_tag = 0xffff_ffff;
-    cmd_sn = 1;
-    exp_stat_sn = 3;
-  });
-  segment = Bytes (codes "abc");
-}
-
 -- a SCSI Command with tag 1 and CmdSN 1: the bits F, R and W, the expected length, the block
-abbrev pub command : Bool → Bool → Bool → ℕ → Cdb → ScsiCommand
-command is_final read write expected cdb = record {
+abbrev pub worked_command : Bool → Bool → Bool → ℕ → Cdb → ScsiCommand
+worked_command is_final read write expected cdb = record {
   immediate = false;
   is_final = is_final;
   read = read;
@@ -118,8 +104,8 @@ abbrev pub orders : ScsiCommand → List ℕ → Message
 orders h bytes = record { head = heads.ScsiCommand h; segment = Bytes bytes }
 
 -- a Data-Out that an R2T asked for, the last of its sequence: its tag, DataSN, offset and bytes
-abbrev pub sends : ℕ → ℕ → ℕ → List ℕ → Message
-sends tag data_sn offset bytes = record {
+abbrev pub worked_data_out : ℕ → ℕ → ℕ → List ℕ → Message
+worked_data_out tag data_sn offset bytes = record {
   head = heads.DataOut (record {
     is_final = true;
     lun = Some 0;
@@ -127,21 +113,6 @@ sends tag data_sn offset bytes = record {
     target_transfer_tag = tag;
     exp_stat_sn = 3;
     data_sn = data_sn;
-    buffer_offset = offset;
-  });
-  segment = Bytes bytes;
-}
-
--- the one unsolicited Data-Out of a command: its offset and bytes
-abbrev pub volunteers : ℕ → List ℕ → Message
-volunteers offset bytes = record {
-  head = heads.DataOut (record {
-    is_final = true;
-    lun = None;
-    initiator_task_tag = 1;
-    target_transfer_tag = 0xffff_ffff;
-    exp_stat_sn = 3;
-    data_sn = 0;
     buffer_offset = offset;
   });
   segment = Bytes bytes;
@@ -173,23 +144,18 @@ second_text =
 -- ---- sessions
 
 -- what the target is configured with
-abbrev pub settings : Settings
+abbrev pub settings : TargetSettings
 settings = record {
   name = codes "iqn.2026-01.example:disk";
   group = 1;
   tsih = 1;
-  preferences = standard;
+  preferences = standard_preferences;
   extras = no_extras;
 }
 
 -- before the first request
 abbrev pub fresh : Machine
-fresh = opening settings 1
-
--- the same, where initiators are told a portal
-abbrev pub told : Machine
-told = opening
-    (record settings { extras = record no_extras { portal = Some (codes "192.0.2.7:3260") } }) 1
+fresh = opening_machine settings 1
 
 -- 2,048 blocks of 00
 abbrev pub blank : Disk
@@ -240,12 +206,7 @@ logged_in = record {
 
 -- The messages have these bytes in their canonical form, and are answered by those; this rule is
 -- broken, if one is.
-abbrev pub Row : Machine → List Message → List ℕ → List ℕ → Option ℕ → Type 0
-Row s ms input output rule =
+abbrev pub WorkedRow : Machine → List Message → List ℕ → List ℕ → Option ℕ → Type 0
+WorkedRow s ms input output rule =
     (canon ms ≡ input) × (canon (answers false s blank ms).answers ≡ output)
     × ((answers false s blank ms).rule ≡ rule)
-
--- The messages are answered by these bytes; this rule is broken, if one is.
-abbrev pub Answered : Machine → List Message → List ℕ → Option ℕ → Type 0
-Answered s ms output rule =
-    (canon (answers false s blank ms).answers ≡ output) × ((answers false s blank ms).rule ≡ rule)

@@ -2,12 +2,12 @@
 
 ghost use Rattle.std.specs.Prelude.{◌≡◌, ◌↔◌, [], ℕ, List, map, IfOk};
 ghost use Rattle.scsi_disk.specs.Disk.{Disk};
-ghost use Rattle.iscsi_stream.specs.Stream.{Message, Splits, StreamMeans, longest_segment};
-ghost use Rattle.iscsi_login.specs.Negotiation.{IsInRange};
-ghost use Rattle.iscsi_target_session.specs.Session.{limit};
-ghost use Rattle.iscsi_target.specs.Feed.{FedAll, Refuses, opening_connection, scene, stream_of};
-ghost use Rattle.iscsi_target.specs.Alike.{ran_out};
-ghost use Rattle.iscsi_target.specs.Inside.{store_of};
+ghost use Rattle.iscsi_stream.specs.Stream.{Message, SplitsStream, StreamMeans, longest_segment};
+ghost use Rattle.iscsi_login.specs.Negotiation.{ArePreferencesInRange};
+ghost use Rattle.iscsi_target_session.specs.Session.{target_limit};
+ghost use Rattle.iscsi_target.specs.Feed.{FeedsAllPieces, RefusesHeader, opening_target, scene, stream_of};
+ghost use Rattle.iscsi_target.specs.inner.Alike.{ran_out};
+ghost use Rattle.iscsi_target.specs.Advances.{store_of};
 
 use crate::fault::TargetFault;
 use crate::target::Target;
@@ -34,9 +34,9 @@ pub fn answer_pieces<S: BlockStore>(
     pieces: &[Vec<u8>],
     store: &mut S,
 ) -> Result<Answered, TargetFault>
-    ensures in_range { IsInRange config.preferences }
+    ensures in_range { ArePreferencesInRange config.preferences }
     ensures fed { IfOk result (λ now. S.failures store.new ≡ S.failures store.old
-        → FedAll S.protected (scene (opening_connection config first_statsn)
+        → FeedsAllPieces S.protected (scene (opening_target config first_statsn)
         (store_of (S.disk store.old) (S.failures store.old)) [])
         (map (λ piece. piece.items) pieces.now)
         (scene now.target (store_of (S.disk store.new) (S.failures store.new)) now.output.items)) }
@@ -69,13 +69,13 @@ pub fn answers_alike<S: BlockStore>(
     requires disk { S.disk other.old ≡ S.disk store.old }
     // Each target was fed its own stream.
     ensures first { IfOk result (λ both. S.failures store.new ≡ S.failures store.old
-        → FedAll S.protected (scene (opening_connection configs.0 first_statsn)
+        → FeedsAllPieces S.protected (scene (opening_target configs.0 first_statsn)
         (store_of (S.disk store.old) (S.failures store.old)) [])
         (map (λ piece. piece.items) streams.entry.0.now)
         (scene both.0.target (store_of (S.disk store.new) (S.failures store.new))
         both.0.output.items)) }
     ensures second { IfOk result (λ both. S.failures other.new ≡ S.failures other.old
-        → FedAll S.protected (scene (opening_connection configs.1 first_statsn)
+        → FeedsAllPieces S.protected (scene (opening_target configs.1 first_statsn)
         (store_of (S.disk other.old) (S.failures other.old)) [])
         (map (λ piece. piece.items) streams.entry.1.now)
         (scene both.1.target (store_of (S.disk other.new) (S.failures other.new))
@@ -92,9 +92,11 @@ pub fn answers_alike<S: BlockStore>(
     ensures front { IfOk result (λ both. (ms : List Message) (given first_rest same second_rest : List ℕ)
         → S.failures store.new ≡ S.failures store.old
         → S.failures other.new ≡ S.failures other.old
-        → Splits longest_segment (stream_of (map (λ piece. piece.items) streams.entry.0.now)) ms
+        → SplitsStream longest_segment (stream_of (map (λ piece. piece.items) streams.entry.0.now))
+        ms
         given first_rest
-        → Splits longest_segment (stream_of (map (λ piece. piece.items) streams.entry.1.now)) ms
+        → SplitsStream longest_segment (stream_of (map (λ piece. piece.items) streams.entry.1.now))
+        ms
         same second_rest
         → (both.1.output.items ≡ both.0.output.items)
         × (S.disk other.new ≡ S.disk store.new)
@@ -104,11 +106,14 @@ pub fn answers_alike<S: BlockStore>(
     ensures phase { IfOk result (λ both. (ms : List Message) (given first_rest same second_rest : List ℕ)
         → S.failures store.new ≡ S.failures store.old
         → S.failures other.new ≡ S.failures other.old
-        → Splits longest_segment (stream_of (map (λ piece. piece.items) streams.entry.0.now)) ms
+        → SplitsStream longest_segment (stream_of (map (λ piece. piece.items) streams.entry.0.now))
+        ms
         given first_rest
-        → Splits longest_segment (stream_of (map (λ piece. piece.items) streams.entry.1.now)) ms
+        → SplitsStream longest_segment (stream_of (map (λ piece. piece.items) streams.entry.1.now))
+        ms
         same second_rest
-        → (Refuses (limit configs.0) first_rest ↔ Refuses (limit configs.0) second_rest)
+        → (RefusesHeader (target_limit configs.0) first_rest ↔ RefusesHeader
+        (target_limit configs.0) second_rest)
         → both.1.target.machine.session.phase ≡ both.0.target.machine.session.phase) }
 {
     let first = answer_pieces(alloc, configs.0, first_statsn, streams.0, store)?;

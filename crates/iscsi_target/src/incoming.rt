@@ -1,10 +1,10 @@
 //! A write that takes the segment of a Data-Out as it comes (RFC 7143, section 11.7).
 
 ghost use Rattle.std.specs.Prelude.{◌≡◌, ◌↔◌, ◌<◌, ◌≤◌, ◌+◌, ℕ, [], true, length, IsTrue};
-ghost use Rattle.iscsi_stream.specs.Gathering.{filling, FillsBody};
+ghost use Rattle.iscsi_stream.specs.inner.Gathering.{filling, FillsBody};
 ghost use Rattle.iscsi_target.specs.Asking.{asks_task};
-ghost use Rattle.iscsi_target.specs.Transfer.{received, is_in_sequence, with_data, joined_write};
-ghost use Rattle.iscsi_target.specs.Arrival.{IsDue, IsThere};
+ghost use Rattle.iscsi_target.specs.Transfer.{bytes_received, is_in_sequence, with_data, joined_write};
+ghost use Rattle.iscsi_target.specs.inner.Arrival.{IsDataOutDue, IsSegmentThere};
 ghost use Rattle.iscsi_target.specs.declared.tasks.Task.TheVariants.{Data};
 
 use crate::due::Due;
@@ -29,7 +29,7 @@ pub struct Incoming {
     head: DataOut,
     len: u32,
     // The bytes of the write, and behind the first `start` of them those of the segment.
-    data: Vec<u8>,
+    bytes: Vec<u8>,
     start: usize,
     padded: u32,
 }
@@ -38,8 +38,8 @@ impl Model for Incoming {
     ghost use Rattle.std.specs.Prelude.{[], take, drop};
     ghost use Rattle.std.specs.Vec.{vec_capacity};
     ghost use Rattle.iscsi_target.specs.Transfer.{with_piece};
-    ghost use Rattle.iscsi_target.specs.Staged.{IsStaged};
-    ghost use Rattle.iscsi_target.specs.Arrival.{Arrival, IsFilling};
+    ghost use Rattle.iscsi_target.specs.inner.Staged.{IsStaged};
+    ghost use Rattle.iscsi_target.specs.inner.Arrival.{Arrival, IsFilling};
 
     ghost Value = { Arrival };
 
@@ -50,25 +50,25 @@ impl Model for Incoming {
         immediate = i.immediate;
         order = i.order;
         total = i.total;
-        pieces = with_piece [] 0 (take i.start i.data.items);
+        pieces = with_piece [] 0 (take i.start i.bytes.items);
         due = i.due;
         r2t_count = i.r2t_count;
       };
       head = i.head;
       len = i.len;
-      segment = drop i.start i.data.items;
+      segment = drop i.start i.bytes.items;
       padded = i.padded;
     } };
 
-    ghost invariant = { λ i. IsStaged i.order i.found i.total (take i.start i.data.items) i.due i.r2t_count
-        × IsFilling i.total i.start i.len i.data.items i.padded (vec_capacity i.data) };
+    ghost invariant = { λ i. IsStaged i.order i.found i.total (take i.start i.bytes.items) i.due i.r2t_count
+        × IsFilling i.total i.start i.len i.bytes.items i.padded (vec_capacity i.bytes) };
 }
 
 impl Incoming {
     /// Nothing came of a Data-Out with `n` bytes for this write, which stood at this place.
     pub fn new(place: usize, write: OpenWrite, head: DataOut, len: u32) -> Incoming
         requires due { (first_burst : ℕ) × (is_in_sequence first_burst write head
-            (received write + len) write.due ≡ true) }
+            (bytes_received write + len) write.due ≡ true) }
         ensures place { result.place ≡ place }
         ensures write { result.write ≡ write }
         ensures head { result.head ≡ head }
@@ -88,7 +88,7 @@ impl Incoming {
             r2t_count: write.r2t_count,
             head,
             len,
-            data: write.data,
+            bytes: write.data,
             start,
             padded: 0,
         }
@@ -113,9 +113,9 @@ impl Incoming {
         ensures head { self.new.head ≡ self.old.head }
         ensures len { self.new.len ≡ self.old.len }
     {
-        let missing = self.start + self.len as usize - self.data.len();
+        let missing = self.start + self.len as usize - self.bytes.len();
         let taken = piece.len().min(missing);
-        let Ok(()) = self.data.extend_from_slice(&piece[..taken]) else {
+        let Ok(()) = self.bytes.extend_from_slice(&piece[..taken]) else {
             unreachable!()
         };
         let more = (piece.len() - taken).min((pad(self.len) - self.padded) as usize);
@@ -125,9 +125,9 @@ impl Incoming {
 
     /// Whether the whole segment came, and its padding.
     pub fn is_there(&self) -> bool
-        ensures { IsTrue result ↔ IsThere self.now }
+        ensures { IsTrue result ↔ IsSegmentThere self.now }
     {
-        self.data.len() - self.start >= self.len as usize && self.padded >= pad(self.len)
+        self.bytes.len() - self.start >= self.len as usize && self.padded >= pad(self.len)
     }
 
     /// Whether the command of the write asks that what was written lasts before it is answered.
@@ -139,8 +139,8 @@ impl Incoming {
 
     /// The place of the write, and the write with the Data-Out.
     pub fn into_write(self) -> (usize, OpenWrite)
-        requires there { IsThere self }
-        requires due { (first_burst : ℕ) × IsDue first_burst self }
+        requires there { IsSegmentThere self }
+        requires due { (first_burst : ℕ) × IsDataOutDue first_burst self }
         ensures place { result.0 ≡ self.place }
         ensures write { result.1 ≡ joined_write (with_data self.write self.head self.segment) }
     {
@@ -150,7 +150,7 @@ impl Incoming {
             order: self.order,
             found: self.found,
             total: self.total,
-            data: self.data,
+            data: self.bytes,
             due: due_after(self.due, &self.head),
             r2t_count: self.r2t_count,
         };

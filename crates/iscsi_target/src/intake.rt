@@ -2,16 +2,18 @@
 //! are taken.
 
 ghost use Rattle.std.specs.Prelude.{◌≡◌, ◌⊎◌, [], List, ℕ, Option, Some, None, false, true, IfOk, IfErr, IfSome, IfNone, OnOk, OnErr, IsTrue};
-ghost use Rattle.iscsi_stream.specs.Framing.{Takes, is_ready, stopped, FinishFails};
+ghost use Rattle.iscsi_stream.specs.Framing.{FramerTakes, is_ready, stopped, FinishFails};
 ghost use Rattle.iscsi_stream.specs.Headers.{TakesHeader};
-ghost use Rattle.iscsi_target_session.specs.Session.{limit};
-ghost use Rattle.iscsi_target.specs.State.{closed, joined};
-ghost use Rattle.iscsi_target.specs.Machine.{is_closed};
+ghost use Rattle.iscsi_target_session.specs.Session.{target_limit};
+ghost use Rattle.iscsi_target.specs.State.{closed_machine, writes_joined};
+ghost use Rattle.iscsi_target.specs.Machine.{is_machine_closed};
 ghost use Rattle.iscsi_target.specs.Feed.{scene};
-ghost use Rattle.iscsi_target.specs.Asking.{NoneReadyAsks, SomeReadyAsks, has_cache};
-ghost use Rattle.iscsi_target.specs.Crash.{CrashesReady};
-ghost use Rattle.iscsi_target.specs.Arrival.{Arrives, IsThere, connected};
-ghost use Rattle.iscsi_target.specs.Inside.{connection, store_of, target_fault, AnswersReady, IsAnswered, ShutsReady, RestFails};
+ghost use Rattle.iscsi_target.specs.Asking.{SomeReadyAsks, has_cache};
+ghost use Rattle.iscsi_target.specs.inner.Asking.{NoneReadyAsks};
+ghost use Rattle.iscsi_target.specs.inner.Crash.{CrashesReady};
+ghost use Rattle.iscsi_target.specs.inner.Arrival.{ArrivesForWrite, IsSegmentThere, connected};
+ghost use Rattle.iscsi_target.specs.Advances.{store_of};
+ghost use Rattle.iscsi_target.specs.inner.Inside.{target_connection, target_stream_fault, AnswersReady, IsAnswered, TargetShutsReady, TargetRestFails};
 
 use crate::fault::TargetFault;
 use crate::incoming::Incoming;
@@ -35,10 +37,10 @@ pub struct Intake {
 }
 
 impl Model for Intake {
-    ghost use Rattle.iscsi_target.specs.Feed.{Connection};
-    ghost use Rattle.iscsi_target.specs.Arrival.{MayArrive, connected};
+    ghost use Rattle.iscsi_target.specs.Feed.{TargetConnection};
+    ghost use Rattle.iscsi_target.specs.inner.Arrival.{MayArrive, connected};
 
-    ghost Value = { Connection };
+    ghost Value = { TargetConnection };
 
     ghost view = { λ t. connected t.machine t.framer t.incoming };
 
@@ -48,7 +50,7 @@ impl Model for Intake {
 impl Intake {
     /// A session and its stream, of which no Data-Out is begun.
     pub fn new(machine: Machine, framer: Framer) -> Intake
-        ensures { result ≡ connection machine framer }
+        ensures { result ≡ target_connection machine framer }
     {
         Intake {
             machine,
@@ -68,7 +70,7 @@ impl Intake {
     pub fn phase(&self) -> Phase
         ensures phase { result ≡ self.now.machine.session.phase }
         // The bytes of each write stand as one piece.
-        ensures joined { joined self.now.machine ≡ self.now.machine }
+        ensures joined { writes_joined self.now.machine ≡ self.now.machine }
     {
         match &self.incoming {
             Some(incoming) => {
@@ -82,17 +84,17 @@ impl Intake {
 
     /// Whether the session is over.
     pub fn is_closed(&self) -> bool
-        ensures { result ≡ is_closed self.now.machine }
+        ensures { result ≡ is_machine_closed self.now.machine }
     {
         self.machine.is_closed()
     }
 
     /// Takes bytes up to the end of a PDU. A fault closes the session.
     pub fn take_bytes(&mut self, piece: &[u8]) -> Result<usize, TargetFault>
-        ensures ok { IfOk result (λ n. Takes self.old.framing piece.now n self.new.framing) }
+        ensures ok { IfOk result (λ n. FramerTakes self.old.framing piece.now n self.new.framing) }
         ensures kept { OnOk result (self.new.machine ≡ self.old.machine) }
-        ensures err { IfErr result (RestFails self.old.framing piece.now) }
-        ensures shut { OnErr result (self.new.machine ≡ closed self.old.machine) }
+        ensures err { IfErr result (TargetRestFails self.old.framing piece.now) }
+        ensures shut { OnErr result (self.new.machine ≡ closed_machine self.old.machine) }
         ensures stopped { OnErr result (self.new.framing ≡ stopped self.old.framing) }
     {
         if let Some(incoming) = &mut self.incoming {
@@ -132,12 +134,12 @@ impl Intake {
         store: &mut S,
         out: &mut Vec<u8>,
     ) -> Result<Option<u8>, AllocError>
-        requires limit { self.old.framing.limit ≡ limit self.old.machine.session.settings }
-        requires live { is_closed self.old.machine ≡ false }
+        requires limit { self.old.framing.limit ≡ target_limit self.old.machine.session.settings }
+        requires live { is_machine_closed self.old.machine ≡ false }
         ensures ok { IfOk result (λ rule. AnswersReady S.protected (scene self.old
             (store_of (S.disk store.old) (S.failures store.old)) out.old.items) rule (scene self.new
             (store_of (S.disk store.new) (S.failures store.new)) out.new.items)) }
-        ensures err { OnErr result (ShutsReady S.protected (scene self.old
+        ensures err { OnErr result (TargetShutsReady S.protected (scene self.old
             (store_of (S.disk store.old) (S.failures store.old)) out.old.items) (scene self.new
             (store_of (S.disk store.new) (S.failures store.new)) out.new.items)) }
         ensures crash { CrashesReady S.protected self.old (S.disk store.old)
@@ -161,7 +163,7 @@ impl Intake {
         ensures ok { OnOk result (self.old.framing.held ≡ []) }
         ensures kept { OnOk result (self.new ≡ self.old) }
         ensures err { IfErr result (FinishFails self.old.framing) }
-        ensures shut { OnErr result (self.new.machine ≡ closed self.old.machine) }
+        ensures shut { OnErr result (self.new.machine ≡ closed_machine self.old.machine) }
         ensures stopped { OnErr result (self.new.framing ≡ stopped self.old.framing) }
     {
         match self.framer.finish() {
@@ -183,8 +185,8 @@ fn take_header(
 ) -> Result<usize, TargetFault>
     ensures ok { IfOk result (λ n. TakesHeader framer.old piece.now n framer.new) }
     ensures kept { OnOk result (machine.new ≡ machine.old) }
-    ensures err { IfErr result (RestFails framer.old piece.now) }
-    ensures shut { OnErr result (machine.new ≡ closed machine.old) }
+    ensures err { IfErr result (TargetRestFails framer.old piece.now) }
+    ensures shut { OnErr result (machine.new ≡ closed_machine machine.old) }
     ensures stopped { OnErr result (framer.new ≡ stopped framer.old) }
 {
     match framer.feed_header(piece) {
@@ -198,10 +200,10 @@ fn take_header(
 
 // Takes bytes up to the end of a PDU. A fault closes the session.
 fn take_rest(machine: &mut Machine, framer: &mut Framer, piece: &[u8]) -> Result<usize, TargetFault>
-    ensures ok { IfOk result (λ n. Takes framer.old piece.now n framer.new) }
+    ensures ok { IfOk result (λ n. FramerTakes framer.old piece.now n framer.new) }
     ensures kept { OnOk result (machine.new ≡ machine.old) }
-    ensures err { IfErr result (RestFails framer.old piece.now) }
-    ensures shut { OnErr result (machine.new ≡ closed machine.old) }
+    ensures err { IfErr result (TargetRestFails framer.old piece.now) }
+    ensures shut { OnErr result (machine.new ≡ closed_machine machine.old) }
     ensures stopped { OnErr result (framer.new ≡ stopped framer.old) }
 {
     match framer.feed(piece) {
@@ -215,7 +217,7 @@ fn take_rest(machine: &mut Machine, framer: &mut Framer, piece: &[u8]) -> Result
 
 // A stream's `NoMemory` is the target's own.
 fn stream_fault(fault: StreamFault) -> TargetFault
-    ensures { result ≡ target_fault fault }
+    ensures { result ≡ target_stream_fault fault }
 {
     match fault {
         StreamFault::NoMemory => TargetFault::NoMemory,
@@ -227,9 +229,9 @@ fn stream_fault(fault: StreamFault) -> TargetFault
 // due, with a segment.
 fn expect_data(machine: &mut Machine, framer: &Framer) -> Option<Incoming>
     ensures none { IfNone result (machine.new ≡ machine.old) }
-    ensures arrives { IfSome result (Arrives machine.new framer.now) }
+    ensures arrives { IfSome result (ArrivesForWrite machine.new framer.now) }
     ensures same { IfSome result (λ a. connected machine.new framer.now (Some a)
-        ≡ connection machine.old framer.now) }
+        ≡ target_connection machine.old framer.now) }
 {
     let (head, len) = framer.begun()?;
     let Head::DataOut(head) = head else {
@@ -261,7 +263,7 @@ fn note_framed(machine: &Machine, framer: &Framer, asks: &mut bool)
 
 // The same of a Data-Out that a write takes.
 fn note_arrived(machine: &Machine, framer: &Framer, incoming: &Incoming, asks: &mut bool)
-    requires arrives { Arrives machine.now framer.now incoming.now }
+    requires arrives { ArrivesForWrite machine.now framer.now incoming.now }
     ensures noted { has_cache machine.now ≡ true → asks.new ≡ false → asks.old ≡ false }
     ensures none { let c = connected machine.now framer.now (Some incoming.now) in
         has_cache machine.now ≡ true → asks.new ≡ false → NoneReadyAsks c.machine c.framing }
@@ -285,18 +287,20 @@ fn answer_framed<S: BlockStore>(
     store: &mut S,
     out: &mut Vec<u8>,
 ) -> Result<Option<u8>, AllocError>
-    requires limit { framer.old.limit ≡ limit machine.old.session.settings }
-    requires live { is_closed machine.old ≡ false }
+    requires limit { framer.old.limit ≡ target_limit machine.old.session.settings }
+    requires live { is_machine_closed machine.old ≡ false }
     ensures ok { IfOk result (λ rule. AnswersReady S.protected
-        (scene (connection machine.old framer.old)
+        (scene (target_connection machine.old framer.old)
         (store_of (S.disk store.old) (S.failures store.old)) out.old.items) rule
-        (scene (connection machine.new framer.new)
+        (scene (target_connection machine.new framer.new)
         (store_of (S.disk store.new) (S.failures store.new)) out.new.items)) }
-    ensures err { OnErr result (ShutsReady S.protected (scene (connection machine.old framer.old)
+    ensures err { OnErr result (TargetShutsReady S.protected
+        (scene (target_connection machine.old framer.old)
         (store_of (S.disk store.old) (S.failures store.old)) out.old.items)
-        (scene (connection machine.new framer.new)
+        (scene (target_connection machine.new framer.new)
         (store_of (S.disk store.new) (S.failures store.new)) out.new.items)) }
-    ensures crash { CrashesReady S.protected (connection machine.old framer.old) (S.disk store.old)
+    ensures crash { CrashesReady S.protected (target_connection machine.old framer.old)
+        (S.disk store.old)
         (S.disk store.new) (S.kept store.old) (S.kept store.new) }
 {
     let Some(pdu) = framer.pdu() else {
@@ -328,18 +332,18 @@ fn answer_arrived<S: BlockStore>(
     store: &mut S,
     out: &mut Vec<u8>,
 ) -> Result<Option<u8>, AllocError>
-    requires arrives { Arrives machine.old framer.old incoming }
-    requires there { IsThere incoming }
-    requires limit { framer.old.limit ≡ limit machine.old.session.settings }
+    requires arrives { ArrivesForWrite machine.old framer.old incoming }
+    requires there { IsSegmentThere incoming }
+    requires limit { framer.old.limit ≡ target_limit machine.old.session.settings }
     ensures ok { IfOk result (λ rule. IsAnswered S.protected
         (scene (connected machine.old framer.old (Some incoming))
         (store_of (S.disk store.old) (S.failures store.old)) out.old.items) rule
-        (scene (connection machine.new framer.new)
+        (scene (target_connection machine.new framer.new)
         (store_of (S.disk store.new) (S.failures store.new)) out.new.items)) }
-    ensures err { OnErr result (ShutsReady S.protected
+    ensures err { OnErr result (TargetShutsReady S.protected
         (scene (connected machine.old framer.old (Some incoming))
         (store_of (S.disk store.old) (S.failures store.old)) out.old.items)
-        (scene (connection machine.new framer.new)
+        (scene (target_connection machine.new framer.new)
         (store_of (S.disk store.new) (S.failures store.new)) out.new.items)) }
     ensures crash { CrashesReady S.protected (connected machine.old framer.old (Some incoming))
         (S.disk store.old) (S.disk store.new) (S.kept store.old) (S.kept store.new) }

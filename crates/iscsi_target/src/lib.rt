@@ -1,19 +1,19 @@
 //! A target's session: its login, and its full feature phase (RFC 7143).
 #![tactic(auto)]
 
+mod admission;
 mod alike;
 mod due;
 mod fault;
 mod incoming;
 mod intake;
-mod kept;
 pub mod laws;
 mod machine;
 mod open_write;
+mod queued_request;
 mod scsi_response;
 mod target;
 mod tasks;
-mod verdict;
 
 // (`Due` and `Status` stand in definitions that proofs above take apart: an open write, and why a
 // login is refused)

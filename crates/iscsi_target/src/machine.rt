@@ -2,19 +2,19 @@
 
 ghost use Rattle.std.specs.Prelude.{◌≡◌, ◌<◌, ◌^◌, ◌≤◌, None, Some, length};
 ghost use Rattle.scsi_disk.specs.Disk.{Disk};
-ghost use Rattle.iscsi_target.specs.State.{opening, max_cmd_sn, closed, left, on, waiting};
-ghost use Rattle.iscsi_target_session.specs.Session.{counted};
-ghost use Rattle.iscsi_target.specs.State.{joined};
-ghost use Rattle.iscsi_target_session.specs.Rejecting.{reject};
-ghost use Rattle.iscsi_target.specs.State.{breaks};
-ghost use Rattle.iscsi_target.specs.Machine.{is_closed};
-ghost use Rattle.iscsi_target.specs.Asking.{asks_at, has_cache};
-ghost use Rattle.iscsi_target.specs.Inside.{Leaves};
+ghost use Rattle.iscsi_target.specs.State.{opening_machine, max_cmd_sn, closed_machine, left, on, waiting_tasks};
+ghost use Rattle.iscsi_target_session.specs.Session.{stat_sn_advanced};
+ghost use Rattle.iscsi_target.specs.State.{writes_joined};
+ghost use Rattle.iscsi_target_session.specs.Rejecting.{message_rejected};
+ghost use Rattle.iscsi_target.specs.inner.State.{breaks};
+ghost use Rattle.iscsi_target.specs.Machine.{is_machine_closed};
+ghost use Rattle.iscsi_target.specs.Asking.{machine_asks, has_cache};
+ghost use Rattle.iscsi_target.specs.inner.Inside.{DisklessPost};
 
 mod arriving;
+mod checks;
 mod data_in;
 mod dispatch;
-mod judging;
 mod reads;
 mod scsi_command;
 mod source;
@@ -46,7 +46,7 @@ impl Model for Machine {
 impl Machine {
     /// Nothing came. It takes no memory.
     pub fn new(alloc: Global, config: Config, first_statsn: u32) -> Machine
-        ensures { result ≡ opening config first_statsn }
+        ensures { result ≡ opening_machine config first_statsn }
     {
         Machine {
             session: Session::new(alloc, config, first_statsn),
@@ -65,7 +65,7 @@ impl Machine {
     pub fn phase(&self) -> Phase
         ensures phase { result ≡ self.now.session.phase }
         // The bytes of each write stand as one piece.
-        ensures joined { joined self.now ≡ self.now }
+        ensures joined { writes_joined self.now ≡ self.now }
     {
         // Opens the invariant.
         let _tasks = self.tasks.len();
@@ -74,7 +74,7 @@ impl Machine {
 
     /// Whether the session is over.
     pub fn is_closed(&self) -> bool
-        ensures { result ≡ is_closed self.now }
+        ensures { result ≡ is_machine_closed self.now }
     {
         self.session.is_closed()
     }
@@ -120,14 +120,14 @@ impl Machine {
     /// Whether a command that may be executed for a PDU of this head asks that what was written lasts
     /// before it is answered: that of the PDU, or of a task.
     pub fn asks(&self, head: &Head) -> bool
-        ensures { result ≡ asks_at self.now head.now }
+        ensures { result ≡ machine_asks self.now head.now }
     {
         self.tasks.asks() || asks_head(head)
     }
 
     // How many tasks take a place of the window.
     fn waiting(&self) -> u32
-        ensures value { result ≡ waiting self.now.tasks }
+        ensures value { result ≡ waiting_tasks self.now.tasks }
         ensures most { result ≤ 9 }
     {
         self.tasks.waiting()
@@ -139,7 +139,7 @@ impl Machine {
         ensures exp_cmd_sn { result.exp_cmd_sn ≡ self.now.session.exp_cmd_sn }
         ensures max_cmd_sn { result.max_cmd_sn ≡ max_cmd_sn self.now }
         ensures fits { self.now.session.exp_cmd_sn < 2 ^ 32 }
-        ensures few { waiting self.now.tasks ≤ 9 }
+        ensures few { waiting_tasks self.now.tasks ≤ 9 }
     {
         self.session.numbers(self.waiting())
     }
@@ -152,23 +152,23 @@ impl Machine {
     }
 
     // An answer was sent that carries StatSN and advances it.
-    fn count(&mut self)
-        ensures { self.new ≡ record self.old { session = counted self.old.session } }
+    fn advance_stat_sn(&mut self)
+        ensures { self.new ≡ record self.old { session = stat_sn_advanced self.old.session } }
     {
-        self.session.count();
+        self.session.advance_stat_sn();
     }
 
     /// Closes the session; what was gathered and the CmdSN that was due are dropped, and so are the
     /// tasks.
     pub fn close(&mut self)
-        ensures { self.new ≡ closed self.old }
+        ensures { self.new ≡ closed_machine self.old }
     {
         self.session.close();
         self.tasks.clear();
     }
 
     // The tasks go with the session.
-    fn settle(&mut self)
+    fn drop_tasks_if_closed(&mut self)
         ensures { self.new ≡ record self.old { tasks = left self.old.session self.old.tasks } }
     {
         if self.session.is_closed() {
@@ -183,13 +183,14 @@ impl Machine {
         received: &Received<'_>,
         out: &mut Vec<u8>,
     ) -> Result<Option<u8>, AllocError>
-        ensures { (disk : Disk) → Leaves (on disk self.old.tasks
-            (reject self.old.session (waiting self.old.tasks) reason received.now)) result
+        ensures { (disk : Disk) → DisklessPost (on disk self.old.tasks
+            (message_rejected self.old.session (waiting_tasks self.old.tasks) reason received.now))
+            result
             self.old self.new out.old.items out.new.items }
     {
         let waiting = self.waiting();
         let result = self.session.reject(waiting, reason, received, out);
-        self.settle();
+        self.drop_tasks_if_closed();
         result
     }
 
@@ -200,12 +201,12 @@ impl Machine {
         received: &Received<'_>,
         out: &mut Vec<u8>,
     ) -> Result<Option<u8>, AllocError>
-        ensures { (disk : Disk) → Leaves (breaks self.old disk rule received.now) result
+        ensures { (disk : Disk) → DisklessPost (breaks self.old disk rule received.now) result
             self.old self.new out.old.items out.new.items }
     {
         let waiting = self.waiting();
         let result = self.session.reject_and_close(waiting, rule, received, out);
-        self.settle();
+        self.drop_tasks_if_closed();
         result
     }
 }

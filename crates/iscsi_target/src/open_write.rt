@@ -1,8 +1,8 @@
 //! The write that is open.
 
 ghost use Rattle.std.specs.Prelude.{◌≡◌, ◌<◌, ◌≤◌, ◌^◌, ◌+◌, ◌-◌, ◌==◌, ◌&&◌, if◌then◌else◌, true, false, length, min, IfOk, OnErr, IsTrue};
-ghost use Rattle.iscsi_target.specs.Staged.{with_r2t_for};
-ghost use Rattle.iscsi_target.specs.Transfer.{received, is_whole, is_idle, is_in_sequence, with_data, joined_write, continued};
+ghost use Rattle.iscsi_target.specs.inner.Staged.{with_r2t_for};
+ghost use Rattle.iscsi_target.specs.Transfer.{bytes_received, is_whole_write, is_nothing_due, is_in_sequence, with_data, joined_write, continued};
 ghost use Rattle.iscsi_target.specs.declared.due.Due.TheVariants.{Nothing};
 
 use crate::due::Due;
@@ -37,7 +37,7 @@ impl Model for OpenWrite {
     ghost use Rattle.std.specs.Vec.{vec_capacity};
     ghost use Rattle.iscsi_target.specs.Write.{Write};
     ghost use Rattle.iscsi_target.specs.Transfer.{with_piece};
-    ghost use Rattle.iscsi_target.specs.Staged.{IsStaged};
+    ghost use Rattle.iscsi_target.specs.inner.Staged.{IsStaged};
 
     ghost Value = { Write };
 
@@ -59,10 +59,10 @@ impl Model for OpenWrite {
 
 impl OpenWrite {
     /// How many bytes came.
-    #[tactic(auto, using(crate::proofs::OpenWriteLemmas::data_of_one))]
+    #[tactic(auto, using(crate::proofs::Writes::OpenWriteLemmas::data_of_one))]
     pub fn received(&self) -> u32
-        ensures value { result ≡ received self.now }
-        ensures fits { received self.now ≤ self.now.total }
+        ensures value { result ≡ bytes_received self.now }
+        ensures fits { bytes_received self.now ≤ self.now.total }
     {
         // Opens the invariant.
         let _total = self.total;
@@ -71,30 +71,30 @@ impl OpenWrite {
 
     /// Whether all bytes came.
     pub fn is_whole(&self) -> bool
-        ensures { result ≡ is_whole self.now }
+        ensures { result ≡ is_whole_write self.now }
     {
         self.total == self.received()
     }
 
     /// Whether nothing is due: an R2T is sent next, or all bytes are there.
     pub fn is_idle(&self) -> bool
-        ensures { result ≡ is_idle self.now.due }
+        ensures { result ≡ is_nothing_due self.now.due }
     {
         matches!(self.due, Due::Nothing)
     }
 
     /// How many bytes the next R2T asks for: a burst, or the rest.
     pub fn desired(&self, burst: u32) -> u32
-        ensures { result ≡ min (self.now.total - received self.now) burst }
+        ensures { result ≡ min (self.now.total - bytes_received self.now) burst }
     {
         (self.total - self.received()).min(burst)
     }
 
     /// An R2T for `n` bytes was sent: its sequence is due.
     pub fn await_sequence(&mut self, desired: u32)
-        requires idle { is_idle self.old.due ≡ true }
+        requires idle { is_nothing_due self.old.due ≡ true }
         requires some { 0 < desired }
-        requires fits { received self.old + desired ≤ self.old.total }
+        requires fits { bytes_received self.old + desired ≤ self.old.total }
         ensures { self.new ≡ with_r2t_for desired self.old }
     {
         self.due = Due::Solicited {
@@ -115,7 +115,7 @@ impl OpenWrite {
     ) -> Result<bool, AllocError>
         requires { length bytes.now < 2 ^ 24 }
         ensures due { IfOk result (λ taken. taken ≡ is_in_sequence first_burst self.old head.now
-            (received self.old + length bytes.now) self.old.due) }
+            (bytes_received self.old + length bytes.now) self.old.due) }
         ensures taken { IfOk result (λ taken. IsTrue taken
             → self.new ≡ joined_write (with_data self.old head.now bytes.now)) }
         ensures refused { IfOk result (λ taken. taken ≡ false → self.new ≡ self.old) }
@@ -132,7 +132,8 @@ impl OpenWrite {
 
     /// Whether a Data-Out with `n` bytes is due; `first_burst` bytes may come unasked.
     pub fn is_due(&self, first_burst: u32, head: &DataOut, len: u32) -> bool
-        ensures { result ≡ is_in_sequence first_burst self.now head.now (received self.now + len)
+        ensures { result ≡ is_in_sequence first_burst self.now head.now
+            (bytes_received self.now + len)
             self.now.due }
     {
         let reached = u64::from(self.received()) + u64::from(len);
@@ -167,7 +168,7 @@ impl OpenWrite {
     // Whether the Data-Out has this number, and goes on where the bytes end.
     fn is_next(&self, head: &DataOut, data_sn: u32) -> bool
         ensures { result ≡ (head.now.data_sn == data_sn
-            && head.now.buffer_offset == received self.now) }
+            && head.now.buffer_offset == bytes_received self.now) }
     {
         head.data_sn == data_sn && head.buffer_offset == self.received()
     }

@@ -1,7 +1,7 @@
 //! SCSI Responses: their head, and the bytes with the sense data (RFC 7143, section 11.4).
 
 ghost use Rattle.std.specs.Prelude.{◌≡◌, ◌≤◌, ◌+◌, ◌++◌, ℕ, OnOk, OnErr, IsOk, vec_len, vec_capacity, Some};
-ghost use Rattle.iscsi_pdu.specs.Meaning.{Fits, whole};
+ghost use Rattle.iscsi_pdu.specs.Meaning.{HeadFits, whole};
 ghost use Rattle.iscsi_target_session.specs.Session.{Session, max_cmd_sn_with};
 ghost use Rattle.iscsi_target.specs.Execution.{response_head, residual_count, sense_segment};
 
@@ -17,7 +17,7 @@ pub fn response_head(numbers: Numbers, tag: u32, outcome: &Outcome, count: u32) 
     ensures head { (s : Session) (waiting : ℕ) → s.stat_sn ≡ numbers.stat_sn
         → s.exp_cmd_sn ≡ numbers.exp_cmd_sn → max_cmd_sn_with s waiting ≡ numbers.max_cmd_sn
         → result ≡ response_head s waiting tag outcome.now count }
-    ensures fits { Fits result }
+    ensures fits { HeadFits result }
 {
     Head::ScsiResponse(ScsiResponse {
         bidirectional_overflow: false,
@@ -52,7 +52,7 @@ pub fn append_response(
     sense: Option<Sense>,
     out: &mut Vec<u8>,
 ) -> Result<(), AllocError>
-    requires { Fits head.now }
+    requires { HeadFits head.now }
     ensures ok { OnOk result
         (out.new.items ≡ out.old.items ++ whole head.now (sense_segment sense)) }
     ensures err { OnErr result (out.new.items ≡ out.old.items) }

@@ -3,15 +3,17 @@
 
 ghost use Rattle.std.specs.Prelude.{◌≡◌, ◌⊎◌, ◌++◌, ℕ, List, false, true, IfOk, IfErr, OnOk, OnErr};
 ghost use Rattle.iscsi_stream.specs.Framing.{is_ready};
-ghost use Rattle.iscsi_target_session.specs.Session.{limit};
-ghost use Rattle.iscsi_target.specs.Machine.{is_closed};
-ghost use Rattle.iscsi_target.specs.Feed.{scene, beginning, opening_connection, Feeds, FeedsNext, Fed, FedNext, Finishes, HasAnswered};
-ghost use Rattle.iscsi_target_session.specs.Configured.{Settings};
+ghost use Rattle.iscsi_target_session.specs.Session.{target_limit};
+ghost use Rattle.iscsi_target.specs.Machine.{is_machine_closed};
+ghost use Rattle.iscsi_target.specs.Feed.{scene, beginning, opening_target, FeedsFirstBytes, FeedNextFails, TargetFeedPost, FeedNextPost, TargetFinishPost, HasAnswered};
+ghost use Rattle.iscsi_target_session.specs.Configured.{TargetSettings};
 ghost use Rattle.scsi_disk.specs.Disk.{Disk};
-ghost use Rattle.scsi_disk.specs.Lasting.{Lasts};
-ghost use Rattle.iscsi_target.specs.Asking.{NoneNextAsks, NotesAsking, SomeNextAsks, has_cache};
+ghost use Rattle.scsi_disk.specs.Lasting.{LastsOnceSynced};
+ghost use Rattle.iscsi_target.specs.Asking.{NotesAsking, SomeNextAsks, has_cache};
+ghost use Rattle.iscsi_target.specs.inner.Asking.{NoneNextAsks};
 ghost use Rattle.iscsi_target.specs.Crash.{CrashesFed, CrashesNext};
-ghost use Rattle.iscsi_target.specs.Inside.{store_of, TakesOne, FailsOne};
+ghost use Rattle.iscsi_target.specs.Advances.{store_of};
+ghost use Rattle.iscsi_target.specs.inner.Inside.{TakesOnePdu, FeedOneFails};
 
 use crate::fault::TargetFault;
 use crate::intake::Intake;
@@ -39,21 +41,22 @@ pub struct Target {
 impl Model for Target {
     ghost use Rattle.std.specs.Prelude.{◌≡◌, false};
     ghost use Rattle.iscsi_stream.specs.Framing.{is_ready};
-    ghost use Rattle.iscsi_target_session.specs.Session.{limit};
-    ghost use Rattle.iscsi_target.specs.Feed.{Connection};
+    ghost use Rattle.iscsi_target_session.specs.Session.{target_limit};
+    ghost use Rattle.iscsi_target.specs.Feed.{TargetConnection};
 
-    ghost Value = { Connection };
+    ghost Value = { TargetConnection };
 
     ghost view = { λ t. t.intake };
 
-    ghost invariant = { λ t. (t.intake.framing.limit ≡ limit t.intake.machine.session.settings)
+    ghost invariant = { λ t. (t.intake.framing.limit
+        ≡ target_limit t.intake.machine.session.settings)
         × (is_ready t.intake.framing ≡ false) };
 }
 
 impl Target {
     /// A session in which nothing came, whose first answer has this StatSN. It takes no memory.
     pub fn new(alloc: Global, config: Config, first_statsn: u32) -> Target
-        ensures opening { result ≡ opening_connection config first_statsn }
+        ensures opening { result ≡ opening_target config first_statsn }
     {
         let limit = config.preferences().max_recv.max(LOGIN_SEGMENT);
         let machine = Machine::new(alloc, config, first_statsn);
@@ -77,13 +80,14 @@ impl Target {
         store: &mut S,
         out: &mut Vec<u8>,
     ) -> Result<Phase, TargetFault>
-        ensures fed { Fed S.protected
+        ensures fed { TargetFeedPost S.protected
             (scene self.old (store_of (S.disk store.old) (S.failures store.old)) out.old.items)
             piece.now result
             (scene self.new (store_of (S.disk store.new) (S.failures store.new)) out.new.items) }
         // Whatever pieces a stream comes in, it has the answers to its PDUs.
-        ensures stream { (settings : Settings) (n : ℕ) (disk : Disk) (stream : List ℕ)
-            → S.failures store.new ≡ S.failures store.old → is_closed self.new.machine ≡ false
+        ensures stream { (settings : TargetSettings) (n : ℕ) (disk : Disk) (stream : List ℕ)
+            → S.failures store.new ≡ S.failures store.old → is_machine_closed self.new.machine
+            ≡ false
             → HasAnswered S.protected (beginning settings n disk) stream self.old (S.disk store.old)
             out.old.items
             → HasAnswered S.protected (beginning settings n disk) (stream ++ piece.now) self.new
@@ -91,7 +95,7 @@ impl Target {
         // Once the store is synced, a crash leaves the blocks that the answered commands led to, and no
         // others.
         ensures lasts { S.failures store.new ≡ 0
-            → Lasts (S.synced store.new) (S.disk store.new) (S.kept store.new) }
+            → LastsOnceSynced (S.synced store.new) (S.disk store.new) (S.kept store.new) }
         // Come what may, a crash leaves each block as before, or as a command of a PDU leaves it.
         ensures crash { CrashesFed S.protected self.old
             (store_of (S.disk store.old) (S.failures store.old))
@@ -114,14 +118,14 @@ impl Target {
         store: &mut S,
         out: &mut Vec<u8>,
     ) -> Result<(usize, Phase), TargetFault>
-        ensures fed { FedNext S.protected
+        ensures fed { FeedNextPost S.protected
             (scene self.old (store_of (S.disk store.old) (S.failures store.old)) out.old.items)
             piece.now result
             (scene self.new (store_of (S.disk store.new) (S.failures store.new)) out.new.items) }
         // Once the store is synced, a crash leaves the blocks that the answered commands led to, and no
         // others.
         ensures lasts { S.failures store.new ≡ 0
-            → Lasts (S.synced store.new) (S.disk store.new) (S.kept store.new) }
+            → LastsOnceSynced (S.synced store.new) (S.disk store.new) (S.kept store.new) }
         // Come what may, a crash leaves each block as before, or as a command of the PDU does.
         ensures crash { CrashesNext S.protected self.old piece.now
             (S.disk store.old) (S.disk store.new)
@@ -145,12 +149,12 @@ impl Target {
         out: &mut Vec<u8>,
         asks: &mut bool,
     ) -> Result<(usize, Phase), TargetFault>
-        ensures fed { FedNext S.protected
+        ensures fed { FeedNextPost S.protected
             (scene self.old (store_of (S.disk store.old) (S.failures store.old)) out.old.items)
             piece.now result
             (scene self.new (store_of (S.disk store.new) (S.failures store.new)) out.new.items) }
         ensures lasts { S.failures store.new ≡ 0
-            → Lasts (S.synced store.new) (S.disk store.new) (S.kept store.new) }
+            → LastsOnceSynced (S.synced store.new) (S.disk store.new) (S.kept store.new) }
         ensures crash { CrashesNext S.protected self.old piece.now
             (S.disk store.old) (S.disk store.new)
             (S.kept store.old) (S.kept store.new) }
@@ -236,7 +240,7 @@ impl Target {
     /// Ends the stream. Returns `Stream` with `Truncated` where it ends within a PDU, which closes
     /// the session, and `Closed` where it was closed before.
     pub fn finish(&mut self) -> Result<(), TargetFault>
-        ensures finishes { Finishes self.old result self.new }
+        ensures finishes { TargetFinishPost self.old result self.new }
     {
         if self.intake.is_closed() {
             return Err(TargetFault::Closed);
@@ -255,14 +259,14 @@ fn feed_all<S: BlockStore>(
     store: &mut S,
     out: &mut Vec<u8>,
 ) -> Result<Phase, TargetFault>
-    requires limit { intake.old.framing.limit ≡ limit intake.old.machine.session.settings }
+    requires limit { intake.old.framing.limit ≡ target_limit intake.old.machine.session.settings }
     requires unready { is_ready intake.old.framing ≡ false }
-    requires live { is_closed intake.old.machine ≡ false }
-    ensures fed { Feeds S.protected (scene intake.old
+    requires live { is_machine_closed intake.old.machine ≡ false }
+    ensures fed { FeedsFirstBytes S.protected (scene intake.old
         (store_of (S.disk store.old) (S.failures store.old)) out.old.items) piece.now result
         (scene intake.new
         (store_of (S.disk store.new) (S.failures store.new)) out.new.items) }
-    ensures limit { intake.new.framing.limit ≡ limit intake.new.machine.session.settings }
+    ensures limit { intake.new.framing.limit ≡ target_limit intake.new.machine.session.settings }
     ensures unready { is_ready intake.new.framing ≡ false }
     ensures crash { CrashesFed S.protected intake.old
         (store_of (S.disk store.old) (S.failures store.old)) piece.now
@@ -292,14 +296,14 @@ fn feed_once<S: BlockStore>(
     out: &mut Vec<u8>,
     asks: &mut bool,
 ) -> Result<(usize, Phase), TargetFault>
-    requires limit { intake.old.framing.limit ≡ limit intake.old.machine.session.settings }
+    requires limit { intake.old.framing.limit ≡ target_limit intake.old.machine.session.settings }
     requires unready { is_ready intake.old.framing ≡ false }
-    requires live { is_closed intake.old.machine ≡ false }
-    ensures fed { FeedsNext S.protected (scene intake.old
+    requires live { is_machine_closed intake.old.machine ≡ false }
+    ensures fed { FeedNextFails S.protected (scene intake.old
         (store_of (S.disk store.old) (S.failures store.old)) out.old.items) piece.now result
         (scene intake.new
         (store_of (S.disk store.new) (S.failures store.new)) out.new.items) }
-    ensures limit { intake.new.framing.limit ≡ limit intake.new.machine.session.settings }
+    ensures limit { intake.new.framing.limit ≡ target_limit intake.new.machine.session.settings }
     ensures unready { is_ready intake.new.framing ≡ false }
     ensures crash { CrashesNext S.protected intake.old
         piece.now (S.disk store.old)
@@ -329,20 +333,20 @@ fn feed_one<S: BlockStore>(
     out: &mut Vec<u8>,
     asks: &mut bool,
 ) -> Result<(usize, Option<u8>), TargetFault>
-    requires limit { intake.old.framing.limit ≡ limit intake.old.machine.session.settings }
+    requires limit { intake.old.framing.limit ≡ target_limit intake.old.machine.session.settings }
     requires unready { is_ready intake.old.framing ≡ false }
-    requires live { is_closed intake.old.machine ≡ false }
-    ensures ok { IfOk result (λ done. TakesOne S.protected
+    requires live { is_machine_closed intake.old.machine ≡ false }
+    ensures ok { IfOk result (λ done. TakesOnePdu S.protected
         (scene intake.old
         (store_of (S.disk store.old) (S.failures store.old)) out.old.items) piece.now done.0 done.1
         (scene intake.new
         (store_of (S.disk store.new) (S.failures store.new)) out.new.items)) }
-    ensures err { IfErr result (λ fault. FailsOne S.protected
+    ensures err { IfErr result (λ fault. FeedOneFails S.protected
         (scene intake.old
         (store_of (S.disk store.old) (S.failures store.old)) out.old.items) piece.now fault
         (scene intake.new
         (store_of (S.disk store.new) (S.failures store.new)) out.new.items)) }
-    ensures limit { intake.new.framing.limit ≡ limit intake.new.machine.session.settings }
+    ensures limit { intake.new.framing.limit ≡ target_limit intake.new.machine.session.settings }
     ensures unready { is_ready intake.new.framing ≡ false }
     ensures crash { CrashesNext S.protected intake.old
         piece.now (S.disk store.old)

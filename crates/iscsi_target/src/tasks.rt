@@ -4,30 +4,39 @@ ghost use Rattle.std.specs.Prelude.{◌≡◌, ◌⊎◌, ◌<◌, ◌≤◌, �
 ghost use Rattle.std.specs.List.{list_any};
 ghost use Rattle.iscsi_target.specs.Asking.{asks_head, asks_task};
 ghost use Rattle.iscsi_target.specs.Write.{Write};
-ghost use Rattle.iscsi_target.specs.State.{takes_place, waiting};
+ghost use Rattle.iscsi_target.specs.State.{takes_place, waiting_tasks};
 ghost use Rattle.iscsi_target.specs.Transfer.{joined_write};
 ghost use Rattle.iscsi_target.specs.State.{joined_task};
-ghost use Rattle.iscsi_target.specs.Machine.{is_tag_of, tag_of, is_write_with, write_of, with_write, task_tag, is_same_tag};
+ghost use Rattle.iscsi_target.specs.Machine.{is_tag_of, write_of, with_write, task_tag, is_same_tag};
+ghost use Rattle.iscsi_target.specs.inner.Machine.{is_write_with};
 ghost use Rattle.iscsi_target.specs.declared.tasks.Task.TheVariants.{Data};
-ghost use Rattle.iscsi_target.specs.Inside.{AreInPlace, IsWriteAt};
+ghost use Rattle.iscsi_target.specs.inner.Inside.{AreInPlace, IsWriteAt};
 ghost use Rattle.iscsi_target.specs.Queue.{TakePlaces};
 
-use crate::kept::Kept;
 use crate::open_write::OpenWrite;
+use crate::queued_request::QueuedRequest;
 use arrayvec::ArrayVec;
-use iscsi_pdu::{Head, RESERVED_TAG};
+use iscsi_pdu::Head;
+use scsi_disk::Order;
 use scsi_unit::asks_to_last;
 use std::alloc::Global;
 use std::default::MadeWith;
 use std::marker::Model;
 
-/// A request that was accepted and is not handled.
+/// A request that was accepted and is not handled, by what is left to do.
 #[derive(Drop)]
 pub enum Task {
-    /// A request whose data, if it has any, came with it.
-    Request(Kept),
+    /// A command that takes no data.
+    Command {
+        /// Its tag.
+        initiator_task_tag: u32,
+        /// What it orders of the disk.
+        order: Order,
+    },
     /// A write, which takes its data as they come.
     Data(OpenWrite),
+    /// A request that is no command.
+    Request(QueuedRequest),
 }
 
 impl Task {
@@ -36,7 +45,7 @@ impl Task {
         ensures { result ≡ takes_place self.now }
     {
         match self {
-            Task::Request(_) => true,
+            Task::Command { .. } | Task::Request(_) => true,
             Task::Data(write) => !write.immediate,
         }
     }
@@ -46,8 +55,12 @@ impl Task {
         ensures { result ≡ is_same_tag (task_tag self.now) (Some tag) }
     {
         match self {
-            Task::Request(kept) => tag_of(kept.head()) == Some(tag),
+            Task::Command {
+                initiator_task_tag,
+                ..
+            } => *initiator_task_tag == tag,
             Task::Data(write) => write.initiator_task_tag == tag,
+            Task::Request(kept) => kept.initiator_task_tag() == Some(tag),
         }
     }
 
@@ -56,8 +69,9 @@ impl Task {
         ensures { result ≡ asks_task self.now }
     {
         match self {
-            Task::Request(kept) => asks_head(kept.head()),
+            Task::Command { order, .. } => asks_to_last(&order.cdb),
             Task::Data(write) => asks_to_last(&write.order.cdb),
+            Task::Request(_) => false,
         }
     }
 
@@ -66,7 +80,7 @@ impl Task {
         ensures { result ≡ is_write_with tag self.now }
     {
         match self {
-            Task::Request(_) => false,
+            Task::Command { .. } | Task::Request(_) => false,
             Task::Data(write) => write.initiator_task_tag == tag,
         }
     }
@@ -74,7 +88,7 @@ impl Task {
 
 impl MadeWith<Global> for Task {
     fn made_with(alloc: Global) -> Task {
-        Task::Request(Kept::blank(alloc))
+        Task::Request(QueuedRequest::blank(alloc))
     }
 }
 
@@ -88,32 +102,6 @@ pub fn asks_head(head: &Head) -> bool
     }
 }
 
-/// The tag of a request; a ping may have none (RFC 7143, sections 11.2.1.8 and 11.18).
-pub fn tag_of(head: &Head) -> Option<u32>
-    ensures { result ≡ tag_of head.now }
-{
-    match head {
-        Head::NopOut(head) if head.initiator_task_tag == RESERVED_TAG => None,
-        Head::NopOut(head) => Some(head.initiator_task_tag),
-        Head::ScsiCommand(head) => Some(head.initiator_task_tag),
-        Head::TaskRequest(head) => Some(head.initiator_task_tag),
-        Head::TextRequest(head) => Some(head.initiator_task_tag),
-        Head::LogoutRequest(head) => Some(head.initiator_task_tag),
-        Head::LoginRequest(_)
-        | Head::DataOut(_)
-        | Head::NopIn(_)
-        | Head::ScsiResponse(_)
-        | Head::TaskResponse(_)
-        | Head::LoginResponse(_)
-        | Head::TextResponse(_)
-        | Head::DataIn(_)
-        | Head::LogoutResponse(_)
-        | Head::ReadyToTransfer(_)
-        | Head::AsyncMessage(_)
-        | Head::Reject(_) => None,
-    }
-}
-
 /// The tasks: at most eight that take a place of the window, and an immediate one, which can only be
 /// the first. Its contracts see the list.
 #[derive(Drop)]
@@ -124,7 +112,7 @@ pub struct Tasks {
 impl Model for Tasks {
     ghost use Rattle.std.specs.Prelude.{List};
     ghost use Rattle.iscsi_target.specs.declared.tasks.Task.{Task};
-    ghost use Rattle.iscsi_target.specs.Inside.{AreInPlace};
+    ghost use Rattle.iscsi_target.specs.inner.Inside.{AreInPlace};
 
     ghost Value = { List Task };
 
@@ -154,7 +142,7 @@ impl Tasks {
 
     /// How many take a place of the window.
     pub fn waiting(&self) -> u32
-        ensures value { result ≡ waiting self.now }
+        ensures value { result ≡ waiting_tasks self.now }
         ensures most { result ≤ 9 }
     {
         let waiting = self
@@ -198,7 +186,7 @@ impl Tasks {
         let place = self.place_of(tag)?;
         match self.list.remove(place) {
             Task::Data(write) => Some((place, write)),
-            Task::Request(_) => unreachable!(),
+            Task::Command { .. } | Task::Request(_) => unreachable!(),
         }
     }
 

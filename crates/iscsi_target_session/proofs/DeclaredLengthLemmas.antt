@@ -9,11 +9,11 @@ use Rattle.iscsi_text.specs.declared.negotiated.Session.{Session}
 use Rattle.iscsi_login.specs.declared.preferences.Preferences.{Preferences}
 use Rattle.iscsi_text.specs.declared.negotiated.Answered.TheVariants.{Number, Reject}
 use Rattle.iscsi_text.specs.Negotiated.{IsWithin}
-use Rattle.iscsi_login.specs.Negotiation.{IsInRange, max_recv_range}
+use Rattle.iscsi_login.specs.Negotiation.{ArePreferencesInRange, max_recv_range}
 use Rattle.iscsi_login.specs.Held.{Held, IsHeld}
 use Rattle.iscsi_login.specs.Answer.{DeclaresWell, IsLengthOrNone, max_recv_key, first_number, declared_max_recv, target_holds}
 use Rattle.iscsi_login.proofs.AgreementLaw.{allowed_after_offers, declared_within}
-use Rattle.iscsi_target_session.specs.LoginText.{is_bad_length, first_value, value_for, is_reject}
+use Rattle.iscsi_target_session.specs.LoginText.{is_bad_length, first_value, login_value, is_reject}
 use Rattle.iscsi_stream.proofs.ReadyLemmas.{and_left, and_right}
 
 within_by : (n : ℕ) (b : Bool) → (nat_le 512 n && nat_le n 16777215) ≡ b → is_reject (if b then Number n else Reject) ≡ false → IsWithin max_recv_range n
@@ -26,7 +26,7 @@ length_or_none (values.Number n ∷ vs) e = within_by n (nat_le 512 n && nat_le 
 length_or_none (v ∷ vs) e = absurd cc
 
 -- a text whose declared length isn't refused declares well
-pub declares_well : (pairs : Pairs) → is_bad_length (value_for max_recv_key pairs) ≡ false → DeclaresWell pairs
+pub declares_well : (pairs : Pairs) → is_bad_length (login_value max_recv_key pairs) ≡ false → DeclaresWell pairs
 declares_well pairs e = length_or_none (values_of max_recv_key pairs) e
 
 pub declared_if : (vs : List Typed) → IsLengthOrNone vs → IfSome (first_number vs) (IsWithin max_recv_range)
@@ -38,7 +38,7 @@ declared_if (values.Plain b ∷ vs) w = tt
 declared_if (values.Odd b ∷ vs) w = tt
 
 -- what is held stays in range
-pub holds : (session : Session) (p : Preferences) (max_recv : Option ℕ) (pairs : Pairs) (held : Held) → IsInRange p → DeclaresWell pairs →
+pub holds : (session : Session) (p : Preferences) (max_recv : Option ℕ) (pairs : Pairs) (held : Held) → ArePreferencesInRange p → DeclaresWell pairs →
     IfSome max_recv (IsWithin max_recv_range)
     → IsHeld held → IsHeld (target_holds session p max_recv pairs held)
 holds session p max_recv pairs held range declares declared h = record {

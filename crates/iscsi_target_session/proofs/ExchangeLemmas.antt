@@ -1,7 +1,7 @@
 -- A whole text, by what CHAP demands.
 use Rattle.std.proofs.Common.{◌≡◌, ◌⊎◌, inl, inr, true, false, length, Option, Some, None, refl, ap, ◌∙◌}
 use Rattle.std.specs.Prelude.{nat_lt, is_some}
-use Rattle.scsi_disk.specs.Plan.{first_of}
+use Rattle.scsi_disk.specs.Plan.{first_reason}
 use Rattle.iscsi_text.specs.Text.{Pairs}
 use Rattle.iscsi_text.specs.Canonical.{canonical_text}
 use Rattle.iscsi_pdu.specs.declared.head.login_request.LoginRequest.{LoginRequest as Request}
@@ -13,12 +13,12 @@ use Rattle.iscsi_access.specs.declared.verdict.Verdict.TheVariants.{Goes, Refuse
 use Rattle.iscsi_target_session.specs.Session.{Session, Reply}
 use Rattle.iscsi_target_session.specs.declared.status.Status.{Status}
 use Rattle.iscsi_target_session.specs.LoginText.{text_refusals, initiator_error, authentication_failure, out_of_resources}
-use Rattle.iscsi_target_session.specs.Login.{refuse, refuse_or, text_answered, rest_of, verdict_for, allowed_move, exchange_pairs, exchange_answered, by_verdict, exchange_text, text_by, whole_text}
+use Rattle.iscsi_target_session.specs.Login.{refuse, refuse_or, pairs_answered, rest_of, verdict_for, allowed_move, exchange_pairs, exchange_answered, by_verdict, exchange_text, text_by, whole_text}
 use Rattle.iscsi_target_session.proofs.CaseLemmas.{by_cases}
 
 -- where CHAP is not demanded, nothing of it is looked at
 pub open_text : (s : Session) (r : Request) (pairs : Pairs) → s.settings.extras.chap ≡ None
-    → whole_text s r (Some pairs) ≡ refuse_or (first_of (text_refusals s pairs)) s r (text_answered s r pairs)
+    → whole_text s r (Some pairs) ≡ refuse_or (first_reason (text_refusals s pairs)) s r (pairs_answered s r pairs)
 open_text s r pairs none = ap (λ (o : Option Chap). text_by o s r pairs) none
 
 -- by whether it is demanded
@@ -31,24 +31,24 @@ where_open P None is p = p
 where_open P (Some c) is p = absurd (cc is)
 
 -- the verdict is followed where nothing else refuses the text
-pub exchange_is : (c : Chap) (s : Session) (r : Request) (pairs rest : Pairs) (v : Verdict) → rest ≡ rest_of pairs → None ≡ first_of (text_refusals s rest)
+pub exchange_is : (c : Chap) (s : Session) (r : Request) (pairs rest : Pairs) (v : Verdict) → rest ≡ rest_of pairs → None ≡ first_reason (text_refusals s rest)
     → v ≡ verdict_for c s pairs → by_verdict c v s r rest ≡ exchange_text c s r pairs
 exchange_is c s r pairs rest v is none verdict =
     ap (λ (p : Pairs). by_verdict c v s r p) is ∙ ap (λ (x : Verdict). by_verdict c x s r (rest_of pairs)) verdict
     ∙ ap (λ (o : Option Status). refuse_or o s r (by_verdict c (verdict_for c s pairs) s r (rest_of pairs)))
-    (none ∙ ap (λ (p : Pairs). first_of (text_refusals s p)) is)
+    (none ∙ ap (λ (p : Pairs). first_reason (text_refusals s p)) is)
 
 -- why a text is refused
 abbrev pub IsReason : Session → Status → Type 0
 IsReason s why = (why ≡ initiator_error)
-    ⊎ ((why ≡ authentication_failure) ⊎ ((why ≡ out_of_resources) ⊎ ((pairs : Pairs) × (first_of (text_refusals s pairs) ≡ Some why))))
+    ⊎ ((why ≡ authentication_failure) ⊎ ((why ≡ out_of_resources) ⊎ ((pairs : Pairs) × (first_reason (text_refusals s pairs) ≡ Some why))))
 
 -- A whole text is refused, or it is answered as where CHAP is not demanded, or with what is said of the exchange.
 pub record Comes (P : Reply → Type 0) (s : Session) (r : Request) (text : Option Pairs) : Type 0 where
   pub refused : (why : Status) → IsReason s why → P (refuse s r why)
-  pub plain : (pairs : Pairs) → text ≡ Some pairs → s.settings.extras.chap ≡ None → first_of (text_refusals s pairs) ≡ None → P (text_answered s r pairs)
+  pub plain : (pairs : Pairs) → text ≡ Some pairs → s.settings.extras.chap ≡ None → first_reason (text_refusals s pairs) ≡ None → P (pairs_answered s r pairs)
   pub exchange : (c : Chap) (p : Progress) (said : Said) (pairs : Pairs) → text ≡ Some pairs → s.settings.extras.chap ≡ Some c
-      → first_of (text_refusals s (rest_of pairs)) ≡ None → verdict_for c s pairs ≡ Goes p said
+      → first_reason (text_refusals s (rest_of pairs)) ≡ None → verdict_for c s pairs ≡ Goes p said
       → nat_lt 8192 (length (canonical_text (exchange_pairs c said s (rest_of pairs)))) ≡ false
       → P (exchange_answered c said (record s { progress = p }) (allowed_move p r) (rest_of pairs))
 
@@ -71,9 +71,9 @@ text_cases P s r None h = h.refused initiator_error (inl refl)
 text_cases P s r (Some pairs) h = by s.settings.extras.chap refl
   where
     by : (o : Option Chap) → s.settings.extras.chap ≡ o → P (text_by o s r pairs)
-    by None e = or_refused P s r (first_of (text_refusals s pairs)) (text_answered s r pairs) (λ w is. h.refused w (inr (inr (inr (pairs, is)))))
+    by None e = or_refused P s r (first_reason (text_refusals s pairs)) (pairs_answered s r pairs) (λ w is. h.refused w (inr (inr (inr (pairs, is)))))
         (λ none. h.plain pairs refl e none)
-    by (Some c) e = or_refused P s r (first_of (text_refusals s (rest_of pairs))) (by_verdict c (verdict_for c s pairs) s r (rest_of pairs))
+    by (Some c) e = or_refused P s r (first_reason (text_refusals s (rest_of pairs))) (by_verdict c (verdict_for c s pairs) s r (rest_of pairs))
         (λ w is. h.refused w (inr (inr (inr (rest_of pairs, is)))))
         (λ none. followed P c s r pairs (rest_of pairs) (verdict_for c s pairs) h.refused
         (λ p said is short. h.exchange c p said pairs refl e none is short))

@@ -7,6 +7,7 @@ pub mod LoginLemmas
 pub mod ExchangeLemmas
 pub mod TextReplyLemmas
 pub mod TextReplyInvariant
+pub mod InboundLemmas
 pub mod KindLemmas
 pub mod PortalLemmas
 pub mod PortalSizeLaw

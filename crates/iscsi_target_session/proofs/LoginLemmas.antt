@@ -13,20 +13,20 @@ use Rattle.iscsi_pdu.specs.declared.head.login_request.LoginRequest.{LoginReques
 use Rattle.iscsi_pdu.specs.declared.head.login_response.LoginResponse.{LoginResponse as Response}
 use Rattle.iscsi_stream.specs.Segment.{Segment, Bytes, Text, segment_bytes}
 use Rattle.iscsi_stream.specs.Canonical.{canon}
-use Rattle.iscsi_target_session.specs.Session.{Session, Reply, send_response, ended, message}
-use Rattle.iscsi_target_session.specs.Login.{login_message, refuse, response, segment_taken, whole_text, text_ending, gather}
+use Rattle.iscsi_target_session.specs.Session.{Session, Reply, send_response, ended_session, answer_message}
+use Rattle.iscsi_target_session.specs.Login.{login_response_message, refuse, login_response_to, segment_taken, whole_text, text_ending, gather}
 use Rattle.iscsi_target_session.specs.LoginText.{out_of_resources}
 use Rattle.iscsi_target_session.specs.declared.status.Status.{Status}
 use Rattle.iscsi_target_session.specs.Replies.{Replied}
-use Rattle.iscsi_target_session.specs.Inside.{login_answer}
+use Rattle.iscsi_target_session.specs.inner.Inside.{login_answer}
 use Rattle.iscsi_target_session.proofs.CaseLemmas.{by_ok}
 
 -- one answer with a text as bytes
-pub one_text : (h : Response) (pairs : Pairs) → canon (login_message h pairs ∷ []) ≡ whole (LoginResponse h) (canonical_text pairs)
+pub one_text : (h : Response) (pairs : Pairs) → canon (login_response_message h pairs ∷ []) ≡ whole (LoginResponse h) (canonical_text pairs)
 unfolding segment_bytes
 one_text h pairs = append-nil (whole (LoginResponse h) (canonical_text pairs))
 
-one_said : (head : Head) (bytes : List ℕ) → canon (message head bytes ∷ []) ≡ whole head bytes
+one_said : (head : Head) (bytes : List ℕ) → canon (answer_message head bytes ∷ []) ≡ whole head bytes
 unfolding segment_bytes
 one_said head bytes = append-nil (whole head bytes)
 
@@ -49,12 +49,13 @@ answers_text s h text result new before after r =
     (λ b. said_text s h text b new before after) r
 
 pub refused : (s : Session) (r : Request) (why : Status) (h : Response) (new : Session) (before after : List ℕ)
-    → h ≡ record (response s r) { status_class = why.class; status_detail = why.detail } → new ≡ ended s → after ≡ before ++ whole (LoginResponse h) [] →
+    → h ≡ record (login_response_to s r) { status_class = why.class; status_detail = why.detail } → new ≡ ended_session s → after ≡ before
+    ++ whole (LoginResponse h) [] →
     Replied (refuse s r why) None new before after
 refused s r why h new before after is session output = record {
   session = session;
   output = output ∙ ap (λ (x : List ℕ). before ++ x) (ap (λ (x : Response). whole (LoginResponse x) []) is
-      ∙ sym (one_text (record (response s r) { status_class = why.class; status_detail = why.detail }) []));
+      ∙ sym (one_text (record (login_response_to s r) { status_class = why.class; status_detail = why.detail }) []));
   rule_is = refl;
 }
 
@@ -110,13 +111,13 @@ bytes_whole s r bytes text le last is =
 
 pub gathered_answer : {E : Type 0} (result : Result (Option ℕ) E) (s mid : Session) (r : Request) (bytes : List ℕ) (h : Response) (new : Session)
     (before after : List ℕ)
-    → mid ≡ record s { gathered = s.gathered ++ bytes } → h ≡ response s r
+    → mid ≡ record s { gathered = s.gathered ++ bytes } → h ≡ login_response_to s r
     → IfOk result (λ b. (pairs : Pairs) → [] ≡ canonical_text pairs → Replied (login_answer mid h pairs) b new before after)
     → IfOk result (λ b. Replied (gather s r bytes) b new before after)
 gathered_answer result s mid r bytes h new before after is_mid is_h ok =
     by_ok (λ b. (pairs : Pairs) → [] ≡ canonical_text pairs → Replied (login_answer mid h pairs) b new before after)
     (λ b. Replied (gather s r bytes) b new before after) result
-    (λ b f. subst (λ (x : Session). Replied (login_answer x (response s r) []) b new before after) is_mid
+    (λ b f. subst (λ (x : Session). Replied (login_answer x (login_response_to s r) []) b new before after) is_mid
     (subst (λ (x : Response). Replied (login_answer mid x []) b new before after) is_h (f [] refl))) ok
 
 pub not_past : (b : Bool) (a n : ℕ) → (b ≡ true → n < a) × (n < a → b ≡ true) → b ≡ false → a ≤ n

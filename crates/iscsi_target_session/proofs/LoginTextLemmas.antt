@@ -8,18 +8,18 @@ use Rattle.std.specs.Str.{bytes_eq}
 use Rattle.iscsi_text.specs.Value.{Typed}
 use Rattle.iscsi_text.specs.Text.{Pairs}
 use Rattle.iscsi_text.specs.Reading.{has_key}
-use Rattle.iscsi_target_session.specs.LoginText.{first_value, value_for, repeats_key, seen_with}
+use Rattle.iscsi_target_session.specs.LoginText.{first_value, login_value, repeats_key, seen_with}
 
 pub first_is : (vs : List Typed) → slice_get vs 0 ≡ first_value vs
 first_is [] = refl
 first_is (v ∷ vs) = refl
 
-has_key_by : (key : List ℕ) (p : List ℕ × Typed) (ps : Pairs) (b : Bool) → bytes_eq p.0 key ≡ b → is_some (value_for key ps) ≡ has_key key ps →
-    is_some (value_for key (p ∷ ps)) ≡ has_key key (p ∷ ps)
+has_key_by : (key : List ℕ) (p : List ℕ × Typed) (ps : Pairs) (b : Bool) → bytes_eq p.0 key ≡ b → is_some (login_value key ps) ≡ has_key key ps →
+    is_some (login_value key (p ∷ ps)) ≡ has_key key (p ∷ ps)
 has_key_by key p ps true e more = rw e refl
 has_key_by key p ps false e more = rw e more
 
-pub has_key_is : (key : List ℕ) (ps : Pairs) → is_some (value_for key ps) ≡ has_key key ps
+pub has_key_is : (key : List ℕ) (ps : Pairs) → is_some (login_value key ps) ≡ has_key key ps
 has_key_is key [] = refl
 has_key_is key (p ∷ ps) = has_key_by key p ps (bytes_eq p.0 key) refl (has_key_is key ps)
 

@@ -10,7 +10,7 @@ use Rattle.iscsi_text.specs.Canonical.{canonical_text, pair_text}
 use Rattle.iscsi_text.proofs.NumeralLemmas.{canonical_is}
 use Rattle.iscsi_login.specs.Name.{IsName}
 use Rattle.iscsi_portal.specs.Portal.{IsPortal}
-use Rattle.iscsi_target_session.specs.Configured.{Settings}
+use Rattle.iscsi_target_session.specs.Configured.{TargetSettings}
 use Rattle.iscsi_target_session.specs.TextRequests.{address_if, announced, name_if}
 
 -- the tag of a group has five digits at most
@@ -42,7 +42,7 @@ address_short (Some portal) group p lt =
     let all = one_pair (codes "TargetAddress") (portal ++ codes "," ++ canonical_number group) in
     omega (arith, tag, few, one, two, all)
 
-pub told_short : (settings : Settings) → IsName settings.name → IfSome settings.extras.portal IsPortal → settings.group < 2 ^ 16 → length (announced settings) ≤ 511
+pub told_short : (settings : TargetSettings) → IsName settings.name → IfSome settings.extras.portal IsPortal → settings.group < 2 ^ 16 → length (announced settings) ≤ 511
 told_short settings name portal group =
     let few = name.few in
     let front = one_pair (codes "TargetName") settings.name in

@@ -3,7 +3,7 @@ use Rattle.std.proofs.Common.{◌≡◌, ◌∙◌, ℕ, ◌+◌, List, [], ◌�
 use Rattle.std.proofs.lemmas.List.{map-append}
 use Rattle.iscsi_text.specs.declared.pair.Pair.{Pair}
 use Rattle.iscsi_text.specs.Text.{Pairs}
-use Rattle.iscsi_text.specs.Inside.{shown, all_shown}
+use Rattle.iscsi_text.specs.Shown.{shown, all_shown}
 use Rattle.iscsi_target_session.specs.TextRequests.{replies}
 
 pub more_shown : (asked : Bool) (ps : Pairs) (n : ℕ) (old new : List Pair) (pair : Pair) → new ≡ old ++ pair ∷ [] → (shown pair ∷ [])

@@ -11,11 +11,11 @@ use Rattle.iscsi_text.specs.Value.{Typed}
 use Rattle.iscsi_text.specs.Value as values
 use Rattle.iscsi_text.specs.Text.{Pairs, IsInOrder, key_le}
 use Rattle.iscsi_text.specs.Canonical.{canonical_text, pair_text}
-use Rattle.iscsi_text.specs.Inside.{shown, all_shown}
+use Rattle.iscsi_text.specs.Shown.{shown, all_shown}
 use Rattle.iscsi_text.specs.Reading.{has_key, placed, in_order}
 use Rattle.iscsi_text.proofs.KeyLemmas.{key_le_both, key_le_trans, same_key, bytes_eq_same}
 use Rattle.iscsi_target_session.specs.TextRequests.{replies, reply_to, word_for, name_if, reply_pairs, is_asked}
-use Rattle.iscsi_target_session.specs.Inside.{has_first, has_reply}
+use Rattle.iscsi_target_session.specs.inner.Inside.{has_first, has_reply}
 use Rattle.iscsi_target_session.proofs.CaseLemmas.{by_cases}
 use Rattle.iscsi_text.proofs.PairLemmas.{at_all}
 use Rattle.iscsi_stream.proofs.ReadyLemmas.{apart}

@@ -1,9 +1,10 @@
 pub mod Configured
 pub mod Session
+pub mod Inbound
 pub mod Rejecting
 pub mod LoginText
 pub mod Login
 pub mod TextRequests
 pub mod Requests
 pub mod Replies
-pub mod Inside
+pub mod inner

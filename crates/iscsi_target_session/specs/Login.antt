@@ -23,8 +23,8 @@ use Rattle.iscsi_login.specs.declared.phase.Phase.TheVariants as phases
 use Rattle.iscsi_login.specs.declared.stage.Stage.{Stage}
 use Rattle.iscsi_login.specs.declared.stage.Stage.TheVariants as stages
 use Rattle.iscsi_login.specs.Stage.{may_move}
-use Rattle.iscsi_target_session.specs.Session.{Session, Reply, shut, ended, counted, max_cmd_sn_with}
-use Rattle.scsi_disk.specs.Plan.{first_of}
+use Rattle.iscsi_target_session.specs.Session.{Session, Reply, shut, ended_session, stat_sn_advanced, max_cmd_sn_with}
+use Rattle.scsi_disk.specs.Plan.{first_reason}
 use Rattle.iscsi_pdu.specs.Rules.{kind_not_due}
 use Rattle.iscsi_target_session.specs.declared.status.Status.{Status}
 use Rattle.iscsi_text.specs.Key.{known_keys}
@@ -76,8 +76,8 @@ phase_at stages.Full = phases.Full
 -- ---- answers
 
 -- What each answer has of its request: no more is to come, and nothing moves (section 11.13).
-abbrev pub response : Session → LoginRequest → LoginResponse
-response s r = record {
+abbrev pub login_response_to : Session → LoginRequest → LoginResponse
+login_response_to s r = record {
   transits = false;
   continues = false;
   current_stage = r.current_stage;
@@ -95,16 +95,16 @@ response s r = record {
 }
 
 -- A Login Response and its text (section 11.13).
-abbrev pub login_message : LoginResponse → Pairs → Message
-login_message h pairs = record { head = heads.LoginResponse h; segment = Text pairs }
+abbrev pub login_response_message : LoginResponse → Pairs → Message
+login_response_message h pairs = record { head = heads.LoginResponse h; segment = Text pairs }
 
 -- A refusal carries no StatSN, and closes the session (section 11.13.5).
 abbrev pub refuse : Session → LoginRequest → Status → Reply
 refuse s r why = record {
-  session = ended s;
+  session = ended_session s;
   answers =
-      login_message
-      (record (response s r) { status_class = why.class; status_detail = why.detail }) []
+      login_response_message
+      (record (login_response_to s r) { status_class = why.class; status_detail = why.detail }) []
       ∷ [];
   rule = None;
 }
@@ -115,8 +115,9 @@ refuse_or None s r reply = reply
 refuse_or (Some why) s r reply = refuse s r why
 
 -- An answer of class 0 carries StatSN (section 11.13.4).
-abbrev pub answered : Session → LoginResponse → Pairs → List Message
-answered s h pairs = login_message (record h { stat_sn = Some s.stat_sn }) pairs ∷ []
+abbrev pub good_login_answer : Session → LoginResponse → Pairs → List Message
+good_login_answer s h pairs =
+    login_response_message (record h { stat_sn = Some s.stat_sn }) pairs ∷ []
 
 -- ---- a whole text
 
@@ -127,8 +128,8 @@ tsih_at s stages.Operational = 0
 tsih_at s stages.Full = s.settings.tsih
 
 -- The head of the answer to a text: it moves where the request does (section 11.13).
-abbrev pub text_response : Session → LoginRequest → LoginResponse
-text_response s r = record (response s r) {
+abbrev pub login_text_response : Session → LoginRequest → LoginResponse
+login_text_response s r = record (login_response_to s r) {
   transits = r.transits;
   next_stage = r.next_stage;
   tsih = tsih_at s (stage_after s r);
@@ -148,21 +149,21 @@ after_text s r pairs = record s {
 }
 
 -- A text that isn't refused is answered by these pairs (section 6.3).
-abbrev pub answered_by : Session → LoginRequest → Pairs → Pairs → Reply
-answered_by s r pairs answer = record {
-  session = counted (after_text s r pairs);
-  answers = answered s (text_response s r) answer;
+abbrev pub text_answered_by : Session → LoginRequest → Pairs → Pairs → Reply
+text_answered_by s r pairs answer = record {
+  session = stat_sn_advanced (after_text s r pairs);
+  answers = good_login_answer s (login_text_response s r) answer;
   rule = None;
 }
 
 -- It is answered by the answer to each of its pairs (sections 6.2 and 6.3).
-abbrev pub text_answered : Session → LoginRequest → Pairs → Reply
-text_answered s r pairs = answered_by s r pairs (answer_pairs s pairs)
+abbrev pub pairs_answered : Session → LoginRequest → Pairs → Reply
+pairs_answered s r pairs = text_answered_by s r pairs (answer_pairs s pairs)
 
 -- A text where CHAP is not demanded (section 6.3).
 abbrev pub plain_text : Session → LoginRequest → Pairs → Reply
 plain_text s r pairs =
-    refuse_or (first_of (text_refusals s pairs)) s r (text_answered s r pairs)
+    refuse_or (first_reason (text_refusals s pairs)) s r (pairs_answered s r pairs)
 
 -- ---- a whole text, where CHAP is demanded
 
@@ -203,7 +204,7 @@ exchange_pairs c said s rest = in_order (said_pairs c said ++ answer_pairs s res
 -- A text that isn't refused is answered, with what is said of the exchange (sections 6.3 and
 -- 12.1.3).
 abbrev pub exchange_answered : Chap → Said → Session → LoginRequest → Pairs → Reply
-exchange_answered c said s r rest = answered_by s r rest (exchange_pairs c said s rest)
+exchange_answered c said s r rest = text_answered_by s r rest (exchange_pairs c said s rest)
 
 -- The verdict is followed; an answer that is too long is none (sections 11.13.5 and 12.1.3).
 abbrev pub by_verdict : Chap → Verdict → Session → LoginRequest → Pairs → Reply
@@ -217,7 +218,7 @@ by_verdict c (verdicts.Goes p said) s r rest =
 -- 11.13.5 and 12.1.3; the order is own rule).
 abbrev pub exchange_text : Chap → Session → LoginRequest → Pairs → Reply
 exchange_text c s r pairs =
-    refuse_or (first_of (text_refusals s (rest_of pairs))) s r
+    refuse_or (first_reason (text_refusals s (rest_of pairs))) s r
     (by_verdict c (verdict_for c s pairs) s r (rest_of pairs))
 
 -- ---- any whole text
@@ -242,8 +243,8 @@ text_ending gathered (Bytes bytes) = text_in (gathered ++ bytes)
 -- More of the text is to come: the answer is empty (section 11.12.2).
 abbrev pub gather : Session → LoginRequest → List ℕ → Reply
 gather s r bytes = record {
-  session = counted (record s { gathered = s.gathered ++ bytes });
-  answers = answered s (response s r) [];
+  session = stat_sn_advanced (record s { gathered = s.gathered ++ bytes });
+  answers = good_login_answer s (login_response_to s r) [];
   rule = None;
 }
 
@@ -269,25 +270,26 @@ request_refusals s r =
     ∷ []
 
 -- The first request settles the CmdSN that is due and the ISID (sections 11.12.5 and 11.12.8).
-abbrev pub numbered : Session → LoginRequest → Session
-numbered s r =
+abbrev pub numbers_settled : Session → LoginRequest → Session
+numbers_settled s r =
     if s.begun then s else record s { begun = true; exp_cmd_sn = r.cmd_sn; isid = r.isid }
 
 -- The session in the request's stage (section 11.12.3).
 abbrev pub entered : Session → LoginRequest → Session
-entered s r = record (numbered s r) { stage = unwrap_or (stage_named r.current_stage) s.stage }
+entered s r =
+    record (numbers_settled s r) { stage = unwrap_or (stage_named r.current_stage) s.stage }
 
 -- A Login Request (section 11.12).
-abbrev pub login_request : Session → LoginRequest → Segment → Reply
-login_request s r segment =
-    refuse_or (first_of (request_refusals s r)) (numbered s r) r
+abbrev pub on_login_request : Session → LoginRequest → Segment → Reply
+on_login_request s r segment =
+    refuse_or (first_reason (request_refusals s r)) (numbers_settled s r) r
     (segment_taken (entered s r) r segment)
 
 -- Before full feature phase any other PDU closes the session (section 6.3; own rule).
 abbrev pub login_in : Session → Head → Segment → Reply
-login_in s (heads.LoginRequest r) segment = login_request s r segment
+login_in s (heads.LoginRequest r) segment = on_login_request s r segment
 login_in s _ segment = shut s (Some kind_not_due)
 
 -- A message before full feature phase (section 6.3).
-abbrev pub login_step : Session → Message → Reply
-login_step s m = login_in s m.head m.segment
+abbrev pub target_login_step : Session → Message → Reply
+target_login_step s m = login_in s m.head m.segment

@@ -73,8 +73,8 @@ first_value [] = None
 first_value (value ∷ vs) = Some value
 
 -- The value that a text has of a key, if it has one (section 6.1).
-abbrev pub value_for : List ℕ → Pairs → Option Typed
-value_for key pairs = first_value (values_of key pairs)
+abbrev pub login_value : List ℕ → Pairs → Option Typed
+login_value key pairs = first_value (values_of key pairs)
 
 -- A known key that may stand once was seen before, and stands again (section 6.2).
 abbrev pub repeats_key : List (List ℕ) → List Bool → Pairs → Bool
@@ -92,9 +92,9 @@ seen_with _ _ pairs = []
 -- ---- what the first whole text declares
 
 -- There is a name, and it isn't empty (section 13.5).
-abbrev pub is_name : Option Typed → Bool
-is_name (Some (values.Plain name)) = not (is_empty name)
-is_name _ = false
+abbrev pub is_given_name : Option Typed → Bool
+is_given_name (Some (values.Plain name)) = not (is_empty name)
+is_given_name _ = false
 
 -- The name, if there is one (section 13.5).
 abbrev pub name_in : Option Typed → List ℕ
@@ -104,7 +104,7 @@ name_in _ = []
 -- The initiator's name once this text is whole: the first text settles it (section 13.5).
 abbrev pub initiator_for : Session → Pairs → List ℕ
 initiator_for s pairs =
-    if s.has_text then s.initiator_name else name_in (value_for (codes "InitiatorName") pairs)
+    if s.has_text then s.initiator_name else name_in (login_value (codes "InitiatorName") pairs)
 
 -- The type of session; one that isn't named is normal (section 13.21).
 abbrev pub session_named : Option Typed → Option SessionType
@@ -117,7 +117,7 @@ session_named (Some _) = None
 
 -- The type of session that a text names (section 13.21).
 abbrev pub session_in : Pairs → Option SessionType
-session_in pairs = session_named (value_for (codes "SessionType") pairs)
+session_in pairs = session_named (login_value (codes "SessionType") pairs)
 
 -- The type of session once this text is whole: the first text settles it (section 13.21).
 abbrev pub session_for : Session → Pairs → SessionType
@@ -200,22 +200,22 @@ text_refusals s pairs =
     let is_first = not s.has_text in
     let wants_target = is_first && is_normal (session_for s pairs) in
     (repeats_key known_keys s.seen_keys pairs, initiator_error)
-    ∷ (is_first && not (is_name (value_for (codes "InitiatorName") pairs)), missing_parameter)
+    ∷ (is_first && not (is_given_name (login_value (codes "InitiatorName") pairs)), missing_parameter)
     ∷ (is_first && is_none (session_in pairs), unsupported_session_type)
-    ∷ (wants_target && is_none (value_for (codes "TargetName") pairs), missing_parameter)
+    ∷ (wants_target && is_none (login_value (codes "TargetName") pairs), missing_parameter)
     ∷ (
-      wants_target && not (names_target s.settings.name (value_for (codes "TargetName") pairs)),
+      wants_target && not (names_target s.settings.name (login_value (codes "TargetName") pairs)),
       target_not_found,
     )
     ∷ (
-      demands_authentication s.settings.preferences (value_for (codes "AuthMethod") pairs),
+      demands_authentication s.settings.preferences (login_value (codes "AuthMethod") pairs),
       authentication_failure,
     )
-    ∷ (is_bad_length (value_for max_recv_key pairs), initiator_error)
+    ∷ (is_bad_length (login_value max_recv_key pairs), initiator_error)
     ∷ (nat_lt 8192 (length (canonical_text (answer_pairs s pairs))), out_of_resources)
     ∷ (
       is_first
-          && not (is_allowed s.settings.extras (name_in (value_for (codes "InitiatorName") pairs))),
+          && not (is_allowed s.settings.extras (name_in (login_value (codes "InitiatorName") pairs))),
       authorization_failure,
     )
     ∷ []

@@ -4,7 +4,7 @@ use Rattle.iscsi_pdu.specs.declared.head.Head.{Head}
 use Rattle.iscsi_pdu.specs.declared.head.Head.TheVariants as heads
 use Rattle.iscsi_stream.specs.Stream.{Message}
 use Rattle.iscsi_stream.specs.Canonical.{canonical_header}
-use Rattle.iscsi_target_session.specs.Session.{Session, Reply, send_response, counted, ended, max_cmd_sn_with}
+use Rattle.iscsi_target_session.specs.Session.{Session, Reply, send_response, stat_sn_advanced, ended_session, max_cmd_sn_with}
 use Rattle.iscsi_pdu.specs.Rules.{protocol_error}
 
 -- The head of a Reject (section 11.17).
@@ -17,18 +17,18 @@ reject_head s waiting reason = heads.Reject (record {
 })
 
 -- A Reject of a PDU with this header; the session goes on (section 11.17).
-abbrev pub rejected : Session → ℕ → ℕ → List ℕ → Reply
-rejected s waiting reason header = send_response s (reject_head s waiting reason) header
+abbrev pub header_rejected : Session → ℕ → ℕ → List ℕ → Reply
+header_rejected s waiting reason header = send_response s (reject_head s waiting reason) header
 
 -- A Reject carries the header of the PDU's canonical form (section 11.17; that form is own rule).
-abbrev pub reject : Session → ℕ → ℕ → Message → Reply
-reject s waiting reason m = rejected s waiting reason (canonical_header m)
+abbrev pub message_rejected : Session → ℕ → ℕ → Message → Reply
+message_rejected s waiting reason m = header_rejected s waiting reason (canonical_header m)
 
 -- A PDU with this header broke the rule: it is rejected, and the session is closed (own rule).
 abbrev pub rejected_and_closed : Session → ℕ → ℕ → List ℕ → Reply
 rejected_and_closed s waiting rule header = record {
-  session = ended (counted s);
-  answers = (rejected s waiting protocol_error header).answers;
+  session = ended_session (stat_sn_advanced s);
+  answers = (header_rejected s waiting protocol_error header).answers;
   rule = Some rule;
 }
 

@@ -8,11 +8,13 @@ use Rattle.iscsi_pdu.specs.declared.head.Head.{Head}
 use Rattle.iscsi_pdu.specs.declared.head.Head.TheVariants as heads
 use Rattle.iscsi_stream.specs.Stream.{Message}
 use Rattle.iscsi_stream.specs.Canonical.{canonical_header}
-use Rattle.iscsi_target_session.specs.Session.{Session, Reply, nothing, send_response, ended, max_cmd_sn_with}
+use Rattle.iscsi_target_session.specs.Session.{Session, Reply, nothing, send_response, ended_session, max_cmd_sn_with}
 use Rattle.iscsi_pdu.specs.Fields.{reserved_tag}
-use Rattle.iscsi_target_session.specs.Rejecting.{reject_and_close, rejected_and_closed}
-use Rattle.iscsi_target_session.specs.TextRequests.{text_request}
-use Rattle.iscsi_pdu.specs.Rules.{kind_not_due, logout_reason}
+use Rattle.iscsi_target_session.specs.Rejecting.{rejected_and_closed}
+use Rattle.iscsi_target_session.specs.TextRequests.{on_text_request}
+use Rattle.iscsi_target_session.specs.declared.inbound.SessionRequest.{SessionRequest}
+use Rattle.iscsi_target_session.specs.declared.inbound.SessionRequest.TheVariants as requests
+use Rattle.iscsi_pdu.specs.Rules.{logout_reason}
 use Rattle.iscsi_stream.specs.Segment.{segment_bytes}
 
 -- The head of the answer to a ping (section 11.19).
@@ -28,8 +30,8 @@ nop_in_head s waiting h = heads.NopIn (record {
 
 -- A ping is answered with as many of its bytes as the initiator takes; without a tag it asks for no
 -- answer (section 11.18).
-abbrev pub nop_out : Session → ℕ → NopOut → List ℕ → Reply
-nop_out s waiting h bytes =
+abbrev pub on_nop_out : Session → ℕ → NopOut → List ℕ → Reply
+on_nop_out s waiting h bytes =
     if h.initiator_task_tag == reserved_tag then nothing s
     else send_response s (nop_in_head s waiting h) (take s.held.initiator_max_recv bytes)
 
@@ -45,9 +47,9 @@ is_elsewhere h = not (h.lun == 0) && (nat_le 1 h.function && nat_le h.function 5
 -- the disk tells what the profile has, no function is supported. Else one is done where nothing is
 -- left to end, as a target that executes each command at once and in order never takes one away (own
 -- rule).
-abbrev pub task_response : Bool → Bool → TaskRequest → ℕ
-task_response false is_open h = 5
-task_response true is_open h =
+abbrev pub task_response_code : Bool → Bool → TaskRequest → ℕ
+task_response_code false is_open h = 5
+task_response_code true is_open h =
     if is_elsewhere h then 2
     else if is_open then 5
     else if h.function == 1 then 1
@@ -57,7 +59,7 @@ task_response true is_open h =
 -- The head of the answer to a task management request (section 11.6).
 abbrev pub task_response_head : Session → ℕ → Bool → TaskRequest → Head
 task_response_head s waiting is_open h = heads.TaskResponse (record {
-  response = task_response (is_some s.settings.extras.unit) is_open h;
+  response = task_response_code (is_some s.settings.extras.unit) is_open h;
   initiator_task_tag = h.initiator_task_tag;
   stat_sn = s.stat_sn;
   exp_cmd_sn = s.exp_cmd_sn;
@@ -65,8 +67,8 @@ task_response_head s waiting is_open h = heads.TaskResponse (record {
 })
 
 -- A task management request, while a task that it means is open or none is (section 11.5).
-abbrev pub task_request : Session → ℕ → Bool → TaskRequest → Reply
-task_request s waiting is_open h =
+abbrev pub on_task_request : Session → ℕ → Bool → TaskRequest → Reply
+on_task_request s waiting is_open h =
     send_response s (task_response_head s waiting is_open h) []
 
 -- The head of the answer that session or connection is closed (section 11.15).
@@ -84,7 +86,7 @@ logout_head s waiting h = heads.LogoutResponse (record {
 -- A Logout Response is sent, and the session is closed (section 11.15).
 abbrev pub logged_out : Session → ℕ → LogoutRequest → Reply
 logged_out s waiting h = record {
-  session = ended (send_response s (logout_head s waiting h) []).session;
+  session = ended_session (send_response s (logout_head s waiting h) []).session;
   answers = (send_response s (logout_head s waiting h) []).answers;
   rule = None;
 }
@@ -96,17 +98,16 @@ logout_answered s waiting h header =
     if nat_le h.reason 1 then logged_out s waiting h else rejected_and_closed s waiting logout_reason header
 
 -- A Logout Request (section 11.14).
-abbrev pub logout_request : Session → ℕ → Message → LogoutRequest → Reply
-logout_request s waiting m h = logout_answered s waiting h (canonical_header m)
+abbrev pub on_logout_request : Session → ℕ → Message → LogoutRequest → Reply
+on_logout_request s waiting m h = logout_answered s waiting h (canonical_header m)
 
 -- ---- any of them
 
--- The answer to a request that is no command, by its kind, while n commands wait (section 4.2.4).
--- What came before it was done.
-abbrev pub request_answered : Session → ℕ → Message → Head → Reply
-request_answered s waiting m (heads.NopOut h) = nop_out s waiting h (segment_bytes m.segment)
-request_answered s waiting m (heads.TaskRequest h) = task_request s waiting false h
-request_answered s waiting m (heads.TextRequest h) =
-    text_request s waiting m h (segment_bytes m.segment)
-request_answered s waiting m (heads.LogoutRequest h) = logout_request s waiting m h
-request_answered s waiting m _ = reject_and_close s waiting kind_not_due m
+-- The answer to a request that is no command, while n commands wait (section 4.2.4). What came before
+-- it was done.
+abbrev pub request_answered : Session → ℕ → Message → SessionRequest → Reply
+request_answered s waiting m (requests.Ping h) = on_nop_out s waiting h (segment_bytes m.segment)
+request_answered s waiting m (requests.Task h) = on_task_request s waiting false h
+request_answered s waiting m (requests.Text h) =
+    on_text_request s waiting m h (segment_bytes m.segment)
+request_answered s waiting m (requests.Logout h) = on_logout_request s waiting m h

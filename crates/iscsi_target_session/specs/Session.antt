@@ -16,13 +16,13 @@ use Rattle.iscsi_login.specs.declared.stage.Stage.TheVariants as stages
 use Rattle.iscsi_login.specs.Held.{Held, defaults, longest_taken}
 use Rattle.iscsi_access.specs.declared.verdict.Progress.{Progress}
 use Rattle.iscsi_access.specs.declared.verdict.Progress.TheVariants as progress
-use Rattle.iscsi_target_session.specs.Configured.{Settings}
+use Rattle.iscsi_target_session.specs.Configured.{TargetSettings}
 
 -- ---- the session
 
 -- A session, which knows no disk and no command (sections 4.2 and 6.3).
 pub record Session : Type 0 where
-  pub settings : Settings
+  pub settings : TargetSettings
   pub phase : Phase
   -- of the login: where it is, and whether a request came
   pub stage : Stage
@@ -50,7 +50,7 @@ abbrev pub none_seen : List Bool
 none_seen = map (λ key. false) known_keys
 
 -- A session in which nothing came: none of the known keys was seen (section 6.3).
-abbrev pub opening_session : Settings → ℕ → Session
+abbrev pub opening_session : TargetSettings → ℕ → Session
 opening_session settings first_stat_sn = record {
   settings = settings;
   phase = phases.Login;
@@ -70,12 +70,12 @@ opening_session settings first_stat_sn = record {
 }
 
 -- The longest segment that a target with these settings takes (section 13.12).
-abbrev pub limit : Settings → ℕ
-limit settings = longest_taken settings.preferences
+abbrev pub target_limit : TargetSettings → ℕ
+target_limit settings = longest_taken settings.preferences
 
 -- A session that is over: what was gathered and the CmdSN that was due are dropped.
-abbrev pub ended : Session → Session
-ended s = record s { phase = phases.Closed; gathered = []; begun = false; exp_cmd_sn = 0 }
+abbrev pub ended_session : Session → Session
+ended_session s = record s { phase = phases.Closed; gathered = []; begun = false; exp_cmd_sn = 0 }
 
 -- ---- numbers
 
@@ -85,8 +85,8 @@ abbrev pub max_cmd_sn_with : Session → ℕ → ℕ
 max_cmd_sn_with s waiting = (s.exp_cmd_sn + (2 ^ 32 + 7 - waiting)) % 2 ^ 32
 
 -- An answer was sent that carries StatSN and advances it (section 4.2.2.2).
-abbrev pub counted : Session → Session
-counted s = record s { stat_sn = next_sn s.stat_sn }
+abbrev pub stat_sn_advanced : Session → Session
+stat_sn_advanced s = record s { stat_sn = next_sn s.stat_sn }
 
 -- ---- answers
 
@@ -103,13 +103,13 @@ nothing s = record { session = s; answers = []; rule = None }
 
 -- The session is closed without an answer.
 abbrev pub shut : Session → Option ℕ → Reply
-shut s rule = record { session = ended s; answers = []; rule = rule }
+shut s rule = record { session = ended_session s; answers = []; rule = rule }
 
 -- An answer whose segment means its bytes (section 11).
-abbrev pub message : Head → List ℕ → Message
-message head bytes = record { head = head; segment = Bytes bytes }
+abbrev pub answer_message : Head → List ℕ → Message
+answer_message head bytes = record { head = head; segment = Bytes bytes }
 
 -- One answer that carries StatSN and advances it (section 4.2.2.2).
 abbrev pub send_response : Session → Head → List ℕ → Reply
 send_response s head bytes =
-    record { session = counted s; answers = message head bytes ∷ []; rule = None }
+    record { session = stat_sn_advanced s; answers = answer_message head bytes ∷ []; rule = None }

@@ -12,12 +12,12 @@ use Rattle.iscsi_pdu.specs.declared.head.text_request.TextRequest.{TextRequest}
 use Rattle.iscsi_pdu.specs.declared.head.Head.{Head}
 use Rattle.iscsi_pdu.specs.declared.head.Head.TheVariants as heads
 use Rattle.iscsi_stream.specs.Stream.{Message}
-use Rattle.iscsi_target_session.specs.Configured.{Settings}
+use Rattle.iscsi_target_session.specs.Configured.{TargetSettings}
 use Rattle.iscsi_target_session.specs.Session.{Session, Reply, send_response, max_cmd_sn_with}
 use Rattle.iscsi_pdu.specs.Fields.{reserved_tag}
 use Rattle.iscsi_target_session.specs.Rejecting.{reject_and_close}
 use Rattle.iscsi_pdu.specs.Rules.{text_at_fault}
-use Rattle.iscsi_target_session.specs.LoginText.{value_for}
+use Rattle.iscsi_target_session.specs.LoginText.{login_value}
 
 -- ---- the text
 
@@ -29,7 +29,7 @@ asks_for name _ = false
 
 -- The text asks for this target (appendix C).
 abbrev pub is_asked : List ℕ → Pairs → Bool
-is_asked name pairs = asks_for name (value_for (codes "SendTargets") pairs)
+is_asked name pairs = asks_for name (login_value (codes "SendTargets") pairs)
 
 -- The word that answers a key outside a login (section 6.2; own rule).
 abbrev pub word_for : List ℕ → List ℕ
@@ -66,17 +66,17 @@ address_if (Some portal) group =
     (codes "TargetAddress", values.Plain (portal ++ codes "," ++ canonical_number group)) ∷ []
 
 -- The address of the target's portal, where it is told (section 13.8).
-abbrev pub address_text : Settings → List ℕ
+abbrev pub address_text : TargetSettings → List ℕ
 address_text settings = canonical_text (address_if settings.extras.portal settings.group)
 
 -- The target's name and, where it is told, the address of its portal behind it (appendix C). Not by
 -- the order of keys: initiators want the name first.
-abbrev pub announced : Settings → List ℕ
+abbrev pub announced : TargetSettings → List ℕ
 announced settings = canonical_text (name_if true settings.name) ++ address_text settings
 
 -- The text that answers a text: what is announced stands in front (appendix C; the order is own
 -- rule).
-unfoldable pub reply_text : Settings → Pairs → List ℕ
+unfoldable pub reply_text : TargetSettings → Pairs → List ℕ
 reply_text settings pairs =
     if is_some settings.extras.portal && is_asked settings.name pairs
     then announced settings ++ canonical_text (in_order (replies true pairs))
@@ -111,8 +111,8 @@ text_reply_to s waiting m h (Some pairs) =
     text_reply s waiting m h (reply_text s.settings pairs)
 
 -- A Text Request, which has to be whole (section 11.10; own rule).
-abbrev pub text_request : Session → ℕ → Message → TextRequest → List ℕ → Reply
-text_request s waiting m h bytes =
+abbrev pub on_text_request : Session → ℕ → Message → TextRequest → List ℕ → Reply
+on_text_request s waiting m h bytes =
     if not h.is_final || (h.continues || not (h.target_transfer_tag == reserved_tag))
     then reject_and_close s waiting text_at_fault m
     else text_reply_to s waiting m h (text_in bytes)

@@ -2,8 +2,8 @@
 
 ghost use Rattle.std.specs.Prelude.{◌≡◌, IfOk, Some, is_some, map};
 ghost use Rattle.std.specs.Option.{option_map};
-ghost use Rattle.iscsi_login.specs.Negotiation.{IsInRange};
-ghost use Rattle.iscsi_target_session.specs.Configured.{Configures, is_allowed};
+ghost use Rattle.iscsi_login.specs.Negotiation.{ArePreferencesInRange};
+ghost use Rattle.iscsi_target_session.specs.Configured.{TargetConfigPost, is_allowed};
 
 use crate::initiators::{Name, copies_of, has_name};
 use iscsi_access::Chap;
@@ -36,11 +36,11 @@ pub struct Config {
 impl Model for Config {
     ghost use Rattle.std.specs.Prelude.{◌≡◌, ◌<◌};
     ghost use Rattle.std.specs.Option.{option_map};
-    ghost use Rattle.iscsi_login.specs.Negotiation.{IsInRange};
+    ghost use Rattle.iscsi_login.specs.Negotiation.{ArePreferencesInRange};
     ghost use Rattle.iscsi_login.specs.Name.{IsName};
-    ghost use Rattle.iscsi_target_session.specs.Configured.{Settings};
+    ghost use Rattle.iscsi_target_session.specs.Configured.{TargetSettings};
 
-    ghost Value = { Settings };
+    ghost Value = { TargetSettings };
 
     ghost view = { λ c. record {
       name = c.name.items;
@@ -55,7 +55,8 @@ impl Model for Config {
       };
     } };
 
-    ghost invariant = { λ c. IsName c.name.items × (0 < c.tsih) × IsInRange c.preferences };
+    ghost invariant = { λ c. IsName c.name.items × (0 < c.tsih)
+        × ArePreferencesInRange c.preferences };
 }
 
 impl Config {
@@ -73,7 +74,7 @@ impl Config {
         tsih: u16,
         preferences: Preferences,
     ) -> Result<Config, ConfigFault>
-        ensures configures { Configures name.now group tsih preferences result }
+        ensures configures { TargetConfigPost name.now group tsih preferences result }
     {
         if !is_name(name) {
             return Err(ConfigFault::BadName);
@@ -226,7 +227,7 @@ impl Config {
     /// What it prefers in a negotiation.
     pub fn preferences(&self) -> &Preferences
         ensures preferences { result.now ≡ self.now.preferences }
-        ensures range { IsInRange self.now.preferences }
+        ensures range { ArePreferencesInRange self.now.preferences }
     {
         &self.preferences
     }

@@ -3,6 +3,7 @@
 #![tactic(auto)]
 
 mod config;
+mod inbound;
 mod initiators;
 pub mod laws;
 mod numbers;
@@ -11,6 +12,7 @@ mod session;
 mod status;
 
 pub use config::Config;
+pub use inbound::{Asks, Inbound, InboundRequest, SessionRequest};
 pub use numbers::Numbers;
 pub use received::Received;
 pub use session::Session;

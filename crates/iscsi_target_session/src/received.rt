@@ -14,12 +14,12 @@ pub struct Received<'a> {
 
 impl<'a> Model for Received<'a> {
     ghost use Rattle.std.specs.Prelude.{◌<◌, ◌^◌, length};
-    ghost use Rattle.iscsi_pdu.specs.Meaning.{Fits};
+    ghost use Rattle.iscsi_pdu.specs.Meaning.{HeadFits};
     ghost use Rattle.iscsi_stream.specs.Stream.{Message, message};
 
     ghost Value = { Message };
 
     ghost view = { λ r. message r.continued r.pdu.head r.pdu.bytes.now };
 
-    ghost invariant = { λ r. Fits r.pdu.head × (length r.pdu.bytes.now < 2 ^ 24) };
+    ghost invariant = { λ r. HeadFits r.pdu.head × (length r.pdu.bytes.now < 2 ^ 24) };
 }

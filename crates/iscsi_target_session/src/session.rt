@@ -3,11 +3,11 @@
 
 ghost use Rattle.std.specs.Prelude.{◌≡◌, ◌<◌, ◌^◌, length, is_some};
 ghost use Rattle.std.specs.Option.{option_map};
-ghost use Rattle.iscsi_pdu.specs.Meaning.{Fits};
+ghost use Rattle.iscsi_pdu.specs.Meaning.{HeadFits};
 ghost use Rattle.iscsi_login.specs.Stage.{is_closed_phase};
-ghost use Rattle.iscsi_target_session.specs.Session.{opening_session, max_cmd_sn_with, send_response, counted, ended};
-ghost use Rattle.iscsi_target_session.specs.Rejecting.{reject, reject_and_close};
-ghost use Rattle.iscsi_target_session.specs.Replies.{Does};
+ghost use Rattle.iscsi_target_session.specs.Session.{opening_session, max_cmd_sn_with, send_response, stat_sn_advanced, ended_session};
+ghost use Rattle.iscsi_target_session.specs.Rejecting.{message_rejected, reject_and_close};
+ghost use Rattle.iscsi_target_session.specs.Replies.{ReplyPost};
 
 mod exchange;
 mod login;
@@ -182,14 +182,14 @@ impl Session {
     }
 
     /// An answer was sent that carries StatSN and advances it (RFC 7143, section 4.2.2.2).
-    pub fn count(&mut self)
-        ensures { self.new ≡ counted self.old }
+    pub fn advance_stat_sn(&mut self)
+        ensures { self.new ≡ stat_sn_advanced self.old }
     {
         self.stat_sn = self.stat_sn.wrapping_add(1);
     }
 
     /// This CmdSN is due.
-    pub fn expect(&mut self, cmd_sn: u32)
+    pub fn set_exp_cmd_sn(&mut self, cmd_sn: u32)
         ensures { self.new ≡ record self.old { exp_cmd_sn = cmd_sn } }
     {
         self.exp_cmd_sn = cmd_sn;
@@ -197,7 +197,7 @@ impl Session {
 
     /// Closes the session; what was gathered and the CmdSN that was due are dropped.
     pub fn close(&mut self)
-        ensures { self.new ≡ ended self.old }
+        ensures { self.new ≡ ended_session self.old }
     {
         self.phase = Phase::Closed;
         self.gathered.clear();
@@ -213,13 +213,13 @@ impl Session {
         bytes: &[u8],
         out: &mut Vec<u8>,
     ) -> Result<Option<u8>, AllocError>
-        requires fits { Fits head.now }
+        requires fits { HeadFits head.now }
         requires short { length bytes.now < 2 ^ 24 }
-        ensures { Does (send_response self.old head.now bytes.now) result
+        ensures { ReplyPost (send_response self.old head.now bytes.now) result
             self.old self.new out.old.items out.new.items }
     {
         write_pdu(head, bytes, out)?;
-        self.count();
+        self.advance_stat_sn();
         Ok(None)
     }
 
@@ -231,7 +231,7 @@ impl Session {
         received: &Received<'_>,
         out: &mut Vec<u8>,
     ) -> Result<Option<u8>, AllocError>
-        ensures { Does (reject self.old waiting reason received.now) result
+        ensures { ReplyPost (message_rejected self.old waiting reason received.now) result
             self.old self.new out.old.items out.new.items }
     {
         let header = canonical_head(*out.allocator(), &received.pdu, received.continued)?;
@@ -253,7 +253,7 @@ impl Session {
         received: &Received<'_>,
         out: &mut Vec<u8>,
     ) -> Result<Option<u8>, AllocError>
-        ensures { Does (reject_and_close self.old waiting rule received.now) result
+        ensures { ReplyPost (reject_and_close self.old waiting rule received.now) result
             self.old self.new out.old.items out.new.items }
     {
         self.reject(waiting, PROTOCOL_ERROR, received, out)?;

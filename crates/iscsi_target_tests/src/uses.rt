@@ -2,7 +2,7 @@
 
 ghost use Rattle.std.specs.Prelude.{◌≡◌, ◌++◌, ℕ, List, map, IfOk, IsTrue};
 ghost use Rattle.scsi_disk.specs.Disk.{Disk};
-ghost use Rattle.iscsi_target_session.specs.Configured.{Settings};
+ghost use Rattle.iscsi_target_session.specs.Configured.{TargetSettings};
 ghost use Rattle.iscsi_stream.specs.Stream.{Message, StreamMeans};
 ghost use Rattle.iscsi_target.specs.Feed.{HasAnswered, beginning, stream_of};
 
@@ -19,7 +19,7 @@ pub fn answer<S: BlockStore>(
     store: &mut S,
     answers: &mut Vec<u8>,
 ) -> bool
-    ensures answered { (settings : Settings) (n : ℕ) (disk : Disk) (stream : List ℕ)
+    ensures answered { (settings : TargetSettings) (n : ℕ) (disk : Disk) (stream : List ℕ)
         → S.failures store.new ≡ S.failures store.old → IsTrue result
         → HasAnswered S.protected (beginning settings n disk) stream target.old (S.disk store.old)
         answers.old.items

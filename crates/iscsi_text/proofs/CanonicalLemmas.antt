@@ -9,14 +9,14 @@ use Rattle.std.proofs.lemmas.List.Sorted.{sum_by-IsPermutation, All-permutation,
 use Rattle.iscsi_text.specs.declared.pair.Pair.{Pair}
 use Rattle.iscsi_text.specs.Key.{kind_of}
 use Rattle.iscsi_text.specs.Value.{Typed, value_text}
-use Rattle.iscsi_text.specs.Text.{Pairs, values_of, Field, entry_bytes, IsEntry, IsSingle, pairs_of, TextMeans, IsPair, IsMeaning}
+use Rattle.iscsi_text.specs.Text.{Pairs, values_of, Field, entry_bytes, IsTextEntry, IsSingle, pairs_of, TextMeans, IsPair, IsMeaning}
 use Rattle.iscsi_text.specs.Canonical.{pair_text, canonical_text}
-use Rattle.iscsi_text.specs.Inside.{shown, all_shown}
+use Rattle.iscsi_text.specs.Shown.{shown, all_shown}
 use Rattle.iscsi_text.proofs.MeaningLemmas.{stands}
 use Rattle.iscsi_text.proofs.ArrangementLemmas.{permuted}
 
 -- the pairs of a row are pairs
-each_pair : (entries : List (Option Field)) → AllByRecursion IsEntry entries → AllByRecursion IsPair (pairs_of entries)
+each_pair : (entries : List (Option Field)) → AllByRecursion IsTextEntry entries → AllByRecursion IsPair (pairs_of entries)
 each_pair [] all = tt
 each_pair (None ∷ entries) all = each_pair entries all.1
 each_pair (Some f ∷ entries) all = (record { key = all.0.key; bytes = f.bytes; ends = all.0.ends; means = all.0.value }, each_pair entries all.1)
@@ -43,7 +43,7 @@ spelled-canonical : (pairs : Pairs) → canonical_text pairs ≡ flat_map entry_
 spelled-canonical [] = refl
 spelled-canonical (p ∷ pairs) = ap (λ bs. pair_text p ++ bs) (spelled-canonical pairs)
 
-each-canonical : (pairs : Pairs) → AllByRecursion IsPair pairs → AllByRecursion IsEntry (map canonical_entry pairs)
+each-canonical : (pairs : Pairs) → AllByRecursion IsPair pairs → AllByRecursion IsTextEntry (map canonical_entry pairs)
 each-canonical [] all = tt
 each-canonical (p ∷ pairs) all =
     let one = stands (kind_of p.0) all.0.bytes p.1 all.0.means all.0.ends in
@@ -65,7 +65,7 @@ canonical_means pairs is = record {
 abbrev text_len : List ℕ × Typed → ℕ
 text_len p = length (pair_text p)
 
-row_least : (entries : List (Option Field)) → AllByRecursion IsEntry entries → length (canonical_text (pairs_of entries))
+row_least : (entries : List (Option Field)) → AllByRecursion IsTextEntry entries → length (canonical_text (pairs_of entries))
     ≤ length (flat_map entry_bytes entries)
 row_least [] all = omega arith
 row_least (None ∷ entries) all = omega (arith, row_least entries all.1)

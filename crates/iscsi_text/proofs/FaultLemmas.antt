@@ -6,7 +6,7 @@ use Rattle.std.proofs.lemmas.List.Elements.{All-from_recursion, recursion_from_A
 use Rattle.iscsi_text.specs.declared.fault.TextFault.{TextFault}
 use Rattle.iscsi_text.specs.declared.fault.TextFault.TheVariants.{NoMemory, Unterminated, NoEquals, BadKey, Repeated}
 use Rattle.iscsi_text.specs.Key.{IsKey, target_address}
-use Rattle.iscsi_text.specs.Text.{Pairs, values_of, Field, entry_bytes, HasNo, IsEntry, IsField, IsSingle, pairs_of, TextMeans}
+use Rattle.iscsi_text.specs.Text.{Pairs, values_of, Field, entry_bytes, HasNo, IsTextEntry, IsField, IsSingle, pairs_of, TextMeans}
 use Rattle.iscsi_text.specs.Fault.{LacksEquals, NamesFirst, IsFaulty, place_of, IsFirstFault}
 use Rattle.iscsi_text.proofs.PairLemmas.{values_of-append, values_of-same}
 use Rattle.iscsi_text.proofs.ReadInvariant.{no_back, pairs_of-append}
@@ -100,7 +100,7 @@ not_field ps rest y g (Repeated at) is new faulty same =
     omega (arith, faulty.again, subst (λ k. length (values_of k ps) ≤ 0) (sym keys) (new (λ t. faulty.other (keys ∙ t))))
 
 -- so no row goes on where a fault is
-stops : (es more : List (Option Field)) (rest y : List ℕ) (f : TextFault) → IsFaulty (pairs_of es) rest f → AllByRecursion IsEntry more →
+stops : (es more : List (Option Field)) (rest y : List ℕ) (f : TextFault) → IsFaulty (pairs_of es) rest f → AllByRecursion IsTextEntry more →
     IsSingle (pairs_of (es ++ more)) → rest ≡ flat_map entry_bytes more ++ y → more ≡ []
 stops es [] rest y f faulty each single is = refl
 stops es (None ∷ more) rest y f faulty each single is = absurd (not_empty (pairs_of es) rest (flat_map entry_bytes more ++ y) f faulty is)

@@ -20,9 +20,9 @@ use Rattle.iscsi_text.specs.declared.fault.TextFault.{TextFault}
 use Rattle.iscsi_text.specs.declared.fault.TextFault.TheVariants.{NoMemory, Unterminated, NoEquals, BadKey, Repeated}
 use Rattle.iscsi_text.specs.Key.{target_address}
 use Rattle.iscsi_text.specs.Value.{Typed}
-use Rattle.iscsi_text.specs.Text.{Pairs, values_of, Field, entry_bytes, IsEntry, IsSingle, IsInOrder, Arranges, pairs_of, TextMeans}
+use Rattle.iscsi_text.specs.Text.{Pairs, values_of, Field, entry_bytes, IsTextEntry, IsSingle, IsInOrder, ArrangesPairs, pairs_of, TextMeans}
 use Rattle.iscsi_text.specs.Fault.{IsFaulty, IsFirstFault}
-use Rattle.iscsi_text.specs.Inside.{ReadsEntry, IsWrong, GathersTo, Gathers}
+use Rattle.iscsi_text.specs.inner.Inside.{ReadsEntry, IsWrong, GathersTo, GathersRow}
 use Rattle.iscsi_text.specs.Reading.{has_key, in_order}
 use Rattle.iscsi_text.proofs.PairLemmas.{values_of-append, key_cases}
 use Rattle.iscsi_text.proofs.KeyLemmas.{bytes_eq_same, bytes_eq_other}
@@ -62,7 +62,7 @@ pub same_single : (ps qs : Pairs) → ((key : List ℕ) → values_of key qs ≡
 same_single ps qs same single key other = omega (arith, single key other, ap length (same key))
 
 -- all of a text, read to pairs whose keys are in order and single
-pub means_sorted : (bytes rest : List ℕ) (pairs sorted : Pairs) → GathersTo bytes rest pairs → rest ≡ [] → Arranges pairs sorted → IsSingle sorted →
+pub means_sorted : (bytes rest : List ℕ) (pairs sorted : Pairs) → GathersTo bytes rest pairs → rest ≡ [] → ArrangesPairs pairs sorted → IsSingle sorted →
     TextMeans bytes sorted
 means_sorted bytes rest pairs sorted row ended arranges single = record {
   entries = row.entries;
@@ -75,7 +75,8 @@ means_sorted bytes rest pairs sorted row ended arranges single = record {
 }
 
 -- a text whose sorted pairs repeat a key means nothing
-pub repeats_mean_nothing : (bytes : List ℕ) (pairs sorted : Pairs) (ended_by : Option TextFault) → Gathers bytes pairs ended_by → Arranges pairs sorted →
+pub repeats_mean_nothing : (bytes : List ℕ) (pairs sorted : Pairs) (ended_by : Option TextFault) → GathersRow bytes pairs ended_by → ArrangesPairs pairs sorted
+    →
     (IsInOrder sorted × IsSingle sorted → ⊥) → (m : Pairs) → TextMeans bytes m → ⊥
 repeats_mean_nothing bytes pairs sorted ended_by read arranges never m means =
     never (arranges.in_order, same_single pairs sorted arranges.same (meaning_single bytes read.rest pairs m read.row means))
@@ -110,7 +111,7 @@ pub repeated_first : (bytes rest more : List ℕ) (pairs : Pairs) (p : List ℕ 
     ≡ length bytes - length rest → ReadsEntry rest (Some p) more → p.0 ≢ target_address → has_key p.0 pairs ≡ true → IsFirstFault bytes (Repeated at)
 repeated_first bytes rest more pairs p at row single is next other there = by next.entry next.spelled next.good next.shows
   where
-    by : (e : Option Field) → rest ≡ entry_bytes e ++ more → IsEntry e → Some p ≡ option_map (λ f. (f.key, f.value)) e → IsFirstFault bytes (Repeated at)
+    by : (e : Option Field) → rest ≡ entry_bytes e ++ more → IsTextEntry e → Some p ≡ option_map (λ f. (f.key, f.value)) e → IsFirstFault bytes (Repeated at)
     by None spelled good shows = cc
     by (Some f) spelled good shows =
         let key : p.0 ≡ f.key = cc in

@@ -8,7 +8,7 @@ use Rattle.iscsi_text.specs.declared.negotiated.NegKey.{NegKey}
 use Rattle.iscsi_text.specs.declared.negotiated.NegKey.TheVariants as keys
 use Rattle.iscsi_text.specs.Negotiated.{name_of, rule_of, kind_by, key_named, all_keys}
 use Rattle.iscsi_text.specs.Key.{declared, known_keys, kind_in, kind_of}
-use Rattle.iscsi_text.specs.Inside.{row_shown}
+use Rattle.iscsi_text.specs.inner.Inside.{row_shown}
 
 -- ---- names by their places
 

@@ -3,23 +3,24 @@ use Rattle.std.proofs.Common.{◌≡◌, ℕ, ◌≤◌, Bool, true, false, List
 use Rattle.iscsi_text.specs.declared.key.KeyKind.{KeyKind}
 use Rattle.iscsi_text.specs.declared.key.KeyKind.TheVariants as kinds
 use Rattle.iscsi_text.specs.Numeral.{canonical_number}
-use Rattle.iscsi_text.specs.Value.{Typed, Number, Boolean, Items, Plain, Odd, Means, boolean_text, value_text}
+use Rattle.iscsi_text.specs.Value.{Typed, Number, Boolean, Items, Plain, Odd, MeansValue, boolean_text, value_text}
 use Rattle.iscsi_text.specs.Text.{HasNo}
 use Rattle.iscsi_text.proofs.NumeralLemmas.{canonical_spells, canonical_least, spelling_no_zero, one_number}
 
 -- the canonical form means the same, has no 0, and is no longer
 pub record Stands (kind : Option KeyKind) (bytes : List ℕ) (v : Typed) : Type 0 where
-  pub means : Means kind (value_text v) v
+  pub means : MeansValue kind (value_text v) v
   pub ends : HasNo 0 (value_text v)
   pub no_longer : length (value_text v) ≤ length bytes
 
 -- where the value keeps its bytes
-kept : (kind : Option KeyKind) (bytes text : List ℕ) (v : Typed) → value_text v ≡ text → text ≡ bytes → Means kind bytes v → HasNo 0 bytes → Stands kind bytes v
+kept : (kind : Option KeyKind) (bytes text : List ℕ) (v : Typed) → value_text v ≡ text → text ≡ bytes → MeansValue kind bytes v → HasNo 0 bytes
+    → Stands kind bytes v
 kept kind bytes text v shows same means none =
     let e : bytes ≡ value_text v = sym (shows ∙ same) in
-    record { means = subst (λ bs. Means kind bs v) e means; ends = subst (HasNo 0) e none; no_longer = omega (arith, ap length e) }
+    record { means = subst (λ bs. MeansValue kind bs v) e means; ends = subst (HasNo 0) e none; no_longer = omega (arith, ap length e) }
 
-pub stands : (kind : Option KeyKind) (bytes : List ℕ) (v : Typed) → Means kind bytes v → HasNo 0 bytes → Stands kind bytes v
+pub stands : (kind : Option KeyKind) (bytes : List ℕ) (v : Typed) → MeansValue kind bytes v → HasNo 0 bytes → Stands kind bytes v
 stands (Some kinds.Number) bytes (Number n) means none =
     let spells = canonical_spells n means.fits in
     record { means = spells; ends = spelling_no_zero (canonical_number n) n spells; no_longer = canonical_least bytes n means }
@@ -39,7 +40,7 @@ same_boolean false false e = refl
 same_boolean true false e = cc
 same_boolean false true e = cc
 
-pub one_value : (kind : Option KeyKind) (bytes : List ℕ) (v w : Typed) → Means kind bytes v → Means kind bytes w → v ≡ w
+pub one_value : (kind : Option KeyKind) (bytes : List ℕ) (v w : Typed) → MeansValue kind bytes v → MeansValue kind bytes w → v ≡ w
 one_value (Some kinds.Number) bytes (Number n) (Number m) a b = ap Number (one_number bytes n m a b)
 one_value (Some kinds.Number) bytes (Number n) (Odd c) a b = absurd (b.1 n a)
 one_value (Some kinds.Number) bytes (Odd c) (Number m) a b = absurd (a.1 m b)

@@ -9,7 +9,7 @@ use Rattle.std.proofs.lemmas.Fmt.{digits_is_IsNumeral, decimal_is_IsNumeral, fir
 use Rattle.std.proofs.lemmas.Int.Digits.{digits_value-lt}
 use Rattle.std.proofs.lemmas.List.Elements.{All-from_recursion}
 use Rattle.std.proofs.lemmas.Bool.{cases_lt}
-use Rattle.iscsi_text.specs.Numeral.{IsDecimal, IsHexadecimal, Spells, hexadecimal, canonical_number}
+use Rattle.iscsi_text.specs.Numeral.{IsDecimal, IsHexadecimal, SpellsNumber, hexadecimal, canonical_number}
 use Rattle.iscsi_text.specs.Text.{HasNo}
 use Rattle.iscsi_text.proofs.DigitLemmas.{length-printed-le, fits_base}
 
@@ -36,7 +36,7 @@ is_decimal n small =
     }
 
 -- it spells its number
-pub canonical_spells : (n : ℕ) → n < 2 ^ 64 → Spells (canonical_number n) n
+pub canonical_spells : (n : ℕ) → n < 2 ^ 64 → SpellsNumber (canonical_number n) n
 canonical_spells n small = record {
   fits = small;
   form = elim (canonical_is n) [
@@ -61,7 +61,7 @@ hexadecimal_least (z ∷ x ∷ text) n small spelled = omega (
       (subst (λ m. m < 16 ^ length text) spelled.3 (digits_value-lt 16 text spelled.2.1)) (fits_base 16 n (omega arith) small).1,
 )
 
-pub canonical_least : (text : List ℕ) (n : ℕ) → Spells text n → length (canonical_number n) ≤ length text
+pub canonical_least : (text : List ℕ) (n : ℕ) → SpellsNumber text n → length (canonical_number n) ≤ length text
 canonical_least text n spelled = elim (canonical_is n) [
   | inl shorter ↦ rw shorter.0 (elim spelled.form [
     | inl d ↦ decimal_least text n spelled.fits d
@@ -89,7 +89,7 @@ digits_no_zero radix (c ∷ text) small all = (
   digits_no_zero radix text small all.1,
 )
 
-pub spelling_no_zero : (text : List ℕ) (n : ℕ) → Spells text n → HasNo 0 text
+pub spelling_no_zero : (text : List ℕ) (n : ℕ) → SpellsNumber text n → HasNo 0 text
 spelling_no_zero text n spelled = All-from_recursion (λ b. b ≢ 0) text (elim spelled.form
     [ inl d ↦ digits_no_zero 10 text (omega arith) d.digits.1 | inr h ↦ hex text h ])
   where
@@ -109,7 +109,7 @@ not_both [] m n d h = h
 not_both (z ∷ []) m n d h = h
 not_both (z ∷ x ∷ text) m n d h = d.no_leading_zero (omega arith) h.0
 
-pub one_number : (text : List ℕ) (m n : ℕ) → Spells text m → Spells text n → m ≡ n
+pub one_number : (text : List ℕ) (m n : ℕ) → SpellsNumber text m → SpellsNumber text n → m ≡ n
 one_number text m n h k = elim h.form [
   | inl d ↦ elim k.form [ inl e ↦ sym d.value ∙ e.value | inr e ↦ absurd (not_both text m n d e) ]
   | inr d ↦ elim k.form [ inl e ↦ absurd (not_both text n m e d) | inr e ↦ one_hex text m n d e ]

@@ -2,7 +2,7 @@
 use Rattle.std.proofs.Common.{◌≡◌, ◌≢◌, ℕ, Bool, true, false, cond, List, [], ◌∷◌, refl, sym, ap, subst, ◌∙◌, inl, inr}
 use Rattle.std.specs.List.{AllByRecursion}
 use Rattle.iscsi_text.specs.Value.{Typed}
-use Rattle.iscsi_text.specs.Text.{Pairs, values_of, key_le, IsInOrder, Arranges}
+use Rattle.iscsi_text.specs.Text.{Pairs, values_of, key_le, IsInOrder, ArrangesPairs}
 use Rattle.iscsi_text.proofs.KeyLemmas.{key_le_refl, key_le_trans, key_le_other}
 use Rattle.iscsi_text.proofs.PairLemmas.{values_of-same, values_of-other, key_cases}
 use Rattle.iscsi_text.proofs.ArrangementLemmas.{one_order}
@@ -77,5 +77,5 @@ all_in_order P [] all = tt
 all_in_order P (p ∷ ps) all = all_placed P p (in_order ps) all.0 (all_in_order P ps all.1)
 
 -- the arrangement is this one
-pub arranged_is : (ps arranged : Pairs) → Arranges ps arranged → arranged ≡ in_order ps
+pub arranged_is : (ps arranged : Pairs) → ArrangesPairs ps arranged → arranged ≡ in_order ps
 arranged_is ps arranged is = one_order arranged (in_order ps) is.in_order (in_order_is ps) (λ key. is.same key ∙ sym (values_in_order key ps))

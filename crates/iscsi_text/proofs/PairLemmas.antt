@@ -12,7 +12,8 @@ use Rattle.iscsi_text.specs.declared.pair.Pair.{Pair}
 use Rattle.iscsi_text.specs.Key.{target_address}
 use Rattle.iscsi_text.specs.Value.{Typed, typed}
 use Rattle.iscsi_text.specs.Text.{Pairs, values_of, key_le, IsInOrder}
-use Rattle.iscsi_text.specs.Inside.{shown, all_shown, Inserts}
+use Rattle.iscsi_text.specs.Shown.{shown, all_shown}
+use Rattle.iscsi_text.specs.inner.Inside.{InsertsPair}
 use Rattle.iscsi_text.proofs.KeyLemmas.{key_le_refl, key_le_trans, key_le_other, key_le_both, same_key, bytes_eq_same, bytes_eq_other}
 
 pub values_of-append : (key : List ℕ) (xs ys : Pairs) → values_of key (xs ++ ys) ≡ values_of key xs ++ values_of key ys
@@ -103,7 +104,7 @@ values_insert front back p high key = elim (key_cases p.0 key) [
 pub inserted : (front back : Pairs) (p : List ℕ × Typed) → IsInOrder (front ++ back) → AllByRecursion (λ q. key_le q.0 p.0 ≡ true) front →
     AllByRecursion (λ q. key_le q.0 p.0 ≡ false) back
     → (p.0 ≢ target_address → (d : List ℕ × Typed) → 0 < length front → (get_or front (length front - 1) d).0 ≢ p.0) →
-    Inserts (front ++ back) p (front ++ p ∷ back)
+    InsertsPair (front ++ back) p (front ++ p ∷ back)
 inserted front back p order low high last = record {
   in_order = in_order_insert front back p order low high;
   values = values_insert front back p high;
@@ -155,7 +156,7 @@ last_shown xs i d e some le =
 pub placed : (xs : List Pair) (pair : Pair) (i : ℕ) → IsInOrder (all_shown xs) → i ≤ length xs
     → IsPartitionPoint (λ y. key_le y.key.now pair.key.now ≡ true) (λ y. key_le y.key.now pair.key.now ≡ false) xs i
     → (pair.key.now ≢ target_address → 0 < i → (get_or xs (i - 1) pair).key.now ≢ pair.key.now) →
-    Inserts (all_shown xs) (shown pair) (all_shown (insert xs i pair))
+    InsertsPair (all_shown xs) (shown pair) (all_shown (insert xs i pair))
 placed xs pair i order le parts last =
     let whole : all_shown xs ≡ all_shown (take i xs) ++ all_shown (drop i xs) = ap all_shown (sym (take-append-drop i xs))
     ∙ map-append shown (take i xs) (drop i xs) in
@@ -164,8 +165,8 @@ placed xs pair i order le parts last =
     let done = inserted (all_shown (take i xs)) (all_shown (drop i xs)) (shown pair) (subst IsInOrder whole order) (front_shown pair.key.now xs i parts.0 le)
     (back_shown pair.key.now xs i parts.1)
     (λ other d some same. last other (omega arith) (sym (ap (λ (q : List ℕ × Typed). q.0) (last_shown xs i d pair (omega arith) le)) ∙ same)) in
-    subst (λ ps. Inserts ps (shown pair) (all_shown (insert xs i pair))) (sym whole)
-    (subst (λ ps. Inserts (all_shown (take i xs) ++ all_shown (drop i xs)) (shown pair) ps) (sym new) done)
+    subst (λ ps. InsertsPair ps (shown pair) (all_shown (insert xs i pair))) (sym whole)
+    (subst (λ ps. InsertsPair (all_shown (take i xs) ++ all_shown (drop i xs)) (shown pair) ps) (sym new) done)
 
 -- a key that stands at some place has a value
 pub present : (xs : List Pair) (key : List ℕ) (i : ℕ) (d : Pair) → i < length xs → (get_or xs i d).key.now ≡ key → 0 < length (values_of key (all_shown xs))

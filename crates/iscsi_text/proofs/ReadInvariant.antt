@@ -7,10 +7,11 @@ use Rattle.std.proofs.lemmas.List.Elements.{All-from_recursion, recursion_from_A
 use Rattle.std.proofs.lemmas.Grind.{flat_map-append}
 use Rattle.iscsi_text.specs.declared.fault.TextFault.TheVariants.{BadKey}
 use Rattle.iscsi_text.specs.Key.{IsKey, kind_of, target_address}
-use Rattle.iscsi_text.specs.Value.{Typed, Means}
-use Rattle.iscsi_text.specs.Text.{Pairs, values_of, Field, entry_bytes, HasNo, IsEntry, IsSingle, pairs_of}
+use Rattle.iscsi_text.specs.Value.{Typed, MeansValue}
+use Rattle.iscsi_text.specs.Text.{Pairs, values_of, Field, entry_bytes, HasNo, IsTextEntry, IsSingle, pairs_of}
 use Rattle.iscsi_text.specs.Fault.{NamesFirst}
-use Rattle.iscsi_text.specs.Inside.{SplitsAt, ReadsEntry, IsWrong, GathersTo}
+use Rattle.iscsi_text.specs.Shown.{SplitsAtByte}
+use Rattle.iscsi_text.specs.inner.Inside.{ReadsEntry, IsWrong, GathersTo}
 use Rattle.iscsi_text.proofs.PairLemmas.{values_of-append, values_of-same, values_of-other, key_cases}
 
 pub pairs_of-append : (xs ys : List (Option Field)) → pairs_of (xs ++ ys) ≡ pairs_of xs ++ pairs_of ys
@@ -56,8 +57,8 @@ no_parts entry key value none parts =
     (no_front 0 key (61 ∷ value) whole, no_back 0 (61 ∷ []) value (no_back 0 key (61 ∷ value) whole))
 
 -- an entry, taken apart at its `=`
-pub reads_pair : (rest entry more key value : List ℕ) (v : Typed) → SplitsAt rest 0 entry more → SplitsAt entry 61 key value → IsKey key →
-    Means (kind_of key) value v → ReadsEntry rest (Some (key, v)) more
+pub reads_pair : (rest entry more key value : List ℕ) (v : Typed) → SplitsAtByte rest 0 entry more → SplitsAtByte entry 61 key value → IsKey key →
+    MeansValue (kind_of key) value v → ReadsEntry rest (Some (key, v)) more
 reads_pair rest entry more key value v at_end at_equals is_key means = record {
   entry = Some (record { key = key; bytes = value; value = v });
   spelled = field_spelled rest entry more key value at_end.whole at_equals.whole ∙ sym (append_assoc (key ++ 61 ∷ value) (0 ∷ []) more);
@@ -66,7 +67,7 @@ reads_pair rest entry more key value v at_end at_equals is_key means = record {
 }
 
 -- the pair's parts, as the faults name them
-names_first : (rest entry more key value : List ℕ) → SplitsAt rest 0 entry more → SplitsAt entry 61 key value → NamesFirst key rest
+names_first : (rest entry more key value : List ℕ) → SplitsAtByte rest 0 entry more → SplitsAtByte entry 61 key value → NamesFirst key rest
 names_first rest entry more key value at_end at_equals =
     let parts = no_parts entry key value at_end.first at_equals.whole in
     record {
@@ -78,7 +79,7 @@ names_first rest entry more key value at_end at_equals =
       bytes_end = parts.1;
     }
 
-pub bad_key : (rest entry more key value : List ℕ) (at : ℕ) → SplitsAt rest 0 entry more → SplitsAt entry 61 key value → (IsKey key → ⊥) →
+pub bad_key : (rest entry more key value : List ℕ) (at : ℕ) → SplitsAtByte rest 0 entry more → SplitsAtByte entry 61 key value → (IsKey key → ⊥) →
     IsWrong rest at (BadKey at)
 bad_key rest entry more key value at at_end at_equals bad = record {
   place = refl;
@@ -96,7 +97,7 @@ pub gathers_more : (bytes rest more : List ℕ) (pairs : Pairs) (pair : Option (
 gathers_more bytes rest more pairs pair so_far next = record {
   entries = so_far.entries ++ next.entry ∷ [];
   spelled = spelled_more bytes rest more so_far.entries next.entry so_far.spelled next.spelled;
-  each = all_push IsEntry so_far.entries next.entry so_far.each next.good;
+  each = all_push IsTextEntry so_far.entries next.entry so_far.each next.good;
   gathered = ap (λ ps. ps ++ option_to_list pair) so_far.gathered ∙ ap (λ p. pairs_of so_far.entries ++ option_to_list p) next.shows
       ∙ sym (pairs_of-append so_far.entries (next.entry ∷ []) ∙ ap (λ ps. pairs_of so_far.entries ++ ps) (one next.entry));
 }

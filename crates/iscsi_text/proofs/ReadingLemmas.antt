@@ -17,11 +17,11 @@ use Rattle.std.proofs.lemmas.List.Splits.{join_with_byte-slice_split, length-sli
 use Rattle.std.proofs.lemmas.Slice.Eq.{bytes_eq-Decides}
 use Rattle.iscsi_text.specs.declared.key.KeyKind.{KeyKind}
 use Rattle.iscsi_text.specs.declared.key.KeyKind.TheVariants as kinds
-use Rattle.iscsi_text.specs.Numeral.{IsHexadecimal, Spells}
+use Rattle.iscsi_text.specs.Numeral.{IsHexadecimal, SpellsNumber}
 use Rattle.iscsi_text.specs.Key.{IsLetter, IsKeyByte, IsKey, kind_of, target_address}
-use Rattle.iscsi_text.specs.Value.{Typed, Means, boolean_text}
-use Rattle.iscsi_text.specs.Text.{Pairs, values_of, IsSingle, Field, entry_bytes, HasNo, IsField, IsEntry, pairs_of, TextMeans}
-use Rattle.iscsi_text.specs.Inside.{SplitsAt}
+use Rattle.iscsi_text.specs.Value.{Typed, MeansValue, boolean_text}
+use Rattle.iscsi_text.specs.Text.{Pairs, values_of, IsSingle, Field, entry_bytes, HasNo, IsField, IsTextEntry, pairs_of, TextMeans}
+use Rattle.iscsi_text.specs.Shown.{SplitsAtByte}
 use Rattle.iscsi_text.specs.Reading.{is_empty, parts_at, onto_front, cut_at, number_of_digits, number_behind_zero, number_in, number_or_odd, value_in}
 use Rattle.iscsi_text.specs.Reading.{is_letter, is_key_byte, is_key, pair_of_cut, pair_in, has_key, added, pairs_in, in_order, text_in}
 use Rattle.iscsi_text.proofs.KeyLemmas.{bytes_eq_same, bytes_eq_other}
@@ -85,7 +85,7 @@ digits_read radix text = elim (decided _ (Decides-and _ _ (some_bytes text) (Dec
 
 -- a numeral is read, and nothing else
 abbrev pub Exact : List ℕ → Option ℕ → Type 0
-Exact bytes r = MatchOption r ((n : ℕ) → Spells bytes n → ⊥) (Spells bytes)
+Exact bytes r = MatchOption r ((n : ℕ) → SpellsNumber bytes n → ⊥) (SpellsNumber bytes)
 
 no_hexadecimal : (text : List ℕ) → (1 < length text → slice_index text 0 ≢ 48) → (n : ℕ) → IsHexadecimal text n → ⊥
 no_hexadecimal [] lead n h = h
@@ -138,17 +138,17 @@ not_true : (t : Bool) → t ≡ true → not t ≡ true → ⊥
 not_true true e f = false≢true f
 not_true false e f = false≢true e
 
-value_means : (kind : Option KeyKind) (bytes : List ℕ) → Means kind bytes (value_in kind bytes)
+value_means : (kind : Option KeyKind) (bytes : List ℕ) → MeansValue kind bytes (value_in kind bytes)
 value_means (Some kinds.Number) bytes = by (number_in bytes) (number_exact bytes)
   where
-    by : (r : Option ℕ) → Exact bytes r → Means (Some kinds.Number) bytes (number_or_odd bytes r)
+    by : (r : Option ℕ) → Exact bytes r → MeansValue (Some kinds.Number) bytes (number_or_odd bytes r)
     by None never = (refl, never)
     by (Some n) spelled = spelled
 value_means (Some kinds.Boolean) bytes = elim (decided _ (bytes_eq-Decides bytes (boolean_text true))) [
-  | inl h ↦ subst (Means (Some kinds.Boolean) bytes) (sym (cond-true _ _ _ h.0)) h.1
-  | inr h ↦ subst (Means (Some kinds.Boolean) bytes) (sym (cond-false _ _ _ h.0)) (elim (decided _ (bytes_eq-Decides bytes (boolean_text false))) [
-    | inl k ↦ subst (Means (Some kinds.Boolean) bytes) (sym (cond-true _ _ _ k.0)) k.1
-    | inr k ↦ subst (Means (Some kinds.Boolean) bytes) (sym (cond-false _ _ _ k.0)) (refl, neither h.1 k.1)
+  | inl h ↦ subst (MeansValue (Some kinds.Boolean) bytes) (sym (cond-true _ _ _ h.0)) h.1
+  | inr h ↦ subst (MeansValue (Some kinds.Boolean) bytes) (sym (cond-false _ _ _ h.0)) (elim (decided _ (bytes_eq-Decides bytes (boolean_text false))) [
+    | inl k ↦ subst (MeansValue (Some kinds.Boolean) bytes) (sym (cond-true _ _ _ k.0)) k.1
+    | inr k ↦ subst (MeansValue (Some kinds.Boolean) bytes) (sym (cond-false _ _ _ k.0)) (refl, neither h.1 k.1)
   ])
 ]
   where
@@ -157,10 +157,10 @@ value_means (Some kinds.Boolean) bytes = elim (decided _ (bytes_eq-Decides bytes
     neither not_yes not_no false = not_no
 value_means (Some kinds.Items) bytes = by (list_any is_empty (parts_at 44 bytes)) refl
   where
-    by : (t : Bool) → list_any is_empty (parts_at 44 bytes) ≡ t → Means (Some kinds.Items) bytes (value_in (Some kinds.Items) bytes)
-    by true e = subst (Means (Some kinds.Items) bytes) (sym (cond-true _ _ _ e))
+    by : (t : Bool) → list_any is_empty (parts_at 44 bytes) ≡ t → MeansValue (Some kinds.Items) bytes (value_in (Some kinds.Items) bytes)
+    by true e = subst (MeansValue (Some kinds.Items) bytes) (sym (cond-true _ _ _ e))
         (refl, λ items. not_true _ e ((some_items (parts_at 44 bytes)).1 (recursion_from_All (λ item. 0 < length item) (parts_at 44 bytes) items)))
-    by false e = subst (Means (Some kinds.Items) bytes) (sym (cond-false _ _ _ e))
+    by false e = subst (MeansValue (Some kinds.Items) bytes) (sym (cond-false _ _ _ e))
         (refl, All-from_recursion (λ item. 0 < length item) (parts_at 44 bytes) ((some_items (parts_at 44 bytes)).0 (ap not e)))
 value_means (Some kinds.Plain) bytes = refl
 value_means None bytes = refl
@@ -172,7 +172,7 @@ cut_found byte [] back none = cond-true (byte == byte) _ _ (eq-eqb byte byte ref
 cut_found byte (c ∷ front) back none = cond-false (c == byte) _ _ (ne_eqb c byte none.0) ∙ ap (onto_front c) (cut_found byte front back none.1)
 
 abbrev IsCut : List ℕ → ℕ → Option (List ℕ × List ℕ) → Type 0
-IsCut bytes byte r = MatchOption r (Unit {0}) (λ p. SplitsAt bytes byte p.0 p.1)
+IsCut bytes byte r = MatchOption r (Unit {0}) (λ p. SplitsAtByte bytes byte p.0 p.1)
 
 cut_exact : (byte : ℕ) (bytes : List ℕ) → IsCut bytes byte (cut_at byte bytes)
 cut_exact byte [] = tt
@@ -190,7 +190,7 @@ record IsPairOf (entry : List ℕ) (p : List ℕ × Typed) : Type 0 where
   bytes : List ℕ
   whole : entry ≡ p.0 ++ 61 ∷ bytes
   key : IsKey p.0
-  means : Means (kind_of p.0) bytes p.1
+  means : MeansValue (kind_of p.0) bytes p.1
 
 abbrev IsPairIn : List ℕ → Option (List ℕ × Typed) → Type 0
 IsPairIn entry r = MatchOption r (Unit {0}) (IsPairOf entry)
@@ -269,7 +269,7 @@ field_part f rest is =
     ap (parts_at 0) (append_assoc (f.key ++ 61 ∷ f.bytes) (0 ∷ []) rest)
     ∙ slice_split_at (λ (b : ℕ). b == 0) (f.key ++ 61 ∷ f.bytes) 0 rest (λ k d lt. ne_eqb _ 0 (field_no_zero f is k d lt)) refl
 
-row_read : (es : List (Option Field)) → AllByRecursion IsEntry es → IsSingle (pairs_of es) → pairs_in (parts_at 0 (flat_map entry_bytes es))
+row_read : (es : List (Option Field)) → AllByRecursion IsTextEntry es → IsSingle (pairs_of es) → pairs_in (parts_at 0 (flat_map entry_bytes es))
     ≡ Some (pairs_of es)
 row_read [] each single = refl
 row_read (None ∷ es) each single = spare_part (parts_at 0 (flat_map entry_bytes es)) (some_parts (flat_map entry_bytes es)) ∙ row_read es each.1 single
@@ -285,7 +285,7 @@ row_read (Some f ∷ es) each single =
 record IsRow (bytes : List ℕ) (ps : Pairs) : Type 0 where
   entries : List (Option Field)
   spelled : bytes ≡ flat_map entry_bytes entries
-  each : AllByRecursion IsEntry entries
+  each : AllByRecursion IsTextEntry entries
   single : IsSingle (pairs_of entries)
   pairs : pairs_of entries ≡ ps
 

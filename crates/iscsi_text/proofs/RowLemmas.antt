@@ -4,8 +4,8 @@ use Rattle.std.specs.List.{flat_map, AllByRecursion}
 use Rattle.std.proofs.lemmas.List.{append-nil, length-append}
 use Rattle.std.proofs.lemmas.List.Elements.{All-from_recursion, recursion_from_All}
 use Rattle.iscsi_text.specs.Key.{IsKey, IsKeyByte, kind_of}
-use Rattle.iscsi_text.specs.Value.{Means}
-use Rattle.iscsi_text.specs.Text.{Pairs, values_of, Field, entry_bytes, HasNo, IsEntry, IsField, pairs_of, Begins, TextMeans}
+use Rattle.iscsi_text.specs.Value.{MeansValue}
+use Rattle.iscsi_text.specs.Text.{Pairs, values_of, Field, entry_bytes, HasNo, IsTextEntry, IsField, pairs_of, BeginsWithEntries, TextMeans}
 use Rattle.iscsi_text.proofs.MeaningLemmas.{one_value}
 use Rattle.iscsi_text.proofs.ArrangementLemmas.{one_order}
 
@@ -68,12 +68,12 @@ same_field f g x y is is' e =
     let ends = cut 0 (f.key ++ 61 ∷ f.bytes) (g.key ++ 61 ∷ g.bytes) x y (field_no_zero f is) (field_no_zero g is')
     (sym (append_assoc (f.key ++ 61 ∷ f.bytes) (0 ∷ []) x) ∙ e ∙ append_assoc (g.key ++ 61 ∷ g.bytes) (0 ∷ []) y) in
     let parts = cut 61 f.key g.key f.bytes g.bytes (key_no_equals f.key is.key) (key_no_equals g.key is'.key) ends.0 in
-    let means : Means (kind_of g.key) g.bytes f.value = subst (λ k. Means (kind_of k) g.bytes f.value) parts.0
-    (subst (λ bs. Means (kind_of f.key) bs f.value) parts.1 is.value) in
+    let means : MeansValue (kind_of g.key) g.bytes f.value = subst (λ k. MeansValue (kind_of k) g.bytes f.value) parts.0
+    (subst (λ bs. MeansValue (kind_of f.key) bs f.value) parts.1 is.value) in
     let value : f.value ≡ g.value = one_value (kind_of g.key) g.bytes f.value g.value means is'.value in
     ((λ i. record { key = parts.0 i; bytes = parts.1 i; value = value i }), ends.1)
 
-same_entry : (d e : Option Field) (x y : List ℕ) → IsEntry d → IsEntry e → entry_bytes d ++ x ≡ entry_bytes e ++ y → (d ≡ e) × (x ≡ y)
+same_entry : (d e : Option Field) (x y : List ℕ) → IsTextEntry d → IsTextEntry e → entry_bytes d ++ x ≡ entry_bytes e ++ y → (d ≡ e) × (x ≡ y)
 same_entry None None x y is is' e = (refl, cc)
 same_entry None (Some g) x y is is' e = absurd (field_first g y x is' (sym e))
 same_entry (Some f) None x y is is' e = absurd (field_first f x y is e)
@@ -84,10 +84,10 @@ pub record GoesOn (es fs : List (Option Field)) (x y : List ℕ) : Type 0 where
   pub more : List (Option Field)
   pub whole : fs ≡ es ++ more
   pub rest : x ≡ flat_map entry_bytes more ++ y
-  pub each : AllByRecursion IsEntry more
+  pub each : AllByRecursion IsTextEntry more
 
 -- of two rows of the same bytes one goes on behind the other
-pub compared : (es fs : List (Option Field)) (x y : List ℕ) → AllByRecursion IsEntry es → AllByRecursion IsEntry fs → flat_map entry_bytes es ++ x
+pub compared : (es fs : List (Option Field)) (x y : List ℕ) → AllByRecursion IsTextEntry es → AllByRecursion IsTextEntry fs → flat_map entry_bytes es ++ x
     ≡ flat_map entry_bytes fs ++ y → GoesOn es fs x y ⊎ GoesOn fs es y x
 compared [] fs x y a b e = inl (record { more = fs; whole = refl; rest = e; each = b })
 compared (d ∷ es) [] x y a b e = inr (record { more = d ∷ es; whole = refl; rest = sym e; each = a })
@@ -117,7 +117,7 @@ nothing_more (e ∷ more) none = absurd (omega (
 ended : (es fs : List (Option Field)) → GoesOn es fs [] [] → fs ≡ es
 ended es fs on = on.whole ∙ ap (λ m. es ++ m) (nothing_more on.more on.rest) ∙ append-nil es
 
-pub one_row : (text : List ℕ) (es fs : List (Option Field)) → Begins text es [] → Begins text fs [] → es ≡ fs
+pub one_row : (text : List ℕ) (es fs : List (Option Field)) → BeginsWithEntries text es [] → BeginsWithEntries text fs [] → es ≡ fs
 one_row text es fs a b = elim (compared es fs [] [] a.each b.each (sym a.spelled ∙ b.spelled)) [ inl on ↦ sym (ended es fs on) | inr on ↦ ended fs es on ]
 
 -- a text has one meaning

@@ -16,7 +16,8 @@ use Rattle.iscsi_text.specs.declared.pair.Pair.{Pair}
 use Rattle.iscsi_text.specs.Key.{target_address}
 use Rattle.iscsi_text.specs.Value.{Typed, typed}
 use Rattle.iscsi_text.specs.Text.{values_of, key_le, IsInOrder, IsSingle}
-use Rattle.iscsi_text.specs.Inside.{shown, all_shown, follows}
+use Rattle.iscsi_text.specs.Shown.{shown, all_shown}
+use Rattle.iscsi_text.specs.inner.Inside.{follows}
 use Rattle.iscsi_text.proofs.KeyLemmas.{key_le_both, bytes_eq_same, bytes_eq_other, same_key}
 use Rattle.iscsi_text.proofs.PairLemmas.{values_of-same, values_of-shown, key_cases}
 use Rattle.iscsi_text.proofs.ArrangementLemmas.{first_least}

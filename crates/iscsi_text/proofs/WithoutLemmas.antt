@@ -9,7 +9,7 @@ use Rattle.iscsi_text.specs.Key.{is_among}
 use Rattle.iscsi_text.specs.Value.{Typed}
 use Rattle.iscsi_text.specs.Text.{Pairs, values_of, without, key_le, IsInOrder, IsMeaning, IsPair}
 use Rattle.iscsi_text.specs.Canonical.{canonical_text, pair_text}
-use Rattle.iscsi_text.specs.Inside.{shown, all_shown}
+use Rattle.iscsi_text.specs.Shown.{shown, all_shown}
 use Rattle.iscsi_text.proofs.PairLemmas.{key_cases, values_of-same, values_of-other}
 
 -- a test of pairs keeps some of them

@@ -5,7 +5,7 @@ use Rattle.std.specs.List.{flat_map}
 use Rattle.iscsi_text.specs.declared.fault.TextFault.{TextFault}
 use Rattle.iscsi_text.specs.declared.fault.TextFault.TheVariants.{NoMemory, Unterminated, NoEquals, BadKey, Repeated}
 use Rattle.iscsi_text.specs.Key.{IsKey, target_address}
-use Rattle.iscsi_text.specs.Text.{Pairs, values_of, Field, entry_bytes, HasNo, pairs_of, Begins}
+use Rattle.iscsi_text.specs.Text.{Pairs, values_of, Field, entry_bytes, HasNo, pairs_of, BeginsWithEntries}
 
 -- There is a pair, and no byte 0 ends it (section 6.1).
 pub record IsUnended (rest : List ℕ) : Type 0 where
@@ -37,7 +37,7 @@ pub record HasBadKey (rest : List ℕ) : Type 0 where
   pub bad : ¬ IsKey key
 
 -- The key stands among these pairs already, and isn't the one that may (sections 6.2 and 13.8).
-pub record Repeats (pairs : Pairs) (rest : List ℕ) : Type 0 where
+pub record RepeatsKey (pairs : Pairs) (rest : List ℕ) : Type 0 where
   pub key : List ℕ
   pub first : NamesFirst key rest
   pub good : IsKey key
@@ -50,7 +50,7 @@ abbrev pub IsFaulty : Pairs → List ℕ → TextFault → Type 0
 IsFaulty pairs rest (Unterminated at) = IsUnended rest
 IsFaulty pairs rest (NoEquals at) = LacksEquals rest
 IsFaulty pairs rest (BadKey at) = HasBadKey rest
-IsFaulty pairs rest (Repeated at) = Repeats pairs rest
+IsFaulty pairs rest (Repeated at) = RepeatsKey pairs rest
 -- being out of memory is no fault of a text
 IsFaulty pairs rest NoMemory = ⊥
 
@@ -66,6 +66,6 @@ place_of NoMemory = 0
 pub record IsFirstFault (text : List ℕ) (fault : TextFault) : Type 0 where
   pub entries : List (Option Field)
   pub rest : List ℕ
-  pub row : Begins text entries rest
+  pub row : BeginsWithEntries text entries rest
   pub place : place_of fault ≡ length (flat_map entry_bytes entries)
   pub faulty : IsFaulty (pairs_of entries) rest fault

@@ -6,4 +6,5 @@ pub mod Text
 pub mod Fault
 pub mod Canonical
 pub mod Reading
-pub mod Inside
+pub mod Shown
+pub mod inner

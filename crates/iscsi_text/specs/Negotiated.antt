@@ -14,7 +14,7 @@ use Rattle.iscsi_text.specs.declared.negotiated.Session.{Session}
 use Rattle.iscsi_text.specs.declared.negotiated.Session.TheVariants.{Normal, Discovery}
 
 -- What the table has for a key (section 13).
-pub record Row : Type 0 where
+pub record KeyRow : Type 0 where
   -- its place among all keys
   pub place : ℕ
   -- as it stands in a text
@@ -27,7 +27,7 @@ pub record Row : Type 0 where
   pub irrelevant : Bool
 
 -- A row of the table (section 13).
-abbrev pub line : ℕ → List ℕ → Rule → Answered → Bool → Row
+abbrev pub line : ℕ → List ℕ → Rule → Answered → Bool → KeyRow
 line place name rule default irrelevant =
     record { place = place; name = name; rule = rule; default = default; irrelevant = irrelevant }
 
@@ -41,7 +41,7 @@ between low high = record { low = low; high = high }
 
 -- The table: place, name, rule, default, irrelevant in a discovery session (sections 13.1, 13.2,
 -- 13.10 to 13.20, 12.1).
-abbrev pub row : NegKey → Row
+abbrev pub row : NegKey → KeyRow
 row keys.MaxConnections = line 0 (codes "MaxConnections") (Minimum (between 1 65535)) (answers.Number 1) true
 row keys.InitialR2T = line 1 (codes "InitialR2T") Or (answers.Flag true) true
 row keys.ImmediateData = line 2 (codes "ImmediateData") And (answers.Flag true) true

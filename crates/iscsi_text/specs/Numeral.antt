@@ -20,7 +20,7 @@ IsHexadecimal (zero_digit ∷ x ∷ text) n = (zero_digit ≡ 48) × ((x ≡ 120
 
 -- The text is a numerical value, an unsigned integer of at most 64 bits, and writes n (section
 -- 6.1).
-pub record Spells (text : List ℕ) (n : ℕ) : Type 0 where
+pub record SpellsNumber (text : List ℕ) (n : ℕ) : Type 0 where
   pub fits : n < 2 ^ 64
   pub form : IsDecimal text n ⊎ IsHexadecimal text n
 

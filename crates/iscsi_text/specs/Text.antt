@@ -5,7 +5,7 @@ use Rattle.std.specs.Str.{bytes_eq}
 use Rattle.std.specs.Ordering.{nat_cmp, is_le}
 use Rattle.std.specs.Cmp.Lexicographic.{slice_cmp}
 use Rattle.iscsi_text.specs.Key.{IsKey, is_among, kind_of, target_address}
-use Rattle.iscsi_text.specs.Value.{Typed, Means}
+use Rattle.iscsi_text.specs.Value.{Typed, MeansValue}
 
 -- ---- the map
 
@@ -36,7 +36,7 @@ IsInOrder [] = Unit {0}
 IsInOrder (p ∷ pairs) = AllByRecursion (λ q. key_le p.0 q.0 ≡ true) pairs × IsInOrder pairs
 
 -- Arranged has the same values of each key, with the keys in order: both are the same map.
-pub record Arranges (pairs arranged : Pairs) : Type 0 where
+pub record ArrangesPairs (pairs arranged : Pairs) : Type 0 where
   pub in_order : IsInOrder arranged
   pub same : (key : List ℕ) → values_of key arranged ≡ values_of key pairs
 
@@ -63,12 +63,12 @@ entry_bytes (Some f) = f.key ++ 61 ∷ f.bytes ++ 0 ∷ []
 pub record IsField (f : Field) : Type 0 where
   pub key : IsKey f.key
   pub ends : HasNo 0 f.bytes
-  pub value : Means (kind_of f.key) f.bytes f.value
+  pub value : MeansValue (kind_of f.key) f.bytes f.value
 
 -- An entry in which nothing is wrong (section 6.1).
-abbrev pub IsEntry : Option Field → Type 0
-IsEntry None = Unit {0}
-IsEntry (Some f) = IsField f
+abbrev pub IsTextEntry : Option Field → Type 0
+IsTextEntry None = Unit {0}
+IsTextEntry (Some f) = IsField f
 
 -- The pairs of a row of entries, in its order (section 6.1).
 abbrev pub pairs_of : List (Option Field) → Pairs
@@ -77,9 +77,10 @@ pairs_of (None ∷ entries) = pairs_of entries
 pairs_of (Some f ∷ entries) = (f.key, f.value) ∷ pairs_of entries
 
 -- The bytes begin with a row of these entries, in which nothing is wrong (section 6.1).
-pub record Begins (bytes : List ℕ) (entries : List (Option Field)) (rest : List ℕ) : Type 0 where
+pub record BeginsWithEntries (bytes : List ℕ) (entries : List (Option Field)) (rest : List ℕ) : Type
+    0 where
   pub spelled : bytes ≡ flat_map entry_bytes entries ++ rest
-  pub each : AllByRecursion IsEntry entries
+  pub each : AllByRecursion IsTextEntry entries
   pub single : IsSingle (pairs_of entries)
 
 -- ---- the meaning
@@ -88,15 +89,15 @@ pub record Begins (bytes : List ℕ) (entries : List (Option Field)) (rest : Lis
 -- 6.1).
 pub record TextMeans (text : List ℕ) (arranged : Pairs) : Type 0 where
   pub entries : List (Option Field)
-  pub row : Begins text entries []
-  pub arranges : Arranges (pairs_of entries) arranged
+  pub row : BeginsWithEntries text entries []
+  pub arranges : ArrangesPairs (pairs_of entries) arranged
 
 -- A pair that some text has (section 6.1).
 pub record IsPair (pair : List ℕ × Typed) : Type 0 where
   pub key : IsKey pair.0
   pub bytes : List ℕ
   pub ends : HasNo 0 bytes
-  pub means : Means (kind_of pair.0) bytes pair.1
+  pub means : MeansValue (kind_of pair.0) bytes pair.1
 
 -- A map that some text means: pairs in the order of keys, none twice but `TargetAddress` (section
 -- 6.1).

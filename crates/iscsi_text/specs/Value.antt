@@ -5,7 +5,7 @@ use Rattle.iscsi_text.specs.declared.key.KeyKind.{KeyKind}
 use Rattle.iscsi_text.specs.declared.key.KeyKind.TheVariants as kinds
 use Rattle.iscsi_text.specs.declared.value.Value.{Value}
 use Rattle.iscsi_text.specs.declared.value.Value.TheVariants as values
-use Rattle.iscsi_text.specs.Numeral.{Spells, canonical_number}
+use Rattle.iscsi_text.specs.Numeral.{SpellsNumber, canonical_number}
 
 -- A value by its key's type, wherever its bytes lie in memory (section 6.1).
 pub data Typed : Type 0 where
@@ -34,18 +34,19 @@ IsItems bytes = All (λ item. 0 < length item) (slice_split (λ b. b == 44) byte
 
 -- Behind a key of this kind the bytes mean the value (section 6.1; that bytes of the wrong form
 -- stay, as odd, is own rule).
-abbrev pub Means : Option KeyKind → List ℕ → Typed → Type 0
-Means (Some kinds.Number) bytes (Number n) = Spells bytes n
-Means (Some kinds.Number) bytes (Odd odd) = (odd ≡ bytes) × ((n : ℕ) → ¬ Spells bytes n)
-Means (Some kinds.Boolean) bytes (Boolean b) = bytes ≡ boolean_text b
-Means (Some kinds.Boolean) bytes (Odd odd) = (odd ≡ bytes) × ((b : Bool) → bytes ≢ boolean_text b)
-Means (Some kinds.Items) bytes (Items items) = (items ≡ bytes) × IsItems bytes
-Means (Some kinds.Items) bytes (Odd odd) = (odd ≡ bytes) × (¬ IsItems bytes)
-Means (Some kinds.Plain) bytes (Plain plain) = plain ≡ bytes
+abbrev pub MeansValue : Option KeyKind → List ℕ → Typed → Type 0
+MeansValue (Some kinds.Number) bytes (Number n) = SpellsNumber bytes n
+MeansValue (Some kinds.Number) bytes (Odd odd) = (odd ≡ bytes) × ((n : ℕ) → ¬ SpellsNumber bytes n)
+MeansValue (Some kinds.Boolean) bytes (Boolean b) = bytes ≡ boolean_text b
+MeansValue (Some kinds.Boolean) bytes (Odd odd) =
+    (odd ≡ bytes) × ((b : Bool) → bytes ≢ boolean_text b)
+MeansValue (Some kinds.Items) bytes (Items items) = (items ≡ bytes) × IsItems bytes
+MeansValue (Some kinds.Items) bytes (Odd odd) = (odd ≡ bytes) × (¬ IsItems bytes)
+MeansValue (Some kinds.Plain) bytes (Plain plain) = plain ≡ bytes
 -- behind an unknown key they stay as they are
-Means None bytes (Plain plain) = plain ≡ bytes
+MeansValue None bytes (Plain plain) = plain ≡ bytes
 -- and mean nothing else
-Means _ bytes _ = ⊥
+MeansValue _ bytes _ = ⊥
 
 -- The canonical bytes of a value: the canonical numeral, or the bytes that it keeps (own rule of
 -- section 6.1).

@@ -2,7 +2,7 @@
 
 ghost use Rattle.std.specs.Prelude.{◌≡◌, ◌↔◌, IsTrue, [], map, slice_index_or};
 ghost use Rattle.iscsi_text.specs.Key.{declared, known_keys, kind_in, kind_of, IsKey, IsKeyByte};
-ghost use Rattle.iscsi_text.specs.Inside.{row_shown};
+ghost use Rattle.iscsi_text.specs.inner.Inside.{row_shown};
 
 use crate::negotiated::{NEGOTIATED_KEYS, NegKey};
 

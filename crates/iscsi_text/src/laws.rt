@@ -3,7 +3,7 @@
 
 ghost use Rattle.std.specs.Prelude.{◌≡◌, ◌≢◌, ◌≤◌, ◌<◌, ◌^◌, ◌↔◌, ℕ, List, length, Some, None};
 ghost use Rattle.iscsi_text.specs.declared.fault.TextFault.{TextFault};
-ghost use Rattle.iscsi_text.specs.Numeral.{Spells, canonical_number};
+ghost use Rattle.iscsi_text.specs.Numeral.{SpellsNumber, canonical_number};
 ghost use Rattle.iscsi_text.specs.Text.{Pairs, TextMeans, IsMeaning};
 ghost use Rattle.iscsi_text.specs.Fault.{IsFirstFault};
 ghost use Rattle.iscsi_text.specs.Canonical.{canonical_text};
@@ -11,13 +11,13 @@ ghost use Rattle.iscsi_text.specs.Reading.{text_in};
 
 /// Bytes spell one number at most.
 pub fn one_number()
-    ensures one { (bytes : List ℕ) (m n : ℕ) → Spells bytes m → Spells bytes n → m ≡ n }
+    ensures one { (bytes : List ℕ) (m n : ℕ) → SpellsNumber bytes m → SpellsNumber bytes n → m ≡ n }
 {}
 
 /// The canonical numeral spells its number, and no spelling is shorter.
 pub fn canonical_number_is_least()
-    ensures spells { (n : ℕ) → n < 2 ^ 64 → Spells (canonical_number n) n }
-    ensures least { (bytes : List ℕ) (n : ℕ) → Spells bytes n →
+    ensures spells { (n : ℕ) → n < 2 ^ 64 → SpellsNumber (canonical_number n) n }
+    ensures least { (bytes : List ℕ) (n : ℕ) → SpellsNumber bytes n →
         length (canonical_number n) ≤ length bytes }
 {}
 

@@ -3,7 +3,7 @@
 ghost use Rattle.std.specs.Prelude.{◌≡◌, ◌≢◌, ℕ, ◌^◌, ◌<◌, ◌≤◌, ◌++◌, ◌∷◌, length, MatchOption, OnOk, OnErr, SomeIff, List, drop, false};
 ghost use Rattle.std.specs.Fmt.{digits, digit_glyph};
 ghost use Rattle.std.specs.Str.Parse.{IsNumeral, digits_value};
-ghost use Rattle.iscsi_text.specs.Numeral.{Spells, hexadecimal, canonical_number};
+ghost use Rattle.iscsi_text.specs.Numeral.{SpellsNumber, hexadecimal, canonical_number};
 
 use std::alloc::AllocError;
 use std::marker::Model;
@@ -14,7 +14,8 @@ use std::marker::Model;
 /// more of either case, of which any number may be leading zeros. A text of nothing, a sign, a
 /// blank or a number of more than 64 bits is none. The forms are those of RFC 7143, section 6.1.
 pub fn read_number(text: &[u8]) -> Option<u64>
-    ensures exact { MatchOption result ((n : ℕ) → ¬ Spells text.now n) (Spells text.now) }
+    ensures exact { MatchOption result ((n : ℕ) → ¬ SpellsNumber text.now n)
+        (SpellsNumber text.now) }
 {
     match text {
         [b'0', b'x' | b'X', digits @ ..] => value_of(digits, 16),

@@ -2,7 +2,8 @@
 
 ghost use Rattle.std.specs.Prelude.{◌≡◌, ◌<◌, ◌^◌, ◌++◌, length, OnOk, OnErr};
 ghost use Rattle.iscsi_text.specs.Canonical.{pair_text};
-ghost use Rattle.iscsi_text.specs.Inside.{shown, Extends};
+ghost use Rattle.iscsi_text.specs.Shown.{shown};
+ghost use Rattle.iscsi_text.specs.inner.Inside.{ExtendsBytes};
 
 use crate::value::Value;
 use std::alloc::AllocError;
@@ -28,7 +29,7 @@ impl Pair<'_> {
     // Appends the canonical form. When out of memory, some of it may be there.
     pub(crate) fn write(&self, out: &mut Vec<u8>) -> Result<(), AllocError>
         ensures ok { OnOk result (out.new.items ≡ out.old.items ++ pair_text (shown self.now)) }
-        ensures err { OnErr result (Extends out.old.items out.new.items) }
+        ensures err { OnErr result (ExtendsBytes out.old.items out.new.items) }
     {
         out.extend_from_slice(self.key)?;
         out.push(b'=')?;

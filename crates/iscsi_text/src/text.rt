@@ -7,7 +7,7 @@ ghost use Rattle.iscsi_text.specs.Text.{Pairs, values_of, without, TextMeans, Is
 ghost use Rattle.iscsi_text.specs.Fault.{IsFirstFault};
 ghost use Rattle.iscsi_text.specs.Canonical.{canonical_text};
 ghost use Rattle.iscsi_text.specs.Reading.{text_in};
-ghost use Rattle.iscsi_text.specs.Inside.{all_shown};
+ghost use Rattle.iscsi_text.specs.Shown.{all_shown};
 
 mod leaving_out;
 mod read;
@@ -40,7 +40,7 @@ impl<'a> Model for Text<'a> {
     ghost use Rattle.std.specs.Prelude.{◌<◌, ◌^◌, length};
     ghost use Rattle.iscsi_text.specs.Text.{Pairs, IsMeaning};
     ghost use Rattle.iscsi_text.specs.Canonical.{canonical_text};
-    ghost use Rattle.iscsi_text.specs.Inside.{all_shown};
+    ghost use Rattle.iscsi_text.specs.Shown.{all_shown};
 
     ghost Value = { Pairs };
 

@@ -1,7 +1,7 @@
 //! Typed values (RFC 7143, section 6.1).
 
 ghost use Rattle.std.specs.Prelude.{◌≡◌, ◌++◌, ◌↔◌, length, IsTrue, OnOk, OnErr};
-ghost use Rattle.iscsi_text.specs.Value.{typed, Means, IsItems, value_text, boolean_text};
+ghost use Rattle.iscsi_text.specs.Value.{typed, MeansValue, IsItems, value_text, boolean_text};
 
 use crate::key::KeyKind;
 use crate::numeral::{Numeral, read_number};
@@ -28,7 +28,7 @@ pub enum Value<'a> {
 impl<'a> Value<'a> {
     // What the bytes mean behind a key of this kind.
     pub(crate) fn read(kind: Option<KeyKind>, bytes: &'a [u8]) -> Value<'a>
-        ensures { Means kind bytes.now (typed result) }
+        ensures { MeansValue kind bytes.now (typed result) }
     {
         match kind {
             Some(KeyKind::Number) => match read_number(bytes) {

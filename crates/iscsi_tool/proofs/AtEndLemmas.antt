@@ -3,11 +3,11 @@ use Rattle.std.proofs.Common.{ℕ, List, Option, Err}
 use Rattle.std.specs.Io.KnownBytes.{IsAtEnd}
 use Rattle.iscsi_stream.specs.declared.fault.StreamFault.TheVariants as stream
 use Rattle.iscsi_target.specs.declared.fault.TargetFault.TheVariants as faults
-use Rattle.iscsi_service.specs.declared.session_fault.SessionFault.{SessionFault}
-use Rattle.iscsi_service.specs.declared.session_fault.SessionFault.TheVariants as session
-use Rattle.iscsi_service.specs.Session.{EndsCut}
+use Rattle.iscsi_serve.specs.declared.session_fault.SessionFault.{SessionFault}
+use Rattle.iscsi_serve.specs.declared.session_fault.SessionFault.TheVariants as session
+use Rattle.iscsi_serve.specs.Session.{EndsCut}
 use Rattle.iscsi_filters.specs.Filters.{CutAtEnd}
-use Rattle.iscsi_tool.specs.Answering.{filter_fault}
+use Rattle.iscsi_tool.specs.inner.Answering.{filter_fault}
 
 pub session_at_end : (fault : SessionFault) (left : Option (List ℕ)) → EndsCut (Err fault) left → CutAtEnd (Err (filter_fault fault)) (IsAtEnd left)
 session_at_end session.NoMemory left h = tt

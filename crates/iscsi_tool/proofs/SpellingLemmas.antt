@@ -14,7 +14,7 @@ use Rattle.std.proofs.KnownBytes.{Appends-trans}
 use Rattle.hex.specs.Hex.{IsBytes, decode_of, encode_lower, encode_with, lower_digits}
 use Rattle.hex.specs.declared.error.FromHexError.{FromHexError}
 use Rattle.hex.proofs.HexLemmas.{length-encode_with, decode_of-encode_lower, decode_of-ok}
-use Rattle.iscsi_tool.specs.Spelling.{if_spelled, spelled_by, marked_from, marked, without_last, whole_digits, hex_contents, lent_contents}
+use Rattle.iscsi_tool.specs.Spelling.{if_spelled, spelled_by, marked_from, marked_digits, without_last, whole_digits, hex_contents, lent_contents}
 use Rattle.iscsi_tool.specs.declared.hex_writer.HexWriter.{HexWriter}
 use Rattle.iscsi_tool.specs.declared.hex_writer.LentWriter.{LentWriter}
 
@@ -118,8 +118,8 @@ spelled-more text bytes h = go (spelled_by text) refl
     go None e = at_none e (spelled_by (text ++ encode_lower bytes)) refl
 
 -- digits behind a text are bytes behind what it stands for
-pub marked-more : (text bytes : List ℕ) → IsBytes bytes → marked (text ++ encode_lower bytes) ≡ marked text ++ bytes
-unfolding marked encode_with spelled_more
+pub marked-more : (text bytes : List ℕ) → IsBytes bytes → marked_digits (text ++ encode_lower bytes) ≡ marked_digits text ++ bytes
+unfolding marked_digits encode_with spelled_more
 marked-more [] [] h = refl
 marked-more [] (b ∷ bytes) h = rw (spelled-encode (b ∷ bytes) h) refl
 marked-more (c ∷ text) bytes h = go (marked-more text bytes h) (spelled_by (c ∷ text)) refl
@@ -127,8 +127,9 @@ marked-more (c ∷ text) bytes h = go (marked-more text bytes h) (spelled_by (c 
     more : spelled_by (c ∷ text ++ encode_lower bytes) ≡ spelled_more bytes (spelled_by (c ∷ text))
     more = spelled-more (c ∷ text) bytes h
 
-    go : marked (text ++ encode_lower bytes) ≡ marked text ++ bytes → (r : Option (List ℕ)) → spelled_by (c ∷ text) ≡ r
-        → marked_from c (marked (text ++ encode_lower bytes)) (spelled_by (c ∷ text ++ encode_lower bytes)) ≡ marked_from c (marked text) r ++ bytes
+    go : marked_digits (text ++ encode_lower bytes) ≡ marked_digits text ++ bytes → (r : Option (List ℕ)) → spelled_by (c ∷ text) ≡ r
+        → marked_from c (marked_digits (text ++ encode_lower bytes)) (spelled_by (c ∷ text ++ encode_lower bytes)) ≡ marked_from c (marked_digits text) r
+        ++ bytes
     go others (Some front) e = rw (more, e) refl
     go others None e = rw (more, e) (ap (λ (l : List ℕ). (256 + c) ∷ l) others)
 
@@ -153,33 +154,33 @@ unmark-marked c =
     let back : 256 + c - 256 ≡ c = omega arith in
     rw (no, back) refl
 
-pub unmarked-marked : (text : List ℕ) → unmarked (marked text) ≡ text
-unfolding marked
+pub unmarked-marked : (text : List ℕ) → unmarked (marked_digits text) ≡ text
+unfolding marked_digits
 unmarked-marked [] = refl
 unmarked-marked (c ∷ text) = go (unmarked-marked text) (spelled_by (c ∷ text)) refl
   where
-    go : unmarked (marked text) ≡ text → (r : Option (List ℕ)) → spelled_by (c ∷ text) ≡ r → unmarked (marked_from c (marked text) r) ≡ c ∷ text
+    go : unmarked (marked_digits text) ≡ text → (r : Option (List ℕ)) → spelled_by (c ∷ text) ≡ r → unmarked (marked_from c (marked_digits text) r) ≡ c ∷ text
     go others (Some front) e =
         let p = spelled-is (c ∷ text) front e in
         unmarked-bytes front p.1 ∙ p.0
-    go others None e = ap (λ (l : List ℕ). l ++ unmarked (marked text)) (unmark-marked c) ∙ ap (λ (l : List ℕ). c ∷ l) others
+    go others None e = ap (λ (l : List ℕ). l ++ unmarked (marked_digits text)) (unmark-marked c) ∙ ap (λ (l : List ℕ). c ∷ l) others
 
 -- ---- what a writer holds
 
 -- digits that were written behind known ones are bytes that were written
 pub marked_grows : (a b : Option (List ℕ)) (bytes : List ℕ) → IsBytes bytes → Appends a b (encode_lower bytes)
-    → Appends (option_map marked a) (option_map marked b) bytes
+    → Appends (option_map marked_digits a) (option_map marked_digits b) bytes
 marked_grows None b bytes h p = tt
 marked_grows (Some x) None bytes h p = absurd p
-marked_grows (Some x) (Some y) bytes h p = ap marked p ∙ marked-more x bytes h
+marked_grows (Some x) (Some y) bytes h p = ap marked_digits p ∙ marked-more x bytes h
 
 -- bytes that were written are digits that were written behind known ones
-pub marked_grew : (a b : Option (List ℕ)) (bytes : List ℕ) → IsBytes bytes → Appends (option_map marked a) (option_map marked b) bytes
+pub marked_grew : (a b : Option (List ℕ)) (bytes : List ℕ) → IsBytes bytes → Appends (option_map marked_digits a) (option_map marked_digits b) bytes
     → Appends a b (encode_lower bytes)
 marked_grew None b bytes h p = tt
 marked_grew (Some x) None bytes h p = absurd p
 marked_grew (Some x) (Some y) bytes h p =
-    let same : marked y ≡ marked (x ++ encode_lower bytes) = p ∙ sym (marked-more x bytes h) in
+    let same : marked_digits y ≡ marked_digits (x ++ encode_lower bytes) = p ∙ sym (marked-more x bytes h) in
     sym (unmarked-marked y) ∙ ap unmarked same ∙ unmarked-marked (x ++ encode_lower bytes)
 
 -- ---- the digits of a piece
@@ -284,7 +285,7 @@ through_lent contents start after (Some x) z last bytes ending h whole begin p s
     let m : ℕ = start.inner.writer.ghost_name in
     let n : ℕ = after.inner.writer.ghost_name in
     let b : Option (List ℕ) = contents after.inner.writer.now in
-    let old : hex_contents (lent_contents contents) start ≡ Some (marked (m ∷ x)) = rw (whole, begin) refl in
+    let old : hex_contents (lent_contents contents) start ≡ Some (marked_digits (m ∷ x)) = rw (whole, begin) refl in
     let took = marked_grew (Some (m ∷ x)) (whole_digits after.is_cut (option_map (λ (c : List ℕ). n ∷ c) b)) bytes h
     (subst (λ (o : Option (List ℕ)). Appends o (hex_contents (lent_contents contents) after) bytes) old p) in
     let digits : List ℕ = lent_took after.is_cut b (encode_lower bytes) in

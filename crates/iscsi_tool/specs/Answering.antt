@@ -4,39 +4,27 @@ use Rattle.hex.specs.Hex.{encode_lower}
 use Rattle.scsi_disk.specs.Disk.{Disk, zeros}
 use Rattle.iscsi_stream.specs.declared.fault.ToolFault.{ToolFault}
 use Rattle.iscsi_stream.specs.declared.fault.ToolFault.TheVariants as tool
-use Rattle.iscsi_stream.specs.Stream.{Message, Splits, longest_segment}
+use Rattle.iscsi_stream.specs.Stream.{Message, SplitsStream, longest_segment}
 use Rattle.iscsi_stream.specs.Canonical.{canon}
 use Rattle.iscsi_target.specs.declared.fault.TargetFault.TheVariants as faults
-use Rattle.iscsi_target.specs.State.{opening}
+use Rattle.iscsi_target.specs.State.{opening_machine}
 use Rattle.iscsi_target.specs.Machine.{answers}
-use Rattle.iscsi_service.specs.declared.session_fault.SessionFault.{SessionFault}
-use Rattle.iscsi_service.specs.declared.session_fault.SessionFault.TheVariants as session
-use Rattle.iscsi_service.specs.Session.{target_settings, ServesFirst, ServesFront, EndsBy, EndsWell}
+use Rattle.iscsi_serve.specs.declared.session_fault.SessionFault.TheVariants as session
+use Rattle.iscsi_serve.specs.Session.{target_settings, ServesFirstPdus, ServesFront, SessionEndsBy, EndsWell}
 use Rattle.iscsi_filters.specs.HexText.{BytesOf, IsNotHex}
-
--- The fault of a filter for that of its session.
-abbrev pub filter_fault : SessionFault → ToolFault
-filter_fault session.NoMemory = tool.NoMemory
-filter_fault (session.Target faults.NoMemory) = tool.NoMemory
-filter_fault (session.Target (faults.Stream fault)) = tool.Stream fault
-filter_fault (session.Target (faults.Protocol rule)) = tool.Protocol rule
-filter_fault (session.Target faults.Closed) = tool.Read
-filter_fault session.Read = tool.Read
-filter_fault session.Sync = tool.Write
-filter_fault session.Write = tool.Write
 
 -- The answers of the target to all PDUs of what was read are written, of its longest prefix in the
 -- profile.
-abbrev pub AnswersAll : ℕ → List ℕ → List ℕ → Type 0
-AnswersAll blocks read written =
-    (ms : List Message) (given rest : List ℕ) → Splits longest_segment read ms given rest
-    → written ≡ canon (answers false (opening target_settings 1) (zeros blocks) ms).answers
+abbrev pub AnswersAllPdus : ℕ → List ℕ → List ℕ → Type 0
+AnswersAllPdus blocks read written =
+    (ms : List Message) (given rest : List ℕ) → SplitsStream longest_segment read ms given rest
+    → written ≡ canon (answers false (opening_machine target_settings 1) (zeros blocks) ms).answers
 
 -- The answers of the target to some first PDUs of what was read are written, whole, and of the PDU
 -- behind them those of some tasks.
-abbrev pub AnswersFirst : ℕ → List ℕ → List ℕ → Type 0
-AnswersFirst blocks read written =
-    (now : Disk) × ServesFirst false target_settings (zeros blocks) read now written
+abbrev pub AnswersFirstPdus : ℕ → List ℕ → List ℕ → Type 0
+AnswersFirstPdus blocks read written =
+    (now : Disk) × ServesFirstPdus false target_settings (zeros blocks) read now written
 
 -- A front of such answers is written.
 abbrev pub AnswersFront : ℕ → List ℕ → List ℕ → Type 0
@@ -46,14 +34,17 @@ AnswersFront blocks read written =
 -- What is written where answering ends, and why it ends so.
 abbrev pub AnswersBytes : ℕ → Result (Unit {0}) ToolFault → List ℕ → List ℕ → Type 0
 AnswersBytes blocks (Ok done) read written =
-    AnswersAll blocks read written × EndsBy false target_settings (zeros blocks) (Ok done) read
-AnswersBytes blocks (Err (tool.Stream fault)) read written = AnswersAll blocks read written
-    × EndsBy false target_settings (zeros blocks) (Err (session.Target (faults.Stream fault))) read
-AnswersBytes blocks (Err (tool.Protocol rule)) read written = AnswersAll blocks read written
-    × EndsBy false target_settings (zeros blocks) (Err (session.Target (faults.Protocol rule))) read
-AnswersBytes blocks (Err tool.Read) read written = AnswersAll blocks read written
-    × EndsBy false target_settings (zeros blocks) (Err session.Read) read
-AnswersBytes blocks (Err tool.NoMemory) read written = AnswersFirst blocks read written
+    AnswersAllPdus blocks read written × SessionEndsBy false target_settings (zeros blocks)
+    (Ok done) read
+AnswersBytes blocks (Err (tool.Stream fault)) read written = AnswersAllPdus blocks read written
+    × SessionEndsBy false target_settings (zeros blocks)
+    (Err (session.Target (faults.Stream fault))) read
+AnswersBytes blocks (Err (tool.Protocol rule)) read written = AnswersAllPdus blocks read written
+    × SessionEndsBy false target_settings (zeros blocks)
+    (Err (session.Target (faults.Protocol rule))) read
+AnswersBytes blocks (Err tool.Read) read written = AnswersAllPdus blocks read written
+    × SessionEndsBy false target_settings (zeros blocks) (Err session.Read) read
+AnswersBytes blocks (Err tool.NoMemory) read written = AnswersFirstPdus blocks read written
 AnswersBytes blocks (Err tool.Write) read written = AnswersFront blocks read written
 AnswersBytes blocks (Err (tool.Text fault)) read written = ⊥
 AnswersBytes blocks (Err tool.TextTooLong) read written = ⊥

@@ -5,7 +5,7 @@ use Rattle.iscsi_pdu.specs.Meaning.{AreBytes}
 use Rattle.iscsi_stream.specs.declared.counts.Counts.{Counts}
 use Rattle.iscsi_stream.specs.declared.fault.ToolFault.{ToolFault}
 use Rattle.iscsi_stream.specs.Stream.{Message, StreamMeans}
-use Rattle.iscsi_stream.specs.Normalising.{IsCanonical, IsNormalised, Shows, WritesUntil}
+use Rattle.iscsi_stream.specs.Normalising.{IsCanonical, IsNormalised, ShowPost, WritesUntil}
 use Rattle.iscsi_explain.specs.declared.form.Form.{Form}
 use Rattle.iscsi_explain.specs.Showing.{AreEntries}
 use Rattle.iscsi_tool.specs.Answering.{AnswersBytes}
@@ -13,17 +13,17 @@ use Rattle.iscsi_words.specs.declared.capture_words.CaptureWork.{CaptureWork}
 use Rattle.iscsi_words.specs.declared.capture_words.CaptureWork.TheVariants.{List as ListAll, ShowAll, Show, Tell, Normalise, Answer}
 
 -- How a job over a capture ends: done, or why not.
-abbrev pub Said : Type 0
-Said = Result (Unit {0}) CapturesFault
+abbrev pub CaptureOutcome : Type 0
+CaptureOutcome = Result (Unit {0}) CapturesFault
 
 -- Lines are written as show writes them for the bytes of a stream, or nothing.
-abbrev pub ShowsCaptured : Said → List ℕ → Type 0
+abbrev pub ShowsCaptured : CaptureOutcome → List ℕ → Type 0
 ShowsCaptured ends written = (written ≡ [])
     ⊎ ((said : Result Counts ToolFault) × (bytes : List ℕ) × AreBytes bytes
-    × Shows said bytes written × (IsOk ends → IsOk said))
+    × ShowPost said bytes written × (IsOk ends → IsOk said))
 
 -- A canonical stream is written as normalise writes it for the bytes of a stream, or nothing.
-abbrev pub NormalisesCaptured : Said → List ℕ → Type 0
+abbrev pub NormalisesCaptured : CaptureOutcome → List ℕ → Type 0
 NormalisesCaptured ends written = (written ≡ [])
     ⊎ ((said : Result Counts ToolFault) × (bytes : List ℕ) × AreBytes bytes
     × MatchResult said (λ counts. IsNormalised counts bytes written)
@@ -31,19 +31,19 @@ NormalisesCaptured ends written = (written ≡ [])
     × (IsOk ends → IsOk said))
 
 -- Each PDU is written in a form, if all of the stream was read.
-abbrev pub TellsCaptured : Form → Said → List ℕ → Type 0
+abbrev pub TellsCaptured : Form → CaptureOutcome → List ℕ → Type 0
 TellsCaptured form ends written =
     OnOk ends ((bytes : List ℕ) × (ms : List Message) × StreamMeans bytes ms × AreEntries form ms written)
 
 -- A target's answers are written as `answer` writes them for the bytes of a stream, or nothing.
-abbrev pub AnswersCaptured : ℕ → Said → List ℕ → Type 0
+abbrev pub AnswersCaptured : ℕ → CaptureOutcome → List ℕ → Type 0
 AnswersCaptured blocks ends written = (written ≡ [])
     ⊎ ((said : Result (Unit {0}) ToolFault) × (bytes : List ℕ)
     × AnswersBytes blocks said bytes written × (IsOk ends → IsOk said))
 
 -- What a job over a capture writes; the lines of connections, and those of all connections together,
 -- are not stated.
-abbrev pub WritesCapture : CaptureWork → Said → List ℕ → Type 0
+abbrev pub WritesCapture : CaptureWork → CaptureOutcome → List ℕ → Type 0
 WritesCapture ListAll ends written = Unit {0}
 WritesCapture (ShowAll form only) ends written = Unit {0}
 WritesCapture (Show wanted) ends written = ShowsCaptured ends written

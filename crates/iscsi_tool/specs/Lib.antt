@@ -5,3 +5,4 @@ pub mod Filtering
 pub mod Telling
 pub mod CaptureComparisons
 pub mod Running
+pub mod inner

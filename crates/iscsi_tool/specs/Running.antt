@@ -4,10 +4,10 @@ use Rattle.iscsi_stream.specs.declared.fault.ToolFault.{ToolFault}
 use Rattle.iscsi_compare.specs.declared.verdict.Verdict.{Verdict}
 use Rattle.iscsi_compare.specs.declared.verdict.Verdict.TheVariants as verdict
 use Rattle.iscsi_serving.specs.declared.fault.ServeFault.{ServeFault}
-use Rattle.iscsi_serving.specs.Faults.{exit_status as session_status}
-use Rattle.iscsi_loop.specs.Looping.{Loops}
+use Rattle.iscsi_serving.specs.Faults.{serve_exit_status as session_status}
+use Rattle.iscsi_loop.specs.Looping.{LoopPost}
 use Rattle.iscsi_captures.specs.declared.fault.CapturesFault.{CapturesFault}
-use Rattle.iscsi_captures.specs.Faults.{fault_status as capture_status}
+use Rattle.iscsi_captures.specs.Faults.{captures_exit_status as capture_status}
 use Rattle.iscsi_words.specs.declared.capture_words.CaptureJob.{CaptureJob}
 use Rattle.iscsi_words.specs.declared.capture_comparing.CaptureComparison.{CaptureComparison}
 use Rattle.iscsi_words.specs.declared.capture_comparing.CaptureComparisonFault.{CaptureComparisonFault}
@@ -27,9 +27,9 @@ use Rattle.iscsi_words.specs.declared.words.Job.{Job}
 use Rattle.iscsi_words.specs.declared.words.Job.TheVariants as job
 use Rattle.iscsi_tool.specs.Captures.{WritesCapture}
 use Rattle.iscsi_tool.specs.CaptureComparisons.{ComparesCaptures}
-use Rattle.iscsi_tool.specs.Telling.{Tells}
-use Rattle.iscsi_comparison.specs.Comparisons.{fault_status}
-use Rattle.iscsi_filters.specs.Filters.{exit_status}
+use Rattle.iscsi_tool.specs.Telling.{TellingOutput}
+use Rattle.iscsi_comparison.specs.Comparisons.{comparison_exit_status}
+use Rattle.iscsi_filters.specs.Filters.{filter_exit_status}
 use Rattle.iscsi_words.specs.Jobs.{IsJob}
 use Rattle.iscsi_tool.specs.Filtering.{Filters}
 
@@ -39,10 +39,10 @@ abbrev pub outcome_status : Outcome → ℕ
 outcome_status outcome.Done = 0
 outcome_status outcome.Differ = 1
 outcome_status (outcome.Words fault) = words_status fault
-outcome_status (outcome.Filter fault) = exit_status fault
+outcome_status (outcome.Filter fault) = filter_exit_status fault
 outcome_status (outcome.Service fault) = disk_status fault
 outcome_status (outcome.Session fault) = session_status fault
-outcome_status (outcome.Comparison comparison fault) = fault_status fault
+outcome_status (outcome.Comparison comparison fault) = comparison_exit_status fault
 outcome_status (outcome.Capture job fault) = capture_status fault
 outcome_status (outcome.CaptureComparison comparison fault) = capture_status fault.fault
 
@@ -86,12 +86,13 @@ EndsFilter filter ends read written =
 -- A stream was shown in a form, and that is how it ended.
 abbrev pub EndsTelling : Telling → Outcome → List ℕ → List ℕ → Type 0
 EndsTelling telling ends read written =
-    (said : Result (Unit {0}) ToolFault) × Tells telling said read written × (ends ≡ of_filter said)
+    (said : Result (Unit {0}) ToolFault) × TellingOutput telling said read written
+    × (ends ≡ of_filter said)
 
 -- A loop ran, and that is how it ended.
 abbrev pub EndsLoop : Outcome → List ℕ → List ℕ → Type 0
 EndsLoop ends script written =
-    (said : Result (Unit {0}) ServeFault) × Loops said script written × (ends ≡ of_session said)
+    (said : Result (Unit {0}) ServeFault) × LoopPost said script written × (ends ≡ of_session said)
 
 -- A job over a capture ran, and that is how it ended.
 abbrev pub EndsCapture : CaptureJob → Outcome → List ℕ → Type 0
@@ -110,22 +111,22 @@ EndsComparison comparison ends =
 
 -- A service ended so: as its sessions did, or since this very image, export or file of secrets could
 -- not be served.
-abbrev pub EndsService : ServeJob → Outcome → Type 0
-EndsService job ends = (said : Result (Unit {0}) DiskFault) × EndsDisk job said
+abbrev pub EndsServiceJob : ServeJob → Outcome → Type 0
+EndsServiceJob job ends = (said : Result (Unit {0}) DiskFault) × EndsDisk job said
     × (ends ≡ of_service said)
 
 -- A job ended so, with this read from the standard input and this written to the standard output.
 -- A service touches neither by itself, and a job over a capture reads a file of the process.
-abbrev pub Runs : Job → Outcome → List ℕ → List ℕ → Type 0
-Runs (job.Filter filter) ends read written = EndsFilter filter ends read written
-Runs (job.Serve served) ends read written =
-    EndsService served ends × (read ≡ []) × (written ≡ [])
-Runs (job.Loop blocks piece) ends read written = EndsLoop ends read written
-Runs (job.Compare comparison) ends read written = EndsComparison comparison ends
-Runs (job.Tell telling) ends read written = EndsTelling telling ends read written
-Runs (job.CompareCaptures comparison) ends read written =
+abbrev pub JobRuns : Job → Outcome → List ℕ → List ℕ → Type 0
+JobRuns (job.Filter filter) ends read written = EndsFilter filter ends read written
+JobRuns (job.Serve served) ends read written =
+    EndsServiceJob served ends × (read ≡ []) × (written ≡ [])
+JobRuns (job.Loop blocks piece) ends read written = EndsLoop ends read written
+JobRuns (job.Compare comparison) ends read written = EndsComparison comparison ends
+JobRuns (job.Tell telling) ends read written = EndsTelling telling ends read written
+JobRuns (job.CompareCaptures comparison) ends read written =
     EndsCaptures comparison ends written × (read ≡ [])
-Runs (job.Capture capture) ends read written = EndsCapture capture ends written × (read ≡ [])
+JobRuns (job.Capture capture) ends read written = EndsCapture capture ends written × (read ≡ [])
 
 -- What the words ask for; with no words the hex text of a stream is normalised.
 abbrev pub AsksFor : {S : Type 0} → List S → Result Job LineFault → Type 0
@@ -134,7 +135,7 @@ AsksFor words asked =
 
 -- What was asked for ended so: the job ran, or nothing was read and written.
 abbrev pub RunsAsked : Result Job LineFault → Outcome → List ℕ → List ℕ → Type 0
-RunsAsked (Ok asked) ends read written = IsJob asked × Runs asked ends read written
+RunsAsked (Ok asked) ends read written = IsJob asked × JobRuns asked ends read written
 RunsAsked (Err fault) ends read written =
     (ends ≡ outcome.Words fault) × (read ≡ []) × (written ≡ [])
 

@@ -1,12 +1,9 @@
 -- What a writer holds that spells bytes as lower-case hex digits.
-use Rattle.std.specs.Prelude.{◌≡◌, ◌⊎◌, ℕ, ◌+◌, ◌-◌, Bool, true, false, length, take, List, [], ◌∷◌, Option, Some, None, Result, Ok, Err, if◌then◌else◌}
+use Rattle.std.specs.Prelude.{ℕ, ◌+◌, ◌-◌, Bool, true, false, length, take, List, [], ◌∷◌, Option, Some, None, Result, Ok, Err, if◌then◌else◌}
 use Rattle.std.specs.Option.{option_map}
 use Rattle.std.specs.Str.{bytes_eq}
 use Rattle.hex.specs.Hex.{decode_of, encode_lower}
 use Rattle.hex.specs.declared.error.FromHexError.{FromHexError}
-use Rattle.iscsi_stream.specs.declared.fault.ToolFault.{ToolFault}
-use Rattle.iscsi_stream.specs.declared.fault.ToolFault.TheVariants as tool
-use Rattle.iscsi_tool.specs.Answering.{line_end}
 use Rattle.iscsi_tool.specs.declared.hex_writer.HexWriter.{HexWriter}
 use Rattle.iscsi_tool.specs.declared.hex_writer.LentWriter.{LentWriter}
 
@@ -26,9 +23,9 @@ marked_from c others None = (256 + c) ∷ others
 
 -- The longest tail of digits as the bytes that it spells, and 256 added to each character before
 -- it.
-unfoldable pub marked : List ℕ → List ℕ
-marked [] = []
-marked (c ∷ text) = marked_from c (marked text) (spelled_by (c ∷ text))
+unfoldable pub marked_digits : List ℕ → List ℕ
+marked_digits [] = []
+marked_digits (c ∷ text) = marked_from c (marked_digits text) (spelled_by (c ∷ text))
 
 -- A text without its last character.
 abbrev pub without_last : List ℕ → List ℕ
@@ -42,13 +39,8 @@ whole_digits false text = text
 -- What a writer of digits holds: what the writer behind it holds, the digits at its end as the
 -- bytes that they spell.
 abbrev pub hex_contents : {W : Type 0} → (W → Option (List ℕ)) → HexWriter W → Option (List ℕ)
-hex_contents contents h = option_map marked (whole_digits h.is_cut (contents h.inner))
+hex_contents contents h = option_map marked_digits (whole_digits h.is_cut (contents h.inner))
 
 -- What a lent writer holds: the name of its loan, and what the writer behind it holds.
 abbrev pub lent_contents : {W : Type 0} → (W → Option (List ℕ)) → LentWriter W → Option (List ℕ)
 lent_contents contents l = option_map (λ c. l.writer.ghost_name ∷ c) (contents l.writer.now)
-
--- Behind the answers the line end that is due is written, where no byte was cut, or a write failed.
-abbrev pub Finishes : Result (Unit {0}) ToolFault → Bool → Result (Unit {0}) ToolFault → List ℕ → Type 0
-Finishes outcome is_cut result ending = (result ≡ Err tool.Write)
-    ⊎ ((is_cut ≡ false) × (result ≡ outcome) × (ending ≡ line_end outcome))

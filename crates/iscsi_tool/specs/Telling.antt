@@ -8,11 +8,11 @@ use Rattle.iscsi_words.specs.declared.telling.Telling.{Telling}
 
 -- An entry for each PDU of what was read is written, if all of it was read; of hex text nothing is
 -- stated.
-abbrev pub TellsIn : Form → Bool → Result (Unit {0}) ToolFault → List ℕ → List ℕ → Type 0
-TellsIn form true ends read written = Unit {0}
-TellsIn form false ends read written =
+abbrev pub TellsInForm : Form → Bool → Result (Unit {0}) ToolFault → List ℕ → List ℕ → Type 0
+TellsInForm form true ends read written = Unit {0}
+TellsInForm form false ends read written =
     OnOk ends ((ms : List Message) × StreamMeans read ms × AreEntries form ms written)
 
 -- the same as it was asked
-abbrev pub Tells : Telling → Result (Unit {0}) ToolFault → List ℕ → List ℕ → Type 0
-Tells telling ends read written = TellsIn telling.form telling.hex ends read written
+abbrev pub TellingOutput : Telling → Result (Unit {0}) ToolFault → List ℕ → List ℕ → Type 0
+TellingOutput telling ends read written = TellsInForm telling.form telling.hex ends read written

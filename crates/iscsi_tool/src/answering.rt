@@ -5,14 +5,15 @@ ghost use Rattle.std.specs.Io.KnownBytes.{Appends, Consumes, IsAtEnd};
 ghost use Rattle.hex.specs.Hex.{IsBytes};
 ghost use Rattle.scsi_disk.specs.Disk.{zeros, most_blocks};
 ghost use Rattle.iscsi_stream.specs.declared.fault.ToolFault.TheVariants as tool;
-ghost use Rattle.iscsi_service.specs.Session.{target_settings, EndsWell};
+ghost use Rattle.iscsi_serve.specs.Session.{target_settings, EndsWell};
 ghost use Rattle.iscsi_filters.specs.Filters.{CutAtEnd, HexAtEnd};
-ghost use Rattle.iscsi_tool.specs.Answering.{filter_fault, AnswersBytes, AnswersHex, SpellsAnswers};
-ghost use Rattle.iscsi_tool.specs.Spelling.{Finishes};
+ghost use Rattle.iscsi_tool.specs.Answering.{AnswersBytes, AnswersHex, SpellsAnswers};
+ghost use Rattle.iscsi_tool.specs.inner.Answering.{filter_fault};
+ghost use Rattle.iscsi_tool.specs.inner.Spelling.{LineEndWritten};
 
 use crate::hex_writer::{HexWriter, LentWriter};
 use iscsi_filters::read_bytes;
-use iscsi_service::{SessionFault, configuration, serve_stream};
+use iscsi_serve::{SessionFault, configuration, serve_stream};
 use iscsi_stream::{ToolFault, write_fully};
 use iscsi_target::TargetFault;
 use scsi_disk::SparseStore;
@@ -109,7 +110,7 @@ fn finish<W: Write>(
     w: &mut W,
 ) -> Result<(), ToolFault>
     ensures finishes { (ending : List ℕ) × Appends (W.contents w.old) (W.contents w.new) ending
-        × Finishes outcome is_cut result ending }
+        × LineEndWritten outcome is_cut result ending }
 {
     if is_cut {
         return Err(ToolFault::Write);

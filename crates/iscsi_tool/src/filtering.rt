@@ -3,7 +3,7 @@
 ghost use Rattle.std.specs.Prelude.{ℕ, List, OnOk};
 ghost use Rattle.std.specs.Io.KnownBytes.{Appends, Consumes};
 ghost use Rattle.iscsi_words.specs.Jobs.{HasDisk};
-ghost use Rattle.iscsi_tool.specs.Filtering.{Filters, ReadsOn, RefusesRead};
+ghost use Rattle.iscsi_tool.specs.Filtering.{Filters, FilterReadsOn, RefusesRead};
 
 use crate::answering::{answer, answer_hex};
 use iscsi_filters::{StreamWork, run_work};
@@ -31,7 +31,7 @@ pub fn run_filter<R: Read, W: Write>(
         × Appends (W.contents w.old) (W.contents w.new) written
         × Filters filter result read written }
     // Answers to bytes end also where the session is closed.
-    ensures end { OnOk result (ReadsOn filter (R.remaining r.old) (R.remaining r.new)) }
+    ensures end { OnOk result (FilterReadsOn filter (R.remaining r.old) (R.remaining r.new)) }
     // A stream is called cut, a text unterminated, and hex text no hex, where the reader has told its
     // end, or the limit was passed.
     ensures refused { RefusesRead filter result (R.remaining r.old) (R.remaining r.new) }

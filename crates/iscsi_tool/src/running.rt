@@ -6,7 +6,7 @@ ghost use Rattle.std.specs.Io.KnownBytes.{Appends, Consumes};
 ghost use Rattle.iscsi_tool.specs.declared.running.Outcome.{Outcome};
 ghost use Rattle.iscsi_serve_words.specs.Words.{words_status};
 ghost use Rattle.iscsi_words.specs.Jobs.{IsJob};
-ghost use Rattle.iscsi_tool.specs.Running.{EndsComparison, Runs, RunsWords, of_capture, of_captures, of_comparison, of_filter, of_service, of_session, outcome_status};
+ghost use Rattle.iscsi_tool.specs.Running.{EndsComparison, JobRuns, RunsWords, of_capture, of_captures, of_comparison, of_filter, of_service, of_session, outcome_status};
 
 use crate::capture_comparing::run_comparison;
 use crate::capturing::run_capture;
@@ -207,7 +207,7 @@ fn run_job<'a, S: AsStr, R: Read, W: Write>(
     ensures runs { (read : List ℕ) × (written : List ℕ)
         × Consumes (R.remaining r.old) (R.remaining r.new) read
         × Appends (W.contents w.old) (W.contents w.new) written
-        × Runs job.entry result read written }
+        × JobRuns job.entry result read written }
 {
     match job {
         Job::Filter(filter) => filtered(run_filter(rt.alloc(), filter, r, w)),

@@ -2,7 +2,7 @@
 
 ghost use Rattle.std.specs.Prelude.{◌≡◌, ℕ, List, OnOk, IsOk};
 ghost use Rattle.std.specs.Io.KnownBytes.{Appends, Consumes};
-ghost use Rattle.iscsi_tool.specs.Telling.{Tells};
+ghost use Rattle.iscsi_tool.specs.Telling.{TellingOutput};
 
 use iscsi_explain::{Form, show_in_form};
 use iscsi_filters::read_bytes;
@@ -22,7 +22,7 @@ pub(crate) fn run_telling<R: Read, W: Write>(
     ensures tells { (read : List ℕ) × (written : List ℕ)
         × Consumes (R.remaining r.old) (R.remaining r.new) read
         × Appends (W.contents w.old) (W.contents w.new) written
-        × Tells telling result read written }
+        × TellingOutput telling result read written }
 {
     if telling.hex {
         return tell_hex(alloc, telling.form, r, w);

@@ -11,9 +11,9 @@ mod words;
 ghost use Rattle.iscsi_words.specs.Jobs.{HasDisk};
 
 use crate::asserts::same;
-use iscsi_examples::{Broken, Full};
 use iscsi_pdu::HeadFault;
 use iscsi_stream::{StreamFault, ToolFault};
+use iscsi_test_support::{Broken, Full};
 use iscsi_text::TextFault;
 use iscsi_tool::{Filter, Work, run_filter, status};
 use std::alloc::Global;

@@ -1,7 +1,7 @@
 //! Two captures to compare.
 
 ghost use Rattle.std.specs.Prelude.{◌≡◌};
-ghost use Rattle.iscsi_captures.specs.Faults.{fault_status};
+ghost use Rattle.iscsi_captures.specs.Faults.{captures_exit_status};
 
 use iscsi_captures::{CapturesFault, Wanted};
 use iscsi_compare::Which;
@@ -38,7 +38,7 @@ pub struct CaptureComparisonFault {
 impl CaptureComparisonFault {
     /// The exit status that says the fault.
     pub fn status(&self) -> u8
-        ensures { result ≡ fault_status self.now.fault }
+        ensures { result ≡ captures_exit_status self.now.fault }
     {
         self.fault.status()
     }

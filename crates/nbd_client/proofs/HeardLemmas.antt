@@ -7,14 +7,15 @@ use Rattle.nbd_wire.specs.declared.information.BlockSizes.{BlockSizes}
 use Rattle.nbd_wire.specs.declared.information.Export.{Export}
 use Rattle.nbd_wire.specs.declared.information.Info.{Info}
 use Rattle.nbd_wire.specs.declared.option.OptionHead.{OptionHead}
-use Rattle.nbd_client.specs.Heard.{Answered, Hears, Means, Say, export_after, export_of, sizes_after, sizes_of}
+use Rattle.nbd_client.specs.Heard.{MeansInfo, InfosSay, export_after, export_of, sizes_after, sizes_of}
+use Rattle.nbd_client.specs.inner.Heard.{GoAnswersSay, GoAnswerSays}
 
 -- What was read so far are answers INFO, which say this.
 pub record Hearing (old new : Option (List ℕ)) (export : Option Export) (sizes : BlockSizes) : Type 0 where
   pub bytes : List ℕ
   pub read : Consumes old new bytes
   pub infos : List Info
-  pub say : Say bytes infos
+  pub say : InfosSay bytes infos
   pub export_is : export_of infos ≡ export
   pub sizes_is : sizes_of infos ≡ sizes
 
@@ -30,7 +31,7 @@ hearing_none a = record {
 
 -- One more answer is read.
 pub hearing_more : (a b c : Option (List ℕ)) (export : Option Export) (sizes : BlockSizes) (said : Info) → Hearing a b export sizes
-    → Hears b c (Some said) → Hearing a c (export_after said export) (sizes_after said sizes)
+    → GoAnswerSays b c (Some said) → Hearing a c (export_after said export) (sizes_after said sizes)
 hearing_more a b c export sizes said h i = record {
   bytes = h.bytes ++ i.bytes;
   read = Consumes-trans a b c h.bytes i.bytes h.read i.read;
@@ -42,7 +43,7 @@ hearing_more a b c export sizes said h i = record {
 
 -- The last answer.
 pub heard_all : (a b c : Option (List ℕ)) (said : Option Export) (export : Export) (sizes : BlockSizes) → Hearing a b said sizes
-    → said ≡ Some export → Hears b c None → Answered a c export sizes
+    → said ≡ Some export → GoAnswerSays b c None → GoAnswersSay a c export sizes
 heard_all a b c said export sizes h is i = record {
   bytes = h.bytes ++ i.bytes;
   read = Consumes-trans a b c h.bytes i.bytes h.read i.read;
@@ -61,7 +62,7 @@ heard_all a b c said export sizes h is i = record {
 -- The head of an answer and then its body.
 pub hears_answer : (a b c : Option (List ℕ)) (front body : List ℕ) (head : OptionHead) (said : Option Info)
     → Consumes a b front → Consumes b c body → length front ≡ 20 → option_head_at front ≡ Ok head → head.option ≡ 7
-    → length body ≡ head.length → Means head.answer body said → Hears a c said
+    → length body ≡ head.length → MeansInfo head.answer body said → GoAnswerSays a c said
 hears_answer a b c front body head said first second long reads option size means = record {
   bytes = front ++ body;
   read = Consumes-trans a b c front body first second;

@@ -7,7 +7,7 @@ use Rattle.nbd_wire.specs.declared.request.Request.{Request}
 use Rattle.nbd_wire.specs.declared.request.RequestFault.{RequestFault}
 use Rattle.nbd_wire.specs.Transmission.{reply_bytes, request_at}
 use Rattle.nbd_wire.proofs.TransmissionLemmas.{request_again}
-use Rattle.nbd_client.specs.Serving.{Answers, IsAsked, IsDone, IsPlaced, MayDo}
+use Rattle.nbd_client.specs.Serving.{ServerReply, AreRequestBytes, IsCommandDone, IsPlaced, MayDo}
 
 -- Where nothing is done, no block changes.
 pub may_nothing : (c : Command) (lba : ℕ) (bytes : List ℕ) (disk : Disk) (kept : ℕ → List ℕ → Type 0) → MayDo c lba bytes disk kept disk kept
@@ -23,7 +23,7 @@ same_ok r s e = cc
 
 -- The request that was read is the one that was asked.
 pub same_request : (r asked : Request) (lba place count : ℕ) (head bytes : List ℕ) → count ≤ most_blocks
-    → request_at head ≡ Ok r → IsAsked asked place count head bytes → asked ≡ r
+    → request_at head ≡ Ok r → AreRequestBytes asked place count head bytes → asked ≡ r
 same_request r asked lba place count head bytes few is a =
     let low : asked.offset < 2 ^ 64 = omega (arith, few, a.placed.place, a.placed.inside) in
     same_ok asked r (sym (request_again asked a.cookie low a.short) ∙ ap request_at (sym a.spelled) ∙ is)
@@ -35,7 +35,7 @@ same_place r asked lba place counted count bytes same p q =
     omega (arith, offset, p.place, q.place)
 
 pub may_asked : (r asked : Request) (lba place counted count : ℕ) (head bytes : List ℕ) (disk new : Disk) (kept left : ℕ → List ℕ → Type 0)
-    → count ≤ most_blocks → request_at head ≡ Ok r → IsPlaced r lba counted bytes → IsAsked asked place count head bytes
+    → count ≤ most_blocks → request_at head ≡ Ok r → IsPlaced r lba counted bytes → AreRequestBytes asked place count head bytes
     → MayDo r.command lba bytes disk kept new left → MayDo asked.command place bytes disk kept new left
 may_asked r asked lba place counted count head bytes disk new kept left few is p a m =
     let same : asked ≡ r = same_request r asked lba place count head bytes few is a in
@@ -45,13 +45,13 @@ may_asked r asked lba place counted count head bytes disk new kept left few is p
 
 pub answers_asked : (r asked : Request) (lba place counted count : ℕ) (head bytes : List ℕ) (disk new : Disk) (left : ℕ → List ℕ → Type 0)
     (error : ℕ) (rest sent : List ℕ)
-    → count ≤ most_blocks → request_at head ≡ Ok r → IsPlaced r lba counted bytes → IsAsked asked place count head bytes
+    → count ≤ most_blocks → request_at head ≡ Ok r → IsPlaced r lba counted bytes → AreRequestBytes asked place count head bytes
     → error < 2 ^ 32 → sent ≡ reply_bytes (record { error = error; cookie = r.cookie }) ++ rest
-    → (error ≡ 0 → IsDone r.command lba r.length bytes disk new left rest)
-    → Answers asked place bytes disk new left sent
+    → (error ≡ 0 → IsCommandDone r.command lba r.length bytes disk new left rest)
+    → ServerReply asked place bytes disk new left sent
 answers_asked r asked lba place counted count head bytes disk new left error rest sent few is p a fits spelled done =
     let same : asked ≡ r = same_request r asked lba place count head bytes few is a in
     let there : place ≡ lba = same_place r asked lba place counted count bytes same p a.placed in
-    subst (λ (s : Request). Answers s place bytes disk new left sent) (sym same)
-    (subst (λ (n : ℕ). Answers r n bytes disk new left sent) (sym there)
+    subst (λ (s : Request). ServerReply s place bytes disk new left sent) (sym same)
+    (subst (λ (n : ℕ). ServerReply r n bytes disk new left sent) (sym there)
     (record { error = error; fits = fits; rest = rest; spelled = spelled; done = done }))

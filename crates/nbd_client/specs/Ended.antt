@@ -4,9 +4,9 @@ use Rattle.nbd_client.specs.declared.fault.MediumFault.{MediumFault}
 use Rattle.nbd_client.specs.declared.medium.NbdMedium.{NbdMedium}
 
 -- its connection
-abbrev pub line_of : {L R : Type 0} → NbdMedium L R → L
-line_of m = m.line
+abbrev pub medium_line : {L R : Type 0} → NbdMedium L R → L
+medium_line m = m.line
 
 -- why it has ended, if it has
-abbrev pub fault_of : {L R : Type 0} → NbdMedium L R → Option MediumFault
-fault_of m = m.fault
+abbrev pub why_ended : {L R : Type 0} → NbdMedium L R → Option MediumFault
+why_ended m = m.fault

@@ -12,12 +12,12 @@ use Rattle.nbd_wire.specs.declared.option.OptionHead.{OptionHead}
 use Rattle.nbd_client.specs.declared.export.ExportFault.{ExportFault}
 use Rattle.nbd_client.specs.declared.handshake.HandshakeFault.{HandshakeFault}
 use Rattle.nbd_client.specs.declared.handshake.HandshakeFault.TheVariants as fault
-use Rattle.nbd_client.specs.Judging.{judged}
+use Rattle.nbd_client.specs.Judging.{export_judged}
 
 -- An answer of this number and body says this: 3 is INFO, and 1 is ACK, the last answer.
-abbrev pub Means : ℕ → List ℕ → Option Info → Type 0
-Means number body None = number ≡ 1
-Means number body (Some said) = (number ≡ 3) × (info_at body ≡ Ok said)
+abbrev pub MeansInfo : ℕ → List ℕ → Option Info → Type 0
+MeansInfo number body None = number ≡ 1
+MeansInfo number body (Some said) = (number ≡ 3) × (info_at body ≡ Ok said)
 
 -- These bytes are an answer to GO, the option 7, that says this.
 pub record IsAnswer (bytes : List ℕ) (said : Option Info) : Type 0 where
@@ -29,13 +29,13 @@ pub record IsAnswer (bytes : List ℕ) (said : Option Info) : Type 0 where
   pub reads : option_head_at front ≡ Ok head
   pub option : head.option ≡ 7
   pub size : length body ≡ head.length
-  pub means : Means head.answer body said
+  pub means : MeansInfo head.answer body said
 
 -- These bytes are answers INFO that say this, the latest first.
-abbrev pub Say : List ℕ → List Info → Type 0
-Say bytes [] = bytes ≡ []
-Say bytes (said ∷ earlier) = (before : List ℕ) × (last : List ℕ)
-    × (bytes ≡ before ++ last) × Say before earlier × IsAnswer last (Some said)
+abbrev pub InfosSay : List ℕ → List Info → Type 0
+InfosSay bytes [] = bytes ≡ []
+InfosSay bytes (said ∷ earlier) = (before : List ℕ) × (last : List ℕ)
+    × (bytes ≡ before ++ last) × InfosSay before earlier × IsAnswer last (Some said)
 
 -- the export that is known behind an answer: the last one counts
 abbrev pub export_after : Info → Option Export → Option Export
@@ -65,25 +65,14 @@ pub record AreAnswers (bytes : List ℕ) (export : Export) (sizes : BlockSizes) 
   pub last : List ℕ
   pub whole : bytes ≡ before ++ last
   pub infos : List Info
-  pub say : Say before infos
+  pub say : InfosSay before infos
   pub ends : IsAnswer last None
   pub export_is : export_of infos ≡ Some export
   pub sizes_is : sizes_of infos ≡ sizes
 
--- An answer to GO was read that says this.
-pub record Hears (old new : Option (List ℕ)) (said : Option Info) : Type 0 where
-  pub bytes : List ℕ
-  pub read : Consumes old new bytes
-  pub is : IsAnswer bytes said
-
--- Answers to GO were read that say this of the export.
-pub record Answered (old new : Option (List ℕ)) (export : Export) (sizes : BlockSizes) : Type 0 where
-  pub bytes : List ℕ
-  pub read : Consumes old new bytes
-  pub are : AreAnswers bytes export sizes
-
 -- A greeting was read, and the answers to GO. The export that they say is judged so.
-pub record Judges (old new : Option (List ℕ)) (judgement : Result ℕ ExportFault) : Type 0 where
+pub record HandshakeJudges (old new : Option (List ℕ)) (judgement : Result ℕ ExportFault) : Type
+    0 where
   pub greeting : List ℕ
   pub answers : List ℕ
   pub read : Consumes old new (greeting ++ answers)
@@ -93,12 +82,12 @@ pub record Judges (old new : Option (List ℕ)) (judgement : Result ℕ ExportFa
   pub export : Export
   pub sizes : BlockSizes
   pub are : AreAnswers answers export sizes
-  pub judgement_is : judgement ≡ judged export sizes
+  pub judgement_is : judgement ≡ export_judged export sizes
 
 -- Why a handshake opens no export: a fault of the export is that of what was read.
-abbrev pub Refuses : Option (List ℕ) → Option (List ℕ) → HandshakeFault → Type 0
-Refuses old new (fault.Export why) = Judges old new (Err why)
-Refuses old new _ = Unit {0}
+abbrev pub HandshakeRefuses : Option (List ℕ) → Option (List ℕ) → HandshakeFault → Type 0
+HandshakeRefuses old new (fault.Export why) = HandshakeJudges old new (Err why)
+HandshakeRefuses old new _ = Unit {0}
 
 -- The fault is none of an export.
 abbrev pub IsUnjudged : HandshakeFault → Type 0

@@ -10,8 +10,8 @@ use Rattle.nbd_client.specs.declared.export.ExportFault.TheVariants.{ReadOnly, N
 
 -- how many blocks an export has, or why none are kept on it; of the transmission flags bit 0 says
 -- that there are some, bit 1 READ_ONLY, bit 2 SEND_FLUSH
-unfoldable pub judged : Export → BlockSizes → Result ℕ ExportFault
-judged export sizes =
+unfoldable pub export_judged : Export → BlockSizes → Result ℕ ExportFault
+export_judged export sizes =
     if not (bit_and export.flags 1 == 0) && not (bit_and export.flags 2 == 0) then Err ReadOnly
     else if bit_and export.flags 1 == 0 || bit_and export.flags 4 == 0 then Err NoFlush
     else if export.size == 0 then Err Empty

@@ -5,3 +5,4 @@ pub mod Judging
 pub mod Served
 pub mod Serving
 pub mod Tcp
+pub mod inner

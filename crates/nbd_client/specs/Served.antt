@@ -3,5 +3,5 @@ use Rattle.nbd_client.specs.declared.served.Served.{Served}
 use Rattle.scsi_file.specs.declared.medium.Medium.{Ghosts}
 
 -- the medium below it
-abbrev pub medium_of : {M : Type 0} {g : Ghosts M} → Served M g → M
-medium_of s = s.medium
+abbrev pub served_medium : {M : Type 0} {g : Ghosts M} → Served M g → M
+served_medium s = s.medium

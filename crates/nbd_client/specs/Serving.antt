@@ -1,7 +1,7 @@
 -- What an NBD server may do at a request, and what it answers ("Transmission phase").
 use Rattle.std.specs.Prelude.{◌≡◌, ◌≤◌, ◌<◌, ℕ, ◌+◌, ◌*◌, ◌/◌, ◌%◌, ◌^◌, Bool, true, List, ◌++◌, length}
-use Rattle.scsi_disk.specs.Disk.{Disk, blocks_from, written, IsOldOrNew}
-use Rattle.scsi_disk.specs.Lasting.{Adds, Settled, Within}
+use Rattle.scsi_disk.specs.Disk.{Disk, blocks_from, disk_written, IsOldOrNew}
+use Rattle.scsi_disk.specs.Lasting.{CrashAddsDisk, SettledDisk, Within}
 use Rattle.nbd_wire.specs.declared.request.Command.{Command}
 use Rattle.nbd_wire.specs.declared.request.Command.TheVariants.{Read, Write, Flush}
 use Rattle.nbd_wire.specs.declared.request.Request.{Request}
@@ -15,14 +15,15 @@ pub record IsPlaced (r : Request) (lba count : ℕ) (bytes : List ℕ) : Type 0 
   pub content : r.command ≡ Write → length bytes ≡ r.length
 
 -- These are the bytes of such a request, and those of a write behind them.
-pub record IsAsked (r : Request) (lba count : ℕ) (head bytes : List ℕ) : Type 0 where
+pub record AreRequestBytes (r : Request) (lba count : ℕ) (head bytes : List ℕ) : Type 0 where
   pub spelled : head ≡ request_bytes r
   pub cookie : r.cookie < 2 ^ 64
   pub short : r.length < 2 ^ 32
   pub placed : IsPlaced r lba count bytes
 
 -- No block changes.
-pub record Keeps (old : Disk) (kept : ℕ → List ℕ → Type 0) (new : Disk) (left : ℕ → List ℕ → Type 0)
+pub record KeepsBlocks (old : Disk) (kept : ℕ → List ℕ → Type 0) (new : Disk)
+    (left : ℕ → List ℕ → Type 0)
     : Type 0 where
   pub disk : new ≡ old
   pub lasting : Within kept left
@@ -30,32 +31,33 @@ pub record Keeps (old : Disk) (kept : ℕ → List ℕ → Type 0) (new : Disk) 
 -- Each block of a write is old or new, and no other changes.
 pub record MayWrite (lba : ℕ) (bytes : List ℕ) (old : Disk) (kept : ℕ → List ℕ → Type 0) (new : Disk)
     (left : ℕ → List ℕ → Type 0) : Type 0 where
-  pub each : IsOldOrNew old (written lba bytes old) new
-  pub lasting : Adds (written lba bytes old) kept left
+  pub each : IsOldOrNew old (disk_written lba bytes old) new
+  pub lasting : CrashAddsDisk (disk_written lba bytes old) kept left
 
 -- What a server may do to its blocks at a request, whether or not its answer comes.
 abbrev pub MayDo : Command → ℕ → List ℕ → Disk → (ℕ → List ℕ → Type 0) → Disk → (ℕ → List ℕ → Type 0) → Type 0
-MayDo Read lba bytes old kept new left = Keeps old kept new left
+MayDo Read lba bytes old kept new left = KeepsBlocks old kept new left
 MayDo Write lba bytes old kept new left = MayWrite lba bytes old kept new left
-MayDo Flush lba bytes old kept new left = Keeps old kept new left
+MayDo Flush lba bytes old kept new left = KeepsBlocks old kept new left
 
 -- What has been done where the error of a reply is 0, and what follows the reply.
-abbrev pub IsDone : Command → ℕ → ℕ → List ℕ → Disk → Disk → (ℕ → List ℕ → Type 0) → List ℕ → Type 0
-IsDone Read lba size bytes old new left rest = rest ≡ blocks_from old lba (size / 512)
-IsDone Write lba size bytes old new left rest = new ≡ written lba bytes old
-IsDone Flush lba size bytes old new left rest = Settled new left
+abbrev pub IsCommandDone : Command → ℕ → ℕ → List ℕ → Disk → Disk → (ℕ → List ℕ → Type 0) → List ℕ
+    → Type 0
+IsCommandDone Read lba size bytes old new left rest = rest ≡ blocks_from old lba (size / 512)
+IsCommandDone Write lba size bytes old new left rest = new ≡ disk_written lba bytes old
+IsCommandDone Flush lba size bytes old new left rest = SettledDisk new left
 
 -- What a server sends at a request: a simple reply with its cookie, and the blocks of a read.
-pub record Answers (r : Request) (lba : ℕ) (bytes : List ℕ) (old new : Disk)
+pub record ServerReply (r : Request) (lba : ℕ) (bytes : List ℕ) (old new : Disk)
     (left : ℕ → List ℕ → Type 0) (sent : List ℕ) : Type 0 where
   pub error : ℕ
   pub fits : error < 2 ^ 32
   pub rest : List ℕ
   pub spelled : sent ≡ reply_bytes (record { error = error; cookie = r.cookie }) ++ rest
-  pub done : error ≡ 0 → IsDone r.command lba r.length bytes old new left rest
+  pub done : error ≡ 0 → IsCommandDone r.command lba r.length bytes old new left rest
 
 -- How often a line did something else than it said, before a call and after it: never, where it
 -- tells each failure.
-pub record Rises (tells : Bool) (before after : ℕ) : Type 0 where
+pub record UntoldRises (tells : Bool) (before after : ℕ) : Type 0 where
   pub rises : before ≤ after
   pub honest : tells ≡ true → after ≡ before

@@ -1,7 +1,7 @@
 //! A request and the head of its reply.
 
 ghost use Rattle.std.specs.Prelude.{◌≡◌, length, IfOk, ◌++◌};
-ghost use Rattle.nbd_client.specs.Serving.{Answers, IsAsked, MayDo, Rises};
+ghost use Rattle.nbd_client.specs.Serving.{ServerReply, AreRequestBytes, MayDo, UntoldRises};
 ghost use Rattle.nbd_wire.specs.Transmission.{request_bytes};
 
 use crate::fault::Lost;
@@ -15,15 +15,15 @@ pub(crate) fn exchange<L: Line>(
     lba: u64,
     bytes: &[u8],
 ) -> Result<[u8; 16], Lost>
-    requires asked { IsAsked request.now lba (L.Line.disk line.old).count
+    requires asked { AreRequestBytes request.now lba (L.Line.disk line.old).count
         (request_bytes request.now) bytes.now }
     ensures may { MayDo request.now.command lba bytes.now (L.Line.disk line.old)
         (L.Line.kept line.old) (L.Line.disk line.new) (L.Line.kept line.new) }
     ensures answers { IfOk result (λ head. L.Line.untold line.new ≡ L.Line.untold line.old
-        → Answers request.now lba bytes.now (L.Line.disk line.old) (L.Line.disk line.new)
+        → ServerReply request.now lba bytes.now (L.Line.disk line.old) (L.Line.disk line.new)
         (L.Line.kept line.new) (head ++ L.Line.pending line.new)) }
     ensures long { IfOk result (λ head. length head ≡ 16) }
-    ensures untold { Rises (L.Line.disk line.old).tells (L.Line.untold line.old)
+    ensures untold { UntoldRises (L.Line.disk line.old).tells (L.Line.untold line.old)
         (L.Line.untold line.new) }
 {
     line.send(&request_bytes(request), bytes)?;

@@ -2,7 +2,7 @@
 
 ghost use Rattle.std.specs.Prelude.{◌≡◌, ◌<◌, ◌≤◌, IfOk};
 ghost use Rattle.scsi_disk.specs.Disk.{most_blocks};
-ghost use Rattle.nbd_client.specs.Judging.{judged};
+ghost use Rattle.nbd_client.specs.Judging.{export_judged};
 
 use nbd_wire::{BlockSizes, Export};
 use scsi_disk::MOST_BLOCKS;
@@ -44,9 +44,9 @@ const READ_ONLY: u16 = 2;
 const SEND_FLUSH: u16 = 4;
 
 /// How many blocks are kept on an export, 1 to 2^40.
-#[tactic(auto, unfolding(crate::specs::Judging::judged))]
+#[tactic(auto, unfolding(crate::specs::Judging::export_judged))]
 pub fn judge(export: Export, sizes: BlockSizes) -> Result<u64, ExportFault>
-    ensures exact { result ≡ judged export sizes }
+    ensures exact { result ≡ export_judged export sizes }
     ensures some { IfOk result (λ blocks. 0 < blocks) }
     ensures few { IfOk result (λ blocks. blocks ≤ most_blocks) }
 {

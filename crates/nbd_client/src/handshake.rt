@@ -4,7 +4,8 @@ ghost use Rattle.std.specs.Prelude.{◌≡◌, ◌<◌, ◌≤◌, length, Ok, I
 ghost use Rattle.scsi_disk.specs.Disk.{most_blocks};
 ghost use Rattle.std.specs.Io.KnownBytes.{Appends};
 ghost use Rattle.nbd_client.specs.Handshaking.{asked_first};
-ghost use Rattle.nbd_client.specs.Heard.{Answered, Hears, IsUnjudged, Judges, Refuses, export_after, sizes_after};
+ghost use Rattle.nbd_client.specs.Heard.{IsUnjudged, HandshakeJudges, HandshakeRefuses, export_after, sizes_after};
+ghost use Rattle.nbd_client.specs.inner.Heard.{GoAnswersSay, GoAnswerSays};
 
 use crate::export::{ExportFault, judge};
 use crate::fault::Lost;
@@ -106,9 +107,9 @@ pub fn negotiate<R: Read, W: Write>(
     ensures few { IfOk result (λ blocks. blocks ≤ most_blocks) }
     // The export is the one that the server's answers say, with the sizes that they say.
     ensures opened { IfOk result (λ blocks.
-        Judges (R.remaining reader.old) (R.remaining reader.new) (Ok blocks)) }
+        HandshakeJudges (R.remaining reader.old) (R.remaining reader.new) (Ok blocks)) }
     ensures refused { IfErr result
-        (Refuses (R.remaining reader.old) (R.remaining reader.new)) }
+        (HandshakeRefuses (R.remaining reader.old) (R.remaining reader.new)) }
 {
     let mut greeting = [0; 18];
     reader.read_exact(&mut greeting)?;
@@ -129,7 +130,7 @@ pub fn negotiate<R: Read, W: Write>(
 // to 32 MiB.
 fn answers<R: Read>(alloc: Global, reader: &mut R) -> Result<(Export, BlockSizes), HandshakeFault>
     ensures said { IfOk result (λ said.
-        Answered (R.remaining reader.old) (R.remaining reader.new) said.0 said.1) }
+        GoAnswersSay (R.remaining reader.old) (R.remaining reader.new) said.0 said.1) }
     ensures unjudged { IfErr result IsUnjudged }
 {
     let mut export = None;
@@ -177,7 +178,7 @@ fn sizes_after(said: Info, before: BlockSizes) -> BlockSizes
 
 // What an answer to GO says; nothing, if it is the last.
 fn answer<R: Read>(alloc: Global, reader: &mut R) -> Result<Option<Info>, HandshakeFault>
-    ensures said { IfOk result (Hears (R.remaining reader.old) (R.remaining reader.new)) }
+    ensures said { IfOk result (GoAnswerSays (R.remaining reader.old) (R.remaining reader.new)) }
     ensures unjudged { IfErr result IsUnjudged }
 {
     let mut head = [0; 20];

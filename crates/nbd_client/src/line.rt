@@ -4,7 +4,7 @@ ghost use Rattle.std.specs.Prelude.{◌≡◌, ◌≤◌, ℕ, List, length, tak
 ghost use Rattle.scsi_disk.specs.Disk.{Disk, IsDisk, most_blocks};
 ghost use Rattle.scsi_disk.specs.Lasting.{Within};
 ghost use Rattle.nbd_wire.specs.declared.request.Request.{Request as AnyRequest};
-ghost use Rattle.nbd_client.specs.Serving.{Answers, IsAsked, MayDo, Rises};
+ghost use Rattle.nbd_client.specs.Serving.{ServerReply, AreRequestBytes, MayDo, UntoldRises};
 
 use crate::fault::Lost;
 
@@ -32,14 +32,14 @@ pub trait Line {
     /// Sends the 28 bytes of a request, and those of a write behind them.
     fn send(&mut self, head: &[u8], bytes: &[u8]) -> Result<(), Lost>
         ensures may { (r : AnyRequest) (lba : ℕ)
-            → IsAsked r lba (disk self.old).count head.now bytes.now
+            → AreRequestBytes r lba (disk self.old).count head.now bytes.now
             → MayDo r.command lba bytes.now (disk self.old) (kept self.old)
             (disk self.new) (kept self.new) }
         ensures answers { OnOk result (untold self.new ≡ untold self.old → (r : AnyRequest) (lba : ℕ)
-            → IsAsked r lba (disk self.old).count head.now bytes.now
-            → Answers r lba bytes.now (disk self.old) (disk self.new) (kept self.new)
+            → AreRequestBytes r lba (disk self.old).count head.now bytes.now
+            → ServerReply r lba bytes.now (disk self.old) (disk self.new) (kept self.new)
             (pending self.new)) }
-        ensures untold { Rises (disk self.old).tells (untold self.old) (untold self.new) };
+        ensures untold { UntoldRises (disk self.old).tells (untold self.old) (untold self.new) };
 
     /// Reads as many bytes as `out` has room for.
     fn receive(&mut self, out: &mut [u8]) -> Result<(), Lost>
@@ -49,7 +49,7 @@ pub trait Line {
             → pending self.new ≡ drop (length out.old) (pending self.old)) }
         ensures disk { disk self.new ≡ disk self.old }
         ensures kept { Within (kept self.old) (kept self.new) }
-        ensures untold { Rises (disk self.old).tells (untold self.old) (untold self.new) };
+        ensures untold { UntoldRises (disk self.old).tells (untold self.old) (untold self.new) };
 
     /// There is a block, and each has 512 bytes.
     ghost sound: { (s : Self) → IsDisk (disk s) };

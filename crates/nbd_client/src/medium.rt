@@ -4,7 +4,7 @@ ghost use Rattle.std.specs.Prelude.{◌≡◌, ℕ, true, ◌+◌, ◌*◌, ◌/
 ghost use Rattle.scsi_disk.specs.Disk.{Disk};
 ghost use Rattle.scsi_disk.specs.Lasting.{Within};
 ghost use Rattle.nbd_wire.specs.declared.request.Command.TheVariants.{Write as IsWrite};
-ghost use Rattle.nbd_client.specs.Serving.{IsAsked, IsDone, MayDo, Rises};
+ghost use Rattle.nbd_client.specs.Serving.{AreRequestBytes, IsCommandDone, MayDo, UntoldRises};
 
 use crate::exchange::exchange;
 use crate::fault::{MediumFault, Report};
@@ -53,11 +53,11 @@ impl From<AskFault> for StoreFault {
 }
 
 impl<L: Line, R: Report> NbdMedium<L, R> {
-    ghost use Rattle.nbd_client.specs.Ended.{fault_of, line_of};
+    ghost use Rattle.nbd_client.specs.Ended.{why_ended, medium_line};
 
     /// A medium on a connection, which tells `report` why it ends.
     pub fn new(line: L, report: R) -> NbdMedium<L, R>
-        ensures line { line_of result ≡ line }
+        ensures line { medium_line result ≡ line }
     {
         NbdMedium {
             line,
@@ -69,7 +69,7 @@ impl<L: Line, R: Report> NbdMedium<L, R> {
 
     /// Why it has ended, if it has.
     pub fn fault(&self) -> Option<MediumFault>
-        ensures { result ≡ fault_of self.now }
+        ensures { result ≡ why_ended self.now }
     {
         self.fault
     }
@@ -83,10 +83,10 @@ impl<L: Line, R: Report> NbdMedium<L, R> {
             (L.Line.disk self.old.line) (L.Line.kept self.old.line)
             (L.Line.disk self.new.line) (L.Line.kept self.new.line) }
         ensures done { OnOk result (L.Line.untold self.new.line ≡ L.Line.untold self.old.line
-            → IsDone command lba size bytes.now (L.Line.disk self.old.line)
+            → IsCommandDone command lba size bytes.now (L.Line.disk self.old.line)
             (L.Line.disk self.new.line) (L.Line.kept self.new.line)
             (L.Line.pending self.new.line)) }
-        ensures untold { Rises (L.Line.disk self.old.line).tells (L.Line.untold self.old.line)
+        ensures untold { UntoldRises (L.Line.disk self.old.line).tells (L.Line.untold self.old.line)
             (L.Line.untold self.new.line) }
         // Once it has ended it asks nothing.
         ensures ended { IfSome self.old.fault (λ fault. (self.new ≡ self.old)
@@ -134,11 +134,11 @@ impl<L: Line, R: Report> NbdMedium<L, R> {
 }
 
 impl<L: Line, R: Report + Drop> NbdMedium<L, R> {
-    ghost use Rattle.nbd_client.specs.Ended.{line_of};
+    ghost use Rattle.nbd_client.specs.Ended.{medium_line};
 
     /// The connection, as the medium leaves it.
     pub fn into_line(self) -> L
-        ensures { result ≡ line_of self }
+        ensures { result ≡ medium_line self }
     {
         self.line
     }

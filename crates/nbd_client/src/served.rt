@@ -4,7 +4,7 @@ ghost use Rattle.std.specs.Prelude.{◌≡◌, ℕ, List, true, false, Ok, ◌+�
 ghost use Rattle.scsi_disk.specs.Disk.{IsDisk, most_blocks};
 ghost use Rattle.nbd_wire.specs.declared.request.Command.TheVariants.{Write as IsWrite};
 ghost use Rattle.nbd_wire.specs.Transmission.{reply_bytes, request_at};
-ghost use Rattle.nbd_client.specs.Serving.{IsDone, IsPlaced, MayDo, Rises};
+ghost use Rattle.nbd_client.specs.Serving.{IsCommandDone, IsPlaced, MayDo, UntoldRises};
 
 use crate::fault::Lost;
 use crate::line::Line;
@@ -33,13 +33,13 @@ pub struct Served<M: Medium> {
 }
 
 impl<M: Medium> Served<M> {
-    ghost use Rattle.nbd_client.specs.Served.{medium_of};
+    ghost use Rattle.nbd_client.specs.Served.{served_medium};
 
     /// A server of the blocks of a medium.
     pub fn new(alloc: Global, medium: M) -> Served<M>
         requires usable { IsTrue (M.Medium.usable medium) }
         requires few { (M.Medium.seen medium).count ≤ most_blocks }
-        ensures { medium_of result ≡ medium }
+        ensures { served_medium result ≡ medium }
     {
         medium.blocks();
         Served {
@@ -52,7 +52,7 @@ impl<M: Medium> Served<M> {
 
     /// What it stood on, as it was left.
     pub fn into_medium(self) -> M
-        ensures { result ≡ medium_of self }
+        ensures { result ≡ served_medium self }
     {
         self.medium
     }
@@ -123,10 +123,10 @@ fn perform<M: Medium>(
     ensures may { MayDo command lba bytes.now (M.Medium.seen medium.old) (M.Medium.kept medium.old)
         (M.Medium.seen medium.new) (M.Medium.kept medium.new) }
     ensures done { IfOk result (λ d. M.Medium.untold medium.new ≡ M.Medium.untold medium.old
-        → d.error ≡ 0 → IsDone command lba size bytes.now (M.Medium.seen medium.old)
+        → d.error ≡ 0 → IsCommandDone command lba size bytes.now (M.Medium.seen medium.old)
         (M.Medium.seen medium.new) (M.Medium.kept medium.new) d.blocks.items) }
     ensures usable { OnOk result (IsTrue (M.Medium.usable medium.new)) }
-    ensures untold { Rises (M.Medium.seen medium.old).tells (M.Medium.untold medium.old)
+    ensures untold { UntoldRises (M.Medium.seen medium.old).tells (M.Medium.untold medium.old)
         (M.Medium.untold medium.new) }
 {
     match command {

@@ -1,10 +1,10 @@
 //! What another program does with `nbd_client`.
 
 ghost use Rattle.std.specs.Prelude.{◌≡◌, ◌+◌, ◌<◌, IfOk};
-ghost use Rattle.scsi_disk.specs.Disk.{written};
-ghost use Rattle.scsi_disk.specs.Lasting.{Settled};
-ghost use Rattle.scsi_file.specs.FileStore.{failed_by, medium_of};
-ghost use Rattle.nbd_client.specs.Ended.{line_of};
+ghost use Rattle.scsi_disk.specs.Disk.{disk_written};
+ghost use Rattle.scsi_disk.specs.Lasting.{SettledDisk};
+ghost use Rattle.scsi_file.specs.FileStore.{failed_by, store_medium};
+ghost use Rattle.nbd_client.specs.Ended.{medium_line};
 
 use nbd_client::{Line, NbdMedium, Silent};
 use scsi_disk::{BlockStore, StoreFault};
@@ -18,9 +18,9 @@ pub fn keep_block<L: Line + Drop>(
 ) -> Result<FileStore<NbdMedium<L, Silent>>, StoreFault>
     requires inside { lba < (L.Line.disk line).count }
     ensures lasts { IfOk result (λ store.
-        failed_by store + L.Line.untold (line_of (medium_of store)) ≡ L.Line.untold line
-        → Settled (written lba block.now (L.Line.disk line))
-        (L.Line.kept (line_of (medium_of store)))) }
+        failed_by store + L.Line.untold (medium_line (store_medium store)) ≡ L.Line.untold line
+        → SettledDisk (disk_written lba block.now (L.Line.disk line))
+        (L.Line.kept (medium_line (store_medium store)))) }
 {
     let mut store = FileStore::new(NbdMedium::new(line, Silent))?;
     store.write(lba, block)?;

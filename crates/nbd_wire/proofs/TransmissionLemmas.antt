@@ -5,11 +5,11 @@ use Rattle.nbd_wire.specs.declared.reply.SimpleReply.{SimpleReply}
 use Rattle.nbd_wire.specs.declared.request.Command.{Command}
 use Rattle.nbd_wire.specs.declared.request.Command.TheVariants.{Read, Write, Flush}
 use Rattle.nbd_wire.specs.declared.request.Request.{Request}
-use Rattle.nbd_wire.specs.Transmission.{command_of, reply_bytes, request_at, request_bytes, simple_reply_at}
+use Rattle.nbd_wire.specs.Transmission.{nbd_command, reply_bytes, request_at, request_bytes, simple_reply_at}
 
 request_of : (command : Command) (cookie offset size : ℕ) → cookie < 2 ^ 64 → offset < 2 ^ 64 → size < 2 ^ 32
     → (let r : Request = record { command = command; cookie = cookie; offset = offset; length = size } in request_at (request_bytes r) ≡ Ok r)
-unfolding request_bytes request_at command_of
+unfolding request_bytes request_at nbd_command
 request_of Read cookie offset size c o n = rw (from_be_bytes-to_be_bytes_8 cookie c, from_be_bytes-to_be_bytes_8 offset o, from_be_bytes-to_be_bytes_4 size n) refl
 request_of Write cookie offset size c o n = rw (from_be_bytes-to_be_bytes_8 cookie c, from_be_bytes-to_be_bytes_8 offset o, from_be_bytes-to_be_bytes_4 size n) refl
 request_of Flush cookie offset size c o n = rw (from_be_bytes-to_be_bytes_8 cookie c, from_be_bytes-to_be_bytes_8 offset o, from_be_bytes-to_be_bytes_4 size n) refl

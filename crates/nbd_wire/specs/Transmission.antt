@@ -13,24 +13,24 @@ use Rattle.nbd_wire.specs.declared.reply.ReplyMagic.{ReplyMagic}
 -- ---- requests
 
 -- the number of a command
-abbrev pub code : Command → ℕ
-code Read = 0
-code Write = 1
-code Flush = 3
+abbrev pub command_code : Command → ℕ
+command_code Read = 0
+command_code Write = 1
+command_code Flush = 3
 
 -- a request: magic, flags, type, cookie, offset, length
 unfoldable pub request_bytes : Request → List ℕ
 request_bytes r =
     to_be_bytes w32 0x25609513
     ++ to_be_bytes w16 0
-    ++ to_be_bytes w16 (code r.command)
+    ++ to_be_bytes w16 (command_code r.command)
     ++ to_be_bytes w64 r.cookie
     ++ to_be_bytes w64 r.offset
     ++ to_be_bytes w32 r.length
 
 -- the command of a number that is 0, 1 or 3
-unfoldable pub command_of : ℕ → Command
-command_of n =
+unfoldable pub nbd_command : ℕ → Command
+nbd_command n =
     if n == 0 then Read
     else if n == 1 then Write
     else Flush
@@ -43,7 +43,7 @@ request_at bytes =
     else if u16_of 6 bytes == 2 || nat_lt 3 (u16_of 6 bytes)
     then Err (fault.Command (u16_of 6 bytes))
     else Ok (record {
-      command = command_of (u16_of 6 bytes);
+      command = nbd_command (u16_of 6 bytes);
       cookie = u64_of 8 bytes;
       offset = u64_of 16 bytes;
       length = u32_of 24 bytes;

@@ -1,7 +1,7 @@
 //! Requests ("Request message").
 
 ghost use Rattle.std.specs.Prelude.{◌≡◌};
-ghost use Rattle.nbd_wire.specs.Transmission.{code, command_of, request_at, request_bytes};
+ghost use Rattle.nbd_wire.specs.Transmission.{command_code, nbd_command, request_at, request_bytes};
 
 use crate::numbers::{u16_in, u32_in, u64_in};
 use thiserror::Error;
@@ -20,7 +20,7 @@ pub enum Command {
 impl Command {
     /// The number of the command.
     pub fn code(self) -> u16
-        ensures { result ≡ code self }
+        ensures { result ≡ command_code self }
     {
         match self {
             Command::Read => 0,
@@ -100,9 +100,9 @@ pub fn read_request(bytes: &[u8; 28]) -> Result<Request, RequestFault>
 }
 
 // The command of a number.
-#[tactic(auto, unfolding(crate::specs::Transmission::command_of))]
+#[tactic(auto, unfolding(crate::specs::Transmission::nbd_command))]
 fn command_of(code: u16) -> Command
-    ensures { result ≡ command_of code }
+    ensures { result ≡ nbd_command code }
 {
     match code {
         0 => Command::Read,

@@ -71,15 +71,15 @@ pub data Row : Type 0 where
   raw : ℕ → ℕ → Cell (List ℕ) → Row
 
 -- The field is what the bytes have at its place, and has no value where the table does not want it.
-abbrev pub Holds : List ℕ → Row → Type 0
-Holds b (bit at mask field) = field.value ≡ then_some field.wanted (is_set at mask b)
-Holds b (bits at mask field) = field.value ≡ then_some field.wanted (bits_at at mask b)
-Holds b (bytes first last field) = field.value ≡ then_some field.wanted (number_at first last b)
-Holds b (raw first last field) = field.value ≡ then_some field.wanted (part first last b)
+abbrev pub RowHolds : List ℕ → Row → Type 0
+RowHolds b (bit at mask field) = field.value ≡ then_some field.wanted (is_set at mask b)
+RowHolds b (bits at mask field) = field.value ≡ then_some field.wanted (bits_at at mask b)
+RowHolds b (bytes first last field) = field.value ≡ then_some field.wanted (number_at first last b)
+RowHolds b (raw first last field) = field.value ≡ then_some field.wanted (part first last b)
 
 -- Each row of the table holds in the bytes.
-abbrev pub Hold : List ℕ → List Row → Type 0
-Hold b rows = AllByRecursion (Holds b) rows
+abbrev pub RowsHold : List ℕ → List Row → Type 0
+RowsHold b rows = AllByRecursion (RowHolds b) rows
 
 -- The field has a value exactly where the table wants it, and the value satisfies P.
 abbrev pub IsThere : {A : Type 0} → Cell A → (A → Type 0) → Type 0

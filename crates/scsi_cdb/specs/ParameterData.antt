@@ -5,8 +5,8 @@ use Rattle.std.specs.Int.{to_be_bytes, w32, w64}
 
 -- standard INQUIRY data (SPC-4, section 6.6): a disk, or no unit, and then the names, which are own
 -- profile
-abbrev pub inquiry : Bool → List ℕ
-inquiry present =
+abbrev pub plain_inquiry_data : Bool → List ℕ
+plain_inquiry_data present =
     (if present then 0x00 else 0x7f) ∷ 0x00 ∷ 0x06 ∷ 0x12 ∷ 0x1f ∷ 0x00 ∷ 0x00 ∷ 0x02
     ∷ codes "VERIDISKISCSI DISK      0001"
 

@@ -4,9 +4,9 @@
 ghost use Rattle.std.specs.Prelude.{◌≡◌, ◌↔◌, ◌<◌, ◌∷◌, [], replicate};
 ghost use Rattle.scsi_cdb.specs.declared.cdb.Cdb.{Cdb};
 ghost use Rattle.scsi_cdb.specs.declared.cdb.Cdb.TheVariants as records;
-ghost use Rattle.scsi_cdb.specs.Layout.{always, Hold, AreFilled, HaveRoom, put_all, number_at};
+ghost use Rattle.scsi_cdb.specs.Layout.{always, RowsHold, AreFilled, HaveRoom, put_all, number_at};
 ghost use Rattle.scsi_cdb.specs.Layout.Row.{bytes};
-ghost use Rattle.scsi_cdb.specs.Blocks.{Fits, IsRecord, canonical, code, transfer10, transfer16, synchronize10, rows};
+ghost use Rattle.scsi_cdb.specs.Blocks.{CdbFits, IsRecord, canonical, code_row, record_of, transfer10, transfer16, synchronize10, cdb_rows};
 
 use crate::layout::{
     bit, bits, put_bit, put_number, put_raw, put_u8, put_u16, put_u32, put_u64, u8_at, u16_at,
@@ -112,7 +112,7 @@ pub enum Cdb {
 
 impl Transfer10 {
     fn read(block: &[u8; 16]) -> Transfer10
-        ensures { Hold block.now (transfer10 result) }
+        ensures { RowsHold block.now (transfer10 result) }
     {
         Transfer10 {
             options: u8_at(block, 1),
@@ -126,9 +126,9 @@ impl Transfer10 {
     /// The block of that operation code, with each free bit 0.
     fn block(&self, operation_code: u8) -> [u8; 16]
         requires { AreFilled (transfer10 self.now) }
-        ensures room { HaveRoom (code operation_code ∷ transfer10 self.now) }
+        ensures room { HaveRoom (code_row operation_code ∷ transfer10 self.now) }
         ensures written { result
-            ≡ put_all (code operation_code ∷ transfer10 self.now) (replicate 16 0) }
+            ≡ put_all (code_row operation_code ∷ transfer10 self.now) (replicate 16 0) }
     {
         let mut out = [0; 16];
         put_u8(&mut out, 0, operation_code);
@@ -143,7 +143,7 @@ impl Transfer10 {
 
 impl Transfer16 {
     fn read(block: &[u8; 16]) -> Transfer16
-        ensures { Hold block.now (transfer16 result) }
+        ensures { RowsHold block.now (transfer16 result) }
     {
         Transfer16 {
             options: u8_at(block, 1),
@@ -157,9 +157,9 @@ impl Transfer16 {
     /// The block of that operation code, with each free bit 0.
     fn block(&self, operation_code: u8) -> [u8; 16]
         requires { AreFilled (transfer16 self.now) }
-        ensures room { HaveRoom (code operation_code ∷ transfer16 self.now) }
+        ensures room { HaveRoom (code_row operation_code ∷ transfer16 self.now) }
         ensures written { result
-            ≡ put_all (code operation_code ∷ transfer16 self.now) (replicate 16 0) }
+            ≡ put_all (code_row operation_code ∷ transfer16 self.now) (replicate 16 0) }
     {
         let mut out = [0; 16];
         put_u8(&mut out, 0, operation_code);
@@ -174,7 +174,7 @@ impl Transfer16 {
 
 impl Synchronize10 {
     fn read(block: &[u8; 16]) -> Synchronize10
-        ensures { Hold block.now (synchronize10 result) }
+        ensures { RowsHold block.now (synchronize10 result) }
     {
         Synchronize10 {
             options: bits(block, 1, 0x06),
@@ -188,9 +188,9 @@ impl Synchronize10 {
     /// The block of that operation code, with each free bit 0.
     fn block(&self, operation_code: u8) -> [u8; 16]
         requires { AreFilled (synchronize10 self.now) }
-        ensures room { HaveRoom (code operation_code ∷ synchronize10 self.now) }
+        ensures room { HaveRoom (code_row operation_code ∷ synchronize10 self.now) }
         ensures written { result
-            ≡ put_all (code operation_code ∷ synchronize10 self.now) (replicate 16 0) }
+            ≡ put_all (code_row operation_code ∷ synchronize10 self.now) (replicate 16 0) }
     {
         let mut out = [0; 16];
         put_u8(&mut out, 0, operation_code);
@@ -206,10 +206,11 @@ impl Synchronize10 {
 impl Cdb {
     /// The one record of a block.
     pub fn read(block: &[u8; 16]) -> Cdb
+        ensures value { result ≡ record_of block.now }
         // The table of descriptor blocks gives this record for the block, and no other.
         ensures means { IsRecord block.now result }
         ensures only { (c : Cdb) → IsRecord block.now c → result ≡ c }
-        ensures fits { Fits result }
+        ensures fits { CdbFits result }
     {
         Cdb::record_of(block)
     }
@@ -267,7 +268,7 @@ impl Cdb {
     /// The record has to fit the table. That is, a group number is at most 31, and the options of a
     /// SYNCHRONIZE CACHE are at most 3. An `Unknown` has a block of no other record.
     pub fn write(&self) -> [u8; 16]
-        requires { Fits self.now }
+        requires { CdbFits self.now }
         ensures canonical { result ≡ canonical self.now }
         // The block has this record, and no other.
         ensures back { (c : Cdb) → IsRecord result c ↔ (c ≡ self.now) }
@@ -276,9 +277,9 @@ impl Cdb {
     }
 
     fn canonical(&self) -> [u8; 16]
-        requires { Fits self.now }
+        requires { CdbFits self.now }
         ensures written { result ≡ canonical self.now }
-        ensures room { HaveRoom (rows self.now) }
+        ensures room { HaveRoom (cdb_rows self.now) }
     {
         match self {
             Cdb::TestUnitReady { control } => control_block(0x00, 5, *control),
@@ -311,9 +312,9 @@ impl Cdb {
 /// The block of a command whose one field is the control byte.
 fn control_block(operation_code: u8, at: usize, control: u8) -> [u8; 16]
     requires { at < 16 }
-    ensures room { HaveRoom (code operation_code ∷ bytes at at (always control) ∷ []) }
+    ensures room { HaveRoom (code_row operation_code ∷ bytes at at (always control) ∷ []) }
     ensures written { result
-        ≡ put_all (code operation_code ∷ bytes at at (always control) ∷ []) (replicate 16 0) }
+        ≡ put_all (code_row operation_code ∷ bytes at at (always control) ∷ []) (replicate 16 0) }
 {
     let mut out = [0; 16];
     put_u8(&mut out, 0, operation_code);
@@ -322,7 +323,7 @@ fn control_block(operation_code: u8, at: usize, control: u8) -> [u8; 16]
 }
 
 fn inquiry_block(evpd: bool, page: u8, allocation_length: u16, control: u8) -> [u8; 16]
-    ensures room { HaveRoom (rows (records.Inquiry evpd page allocation_length control)) }
+    ensures room { HaveRoom (cdb_rows (records.Inquiry evpd page allocation_length control)) }
     ensures written { result ≡ canonical (records.Inquiry evpd page allocation_length control) }
 {
     let mut out = [0; 16];
@@ -335,7 +336,7 @@ fn inquiry_block(evpd: bool, page: u8, allocation_length: u16, control: u8) -> [
 }
 
 fn capacity16_block(allocation_length: u32, control: u8) -> [u8; 16]
-    ensures room { HaveRoom (rows (records.Capacity16 allocation_length control)) }
+    ensures room { HaveRoom (cdb_rows (records.Capacity16 allocation_length control)) }
     ensures written { result ≡ canonical (records.Capacity16 allocation_length control) }
 {
     let mut out = [0; 16];
@@ -347,7 +348,7 @@ fn capacity16_block(allocation_length: u32, control: u8) -> [u8; 16]
 }
 
 fn report_luns_block(select: u8, allocation_length: u32, control: u8) -> [u8; 16]
-    ensures room { HaveRoom (rows (records.ReportLuns select allocation_length control)) }
+    ensures room { HaveRoom (cdb_rows (records.ReportLuns select allocation_length control)) }
     ensures written { result ≡ canonical (records.ReportLuns select allocation_length control) }
 {
     let mut out = [0; 16];
@@ -359,7 +360,7 @@ fn report_luns_block(select: u8, allocation_length: u32, control: u8) -> [u8; 16
 }
 
 fn unknown_block(block: &[u8; 16]) -> [u8; 16]
-    ensures room { HaveRoom (rows (records.Unknown block.now)) }
+    ensures room { HaveRoom (cdb_rows (records.Unknown block.now)) }
     ensures written { result ≡ canonical (records.Unknown block.now) }
 {
     let mut out = [0; 16];

@@ -1,7 +1,7 @@
 //! The data of INQUIRY (SPC-4, sections 6.6 and 7.8).
 
 ghost use Rattle.std.specs.Prelude.{◌≡◌, option_map};
-ghost use Rattle.scsi_cdb.specs.ParameterData.{inquiry, vpd};
+ghost use Rattle.scsi_cdb.specs.ParameterData.{plain_inquiry_data, vpd};
 
 use crate::luns::short;
 use arrayvec::ArrayVec;
@@ -9,7 +9,7 @@ use arrayvec::ArrayVec;
 /// Standard INQUIRY data (SPC-4, section 6.6): of a disk, or of a unit that is not there. The names
 /// are own rules.
 pub fn inquiry_bytes(present: bool) -> [u8; 36]
-    ensures { result ≡ inquiry present }
+    ensures { result ≡ plain_inquiry_data present }
 {
     let mut bytes = *b"\0\0\x06\x12\x1f\0\0\x02VERIDISKISCSI DISK      0001";
     if !present {

@@ -2,8 +2,8 @@
 
 ghost use Rattle.std.specs.Prelude.{◌≡◌, false};
 ghost use Rattle.scsi_cdb.specs.declared.cdb.Cdb.TheVariants as cdb;
-ghost use Rattle.scsi_cdb.specs.Blocks.{Fits};
-ghost use Rattle.scsi_cdb.specs.Plain.{flush, long_transfer, reading, transfer, writing};
+ghost use Rattle.scsi_cdb.specs.Blocks.{CdbFits};
+ghost use Rattle.scsi_cdb.specs.Plain.{flush, long_transfer, reading, plain_transfer, writing};
 
 use crate::cdb::{Cdb, Synchronize10, Transfer10, Transfer16};
 
@@ -14,7 +14,7 @@ impl Cdb {
     /// A READ of blocks from this one on: READ(10), or READ(16) where that has no room for the first.
     pub fn reading(logical_block_address: u64, blocks: u16) -> Cdb
         ensures block { result ≡ reading logical_block_address blocks }
-        ensures fits { Fits result }
+        ensures fits { CdbFits result }
     {
         if logical_block_address < FIRST_LONG_ADDRESS {
             Cdb::Read10(transfer(logical_block_address as u32, blocks))
@@ -27,7 +27,7 @@ impl Cdb {
     /// first.
     pub fn writing(logical_block_address: u64, blocks: u16) -> Cdb
         ensures block { result ≡ writing logical_block_address blocks }
-        ensures fits { Fits result }
+        ensures fits { CdbFits result }
     {
         if logical_block_address < FIRST_LONG_ADDRESS {
             Cdb::Write10(transfer(logical_block_address as u32, blocks))
@@ -39,7 +39,7 @@ impl Cdb {
     /// A SYNCHRONIZE CACHE(10) of blocks from this one on; 0 of them are all up to the last one.
     pub fn flush(logical_block_address: u32, blocks: u16) -> Cdb
         ensures block { result ≡ flush logical_block_address blocks }
-        ensures fits { Fits result }
+        ensures fits { CdbFits result }
     {
         Cdb::SyncCache10(Synchronize10 {
             options: 0,
@@ -53,7 +53,7 @@ impl Cdb {
     /// An INQUIRY for the standard data, of at most this many bytes.
     pub fn standard_inquiry(allocation_length: u16) -> Cdb
         ensures block { result ≡ cdb.Inquiry false 0 allocation_length 0 }
-        ensures fits { Fits result }
+        ensures fits { CdbFits result }
     {
         Cdb::Inquiry {
             evpd: false,
@@ -66,7 +66,7 @@ impl Cdb {
     /// A READ CAPACITY(16) for at most this many bytes.
     pub fn long_capacity(allocation_length: u32) -> Cdb
         ensures block { result ≡ cdb.Capacity16 allocation_length 0 }
-        ensures fits { Fits result }
+        ensures fits { CdbFits result }
     {
         Cdb::Capacity16 {
             allocation_length,
@@ -77,7 +77,7 @@ impl Cdb {
     /// A REPORT LUNS for the list of code 00, of at most this many bytes.
     pub fn unit_list(allocation_length: u32) -> Cdb
         ensures block { result ≡ cdb.ReportLuns 0 allocation_length 0 }
-        ensures fits { Fits result }
+        ensures fits { CdbFits result }
     {
         Cdb::ReportLuns {
             select: 0,
@@ -88,7 +88,7 @@ impl Cdb {
 }
 
 fn transfer(logical_block_address: u32, blocks: u16) -> Transfer10
-    ensures { result ≡ transfer logical_block_address blocks }
+    ensures { result ≡ plain_transfer logical_block_address blocks }
 {
     Transfer10 {
         options: 0,

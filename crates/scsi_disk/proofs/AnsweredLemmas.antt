@@ -7,12 +7,13 @@ use Rattle.scsi_disk.specs.declared.order.Plan.{Plan}
 use Rattle.scsi_disk.specs.declared.order.Plan.TheVariants.{Give}
 use Rattle.scsi_disk.specs.declared.store.StoreFault.{StoreFault}
 use Rattle.scsi_disk.specs.declared.store.StoreFault.TheVariants.{Device}
-use Rattle.scsi_disk.specs.Disk.{Disk, Tells}
+use Rattle.scsi_disk.specs.Disk.{Disk, StoreTellsFailures}
 use Rattle.scsi_disk.specs.Plan.{plan_of}
-use Rattle.scsi_disk.specs.Effect.{Effect, FailsBy, effect, disk_by, guarded, outcome_by}
+use Rattle.scsi_disk.specs.Effect.{Effect, StoreFailureLeaves, effect, disk_by, guarded, outcome_by}
 
 -- a failure was counted and not told, so that the store does not tell each
-pub does_not_tell : {T : Type 0} (tells : Bool) (before after ub ua : ℕ) (result : Result T StoreFault) → Tells tells before after ub ua result → before < after
+pub does_not_tell : {T : Type 0} (tells : Bool) (before after ub ua : ℕ) (result : Result T StoreFault) → StoreTellsFailures tells before after ub ua result
+    → before < after
     → (IsErrOf result Device → ⊥) → tells ≡ false
 does_not_tell true before after ub ua result t rose not = (let none = t.honest refl in absurd (not (t.told (omega (arith, none, rose)))))
 does_not_tell false before after ub ua result t rose not = refl
@@ -33,5 +34,6 @@ module _ (protected : Bool) (before after ub ua : ℕ) (disk now : Disk) (order 
         ∙ ap (λ (x : Outcome). record { disk = disk; outcome = x }) e
         ∙ ap (λ (p : Plan). record { disk = disk_by p disk order bytes; outcome = outcome_by p disk order }) (sym plan)
 
-    pub failed : (o : Outcome) → FailsBy (Give length) disk order bytes (at o) → FailsBy (guarded protected (plan_of order disk.count)) disk order bytes (at o)
-    failed o f = subst (λ (p : Plan). FailsBy p disk order bytes (at o)) (sym plan) f
+    pub failed : (o : Outcome) → StoreFailureLeaves (Give length) disk order bytes (at o)
+        → StoreFailureLeaves (guarded protected (plan_of order disk.count)) disk order bytes (at o)
+    failed o f = subst (λ (p : Plan). StoreFailureLeaves p disk order bytes (at o)) (sym plan) f

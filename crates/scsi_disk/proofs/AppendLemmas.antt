@@ -2,7 +2,7 @@
 use Rattle.std.proofs.Common.{◌≡◌, ℕ, ◌+◌, ◌-◌, ◌*◌, ◌/◌, ◌≤◌, List, ◌++◌, length, take, replicate, cond, Result, Ok, Err, OnOk, is_ok, sym, ap, ◌∙◌, arith}
 use Rattle.std.proofs.Common.{append_assoc}
 use Rattle.std.proofs.lemmas.List.{length-append, take_all, take_at}
-use Rattle.scsi_disk.specs.Disk.{Appends, Disk, IsDisk, blocks_from}
+use Rattle.scsi_disk.specs.Disk.{AppendsBytes, Disk, IsDisk, blocks_from}
 use Rattle.scsi_disk.proofs.PlanLemmas.{joined-add, length-joined}
 
 pub map_ok : {T E P Q : Type 0} (r : Result T E) → (P → Q) → OnOk r P → OnOk r Q
@@ -22,7 +22,7 @@ resized (Ok x) old new more n size k sum long is same =
 resized (Err e) old new more n size k sum long is same = tt
 
 pub appended : (disk : Disk) (first count : ℕ) (old new : List ℕ) → IsDisk disk → first + count ≤ disk.count → new ≡ old ++ blocks_from disk first count →
-    Appends (512 * count) old new
+    AppendsBytes (512 * count) old new
 appended disk first count old new is inside behind = record {
   bytes = blocks_from disk first count;
   size = length-joined 512 disk.block first count (λ n low high. is.inside n (omega arith));

@@ -10,12 +10,12 @@ use Rattle.std.proofs.Math.Seq.{take-add}
 use Rattle.std.proofs.Math.Nat.{mul-le-mul_left}
 use borrow.Rule.Slice.PartMut.{put_mid}
 use borrow.Author.Tests.{lt-ltb, le-ltb}
-use Rattle.scsi_disk.specs.Disk.{Disk, IsDisk, AreBlocks, cut, joined, overlaid, zero_blocks, zeros, disk_of}
+use Rattle.scsi_disk.specs.Disk.{Disk, IsDisk, AreBlocks, cut, joined_blocks, overlaid, zero_blocks, zeros, disk_of}
 
 module _ (size : ℕ) where
   -- a read of blocks is a range of the bytes
-  pub joined-cut : (bytes : List ℕ) (first count : ℕ) → joined (cut size bytes) first count ≡ take (size * count) (drop (size * first) bytes)
-  unfolding joined cut
+  pub joined-cut : (bytes : List ℕ) (first count : ℕ) → joined_blocks (cut size bytes) first count ≡ take (size * count) (drop (size * first) bytes)
+  unfolding joined_blocks cut
   joined-cut bytes first zero = ap (λ k. take k (drop (size * first) bytes)) (sym (let e : size * zero ≡ zero = omega arith in e))
   joined-cut bytes first (suc count) =
       let more : size * suc count ≡ size + size * count = omega arith in
@@ -89,7 +89,7 @@ module _ (size : ℕ) where
 
   -- a range of whole parts
   pub range-blocks : (bytes : List ℕ) (first len : ℕ) → size * (len / size) ≡ len → take (size * first + len - size * first) (drop (size * first) bytes)
-      ≡ joined (cut size bytes) first (len / size)
+      ≡ joined_blocks (cut size bytes) first (len / size)
   range-blocks bytes first len whole =
       let e : size * first + len - size * first ≡ size * (len / size) = omega arith in
       ap (λ k. take k (drop (size * first) bytes)) e ∙ sym (joined-cut bytes first (len / size))

@@ -5,7 +5,7 @@ use Rattle.std.proofs.lemmas.Bool.{cases_lt}
 use Rattle.std.proofs.lemmas.List.{take-take, drop-take, drop-drop, length-take-le, length-drop, length-replicate}
 use Rattle.std.proofs.Math.Nat.{mul-le-mul_left}
 use borrow.Author.Tests.{lt-ltb, le-ltb}
-use Rattle.scsi_disk.specs.Disk.{Disk, IsOldOrNew, cut, overlaid, written, zero_blocks}
+use Rattle.scsi_disk.specs.Disk.{Disk, IsOldOrNew, cut, overlaid, disk_written, zero_blocks}
 use Rattle.scsi_disk.proofs.BlockLemmas.{same_disk, cut-zeros_at}
 
 -- a part that lies in the front
@@ -152,7 +152,8 @@ module _ (size first i c : ℕ) (bytes : List ℕ) (block : ℕ → List ℕ) (r
 
 -- a disk with the front of some bytes written, and then the blocks behind that front
 pub written_next : (first i c : ℕ) (bytes : List ℕ) (disk : Disk) → 512 * (i + c) ≤ length bytes
-    → written (first + i) (take (512 * c) (drop (512 * i) bytes)) (written first (take (512 * i) bytes) disk) ≡ written first (take (512 * (i + c)) bytes) disk
+    → disk_written (first + i) (take (512 * c) (drop (512 * i) bytes)) (disk_written first (take (512 * i) bytes) disk)
+    ≡ disk_written first (take (512 * (i + c)) bytes) disk
 written_next first i c bytes disk room = same_disk _ _ refl (fun_ext (overlaid_more_at 512 first i c bytes disk.block room (omega arith))) refl
 
 overlaid_none : (size first : ℕ) (block : ℕ → List ℕ) (n : ℕ) → overlaid size first [] block n ≡ block n
@@ -163,11 +164,11 @@ overlaid_none size first block n =
       | inr ge ↦ rw (le-ltb n first ge, le-ltb (size * (n - first)) 0 (omega arith)) refl
     ]
 
-pub written_none : (first : ℕ) (disk : Disk) → written first [] disk ≡ disk
+pub written_none : (first : ℕ) (disk : Disk) → disk_written first [] disk ≡ disk
 written_none first disk = same_disk _ _ refl (fun_ext (λ n. overlaid_none 512 first disk.block n)) refl
 
 -- a write of no byte
-pub written_short : (first : ℕ) (bytes : List ℕ) (disk : Disk) → length bytes ≡ 0 → written first (take 512 bytes) disk ≡ disk
+pub written_short : (first : ℕ) (bytes : List ℕ) (disk : Disk) → length bytes ≡ 0 → disk_written first (take 512 bytes) disk ≡ disk
 written_short first [] disk none = written_none first disk
 written_short first (x ∷ xs) disk none = absurd (let e : length (x ∷ xs) ≡ 0 = none in omega arith)
 
@@ -196,7 +197,8 @@ first_at size first bytes block n some long =
       ]
     ]
 
-pub first_alone : (first : ℕ) (bytes : List ℕ) (d e : Disk) → 512 ≤ length bytes → e ≡ written first (take 512 bytes) d → IsOldOrNew d (written first bytes d) e
+pub first_alone : (first : ℕ) (bytes : List ℕ) (d e : Disk) → 512 ≤ length bytes → e ≡ disk_written first (take 512 bytes) d
+    → IsOldOrNew d (disk_written first bytes d) e
 first_alone first bytes d e long is = record {
   count = ap (λ (x : Disk). x.count) is;
   tells = ap (λ (x : Disk). x.tells) is;

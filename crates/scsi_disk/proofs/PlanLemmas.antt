@@ -7,23 +7,23 @@ use borrow.Author.Tests.{ltb-false}
 use Rattle.scsi_cdb.specs.declared.sense.Sense.{Sense}
 use Rattle.scsi_disk.specs.declared.order.Order.{Order}
 use Rattle.scsi_disk.specs.declared.order.Plan.TheVariants.{Refuse, Take, Give}
-use Rattle.scsi_disk.specs.Disk.{Disk, IsDisk, joined, blocks_from}
+use Rattle.scsi_disk.specs.Disk.{Disk, IsDisk, joined_blocks, blocks_from}
 use Rattle.scsi_disk.specs.declared.order.Plan.{Plan}
 use Rattle.scsi_disk.specs.declared.reading.BlockRange.{BlockRange}
-use Rattle.scsi_disk.specs.Effect.{good, outcome_by, wanted_data}
-use Rattle.scsi_disk.specs.Found.{Names}
-use Rattle.scsi_disk.specs.Plan.{transfer, taken_length, is_write, is_read, first_of, refusals, first_refusal, plan_by, plan_of, wanted_length, expected_length}
+use Rattle.scsi_disk.specs.Effect.{good_outcome, outcome_by, wanted_data}
+use Rattle.scsi_disk.specs.Found.{NamesFewBlocks}
+use Rattle.scsi_disk.specs.Plan.{named_transfer, taken_length, is_write, is_read, first_reason, refusals, first_refusal, plan_by, plan_of, wanted_length, expected_length}
 
 -- where nothing is refused, each test was false
-pub all_false : {A : Type 0} (rows : List (Bool × A)) → first_of rows ≡ None → AllByRecursion (λ row. row.0 ≡ false) rows
+pub all_false : {A : Type 0} (rows : List (Bool × A)) → first_reason rows ≡ None → AllByRecursion (λ row. row.0 ≡ false) rows
 all_false [] e = tt
 all_false ((true, reason) ∷ rows) e = absurd (let h : Some reason ≡ None = e in cc)
 all_false ((false, reason) ∷ rows) e = (refl, all_false rows e)
 
 -- the blocks that an order names are inside the disk, and few
 pub record NamesBlocks (order : Order) (blocks : ℕ) : Type 0 where
-  pub few : (transfer order.cdb).count ≤ 8192
-  pub inside : (transfer order.cdb).first + (transfer order.cdb).count ≤ blocks
+  pub few : (named_transfer order.cdb).count ≤ 8192
+  pub inside : (named_transfer order.cdb).first + (named_transfer order.cdb).count ≤ blocks
 
 unrefused : (order : Order) (blocks : ℕ) → first_refusal order blocks ≡ None → NamesBlocks order blocks
 unrefused order blocks e =
@@ -57,7 +57,7 @@ pub takes_one : (order : Order) → order.same ≡ true → taken_length order �
 takes_one order same = rw same refl
 
 -- else those of all blocks
-pub takes_all : (order : Order) → order.same ≡ false → taken_length order ≡ 512 * (transfer order.cdb).count
+pub takes_all : (order : Order) → order.same ≡ false → taken_length order ≡ 512 * (named_transfer order.cdb).count
 takes_all order same = rw same refl
 
 given_by : (order : Order) (blocks n : ℕ) (r : Option Sense) → first_refusal order blocks ≡ r → plan_by r order blocks ≡ Give n → IsGiven order blocks n
@@ -84,35 +84,36 @@ not_refused order blocks none = none_if order blocks (first_refusal order blocks
 
 -- ---- the front of some blocks
 
-pub joined-add : (block : ℕ → List ℕ) (first c d : ℕ) → joined block first (c + d) ≡ joined block first c ++ joined block (first + c) d
-unfolding joined
-joined-add block first zero d = ap (joined block first) (zero-add d) ∙ ap (λ k. joined block k d) (sym (add-zero first))
+pub joined-add : (block : ℕ → List ℕ) (first c d : ℕ) → joined_blocks block first (c + d) ≡ joined_blocks block first c ++ joined_blocks block (first + c) d
+unfolding joined_blocks
+joined-add block first zero d = ap (joined_blocks block first) (zero-add d) ∙ ap (λ k. joined_blocks block k d) (sym (add-zero first))
 joined-add block first (suc c) d =
     let more : suc c + d ≡ suc (c + d) = omega arith in
     let next : first + 1 + c ≡ first + suc c = omega arith in
-    ap (joined block first) more ∙ ap (λ t. block first ++ t) (joined-add block (first + 1) c d ∙ ap (λ k. joined block (first + 1) c ++ joined block k d) next)
-    ∙ sym (append_assoc (block first) (joined block (first + 1) c) (joined block (first + suc c) d))
+    ap (joined_blocks block first) more ∙ ap (λ t. block first ++ t) (joined-add block (first + 1) c d
+    ∙ ap (λ k. joined_blocks block (first + 1) c ++ joined_blocks block k d) next)
+    ∙ sym (append_assoc (block first) (joined_blocks block (first + 1) c) (joined_blocks block (first + suc c) d))
 
 pub length-joined : (size : ℕ) (block : ℕ → List ℕ) (first c : ℕ) → ((n : ℕ) → first ≤ n → n < first + c → length (block n) ≡ size)
-    → length (joined block first c) ≡ size * c
-unfolding joined
+    → length (joined_blocks block first c) ≡ size * c
+unfolding joined_blocks
 length-joined size block first zero h = let e : 0 ≡ size * zero = omega arith in e
 length-joined size block first (suc c) h =
     let rest = length-joined size block (first + 1) c (λ n low high. h n (omega arith) (omega arith)) in
     let here = h first (omega arith) (omega arith) in
-    length-append (block first) (joined block (first + 1) c) ∙ (let e : length (block first) + length (joined block (first + 1) c)
+    length-append (block first) (joined_blocks block (first + 1) c) ∙ (let e : length (block first) + length (joined_blocks block (first + 1) c)
     ≡ size * suc c = omega arith in e)
 
 -- a front needs only the blocks that have it
-front_of : (block : ℕ → List ℕ) (first few count n : ℕ) → few ≤ count → n ≤ length (joined block first few) → take n (joined block first few) ≡ take n (joined block first count)
+front_of : (block : ℕ → List ℕ) (first few count n : ℕ) → few ≤ count → n ≤ length (joined_blocks block first few) → take n (joined_blocks block first few) ≡ take n (joined_blocks block first count)
 front_of block first few count n less covers =
     let all : few + (count - few) ≡ count = omega (arith, less) in
-    sym (ap (λ k. take n (joined block first k)) (sym all) ∙ ap (take n) (joined-add block first few (count - few))
-    ∙ take-append-le n (joined block first few) (joined block (first + few) (count - few)) covers)
+    sym (ap (λ k. take n (joined_blocks block first k)) (sym all) ∙ ap (take n) (joined-add block first few (count - few))
+    ∙ take-append-le n (joined_blocks block first few) (joined_blocks block (first + few) (count - few)) covers)
 
 -- a front needs only the blocks that it reaches into
 pub front-joined : (disk : Disk) (first count n : ℕ) → IsDisk disk → first + count ≤ disk.count → n ≤ 512 * count
-    → take n (joined disk.block first ((n + 511) / 512)) ≡ take n (joined disk.block first count)
+    → take n (joined_blocks disk.block first ((n + 511) / 512)) ≡ take n (joined_blocks disk.block first count)
 front-joined disk first count n is inside fits =
     let c = (n + 511) / 512 in
     let few : (n + 511) / 512 ≤ count = omega arith in
@@ -121,24 +122,25 @@ front-joined disk first count n is inside fits =
 
 -- what a READ gives is the front of the blocks that it names
 pub read_gives : (disk : Disk) (order : Order) (n : ℕ) → IsDisk disk → plan_of order disk.count ≡ Give n → is_read order.cdb ≡ true
-    → take n (blocks_from disk (transfer order.cdb).first ((n + 511) / 512)) ≡ take n (wanted_data disk order)
+    → take n (blocks_from disk (named_transfer order.cdb).first ((n + 511) / 512)) ≡ take n (wanted_data disk order)
 read_gives disk order n is p reads =
     let facts = given order disk.count n p in
-    let most : n ≤ 512 * (transfer order.cdb).count = rw reads at facts.most in
-    rw reads (front-joined disk (transfer order.cdb).first (transfer order.cdb).count n is facts.names.inside most)
+    let most : n ≤ 512 * (named_transfer order.cdb).count = rw reads at facts.most in
+    rw reads (front-joined disk (named_transfer order.cdb).first (named_transfer order.cdb).count n is facts.names.inside most)
 
 -- a READ of these blocks would give them
-pub read_wants : (order : Order) (blocks : ℕ) (range : BlockRange) → is_read order.cdb ≡ true → Names order blocks range → wanted_length order blocks ≡ 512 * range.count
+pub read_wants : (order : Order) (blocks : ℕ) (range : BlockRange) → is_read order.cdb ≡ true → NamesFewBlocks order blocks range → wanted_length order blocks ≡ 512 * range.count
 read_wants order blocks range reads names = rw reads (ap (λ n. 512 * n) (sym names.count))
 
 -- and the front of them is what it gives
-pub gives_front : (disk : Disk) (order : Order) (range : BlockRange) (n : ℕ) (bytes : List ℕ) → is_read order.cdb ≡ true → Names order disk.count range → n ≤ 512 * range.count
-    → length bytes ≡ n → bytes ≡ take n (blocks_from disk range.first ((n + 511) / 512)) → good order (512 * range.count) bytes ≡ outcome_by (Give n) disk order
+pub gives_front : (disk : Disk) (order : Order) (range : BlockRange) (n : ℕ) (bytes : List ℕ) → is_read order.cdb ≡ true → NamesFewBlocks order disk.count range → n ≤ 512 * range.count
+    → length bytes ≡ n → bytes ≡ take n (blocks_from disk range.first ((n + 511) / 512)) → good_outcome order (512 * range.count) bytes
+    ≡ outcome_by (Give n) disk order
 gives_front disk order range n bytes reads names most size is =
-    let named = transfer order.cdb in
+    let named = named_transfer order.cdb in
     let few : (n + 511) / 512 ≤ named.count = omega (arith, names.count, most) in
     let covers : n ≤ length (blocks_from disk range.first ((n + 511) / 512)) =
     omega (arith, length-take n (blocks_from disk range.first ((n + 511) / 512)), ap length is, size) in
-    ap (good order (512 * range.count)) is
-    ∙ rw (reads, names.first, names.count) (ap (good order (512 * named.count))
+    ap (good_outcome order (512 * range.count)) is
+    ∙ rw (reads, names.first, names.count) (ap (good_outcome order (512 * named.count))
     (front_of disk.block named.first ((n + 511) / 512) named.count n few (rw names.first at covers)))

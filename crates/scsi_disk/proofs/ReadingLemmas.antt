@@ -10,10 +10,11 @@ use Rattle.scsi_disk.specs.declared.order.Outcome.{Outcome}
 use Rattle.scsi_disk.specs.declared.order.Plan.{Plan}
 use Rattle.scsi_disk.specs.declared.order.Plan.TheVariants.{Refuse, Give, Take}
 use Rattle.scsi_disk.specs.declared.reading.BlockRange.{BlockRange}
-use Rattle.scsi_disk.specs.Disk.{Appends, Disk, IsDisk, Tells, blocks_from, joined}
-use Rattle.scsi_disk.specs.Effect.{Executes, good, check, wanted_data}
-use Rattle.scsi_disk.specs.Plan.{is_read, plan_of, transfer, wanted_length}
-use Rattle.scsi_disk.specs.Reading.{WereRead, whole_blocks}
+use Rattle.scsi_disk.specs.Disk.{AppendsBytes, Disk, IsDisk, StoreTellsFailures, blocks_from, joined_blocks}
+use Rattle.scsi_disk.specs.Effect.{OrderExecuted, good_outcome, check_condition, wanted_data}
+use Rattle.scsi_disk.specs.Plan.{is_read, plan_of, named_transfer, wanted_length}
+use Rattle.scsi_disk.specs.Reading.{whole_blocks}
+use Rattle.scsi_disk.specs.inner.Reading.{WereRead}
 use Rattle.scsi_disk.proofs.PlanLemmas.{given, joined-add, length-joined, read_gives}
 use Rattle.scsi_disk.proofs.AnsweredLemmas.{does_not_tell, failed, not_err, worked}
 use Rattle.scsi_disk.proofs.GuardLemmas.{plan_stays}
@@ -22,7 +23,7 @@ use Rattle.scsi_disk.proofs.GuardLemmas.{plan_stays}
 pub record IsWhole (disk : Disk) (order : Order) (range : BlockRange) : Type 0 where
   pub plan : plan_of order disk.count ≡ Give (512 * range.count)
   pub reads : is_read order.cdb ≡ true
-  pub first : range.first ≡ (transfer order.cdb).first
+  pub first : range.first ≡ (named_transfer order.cdb).first
   pub inside : range.first + range.count ≤ disk.count
   pub few : range.count ≤ 8192
 
@@ -39,7 +40,7 @@ whole_by : (disk : Disk) (order : Order) (planned : Plan) (range : BlockRange) �
 whole_by disk order (Refuse sense) range p e = absurd cc
 whole_by disk order (Take length) range p e = absurd cc
 whole_by disk order (Give n) range p e =
-    let named = transfer order.cdb in
+    let named = named_transfer order.cdb in
     let fits = chosen (is_read order.cdb && (n % 512 == 0)) (record { first = named.first; count = n / 512 }) range e in
     let tests = both (is_read order.cdb) (n % 512 == 0) fits.0 in
     let even : n % 512 ≡ 0 = eqb-true (n % 512) 0 tests.1 in
@@ -63,7 +64,7 @@ whole disk order planned range p e = whole_by disk order planned range (sym p) e
 -- ---- what was read
 
 pub none_read : (disk : Disk) (first n : ℕ) → WereRead disk first 0 n n []
-unfolding joined
+unfolding joined_blocks
 none_read disk first n = record { size = omega arith; works = λ same. refl; hides = λ rose. absurd (omega (arith, rose)) }
 
 pub read_more : (disk : Disk) (first a b before mid after : ℕ) (x y : List ℕ) → before ≤ mid → mid ≤ after → WereRead disk first a before mid x
@@ -80,8 +81,9 @@ read_more disk first a b before mid after x y low high p q = record {
 }
 
 -- the bytes that one read appended
-pub appended_read : {T : Type 0} (disk : Disk) (first count before after ub ua : ℕ) (x : T) (old new : List ℕ) → Tells disk.tells before after ub ua (Ok x)
-    → (after ≡ before → new ≡ old ++ blocks_from disk first count) → (a : Appends (512 * count) old new) → WereRead disk first count before after a.bytes
+pub appended_read : {T : Type 0} (disk : Disk) (first count before after ub ua : ℕ) (x : T) (old new : List ℕ)
+    → StoreTellsFailures disk.tells before after ub ua (Ok x)
+    → (after ≡ before → new ≡ old ++ blocks_from disk first count) → (a : AppendsBytes (512 * count) old new) → WereRead disk first count before after a.bytes
 appended_read disk first count before after ub ua x old new tells works a = record {
   size = a.size;
   works = λ same.
@@ -106,21 +108,21 @@ whole_data disk order range is is_disk =
 pub executed : (protected : Bool) (disk now : Disk) (order : Order) (range : BlockRange) (before after : ℕ) (bytes : List ℕ) → IsWhole disk order range
     → IsDisk disk
     → now ≡ disk → before ≤ after → WereRead disk range.first range.count before after bytes
-    → Executes protected before after disk order [] (record { disk = now; outcome = good order (wanted_length order disk.count) bytes })
+    → OrderExecuted protected before after disk order [] (record { disk = now; outcome = good_outcome order (wanted_length order disk.count) bytes })
 executed protected disk now order range before after bytes is is_disk same rises were =
     let n : ℕ = 512 * range.count in
     let plan = plan_stays protected (plan_of order disk.count) n is.plan in
     record {
       rises = rises;
-      works = λ none. worked protected before after 0 0 disk now order [] n plan same (good order (wanted_length order disk.count) bytes)
-          (ap (good order (wanted_length order disk.count)) (were.works none ∙ whole_data disk order range is is_disk));
-      fails = λ rose. failed protected before after 0 0 disk now order [] n plan same (good order (wanted_length order disk.count) bytes)
+      works = λ none. worked protected before after 0 0 disk now order [] n plan same (good_outcome order (wanted_length order disk.count) bytes)
+          (ap (good_outcome order (wanted_length order disk.count)) (were.works none ∙ whole_data disk order range is is_disk));
+      fails = λ rose. failed protected before after 0 0 disk now order [] n plan same (good_outcome order (wanted_length order disk.count) bytes)
           (inr (were.hides rose, (bytes, were.size, refl)), is.reads, same);
     }
 
 pub not_executed : (protected : Bool) (disk now : Disk) (order : Order) (range : BlockRange) (before after : ℕ) (o : Outcome) → IsWhole disk order range
     → now ≡ disk
-    → before < after → o ≡ check order ReadError → Executes protected before after disk order [] (record { disk = now; outcome = o })
+    → before < after → o ≡ check_condition order ReadError → OrderExecuted protected before after disk order [] (record { disk = now; outcome = o })
 not_executed protected disk now order range before after o is same rose told = record {
   rises = omega (arith, rose);
   works = λ none. absurd (omega (arith, none, rose));

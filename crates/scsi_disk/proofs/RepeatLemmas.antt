@@ -4,8 +4,8 @@ use Rattle.std.specs.Prelude.{if◌then◌else◌}
 use Rattle.std.proofs.lemmas.List.{append-nil, length-append}
 use Rattle.std.specs.List.{repeat}
 use Rattle.scsi_disk.specs.declared.order.Order.{Order}
-use Rattle.scsi_disk.specs.Effect.{block_data}
-use Rattle.scsi_disk.specs.Plan.{transfer}
+use Rattle.scsi_disk.specs.Effect.{write_block_data}
+use Rattle.scsi_disk.specs.Plan.{named_transfer}
 use Rattle.scsi_disk.proofs.PlanLemmas.{IsTaken}
 
 -- once more at the end is once more in front
@@ -35,8 +35,8 @@ size_by false count bytes e = e
 
 -- it is as long as its blocks
 pub block_data_size : (order : Order) (blocks n : ℕ) (bytes : List ℕ) → IsTaken order blocks n → length bytes ≡ n
-    → length (block_data order bytes) ≡ 512 * (transfer order.cdb).count
-block_data_size order blocks n bytes taken e = size_by order.same (transfer order.cdb).count bytes (e ∙ taken.length)
+    → length (write_block_data order bytes) ≡ 512 * (named_transfer order.cdb).count
+block_data_size order blocks n bytes taken e = size_by order.same (named_transfer order.cdb).count bytes (e ∙ taken.length)
 
 few_by : (same : Bool) (count : ℕ) → count ≤ 8192 → (if same then 512 else 512 * count) ≤ 4194304
 few_by true count few = omega arith
@@ -44,4 +44,4 @@ few_by false count few = omega (arith, few)
 
 -- a WRITE takes 4 MiB at most
 pub takes_few : (order : Order) (blocks n : ℕ) → IsTaken order blocks n → n ≤ 4194304
-takes_few order blocks n taken = omega (arith, taken.length, few_by order.same (transfer order.cdb).count taken.names.few)
+takes_few order blocks n taken = omega (arith, taken.length, few_by order.same (named_transfer order.cdb).count taken.names.few)

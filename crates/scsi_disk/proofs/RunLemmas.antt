@@ -3,22 +3,22 @@ use Rattle.std.proofs.Common.{Bool, ◌≡◌, ℕ, ◌+◌, ◌<◌, ◌≤◌,
 use Rattle.std.proofs.lemmas.List.{take_more}
 use Rattle.scsi_disk.specs.declared.order.Outcome.{Outcome}
 use Rattle.scsi_disk.specs.Disk.{Disk}
-use Rattle.scsi_disk.specs.Effect.{Effect, Executes, effect}
-use Rattle.scsi_disk.specs.Runs.{Supplied, RunsIn, disk_after, outcomes}
+use Rattle.scsi_disk.specs.Effect.{Effect, OrderExecuted, effect}
+use Rattle.scsi_disk.specs.Runs.{Supplied, OrdersRun, disk_after, outcomes}
 
 pub on_err : {T E P : Type 0} (r : Result T E) → P → OnErr r P
 on_err (Ok x) p = tt
 on_err (Err e) p = p
 
-pub ran_none : (protected : Bool) (count : ℕ) (disk : Disk) (told : List Outcome) → told ≡ [] → RunsIn protected count disk [] count disk told
-unfolding RunsIn
+pub ran_none : (protected : Bool) (count : ℕ) (disk : Disk) (told : List Outcome) → told ≡ [] → OrdersRun protected count disk [] count disk told
+unfolding OrdersRun
 ran_none protected count disk told none = (refl, refl, none)
 
 -- a run, and one order behind it
 ran_then : (protected : Bool) (orders : List Supplied) (o : Supplied) (before now after : ℕ) (start disk : Disk) (told : List Outcome) (left : Effect)
-    → RunsIn protected before start orders now disk told → Executes protected now after disk o.0 o.1 left →
-    RunsIn protected before start (orders ++ o ∷ []) after left.disk (told ++ left.outcome ∷ [])
-unfolding RunsIn
+    → OrdersRun protected before start orders now disk told → OrderExecuted protected now after disk o.0 o.1 left →
+    OrdersRun protected before start (orders ++ o ∷ []) after left.disk (told ++ left.outcome ∷ [])
+unfolding OrdersRun
 ran_then protected [] o before now after start disk told left ran done =
     (after, left, [], rw (← ran.0, ← ran.1) done, (refl, refl, refl), ap (λ t. t ++ left.outcome ∷ []) ran.2)
 ran_then protected (x ∷ orders) o before now after start disk told left ran done = (
@@ -33,16 +33,16 @@ ran_then protected (x ∷ orders) o before now after start disk told left ran do
 -- a run of some first orders, and the next
 pub ran_next : (protected : Bool) (orders : List Supplied) (i : ℕ) (o : Supplied) → i < length orders → o ≡ get_or orders i o
     → (before now after : ℕ) (start disk : Disk) (told : List Outcome) (left : Effect)
-    → RunsIn protected before start (take i orders) now disk told → Executes protected now after disk o.0 o.1 left →
-    RunsIn protected before start (take (i + 1) orders) after left.disk (told ++ left.outcome ∷ [])
+    → OrdersRun protected before start (take i orders) now disk told → OrderExecuted protected now after disk o.0 o.1 left →
+    OrdersRun protected before start (take (i + 1) orders) after left.disk (told ++ left.outcome ∷ [])
 ran_next protected orders i o here is before now after start disk told left ran done =
     let more : take (i + 1) orders ≡ take i orders ++ o ∷ [] = take_more orders i o here ∙ ap (λ y. take i orders ++ y ∷ []) (sym is) in
     rw more (ran_then protected (take i orders) o before now after start disk told left ran done)
 
 pub ran_rises : (protected : Bool) (orders : List Supplied) (before after : ℕ) (disk last : Disk) (told : List Outcome)
-    → RunsIn protected before disk orders after last told → before
+    → OrdersRun protected before disk orders after last told → before
     ≤ after
-unfolding RunsIn
+unfolding OrdersRun
 ran_rises protected [] before after disk last told ran = let same = ran.0 in omega arith
 ran_rises protected (o ∷ orders) before after disk last told ran =
     let low = ran.3.rises in
@@ -51,7 +51,7 @@ ran_rises protected (o ∷ orders) before after disk last told ran =
 
 -- the first of some orders, where no failure was counted
 ran_first : (protected : Bool) (o : Supplied) (orders : List Supplied) (before now after : ℕ) (disk last : Disk) (left : Effect) (more : List Outcome)
-    → Executes protected before now disk o.0 o.1 left → RunsIn protected now left.disk orders after last more → after ≡ before → (now ≡ before)
+    → OrderExecuted protected before now disk o.0 o.1 left → OrdersRun protected now left.disk orders after last more → after ≡ before → (now ≡ before)
     × (left ≡ effect protected disk o.0 o.1)
 ran_first protected o orders before now after disk last left more done ran same =
     let low = done.rises in
@@ -60,8 +60,8 @@ ran_first protected o orders before now after disk last left more done ran same 
     (stayed, done.works stayed)
 
 pub ran_outcomes : (protected : Bool) (orders : List Supplied) (before after : ℕ) (disk last : Disk) (told : List Outcome) → after ≡ before →
-    RunsIn protected before disk orders after last told → told ≡ outcomes protected orders disk
-unfolding RunsIn outcomes
+    OrdersRun protected before disk orders after last told → told ≡ outcomes protected orders disk
+unfolding OrdersRun outcomes
 ran_outcomes protected [] before after disk last told same ran = ran.2
 ran_outcomes protected (o ∷ orders) before after disk last told same ran =
     let first = ran_first protected o orders before ran.0 after disk last ran.1 ran.2 ran.3 ran.4 same in
@@ -69,9 +69,9 @@ ran_outcomes protected (o ∷ orders) before after disk last told same ran =
     ∙ ap (λ (left : Effect). left.outcome ∷ outcomes protected orders left.disk) first.1
 
 pub ran_disk : (protected : Bool) (orders : List Supplied) (before after : ℕ) (disk last : Disk) (told : List Outcome) → after ≡ before
-    → RunsIn protected before disk orders after last told
+    → OrdersRun protected before disk orders after last told
     → last ≡ disk_after protected orders disk
-unfolding RunsIn disk_after
+unfolding OrdersRun disk_after
 ran_disk protected [] before after disk last told same ran = ran.1
 ran_disk protected (o ∷ orders) before after disk last told same ran =
     let first = ran_first protected o orders before ran.0 after disk last ran.1 ran.2 ran.3 ran.4 same in

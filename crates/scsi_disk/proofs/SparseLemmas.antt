@@ -12,12 +12,13 @@ use Rattle.std.specs.BTreeMap.{is_at}
 use Rattle.std.proofs.lemmas.Bool.{cases_lt, cases_order}
 use Rattle.std.proofs.lemmas.List.{length-replicate, replicate-append-replicate}
 use borrow.Author.Tests.{lt-ltb, le-ltb}
-use Rattle.scsi_disk.specs.Disk.{IsDisk, cut, zeros, zero_blocks, overlaid, written}
-use Rattle.scsi_disk.specs.Sparse.{Extents, AreExtents, AreZeros, HasBlocks, IsBlank, block_in, disk_in}
+use Rattle.scsi_disk.specs.Disk.{IsDisk, cut, zeros, zero_blocks, overlaid, disk_written}
+use Rattle.scsi_disk.specs.Sparse.{Extents, AreZeros, HasBlocks, extent_block, extents_disk}
+use Rattle.scsi_disk.specs.inner.Sparse.{AreExtents, IsBlank}
 use Rattle.std.proofs.lemmas.Slice.{take-put_mid}
 use Rattle.std.proofs.Math.Nat.{mul-le-mul_left}
 use borrow.Rule.Slice.PartMut.{put_mid}
-use Rattle.scsi_disk.specs.Disk.{joined}
+use Rattle.scsi_disk.specs.Disk.{joined_blocks}
 use Rattle.scsi_disk.proofs.BlockLemmas.{length-cut, same_disk, cut-zeros_at}
 use Rattle.scsi_disk.proofs.OverlayLemmas.{overlaid_below, overlaid_past, overlaid_like, zeros_over}
 use Rattle.scsi_disk.proofs.PlanLemmas.{joined-add}
@@ -30,24 +31,24 @@ find_at (e ∷ es) q = ap (cond (is_at (nat_cmp q) e.0) (Some e.1)) (find_at es 
 pub get_at : (es : List (ℕ × List ℕ)) (q : ℕ) → get (from_entries {R = nat_cmp} es) q ≡ lookup (is_at (nat_cmp q)) es
 get_at es q = get-from_entries nat_cmp_total es q ∙ find_at es q
 
-length-block_in : (o : Option (List ℕ)) (m : ℕ) → ((bytes : List ℕ) → o ≡ Some bytes → length bytes ≡ 32768) → m < 64 → length (block_in 512 o m) ≡ 512
-unfolding block_in
+length-block_in : (o : Option (List ℕ)) (m : ℕ) → ((bytes : List ℕ) → o ≡ Some bytes → length bytes ≡ 32768) → m < 64 → length (extent_block 512 o m) ≡ 512
+unfolding extent_block
 length-block_in None m whole few = length-replicate {A = ℕ} 512 0
 length-block_in (Some bytes) m whole few = length-cut 512 bytes m (let e = whole bytes refl in omega arith)
 
-pub sparse_is_disk : (s : Extents) → AreExtents s.count s.extents → IsDisk (disk_in s)
+pub sparse_is_disk : (s : Extents) → AreExtents s.count s.extents → IsDisk (extents_disk s)
 sparse_is_disk s are = record {
   some = are.some;
   inside = λ n lt. rw (lt-ltb n s.count lt) (length-block_in (get s.extents (n / 64)) (n % 64) (are.whole (n / 64)) (omega arith));
   outside = λ n ge. rw (le-ltb n s.count ge) refl;
 }
 
-zeros_at : (size count m n : ℕ) → (if_in : ℕ → Option (List ℕ)) → ((k : ℕ) → if_in k ≡ None) → cond (nat_lt n count) (block_in size (if_in m) (n % 64)) []
+zeros_at : (size count m n : ℕ) → (if_in : ℕ → Option (List ℕ)) → ((k : ℕ) → if_in k ≡ None) → cond (nat_lt n count) (extent_block size (if_in m) (n % 64)) []
     ≡ zero_blocks size count n
-unfolding block_in zero_blocks
-zeros_at size count m n if_in none = ap (λ o. cond (nat_lt n count) (block_in size o (n % 64)) []) (none m)
+unfolding extent_block zero_blocks
+zeros_at size count m n if_in none = ap (λ o. cond (nat_lt n count) (extent_block size o (n % 64)) []) (none m)
 
-pub fresh : (count : ℕ) → disk_in (record { count = count; extents = empty }) ≡ zeros count
+pub fresh : (count : ℕ) → extents_disk (record { count = count; extents = empty }) ≡ zeros count
 fresh count = same_disk _ _ refl (fun_ext (λ n. zeros_at 512 count (n / 64) n (get {R = nat_cmp} empty) (λ k. get-empty nat_cmp k))) refl
 
 pub none_yet : (count : ℕ) (es : List (ℕ × List ℕ)) → es ≡ [] → 0 < count → count ≤ 2 ^ 40 → AreExtents count (from_entries es)
@@ -59,41 +60,41 @@ none_yet count es none some few = record {
 
 -- block n, by the extent that holds it
 pub found : (count : ℕ) (es : List (ℕ × List ℕ)) (n : ℕ) (o : Option (List ℕ)) → o ≡ lookup (is_at (nat_cmp (n / 64))) es → n < count
-    → (disk_in (record { count = count; extents = from_entries es })).block n ≡ block_in 512 o (n % 64)
-found count es n o e lt = rw (lt-ltb n count lt) (ap (λ p. block_in 512 p (n % 64)) (get_at es (n / 64) ∙ sym e))
+    → (extents_disk (record { count = count; extents = from_entries es })).block n ≡ extent_block 512 o (n % 64)
+found count es n o e lt = rw (lt-ltb n count lt) (ap (λ p. extent_block 512 p (n % 64)) (get_at es (n / 64) ∙ sym e))
 
-pub block_in-some : (bytes : List ℕ) (m : ℕ) → block_in 512 (Some bytes) m ≡ cut 512 bytes m
-unfolding block_in
+pub block_in-some : (bytes : List ℕ) (m : ℕ) → extent_block 512 (Some bytes) m ≡ cut 512 bytes m
+unfolding extent_block
 block_in-some bytes m = refl
 
-pub block_in-none : (size m : ℕ) → block_in size None m ≡ replicate size 0
-unfolding block_in
+pub block_in-none : (size m : ℕ) → extent_block size None m ≡ replicate size 0
+unfolding extent_block
 block_in-none size m = refl
 
-pub joined-none : (block : ℕ → List ℕ) (first : ℕ) → joined block first 0 ≡ []
-unfolding joined
+pub joined-none : (block : ℕ → List ℕ) (first : ℕ) → joined_blocks block first 0 ≡ []
+unfolding joined_blocks
 joined-none block first = refl
 
 -- a front that was read, and the blocks behind it
-pub joined_next : (size : ℕ) (xs ys : List ℕ) (block : ℕ → List ℕ) (first i c k : ℕ) → ys ≡ joined block (first + i) c → length ys ≡ size * c → size * i
+pub joined_next : (size : ℕ) (xs ys : List ℕ) (block : ℕ → List ℕ) (first i c k : ℕ) → ys ≡ joined_blocks block (first + i) c → length ys ≡ size * c → size * i
     ≤ length xs
-    → take (size * i) xs ≡ joined block first i → take (size * (i + c)) (put_mid (size * i) k xs ys) ≡ joined block first (i + c)
+    → take (size * i) xs ≡ joined_blocks block first i → take (size * (i + c)) (put_mid (size * i) k xs ys) ≡ joined_blocks block first (i + c)
 joined_next size xs ys block first i c k is long room before =
     let end : size * (i + c) ≡ size * i + length ys = omega arith in
-    take-put_mid (size * i) k xs ys (size * (i + c)) end room ∙ ap (λ t. t ++ ys) before ∙ ap (λ t. joined block first i ++ t) is
+    take-put_mid (size * i) k xs ys (size * (i + c)) end room ∙ ap (λ t. t ++ ys) before ∙ ap (λ t. joined_blocks block first i ++ t) is
     ∙ sym (joined-add block first i c)
 
-joined-like : (f g : ℕ → List ℕ) (a b c : ℕ) → ((i : ℕ) → i < c → f (a + i) ≡ g (b + i)) → joined f a c ≡ joined g b c
-unfolding joined
+joined-like : (f g : ℕ → List ℕ) (a b c : ℕ) → ((i : ℕ) → i < c → f (a + i) ≡ g (b + i)) → joined_blocks f a c ≡ joined_blocks g b c
+unfolding joined_blocks
 joined-like f g a b zero same = refl
 joined-like f g a b (suc c) same =
     let here : f a ≡ g b = ap f (let e : a ≡ a + 0 = omega arith in e) ∙ same 0 (omega arith) ∙ ap g (let e : b + 0 ≡ b = omega arith in e) in
-    ap (λ t. t ++ joined f (a + 1) c) here
+    ap (λ t. t ++ joined_blocks f (a + 1) c) here
     ∙ ap (λ t. g b ++ t) (joined-like f g (a + 1) (b + 1) c (λ i lt.
     ap f (let e : a + 1 + i ≡ a + (i + 1) = omega arith in e) ∙ same (i + 1) (omega arith) ∙ ap g (let e : b + (i + 1) ≡ b + 1 + i = omega arith in e)))
 
-joined-blank : (size b c : ℕ) → joined (λ _. replicate size 0) b c ≡ replicate (size * c) 0
-unfolding joined
+joined-blank : (size b c : ℕ) → joined_blocks (λ _. replicate size 0) b c ≡ replicate (size * c) 0
+unfolding joined_blocks
 joined-blank size b zero = ap (λ k. replicate k 0) (let e : 0 ≡ size * zero = omega arith in e)
 joined-blank size b (suc c) =
     ap (λ t. replicate size 0 ++ t) (joined-blank size (b + 1) c) ∙ replicate-append-replicate size (size * c) 0
@@ -102,33 +103,35 @@ joined-blank size b (suc c) =
 -- c blocks from n on lie in one extent, which is this
 module _ (count : ℕ) (es : List (ℕ × List ℕ)) (n c : ℕ) (o : Option (List ℕ)) (is : o ≡ lookup (is_at (nat_cmp (n / 64))) es)
     (one : n % 64 + c ≤ 64) (inside : n + c ≤ count) where
-  in_run : (i : ℕ) → i < c → (disk_in (record { count = count; extents = from_entries es })).block (n + i) ≡ block_in 512 o (n % 64 + i)
+  in_run : (i : ℕ) → i < c → (extents_disk (record { count = count; extents = from_entries es })).block (n + i) ≡ extent_block 512 o (n % 64 + i)
   in_run i lt =
       let extent : (n + i) / 64 ≡ n / 64 = omega arith in
       let at : (n + i) % 64 ≡ n % 64 + i = omega arith in
-      found count es (n + i) o (is ∙ sym (ap (λ k. lookup (is_at (nat_cmp k)) es) extent)) (omega arith) ∙ ap (block_in 512 o) at
+      found count es (n + i) o (is ∙ sym (ap (λ k. lookup (is_at (nat_cmp k)) es) extent)) (omega arith) ∙ ap (extent_block 512 o) at
 
-  pub run_there : (bytes : List ℕ) → o ≡ Some bytes → joined (cut 512 bytes) (n % 64) c
-      ≡ joined (disk_in (record { count = count; extents = from_entries es })).block n c
+  pub run_there : (bytes : List ℕ) → o ≡ Some bytes → joined_blocks (cut 512 bytes) (n % 64) c
+      ≡ joined_blocks (extents_disk (record { count = count; extents = from_entries es })).block n c
   run_there bytes e =
-      sym (joined-like (disk_in (record { count = count; extents = from_entries es })).block (cut 512 bytes) n (n % 64) c (λ i lt.
-      in_run i lt ∙ ap (λ p. block_in 512 p (n % 64 + i)) e ∙ block_in-some bytes (n % 64 + i)))
+      sym (joined-like (extents_disk (record { count = count; extents = from_entries es })).block (cut 512 bytes) n (n % 64) c (λ i lt.
+      in_run i lt ∙ ap (λ p. extent_block 512 p (n % 64 + i)) e ∙ block_in-some bytes (n % 64 + i)))
 
-  pub run_missing : o ≡ None → replicate (512 * c) 0 ≡ joined (disk_in (record { count = count; extents = from_entries es })).block n c
+  pub run_missing : o ≡ None → replicate (512 * c) 0 ≡ joined_blocks (extents_disk (record { count = count; extents = from_entries es })).block n c
   run_missing e =
-      sym (joined-like (disk_in (record { count = count; extents = from_entries es })).block (λ _. replicate 512 0) n 0 c (λ i lt.
-      in_run i lt ∙ ap (λ p. block_in 512 p (n % 64 + i)) e ∙ block_in-none 512 (n % 64 + i))
+      sym (joined-like (extents_disk (record { count = count; extents = from_entries es })).block (λ _. replicate 512 0) n 0 c (λ i lt.
+      in_run i lt ∙ ap (λ p. extent_block 512 p (n % 64 + i)) e ∙ block_in-none 512 (n % 64 + i))
       ∙ joined-blank 512 0 c)
 
   -- where it isn't there, a write of 00 changes nothing
-  pub run_cleared : (ys : List ℕ) → o ≡ None → ys ≡ replicate (512 * c) 0 → written n ys (disk_in (record { count = count; extents = from_entries es }))
-      ≡ disk_in (record { count = count; extents = from_entries es })
+  pub run_cleared : (ys : List ℕ) → o ≡ None → ys ≡ replicate (512 * c) 0
+      → disk_written n ys (extents_disk (record { count = count; extents = from_entries es }))
+      ≡ extents_disk (record { count = count; extents = from_entries es })
   run_cleared ys e blank =
-      same_disk _ _ refl (fun_ext (zeros_over 512 n c ys (disk_in (record { count = count; extents = from_entries es })).block (omega arith) blank (λ i lt.
-      in_run i lt ∙ ap (λ p. block_in 512 p (n % 64 + i)) e ∙ block_in-none 512 (n % 64 + i)))) refl
+      same_disk _ _ refl (fun_ext (zeros_over 512 n c ys (extents_disk (record { count = count; extents = from_entries es })).block (omega arith) blank (λ i lt.
+      in_run i lt ∙ ap (λ p. extent_block 512 p (n % 64 + i)) e ∙ block_in-none 512 (n % 64 + i)))) refl
 
-blank_at : (size blocks : ℕ) (bytes : List ℕ) (n : ℕ) → bytes ≡ replicate (size * blocks) 0 → n < blocks → block_in size (Some bytes) n ≡ block_in size None n
-unfolding block_in zero_blocks
+blank_at : (size blocks : ℕ) (bytes : List ℕ) (n : ℕ) → bytes ≡ replicate (size * blocks) 0 → n < blocks → extent_block size (Some bytes) n
+    ≡ extent_block size None n
+unfolding extent_block zero_blocks
 blank_at size blocks bytes n is lt = ap (λ b. cut size b n) is ∙ cut-zeros_at size blocks n ∙ ap (λ b. cond b (replicate size 0) []) (lt-ltb n blocks lt)
 
 pub blank : (blocks : ℕ) (bytes : List ℕ) → blocks ≡ 64 → bytes ≡ replicate (512 * blocks) 0 → IsBlank bytes
@@ -166,17 +169,17 @@ inserted count m n k v h long are = record {
   whole = λ q bytes e. elim (either (is_at (nat_cmp k) q) v bytes (get m q) (sym (h q) ∙ e)) [ inl p ↦ sym (ap length p) ∙ long | inr p ↦ are.whole q bytes p ];
 }
 
-same_blocks : (b : Bool) (m : Option (List ℕ)) (v : List ℕ) (n : ℕ) → IsBlank v → n < 64 → (b ≡ true → m ≡ None) → block_in 512 (cond b (Some v) m) n
-    ≡ block_in 512 m n
-same_blocks true m v n blank lt none = blank n lt ∙ sym (ap (λ o. block_in 512 o n) (none refl))
+same_blocks : (b : Bool) (m : Option (List ℕ)) (v : List ℕ) (n : ℕ) → IsBlank v → n < 64 → (b ≡ true → m ≡ None) → extent_block 512 (cond b (Some v) m) n
+    ≡ extent_block 512 m n
+same_blocks true m v n blank lt none = blank n lt ∙ sym (ap (λ o. extent_block 512 o n) (none refl))
 same_blocks false m v n blank lt none = refl
 
 -- nothing is seen of an extent of 00 that was missing
 pub unseen : (count : ℕ) (m n : FinMap nat_cmp (List ℕ)) (k : ℕ) (v : List ℕ) → ((q : ℕ) → get n q ≡ cond (is_at (nat_cmp k) q) (Some v) (get m q))
-    → IsBlank v → ((q : ℕ) → is_at (nat_cmp k) q ≡ true → get m q ≡ None) → disk_in (record { count = count; extents = n })
-    ≡ disk_in (record { count = count; extents = m })
+    → IsBlank v → ((q : ℕ) → is_at (nat_cmp k) q ≡ true → get m q ≡ None) → extents_disk (record { count = count; extents = n })
+    ≡ extents_disk (record { count = count; extents = m })
 unseen count m n k v h blank none = same_disk _ _ refl (fun_ext (λ p.
-    ap (λ o. cond (nat_lt p count) (block_in 512 o (p % 64)) []) (h (p / 64))
+    ap (λ o. cond (nat_lt p count) (extent_block 512 o (p % 64)) []) (h (p / 64))
     ∙ ap (λ t. cond (nat_lt p count) t []) (same_blocks (is_at (nat_cmp k) (p / 64)) (get m (p / 64)) v (p % 64) blank (omega arith) (none (p / 64))))) refl
 
 at_key : (k q : ℕ) → is_at (nat_cmp k) q ≡ true → k ≡ q
@@ -238,8 +241,8 @@ module _ (m n : FinMap nat_cmp (List ℕ)) (k : ℕ) (h : (q : ℕ) → get n q 
   }
 
   -- nothing is seen of a removed extent of 00
-  pub unseen_gone : (count : ℕ) (v : List ℕ) → get m k ≡ Some v → IsBlank v → disk_in (record { count = count; extents = n })
-      ≡ disk_in (record { count = count; extents = m })
+  pub unseen_gone : (count : ℕ) (v : List ℕ) → get m k ≡ Some v → IsBlank v → extents_disk (record { count = count; extents = n })
+      ≡ extents_disk (record { count = count; extents = m })
   unseen_gone count v before blank = sym (unseen count n m k v
       (λ q. put_back (is_at (nat_cmp k) q) v (get m q) (get n q) (h q) (λ t. ap (λ x. get m x) (sym (at_key k q t)) ∙ before)) blank
       (λ q t. gone (is_at (nat_cmp k) q) (get m q) (get n q) (h q) t))
@@ -255,7 +258,7 @@ module _ (count p c : ℕ) (m n : FinMap nat_cmp (List ℕ)) (old new ys : List 
     (h : (q : ℕ) → get n q ≡ cond (is_at (nat_cmp (p / 64)) q) (Some new) (get m q)) (before : get m (p / 64) ≡ Some old)
     (parts : cut 512 new ≡ overlaid 512 (p % 64) ys (cut 512 old)) (long : length ys ≡ 512 * c) (one : p % 64 + c ≤ 64) (inside : p + c ≤ count) where
   abbrev block : ℕ → List ℕ
-  block = (disk_in (record { count = count; extents = m })).block
+  block = (extents_disk (record { count = count; extents = m })).block
 
   past : (j : ℕ) → p + c ≤ j → overlaid 512 p ys block j ≡ block j
   past j far =
@@ -263,40 +266,40 @@ module _ (count p c : ℕ) (m n : FinMap nat_cmp (List ℕ)) (old new ys : List 
       overlaid_past 512 p ys block j (omega arith) (omega (arith, mul-le-mul_left 512 behind))
 
   -- in that extent
-  here : (j : ℕ) → j < count → p / 64 ≡ j / 64 → block_in 512 (get n (j / 64)) (j % 64) ≡ overlaid 512 p ys block j
+  here : (j : ℕ) → j < count → p / 64 ≡ j / 64 → extent_block 512 (get n (j / 64)) (j % 64) ≡ overlaid 512 p ys block j
   here j lt at =
       let extent : get n (j / 64) ≡ Some new = h (j / 64) ∙ ap (λ b. cond b (Some new) (get m (j / 64)))
       (ap (is_at (nat_cmp (p / 64))) (sym at) ∙ at_itself (p / 64)) in
       let was : cut 512 old (j % 64) ≡ block j =
-      sym (ap (λ b. cond b (block_in 512 (get m (j / 64)) (j % 64)) []) (lt-ltb j count lt)
-      ∙ ap (λ o. block_in 512 o (j % 64)) (ap (λ k. get m k) (sym at) ∙ before) ∙ block_in-some old (j % 64)) in
+      sym (ap (λ b. cond b (extent_block 512 (get m (j / 64)) (j % 64)) []) (lt-ltb j count lt)
+      ∙ ap (λ o. extent_block 512 o (j % 64)) (ap (λ k. get m k) (sym at) ∙ before) ∙ block_in-some old (j % 64)) in
       let low : nat_lt (j % 64) (p % 64) ≡ nat_lt j p = grind (arith, nat_tests) in
-      ap (λ o. block_in 512 o (j % 64)) extent ∙ block_in-some new (j % 64) ∙ ap (λ f. f (j % 64)) parts
+      ap (λ o. extent_block 512 o (j % 64)) extent ∙ block_in-some new (j % 64) ∙ ap (λ f. f (j % 64)) parts
       ∙ overlaid_like 512 (p % 64) p (j % 64) j ys (cut 512 old) block low (omega arith) was
 
   -- in another
-  elsewhere : (j : ℕ) → (j / 64 < p / 64) ⊎ (p / 64 < j / 64) → block_in 512 (get n (j / 64)) (j % 64) ≡ block_in 512 (get m (j / 64)) (j % 64)
-  elsewhere j differ = ap (λ o. block_in 512 o (j % 64)) (h (j / 64) ∙ ap (λ b. cond b (Some new) (get m (j / 64))) (not_at (p / 64) (j / 64) differ))
+  elsewhere : (j : ℕ) → (j / 64 < p / 64) ⊎ (p / 64 < j / 64) → extent_block 512 (get n (j / 64)) (j % 64) ≡ extent_block 512 (get m (j / 64)) (j % 64)
+  elsewhere j differ = ap (λ o. extent_block 512 o (j % 64)) (h (j / 64) ∙ ap (λ b. cond b (Some new) (get m (j / 64))) (not_at (p / 64) (j / 64) differ))
 
   outside : (j : ℕ) → (j / 64 < p / 64) ⊎ (p / 64 < j / 64) → overlaid 512 p ys block j ≡ block j
   outside j (inl low) = overlaid_below 512 p ys block j (omega arith)
   outside j (inr high) = past j (omega arith)
 
-  run_written_at : (j : ℕ) → (disk_in (record { count = count; extents = n })).block j ≡ overlaid 512 p ys block j
+  run_written_at : (j : ℕ) → (extents_disk (record { count = count; extents = n })).block j ≡ overlaid 512 p ys block j
   run_written_at j =
       elim (cases_lt j count) [
         | inl lt ↦ elim (cases_order (p / 64) (j / 64)) [
-          | inl same ↦ ap (λ b. cond b (block_in 512 (get n (j / 64)) (j % 64)) []) (lt-ltb j count lt) ∙ here j lt same
+          | inl same ↦ ap (λ b. cond b (extent_block 512 (get n (j / 64)) (j % 64)) []) (lt-ltb j count lt) ∙ here j lt same
           | inr differ ↦
               let away : (j / 64 < p / 64) ⊎ (p / 64 < j / 64) = elim differ [ inl low ↦ inr low | inr high ↦ inl high ] in
               ap (λ t. cond (nat_lt j count) t []) (elsewhere j away) ∙ sym (outside j away)
         ]
         | inr ge ↦
-            ap (λ b. cond b (block_in 512 (get n (j / 64)) (j % 64)) []) (le-ltb j count ge)
-            ∙ sym (past j (omega arith) ∙ ap (λ b. cond b (block_in 512 (get m (j / 64)) (j % 64)) []) (le-ltb j count ge))
+            ap (λ b. cond b (extent_block 512 (get n (j / 64)) (j % 64)) []) (le-ltb j count ge)
+            ∙ sym (past j (omega arith) ∙ ap (λ b. cond b (extent_block 512 (get m (j / 64)) (j % 64)) []) (le-ltb j count ge))
       ]
 
-  pub run_written : disk_in (record { count = count; extents = n }) ≡ written p ys (disk_in (record { count = count; extents = m }))
+  pub run_written : extents_disk (record { count = count; extents = n }) ≡ disk_written p ys (extents_disk (record { count = count; extents = m }))
   run_written = same_disk _ _ refl (fun_ext run_written_at) refl
 
 -- an extent that is there is found

@@ -21,16 +21,16 @@ unfoldable pub cut : ℕ → List ℕ → ℕ → List ℕ
 cut size bytes n = take size (drop (size * n) bytes)
 
 -- the bytes of n blocks from the first on
-unfoldable pub joined : (ℕ → List ℕ) → ℕ → ℕ → List ℕ
-joined block first zero = []
-joined block first (suc count) = block first ++ joined block (first + 1) count
+unfoldable pub joined_blocks : (ℕ → List ℕ) → ℕ → ℕ → List ℕ
+joined_blocks block first zero = []
+joined_blocks block first (suc count) = block first ++ joined_blocks block (first + 1) count
 
 -- the bytes of n blocks of a disk from the first on
 abbrev pub blocks_from : Disk → ℕ → ℕ → List ℕ
-blocks_from disk first count = joined disk.block first count
+blocks_from disk first count = joined_blocks disk.block first count
 
 -- n bytes were appended
-pub record Appends (count : ℕ) (old new : List ℕ) : Type 0 where
+pub record AppendsBytes (count : ℕ) (old new : List ℕ) : Type 0 where
   pub bytes : List ℕ
   pub size : length bytes ≡ count
   pub behind : new ≡ old ++ bytes
@@ -43,8 +43,8 @@ overlaid size first bytes block n =
     else block n
 
 -- the disk after a write of these bytes from the first block on
-abbrev pub written : ℕ → List ℕ → Disk → Disk
-written first bytes disk =
+abbrev pub disk_written : ℕ → List ℕ → Disk → Disk
+disk_written first bytes disk =
     record { count = disk.count; block = overlaid 512 first bytes disk.block; tells = disk.tells }
 
 -- Each block is that of one of two disks. If the new disk is the old one after a write, each block
@@ -79,7 +79,8 @@ pub record AreBlocks (bytes : List ℕ) : Type 0 where
 -- A store returns `Device` exactly if the count that it tells rose. That is the count of all
 -- failures without those that no code can tell, and a store that tells each failure has none of the
 -- latter. Want of memory is no failure.
-pub record Tells {T : Type 0} (tells : Bool) (before after untold_before untold_after : ℕ)
+pub record StoreTellsFailures {T : Type 0} (tells : Bool)
+    (before after untold_before untold_after : ℕ)
     (result : Result T StoreFault) : Type 0 where
   pub rises : before ≤ after
   pub untold : untold_before ≤ untold_after

@@ -8,23 +8,19 @@ pub record FailingStore : Type 0 where
   pub before : Option ℕ
 
 -- the disk of its bytes
-abbrev pub disk_in : FailingStore → Disk
-disk_in s = disk_of s.bytes
+abbrev pub failing_disk : FailingStore → Disk
+failing_disk s = disk_of s.bytes
 
 -- it has failed once, or not yet
 abbrev pub failures_in : FailingStore → ℕ
 failures_in s = if is_none s.before then 1 else 0
 
 -- the next call is the one that fails
-abbrev pub is_next : Option ℕ → Bool
-is_next None = false
-is_next (Some n) = n == 0
+abbrev pub fails_next_call : Option ℕ → Bool
+fails_next_call None = false
+fails_next_call (Some n) = n == 0
 
 -- what is still to come after a call
 abbrev pub later : Option ℕ → Option ℕ
 later None = None
 later (Some n) = if n == 0 then None else Some (n - 1)
-
--- the store after a call that changed no byte
-abbrev pub passed : FailingStore → FailingStore
-passed s = record { bytes = s.bytes; before = later s.before }

@@ -2,7 +2,7 @@
 -- The commands are those of SPC-4 and SBC-3; the order of the reasons and the choice of each sense
 -- are own rules.
 use Rattle.std.specs.Prelude.{ℕ, ◌+◌, ◌-◌, ◌*◌, Bool, true, false, not, ◌==◌, ◌&&◌, ◌||◌, nat_lt, bit_and, min, if◌then◌else◌, List, [], ◌∷◌, length, take, Option, Some, None, option_map, is_none, unwrap_or}
-use Rattle.scsi_cdb.specs.ParameterData.{inquiry, vpd, capacity10_of, capacity16_of, luns}
+use Rattle.scsi_cdb.specs.ParameterData.{plain_inquiry_data, vpd, capacity10_of, capacity16_of, luns}
 use Rattle.scsi_cdb.specs.declared.cdb.Cdb.{Cdb}
 use Rattle.scsi_cdb.specs.declared.cdb.Cdb.TheVariants.{Inquiry, Capacity10, Read10, Write10, SyncCache10, Read16, Write16, Capacity16, ReportLuns, Unknown}
 use Rattle.scsi_cdb.specs.declared.sense.Sense.{Sense}
@@ -10,7 +10,7 @@ use Rattle.scsi_cdb.specs.declared.sense.Sense.TheVariants.{InvalidCode, OutOfRa
 use Rattle.scsi_disk.specs.declared.order.Order.{Order}
 use Rattle.scsi_disk.specs.declared.order.Plan.{Plan}
 use Rattle.scsi_disk.specs.declared.order.Plan.TheVariants.{Refuse, Take, Give}
-use Rattle.scsi_disk.specs.declared.planning.Transfer.{Transfer}
+use Rattle.scsi_disk.specs.declared.command.transfer.Transfer.{Transfer}
 
 -- ---- commands
 
@@ -37,28 +37,28 @@ is_standard_inquiry (Inquiry evpd page allocation_length control) = not evpd
 is_standard_inquiry _ = false
 
 -- the blocks that a READ or a WRITE names, with its options, and none of another command
-abbrev pub transfer : Cdb → Transfer
-transfer (Read10 t) = record {
+abbrev pub named_transfer : Cdb → Transfer
+named_transfer (Read10 t) = record {
   first = t.logical_block_address;
   count = t.blocks;
   options = t.options;
 }
-transfer (Write10 t) = record {
+named_transfer (Write10 t) = record {
   first = t.logical_block_address;
   count = t.blocks;
   options = t.options;
 }
-transfer (Read16 t) = record {
+named_transfer (Read16 t) = record {
   first = t.logical_block_address;
   count = t.blocks;
   options = t.options;
 }
-transfer (Write16 t) = record {
+named_transfer (Write16 t) = record {
   first = t.logical_block_address;
   count = t.blocks;
   options = t.options;
 }
-transfer _ = record { first = 0; count = 0; options = 0 }
+named_transfer _ = record { first = 0; count = 0; options = 0 }
 
 -- the blocks that a SYNCHRONIZE CACHE names, and none of another command; no blocks are those up to
 -- the last one
@@ -72,25 +72,25 @@ synchronized _ = record { first = 0; count = 0; options = 0 }
 
 -- The data that a command other than a READ gives, cut at its allocation length, where the unit is
 -- there or not and this is the last block. None for a page or a report that there is not.
-abbrev pub data_of : Bool → ℕ → Cdb → Option (List ℕ)
-data_of present last (Inquiry true page allocation_length control) =
+abbrev pub cut_parameter_data : Bool → ℕ → Cdb → Option (List ℕ)
+cut_parameter_data present last (Inquiry true page allocation_length control) =
     option_map (take allocation_length) (vpd page)
-data_of present last (Inquiry false page allocation_length control) =
-    if page == 0 then Some (take allocation_length (inquiry present)) else None
-data_of present last (Capacity10 control) = Some (capacity10_of last)
-data_of present last (Capacity16 allocation_length control) =
+cut_parameter_data present last (Inquiry false page allocation_length control) =
+    if page == 0 then Some (take allocation_length (plain_inquiry_data present)) else None
+cut_parameter_data present last (Capacity10 control) = Some (capacity10_of last)
+cut_parameter_data present last (Capacity16 allocation_length control) =
     Some (take allocation_length (capacity16_of last))
-data_of present last (ReportLuns select allocation_length control) =
+cut_parameter_data present last (ReportLuns select allocation_length control) =
     option_map (take allocation_length) (luns select)
-data_of present last _ = Some []
+cut_parameter_data present last _ = Some []
 
 -- the data that an order other than a READ gives, on a disk of n blocks; only unit 0 is there
 abbrev pub parameter_data : Order → ℕ → Option (List ℕ)
-parameter_data order blocks = data_of (order.lun == 0) (blocks - 1) order.cdb
+parameter_data order blocks = cut_parameter_data (order.lun == 0) (blocks - 1) order.cdb
 
 -- How many bytes a WRITE takes: those of its blocks, or those of one, which go to each.
 abbrev pub taken_length : Order → ℕ
-taken_length order = if order.same then 512 else 512 * (transfer order.cdb).count
+taken_length order = if order.same then 512 else 512 * (named_transfer order.cdb).count
 
 -- ---- refusals
 
@@ -101,7 +101,7 @@ taken_length order = if order.same then 512 else 512 * (transfer order.cdb).coun
 -- what it takes, or sends none of it. A SYNCHRONIZE CACHE names blocks past the end.
 abbrev pub refusals : Order → ℕ → List (Bool × Sense)
 refusals order blocks =
-    let named = transfer order.cdb in
+    let named = named_transfer order.cdb in
     let flushed = synchronized order.cdb in
     (is_unknown order.cdb, InvalidCode)
     ∷ (not (order.lun == 0) && not (is_standard_inquiry order.cdb), NoUnit)
@@ -117,13 +117,13 @@ refusals order blocks =
     ∷ []
 
 -- the first reason that holds
-abbrev pub first_of : {A : Type 0} → List (Bool × A) → Option A
-first_of [] = None
-first_of (row ∷ rows) = if row.0 then Some row.1 else first_of rows
+abbrev pub first_reason : {A : Type 0} → List (Bool × A) → Option A
+first_reason [] = None
+first_reason (row ∷ rows) = if row.0 then Some row.1 else first_reason rows
 
 -- the first reason to refuse an order
 abbrev pub first_refusal : Order → ℕ → Option Sense
-first_refusal order blocks = first_of (refusals order blocks)
+first_refusal order blocks = first_reason (refusals order blocks)
 
 -- ---- lengths, in bytes
 
@@ -138,7 +138,7 @@ expected_length order =
 -- what a command that gives data would give to an initiator that expects enough
 abbrev pub wanted_length : Order → ℕ → ℕ
 wanted_length order blocks =
-    if is_read order.cdb then 512 * (transfer order.cdb).count
+    if is_read order.cdb then 512 * (named_transfer order.cdb).count
     else length (unwrap_or (parameter_data order blocks) [])
 
 -- the plan, by the first reason to refuse

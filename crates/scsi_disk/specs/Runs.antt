@@ -3,7 +3,7 @@ use Rattle.std.specs.Prelude.{◌≡◌, ℕ, ◌≤◌, Bool, List, [], ◌∷�
 use Rattle.scsi_disk.specs.declared.order.Order.{Order}
 use Rattle.scsi_disk.specs.declared.order.Outcome.{Outcome}
 use Rattle.scsi_disk.specs.Disk.{Disk}
-use Rattle.scsi_disk.specs.Effect.{Effect, Executes, effect, IsSupplied}
+use Rattle.scsi_disk.specs.Effect.{Effect, OrderExecuted, effect, IsSupplied}
 
 -- an order and the bytes that come with it
 abbrev pub Supplied : Type 0
@@ -15,20 +15,20 @@ AreSupplied count orders = All (λ o. IsSupplied count o.0 o.1) orders
 
 -- ---- on a store that may fail
 
--- orders ran in turn, each as `Executes` says and the next on the disk that it left
-unfoldable pub RunsIn : Bool → ℕ → Disk → List Supplied → ℕ → Disk → List Outcome → Type 0
-RunsIn protected before disk [] after last told = (after ≡ before) × (last ≡ disk) × (told ≡ [])
-RunsIn protected before disk (o ∷ orders) after last told =
+-- orders ran in turn, each as `OrderExecuted` says and the next on the disk that it left
+unfoldable pub OrdersRun : Bool → ℕ → Disk → List Supplied → ℕ → Disk → List Outcome → Type 0
+OrdersRun protected before disk [] after last told = (after ≡ before) × (last ≡ disk) × (told ≡ [])
+OrdersRun protected before disk (o ∷ orders) after last told =
     (now : ℕ) × (left : Effect) × (more : List Outcome)
-    × Executes protected before now disk o.0 o.1 left
-    × RunsIn protected now left.disk orders after last more
+    × OrderExecuted protected before now disk o.0 o.1 left
+    × OrdersRun protected now left.disk orders after last more
     × (told ≡ left.outcome ∷ more)
 
 -- n first orders ran, and no other did anything
 abbrev pub RunsSome : Bool → ℕ → Disk → List Supplied → ℕ → Disk → Type 0
 RunsSome protected before disk orders after last =
     (n : ℕ) × (told : List Outcome) × (n ≤ length orders)
-    × RunsIn protected before disk (take n orders) after last told
+    × OrdersRun protected before disk (take n orders) after last told
 
 -- ---- where no failure is counted
 

@@ -1,5 +1,5 @@
 -- A store that keeps only what was written, in extents of 64 blocks.
-use Rattle.std.specs.Prelude.{◌≡◌, ℕ, ◌+◌, ◌/◌, ◌%◌, ◌^◌, ◌<◌, ◌≤◌, if◌then◌else◌, nat_lt, true, List, [], All, length, replicate, Option, Some, None, IsSome, refl}
+use Rattle.std.specs.Prelude.{◌≡◌, ℕ, ◌+◌, ◌/◌, ◌%◌, ◌<◌, ◌≤◌, if◌then◌else◌, nat_lt, true, List, [], All, replicate, Option, Some, None, IsSome, refl}
 use Rattle.std.specs.Coded.{Coded, code_by, coded×, coded_ℕ, coded_list}
 use Rattle.std.specs.FinMap as map
 use Rattle.std.specs.Ordering.{nat_cmp}
@@ -18,31 +18,21 @@ extents_code =
     (λ e. (e.count, e.extents)) (λ p. record { count = p.0; extents = p.1 }) (λ _. refl)
 
 -- block n of an extent, or 00 where there is none
-unfoldable pub block_in : ℕ → Option (List ℕ) → ℕ → List ℕ
-block_in size None n = replicate size 0
-block_in size (Some bytes) n = cut size bytes n
+unfoldable pub extent_block : ℕ → Option (List ℕ) → ℕ → List ℕ
+extent_block size None n = replicate size 0
+extent_block size (Some bytes) n = cut size bytes n
 
 -- the disk that they are
-abbrev pub disk_in : Extents → Disk
-disk_in s = record {
+abbrev pub extents_disk : Extents → Disk
+extents_disk s = record {
   count = s.count;
-  block = λ n. if nat_lt n s.count then block_in 512 (get s.extents (n / 64)) (n % 64) else [];
+  block = λ n. if nat_lt n s.count then extent_block 512 (get s.extents (n / 64)) (n % 64) else [];
   tells = true;
 }
-
--- there are 1 to 2^40 blocks, and each extent has 64
-pub record AreExtents (count : ℕ) (extents : FinMap nat_cmp (List ℕ)) : Type 0 where
-  pub some : 0 < count
-  pub few : count ≤ 2 ^ 40
-  pub whole : (n : ℕ) (bytes : List ℕ) → get extents n ≡ Some bytes → length bytes ≡ 32768
 
 -- all bytes are 00
 abbrev pub AreZeros : List ℕ → Type 0
 AreZeros bytes = All (λ byte. byte ≡ 0) bytes
-
--- the bytes read as if no extent were there
-abbrev pub IsBlank : List ℕ → Type 0
-IsBlank bytes = (n : ℕ) → n < 64 → block_in 512 (Some bytes) n ≡ block_in 512 None n
 
 -- the extents of n blocks from the first on are there
 abbrev pub HasBlocks : FinMap nat_cmp (List ℕ) → ℕ → ℕ → Type 0

@@ -2,12 +2,12 @@
 
 ghost use Rattle.std.specs.Prelude.{◌≡◌, ◌+◌, ◌*◌, ◌/◌, ◌<◌, ◌≤◌, ◌^◌, length as size, min, true, take as front, OnOk, OnErr, IfOk, IsOk, IsErr, IsErrOf};
 ghost use Rattle.std.specs.List.{repeat};
-ghost use Rattle.scsi_disk.specs.Disk.{Tells, IsOldOrNew, blocks_from, written};
-ghost use Rattle.scsi_disk.specs.Lasting.{Adds, Lasts, Within};
-ghost use Rattle.scsi_disk.specs.Plan.{transfer, is_read, taken_length, expected_length, plan_of};
-ghost use Rattle.scsi_disk.specs.Found.{IsFound, Names, plan_by_work};
+ghost use Rattle.scsi_disk.specs.Disk.{StoreTellsFailures, IsOldOrNew, blocks_from, disk_written};
+ghost use Rattle.scsi_disk.specs.Lasting.{CrashAddsDisk, LastsOnceSynced, Within};
+ghost use Rattle.scsi_disk.specs.Plan.{named_transfer, is_read, taken_length, expected_length, plan_of};
+ghost use Rattle.scsi_disk.specs.Found.{IsFound, NamesFewBlocks, plan_by_work};
 ghost use Rattle.scsi_disk.specs.declared.found.Work.TheVariants.{Read, Write};
-ghost use Rattle.scsi_disk.specs.Effect.{Effect, IsSupplied, IsSuppliedBy, Executes, block_data, effect, residual_of, good, given, check, HasOtherData, disk_by, outcome_by};
+ghost use Rattle.scsi_disk.specs.Effect.{Effect, IsSupplied, IsSuppliedBy, OrderExecuted, write_block_data, effect, residual_of, good_outcome, data_given, check_condition, HasOtherData, disk_by, outcome_by};
 
 use crate::found::{Found, Work};
 use crate::order::{Order, Outcome, Plan};
@@ -40,7 +40,7 @@ impl Outcome {
     /// GOOD, for a command that has `wanted` bytes for its initiator, of which these go to it. How
     /// they differ from what the initiator expects is the residual (own rule).
     pub fn good(order: &Order, wanted: u32, bytes: Vec<u8>) -> Outcome
-        ensures { result ≡ good order.now wanted bytes.items }
+        ensures { result ≡ good_outcome order.now wanted bytes.items }
     {
         Outcome {
             status: GOOD,
@@ -54,7 +54,7 @@ impl Outcome {
     /// initiator expects. The only error is that memory ran out.
     pub fn given(alloc: Global, order: &Order, bytes: &[u8]) -> Result<Outcome, AllocError>
         requires { size bytes.now < 2 ^ 32 }
-        ensures given { IfOk result (λ outcome. outcome ≡ given order.now bytes.now) }
+        ensures given { IfOk result (λ outcome. outcome ≡ data_given order.now bytes.now) }
         ensures few { IfOk result (λ outcome. size outcome.bytes ≤ size bytes.now) }
     {
         let wanted = bytes.len() as u32;
@@ -65,7 +65,7 @@ impl Outcome {
 
     /// CHECK CONDITION for this reason: no data, so that all that was expected is missing.
     pub fn check_condition(alloc: Global, order: &Order, sense: Sense) -> Outcome
-        ensures { result ≡ check order.now sense }
+        ensures { result ≡ check_condition order.now sense }
     {
         Outcome {
             status: CHECK_CONDITION,
@@ -90,9 +90,10 @@ fn read_front<S: BlockStore>(
     ensures disk { S.disk store.new ≡ S.disk store.old }
     ensures kept { Within (S.kept store.old) (S.kept store.new) }
     ensures lasts { S.failures store.new ≡ S.failures store.old
-        → Lasts (S.synced store.old) (S.disk store.old) (S.kept store.old)
-        → Lasts (S.synced store.new) (S.disk store.new) (S.kept store.new) }
-    ensures tells { Tells (S.disk store.old).tells (S.failures store.old) (S.failures store.new)
+        → LastsOnceSynced (S.synced store.old) (S.disk store.old) (S.kept store.old)
+        → LastsOnceSynced (S.synced store.new) (S.disk store.new) (S.kept store.new) }
+    ensures tells { StoreTellsFailures (S.disk store.old).tells (S.failures store.old)
+        (S.failures store.new)
         (S.untold store.old) (S.untold store.new) result }
 {
     let mut bytes = Vec::new(alloc);
@@ -109,7 +110,7 @@ fn give<S: BlockStore>(
     store: &mut S,
 ) -> Result<Outcome, StoreFault>
     requires reads { is_read order.now.cdb ≡ true }
-    requires names { Names order.now (S.disk store.old).count range }
+    requires names { NamesFewBlocks order.now (S.disk store.old).count range }
     ensures ok { IfOk result (λ outcome. S.failures store.new ≡ S.failures store.old
         → outcome ≡ outcome_by (plan_by_work order.now (Read range)) (S.disk store.old) order.now) }
     ensures untold { IfOk result (HasOtherData (S.disk store.old) order.now
@@ -117,9 +118,10 @@ fn give<S: BlockStore>(
     ensures disk { S.disk store.new ≡ S.disk store.old }
     ensures kept { Within (S.kept store.old) (S.kept store.new) }
     ensures lasts { S.failures store.new ≡ S.failures store.old
-        → Lasts (S.synced store.old) (S.disk store.old) (S.kept store.old)
-        → Lasts (S.synced store.new) (S.disk store.new) (S.kept store.new) }
-    ensures tells { Tells (S.disk store.old).tells (S.failures store.old) (S.failures store.new)
+        → LastsOnceSynced (S.synced store.old) (S.disk store.old) (S.kept store.old)
+        → LastsOnceSynced (S.synced store.new) (S.disk store.new) (S.kept store.new) }
+    ensures tells { StoreTellsFailures (S.disk store.old).tells (S.failures store.old)
+        (S.failures store.new)
         (S.untold store.old) (S.untold store.new) result }
 {
     let wanted = 512 * range.count;
@@ -136,7 +138,7 @@ fn take<S: BlockStore>(
     range: BlockRange,
     store: &mut S,
 ) -> Result<Outcome, StoreFault>
-    requires names { Names order.now (S.disk store.old).count range }
+    requires names { NamesFewBlocks order.now (S.disk store.old).count range }
     requires supplied { size bytes.now ≡ taken_length order.now }
     ensures ok { IfOk result (λ outcome.
         outcome ≡ outcome_by (plan_by_work order.now (Write range)) (S.disk store.old) order.now) }
@@ -144,16 +146,18 @@ fn take<S: BlockStore>(
         → S.disk store.new
         ≡ disk_by (plan_by_work order.now (Write range)) (S.disk store.old) order.now bytes.now) }
     ensures lasts { S.failures store.new ≡ S.failures store.old
-        → Lasts (S.synced store.old) (S.disk store.old) (S.kept store.old)
-        → Lasts (S.synced store.new) (S.disk store.new) (S.kept store.new) }
+        → LastsOnceSynced (S.synced store.old) (S.disk store.old) (S.kept store.old)
+        → LastsOnceSynced (S.synced store.new) (S.disk store.new) (S.kept store.new) }
     ensures count { (S.disk store.new).count ≡ (S.disk store.old).count }
     ensures no_memory { IsErrOf result StoreFault.NoMemory
         → (S.disk store.new ≡ S.disk store.old) × Within (S.kept store.old) (S.kept store.new) }
-    ensures each { IsOldOrNew (S.disk store.old) (written (transfer order.now.cdb).first
-        (block_data order.now bytes.now) (S.disk store.old)) (S.disk store.new) }
-    ensures kept { Adds (written (transfer order.now.cdb).first (block_data order.now bytes.now)
+    ensures each { IsOldOrNew (S.disk store.old) (disk_written (named_transfer order.now.cdb).first
+        (write_block_data order.now bytes.now) (S.disk store.old)) (S.disk store.new) }
+    ensures kept { CrashAddsDisk (disk_written (named_transfer order.now.cdb).first
+        (write_block_data order.now bytes.now)
         (S.disk store.old)) (S.kept store.old) (S.kept store.new) }
-    ensures tells { Tells (S.disk store.old).tells (S.failures store.old) (S.failures store.new)
+    ensures tells { StoreTellsFailures (S.disk store.old).tells (S.failures store.old)
+        (S.failures store.new)
         (S.untold store.old) (S.untold store.new) result }
 {
     if order.same {
@@ -187,7 +191,7 @@ fn settled(
 ) -> Result<Outcome, AllocError>
     ensures ok { IfOk answer (λ outcome. result ≡ Ok outcome) }
     ensures device { IsErrOf answer StoreFault.Device
-        → IfOk result (λ outcome. outcome ≡ check order.now sense) }
+        → IfOk result (λ outcome. outcome ≡ check_condition order.now sense) }
     ensures device_ok { IsErrOf answer StoreFault.Device → IsOk result }
     ensures no_memory { IsErrOf answer StoreFault.NoMemory → IsErr result }
 {
@@ -223,17 +227,17 @@ pub fn execute<S: BlockStore>(
 ) -> Result<Outcome, AllocError>
     requires { IsSupplied (S.disk store.old).count order.now bytes.now }
     // It has the order's effect, or that of a failure where one was counted.
-    ensures ok { IfOk result (λ outcome. Executes S.protected (S.failures store.old)
+    ensures ok { IfOk result (λ outcome. OrderExecuted S.protected (S.failures store.old)
         (S.failures store.new)
         (S.disk store.old) order.now bytes.now
         (record { disk = S.disk store.new; outcome = outcome })) }
     ensures count { (S.disk store.new).count ≡ (S.disk store.old).count }
     // Where no failure was counted, what is synced lasts.
     ensures lasts { S.failures store.new ≡ S.failures store.old
-        → Lasts (S.synced store.old) (S.disk store.old) (S.kept store.old)
-        → Lasts (S.synced store.new) (S.disk store.new) (S.kept store.new) }
+        → LastsOnceSynced (S.synced store.old) (S.disk store.old) (S.kept store.old)
+        → LastsOnceSynced (S.synced store.new) (S.disk store.new) (S.kept store.new) }
     // Whatever comes of it, a crash leaves each block old or new.
-    ensures crash { Adds (effect S.protected (S.disk store.old) order.now bytes.now).disk
+    ensures crash { CrashAddsDisk (effect S.protected (S.disk store.old) order.now bytes.now).disk
         (S.kept store.old) (S.kept store.new) }
     // Memory ran out.
     ensures err { OnErr result (S.disk store.new ≡ S.disk store.old) }
@@ -254,15 +258,15 @@ pub fn execute_planned<S: BlockStore>(
 ) -> Result<Outcome, AllocError>
     requires planned { planned ≡ plan_of order.now (S.disk store.old).count }
     requires supplied { IsSuppliedBy planned bytes.now }
-    ensures ok { IfOk result (λ outcome. Executes S.protected (S.failures store.old)
+    ensures ok { IfOk result (λ outcome. OrderExecuted S.protected (S.failures store.old)
         (S.failures store.new)
         (S.disk store.old) order.now bytes.now
         (record { disk = S.disk store.new; outcome = outcome })) }
     ensures count { (S.disk store.new).count ≡ (S.disk store.old).count }
     ensures lasts { S.failures store.new ≡ S.failures store.old
-        → Lasts (S.synced store.old) (S.disk store.old) (S.kept store.old)
-        → Lasts (S.synced store.new) (S.disk store.new) (S.kept store.new) }
-    ensures crash { Adds (effect S.protected (S.disk store.old) order.now bytes.now).disk
+        → LastsOnceSynced (S.synced store.old) (S.disk store.old) (S.kept store.old)
+        → LastsOnceSynced (S.synced store.new) (S.disk store.new) (S.kept store.new) }
+    ensures crash { CrashAddsDisk (effect S.protected (S.disk store.old) order.now bytes.now).disk
         (S.kept store.old) (S.kept store.new) }
     ensures err { OnErr result (S.disk store.new ≡ S.disk store.old) }
     ensures err_failures { OnErr result (S.failures store.new ≡ S.failures store.old) }
@@ -283,15 +287,15 @@ pub fn execute_found<S: BlockStore>(
     requires found { IsFound order.now found.now }
     requires blocks { found.now.blocks ≡ (S.disk store.old).count }
     requires supplied { IsSupplied (S.disk store.old).count order.now bytes.now }
-    ensures ok { IfOk result (λ outcome. Executes S.protected (S.failures store.old)
+    ensures ok { IfOk result (λ outcome. OrderExecuted S.protected (S.failures store.old)
         (S.failures store.new)
         (S.disk store.old) order.now bytes.now
         (record { disk = S.disk store.new; outcome = outcome })) }
     ensures count { (S.disk store.new).count ≡ (S.disk store.old).count }
     ensures lasts { S.failures store.new ≡ S.failures store.old
-        → Lasts (S.synced store.old) (S.disk store.old) (S.kept store.old)
-        → Lasts (S.synced store.new) (S.disk store.new) (S.kept store.new) }
-    ensures crash { Adds (effect S.protected (S.disk store.old) order.now bytes.now).disk
+        → LastsOnceSynced (S.synced store.old) (S.disk store.old) (S.kept store.old)
+        → LastsOnceSynced (S.synced store.new) (S.disk store.new) (S.kept store.new) }
+    ensures crash { CrashAddsDisk (effect S.protected (S.disk store.old) order.now bytes.now).disk
         (S.kept store.old) (S.kept store.new) }
     ensures err { OnErr result (S.disk store.new ≡ S.disk store.old) }
     ensures err_failures { OnErr result (S.failures store.new ≡ S.failures store.old) }

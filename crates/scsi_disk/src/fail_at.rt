@@ -1,8 +1,9 @@
 //! A store of which one call fails, for trying out what a failure does.
 
 ghost use Rattle.std.specs.Prelude.{◌≡◌, refl, ◌+◌, ◌*◌, ◌/◌, ◌%◌, ◌≤◌, ◌++◌, true, false, length, take, Some, OnOk, OnErr, IsOk, IsErrOf};
-ghost use Rattle.scsi_disk.specs.Disk.{Appends, disk_of, blocks_from, written, IsOldOrNew, Tells};
-ghost use Rattle.scsi_disk.specs.FailAt.{disk_in, failures_in, is_next, later, passed};
+ghost use Rattle.scsi_disk.specs.Disk.{AppendsBytes, disk_of, blocks_from, disk_written, IsOldOrNew, StoreTellsFailures};
+ghost use Rattle.scsi_disk.specs.FailAt.{failing_disk, failures_in, fails_next_call, later};
+ghost use Rattle.scsi_disk.specs.inner.FailAt.{passed};
 
 use crate::memory::MemoryStore;
 use crate::store::{BlockStore, StoreFault};
@@ -31,7 +32,7 @@ impl FailAt {
     /// The store, of whose reads and writes number `k`, from 0, fails. Until then it counts no
     /// failure, and from then on one.
     pub fn new(store: MemoryStore, k: u64) -> FailAt
-        ensures disk { disk_in result ≡ disk_of store }
+        ensures disk { failing_disk result ≡ disk_of store }
         ensures failures { failures_in result ≡ 0 }
         ensures before { result.before ≡ Some k }
     {
@@ -43,7 +44,7 @@ impl FailAt {
 
     /// Counts a call, and says whether it fails.
     fn fails(&mut self) -> bool
-        ensures next { result ≡ is_next self.old.before }
+        ensures next { result ≡ fails_next_call self.old.before }
         ensures passed { self.new ≡ passed self.old }
     {
         match self.before {
@@ -61,11 +62,11 @@ impl FailAt {
 }
 
 impl BlockStore for FailAt {
-    ghost disk = { disk_in };
+    ghost disk = { failing_disk };
 
     ghost failures = { failures_in };
 
-    ghost kept = { λ s n c. c ≡ (disk_in s).block n };
+    ghost kept = { λ s n c. c ≡ (failing_disk s).block n };
 
     ghost stays = { λ s n. refl };
 
@@ -85,15 +86,16 @@ impl BlockStore for FailAt {
 
     fn read(&mut self, lba: u64, out: &mut [u8]) -> Result<(), StoreFault>
         requires whole { length out.old % 512 ≡ 0 }
-        requires inside { 512 * lba + length out.old ≤ 512 * (disk_in self.old).count }
+        requires inside { 512 * lba + length out.old ≤ 512 * (failing_disk self.old).count }
         ensures ok { OnOk result
-            (out.new ≡ blocks_from (disk_in self.old) lba (length out.old / 512)) }
-        ensures disk { disk_in self.new ≡ disk_in self.old }
-        ensures tells { Tells true (failures_in self.old) (failures_in self.new) 0 0 result }
+            (out.new ≡ blocks_from (failing_disk self.old) lba (length out.old / 512)) }
+        ensures disk { failing_disk self.new ≡ failing_disk self.old }
+        ensures tells { StoreTellsFailures true (failures_in self.old) (failures_in self.new) 0 0
+            result }
         // It fails where it is the call that fails, and else works.
         ensures later { self.new.before ≡ later self.old.before }
-        ensures fails { is_next self.old.before ≡ true → IsErrOf result StoreFault.Device }
-        ensures works { is_next self.old.before ≡ false → IsOk result }
+        ensures fails { fails_next_call self.old.before ≡ true → IsErrOf result StoreFault.Device }
+        ensures works { fails_next_call self.old.before ≡ false → IsOk result }
     {
         if self.fails() {
             return Err(StoreFault::Device);
@@ -102,17 +104,19 @@ impl BlockStore for FailAt {
     }
 
     fn read_onto(&mut self, lba: u64, blocks: u32, out: &mut Vec<u8>) -> Result<(), StoreFault>
-        requires inside { lba + blocks ≤ (disk_in self.old).count }
+        requires inside { lba + blocks ≤ (failing_disk self.old).count }
         ensures ok { OnOk result
-            (out.new.items ≡ out.old.items ++ blocks_from (disk_in self.old) lba blocks) }
-        ensures appends { OnOk result (Appends (512 * blocks) out.old.items out.new.items) }
+            (out.new.items ≡ out.old.items ++ blocks_from (failing_disk self.old) lba blocks) }
+        ensures appends { OnOk result (AppendsBytes (512 * blocks) out.old.items out.new.items) }
         ensures err { OnErr result (out.new.items ≡ out.old.items) }
-        ensures disk { disk_in self.new ≡ disk_in self.old }
-        ensures tells { Tells true (failures_in self.old) (failures_in self.new) 0 0 result }
+        ensures disk { failing_disk self.new ≡ failing_disk self.old }
+        ensures tells { StoreTellsFailures true (failures_in self.old) (failures_in self.new) 0 0
+            result }
         // It fails where it is the call that fails, and else works unless memory runs out.
         ensures later { self.new.before ≡ later self.old.before }
-        ensures fails { is_next self.old.before ≡ true → IsErrOf result StoreFault.Device }
-        ensures works { is_next self.old.before ≡ false → IsErrOf result StoreFault.Device → ⊥ }
+        ensures fails { fails_next_call self.old.before ≡ true → IsErrOf result StoreFault.Device }
+        ensures works { fails_next_call self.old.before ≡ false → IsErrOf result StoreFault.Device
+            → ⊥ }
     {
         let fails = self.fails();
         if fails {
@@ -123,19 +127,22 @@ impl BlockStore for FailAt {
 
     fn write(&mut self, lba: u64, bytes: &[u8]) -> Result<(), StoreFault>
         requires whole { length bytes.now % 512 ≡ 0 }
-        requires inside { 512 * lba + length bytes.now ≤ 512 * (disk_in self.old).count }
-        ensures ok { OnOk result (disk_in self.new ≡ written lba bytes.now (disk_in self.old)) }
+        requires inside { 512 * lba + length bytes.now ≤ 512 * (failing_disk self.old).count }
+        ensures ok { OnOk result (failing_disk self.new
+            ≡ disk_written lba bytes.now (failing_disk self.old)) }
         ensures no_memory { IsErrOf result StoreFault.NoMemory
-            → disk_in self.new ≡ disk_in self.old }
-        ensures device { IsErrOf result StoreFault.Device → IsOldOrNew (disk_in self.old)
-            (written lba bytes.now (disk_in self.old)) (disk_in self.new) }
-        ensures tells { Tells true (failures_in self.old) (failures_in self.new) 0 0 result }
+            → failing_disk self.new ≡ failing_disk self.old }
+        ensures device { IsErrOf result StoreFault.Device → IsOldOrNew (failing_disk self.old)
+            (disk_written lba bytes.now (failing_disk self.old)) (failing_disk self.new) }
+        ensures tells { StoreTellsFailures true (failures_in self.old) (failures_in self.new) 0 0
+            result }
         // It fails where it is the call that fails, after its first block, and else works.
         ensures later { self.new.before ≡ later self.old.before }
-        ensures fails { is_next self.old.before ≡ true → IsErrOf result StoreFault.Device }
-        ensures first { is_next self.old.before ≡ true
-            → disk_in self.new ≡ written lba (take 512 bytes.now) (disk_in self.old) }
-        ensures works { is_next self.old.before ≡ false → IsOk result }
+        ensures fails { fails_next_call self.old.before ≡ true → IsErrOf result StoreFault.Device }
+        ensures first { fails_next_call self.old.before ≡ true
+            → failing_disk self.new ≡ disk_written lba (take 512 bytes.now)
+            (failing_disk self.old) }
+        ensures works { fails_next_call self.old.before ≡ false → IsOk result }
     {
         if self.fails() {
             if bytes.len() >= 512 {

@@ -2,6 +2,7 @@
 //! and SBC-3).
 #![tactic(auto)]
 
+mod command;
 mod execution;
 mod fail_at;
 mod found;

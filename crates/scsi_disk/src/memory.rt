@@ -1,7 +1,7 @@
 //! A store that keeps each block in memory.
 
 ghost use Rattle.std.specs.Prelude.{◌≡◌, refl, ◌+◌, ◌*◌, ◌/◌, ◌%◌, ◌^◌, ◌<◌, ◌≤◌, ◌++◌, length, IsOk, IfOk, OnOk, OnErr};
-ghost use Rattle.scsi_disk.specs.Disk.{joined, overlaid, cut, zeros, disk_of, blocks_from, written};
+ghost use Rattle.scsi_disk.specs.Disk.{joined_blocks, overlaid, cut, zeros, disk_of, blocks_from, disk_written};
 
 use crate::store::{BlockStore, StoreFault};
 use std::alloc::{AllocError, Global};
@@ -11,7 +11,7 @@ use std::marker::Model;
 pub fn read_blocks(bytes: &[u8], lba: usize, out: &mut [u8])
     requires whole { length out.old % 512 ≡ 0 }
     requires inside { 512 * lba + length out.old ≤ length bytes.now }
-    ensures { out.new ≡ joined (cut 512 bytes.now) lba (length out.old / 512) }
+    ensures { out.new ≡ joined_blocks (cut 512 bytes.now) lba (length out.old / 512) }
 {
     let first = 512 * lba;
     out.copy_from_slice(&bytes[first..first + out.len()]);
@@ -26,7 +26,7 @@ pub(crate) fn append_blocks(
 ) -> Result<(), AllocError>
     requires { 512 * lba + 512 * blocks ≤ length bytes.now }
     ensures ok { OnOk result
-        (out.new.items ≡ out.old.items ++ joined (cut 512 bytes.now) lba blocks) }
+        (out.new.items ≡ out.old.items ++ joined_blocks (cut 512 bytes.now) lba blocks) }
     ensures err { OnErr result (out.new.items ≡ out.old.items) }
 {
     let first = 512 * lba;
@@ -115,7 +115,7 @@ impl BlockStore for MemoryStore {
         requires whole { length bytes.now % 512 ≡ 0 }
         requires inside { 512 * lba + length bytes.now ≤ 512 * (disk_of self.old).count }
         ensures works { IsOk result }
-        ensures disk { disk_of self.new ≡ written lba bytes.now (disk_of self.old) }
+        ensures disk { disk_of self.new ≡ disk_written lba bytes.now (disk_of self.old) }
     {
         write_blocks(&mut self.bytes, lba as usize, bytes);
         Ok(())

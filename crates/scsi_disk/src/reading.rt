@@ -3,7 +3,7 @@
 ghost use Rattle.std.specs.Prelude.{◌≡◌, [], IfOk, IsOk, IsSome};
 ghost use Rattle.scsi_disk.specs.Plan.{plan_of, wanted_length};
 ghost use Rattle.scsi_disk.specs.Found.{IsFound};
-ghost use Rattle.scsi_disk.specs.Effect.{good, check};
+ghost use Rattle.scsi_disk.specs.Effect.{good_outcome, check_condition};
 ghost use Rattle.scsi_disk.specs.Reading.{whole_blocks};
 ghost use Rattle.scsi_cdb.specs.declared.sense.Sense.TheVariants.{ReadError};
 
@@ -49,7 +49,7 @@ impl Found {
     pub fn read_outcome(&self, alloc: Global, order: &Order) -> Outcome
         requires found { IsFound order.now self.now }
         requires gives { IsSome (whole_blocks order.now (plan_of order.now self.now.blocks)) }
-        ensures { result ≡ good order.now (wanted_length order.now self.now.blocks) [] }
+        ensures { result ≡ good_outcome order.now (wanted_length order.now self.now.blocks) [] }
     {
         let wanted = match &self.work {
             Work::Read(range) => 512 * range.count,
@@ -63,7 +63,7 @@ impl Found {
 /// `ReadError`, or an error where memory ran out.
 pub fn failed_read(alloc: Global, order: &Order, fault: StoreFault) -> Result<Outcome, AllocError>
     ensures ok { IfOk result (λ outcome. (fault ≡ StoreFault.Device)
-        × (outcome ≡ check order.now ReadError)) }
+        × (outcome ≡ check_condition order.now ReadError)) }
     ensures device { fault ≡ StoreFault.Device → IsOk result }
 {
     match fault {

@@ -1,8 +1,8 @@
 //! Orders one after another.
 
 ghost use Rattle.std.specs.Prelude.{◌≡◌, IfOk, OnErr};
-ghost use Rattle.scsi_disk.specs.Lasting.{Lasts};
-ghost use Rattle.scsi_disk.specs.Runs.{AreSupplied, RunsIn, RunsSome};
+ghost use Rattle.scsi_disk.specs.Lasting.{LastsOnceSynced};
+ghost use Rattle.scsi_disk.specs.Runs.{AreSupplied, OrdersRun, RunsSome};
 
 use crate::execution::execute;
 use crate::order::{Order, Outcome};
@@ -25,13 +25,13 @@ pub fn run_orders<S: BlockStore>(
 ) -> Result<Vec<Outcome>, AllocError>
     requires { AreSupplied (S.disk store.old).count orders.now }
     // Each was executed once, in turn.
-    ensures ok { IfOk result (λ told. RunsIn S.protected (S.failures store.old)
+    ensures ok { IfOk result (λ told. OrdersRun S.protected (S.failures store.old)
         (S.disk store.old) orders.now
         (S.failures store.new) (S.disk store.new) told.items) }
     // Where no failure was counted, what is synced lasts.
     ensures lasts { S.failures store.new ≡ S.failures store.old
-        → Lasts (S.synced store.old) (S.disk store.old) (S.kept store.old)
-        → Lasts (S.synced store.new) (S.disk store.new) (S.kept store.new) }
+        → LastsOnceSynced (S.synced store.old) (S.disk store.old) (S.kept store.old)
+        → LastsOnceSynced (S.synced store.new) (S.disk store.new) (S.kept store.new) }
     // Memory ran out: so were some first orders.
     ensures err { OnErr result (RunsSome S.protected (S.failures store.old)
         (S.disk store.old) orders.now

@@ -3,9 +3,10 @@
 
 ghost use Rattle.std.specs.Prelude.{◌≡◌, refl, ◌+◌, ◌*◌, ◌/◌, ◌%◌, ◌^◌, ◌<◌, ◌≤◌, ◌⊎◌, ◌++◌, length, take, ℕ, true, IsTrue, ◌↔◌, IsOk, IfOk, IsSome, OnOk, OnErr, IsErrOf};
 ghost use Rattle.std.specs.FinMap.{get};
-ghost use Rattle.scsi_disk.specs.Disk.{Disk, IsOldOrNew, Tells, most_blocks, zeros, blocks_from, written, cut, overlaid};
-ghost use Rattle.scsi_disk.specs.Lasting.{Adds, Within};
-ghost use Rattle.scsi_disk.specs.Sparse.{disk_in, AreZeros, IsBlank, HasBlocks};
+ghost use Rattle.scsi_disk.specs.Disk.{Disk, IsOldOrNew, StoreTellsFailures, most_blocks, zeros, blocks_from, disk_written, cut, overlaid};
+ghost use Rattle.scsi_disk.specs.Lasting.{CrashAddsDisk, Within};
+ghost use Rattle.scsi_disk.specs.Sparse.{extents_disk, AreZeros, HasBlocks};
+ghost use Rattle.scsi_disk.specs.inner.Sparse.{IsBlank};
 
 use crate::memory::{append_blocks, read_blocks, write_blocks};
 use crate::store::{BlockStore, StoreFault};
@@ -84,7 +85,8 @@ pub struct SparseStore {
 impl Model for SparseStore {
     ghost use Rattle.std.specs.Prelude.{◌<◌};
     ghost use Rattle.std.specs.FinMap as map;
-    ghost use Rattle.scsi_disk.specs.Sparse.{Extents, AreExtents, extents_code};
+    ghost use Rattle.scsi_disk.specs.Sparse.{Extents, extents_code};
+    ghost use Rattle.scsi_disk.specs.inner.Sparse.{AreExtents};
 
     ghost Value = { Extents };
 
@@ -100,7 +102,7 @@ impl SparseStore {
     pub fn new(alloc: Global, blocks: u64) -> SparseStore
         requires some { 0 < blocks }
         requires few { blocks ≤ most_blocks }
-        ensures { disk_in result ≡ zeros blocks }
+        ensures { extents_disk result ≡ zeros blocks }
     {
         SparseStore {
             blocks,
@@ -113,7 +115,7 @@ impl SparseStore {
     /// that are there, and those that the write asks for. A write of 00 alone asks for none.
     pub fn extents_with(&self, lba: u64, bytes: &[u8]) -> u64
         requires whole { length bytes.now % 512 ≡ 0 }
-        requires inside { 512 * lba + length bytes.now ≤ 512 * (disk_in self.now).count }
+        requires inside { 512 * lba + length bytes.now ≤ 512 * (extents_disk self.now).count }
     {
         prove!(lba <= self.blocks);
         let kept = self.extents.len() as u64;
@@ -145,7 +147,7 @@ impl SparseStore {
         requires whole { length out.old % 512 ≡ 0 }
         requires one { n % 64 + length out.old / 512 ≤ 64 }
         requires inside { n + length out.old / 512 ≤ self.now.count }
-        ensures { out.new ≡ blocks_from (disk_in self.now) n (length out.old / 512) }
+        ensures { out.new ≡ blocks_from (extents_disk self.now) n (length out.old / 512) }
     {
         match self.extents.get(&(n / EXTENT_BLOCKS)) {
             Some(extent) => read_blocks(&extent.bytes, (n % EXTENT_BLOCKS) as usize, out),
@@ -158,7 +160,7 @@ impl SparseStore {
         requires one { n % 64 + blocks ≤ 64 }
         requires inside { n + blocks ≤ self.now.count }
         ensures ok { OnOk result
-            (out.new.items ≡ out.old.items ++ blocks_from (disk_in self.now) n blocks) }
+            (out.new.items ≡ out.old.items ++ blocks_from (extents_disk self.now) n blocks) }
         ensures err { OnErr result (out.new.items ≡ out.old.items) }
     {
         match self.extents.get(&(n / EXTENT_BLOCKS)) {
@@ -173,7 +175,7 @@ impl SparseStore {
     fn append_all(&self, first: u64, count: u32, out: &mut Vec<u8>) -> Result<(), AllocError>
         requires { first + count ≤ self.now.count }
         ensures ok { OnOk result
-            (out.new.items ≡ out.old.items ++ blocks_from (disk_in self.now) first count) }
+            (out.new.items ≡ out.old.items ++ blocks_from (extents_disk self.now) first count) }
         ensures front { take (length out.old.items) out.new.items ≡ out.old.items }
     {
         prove!(first <= self.blocks);
@@ -191,7 +193,7 @@ impl SparseStore {
 
     /// Makes room for an extent. Nothing is seen of it.
     fn reserve(&mut self, extent: u64) -> Result<(), AllocError>
-        ensures disk { disk_in self.new ≡ disk_in self.old }
+        ensures disk { extents_disk self.new ≡ extents_disk self.old }
         ensures there { OnOk result (IsSome (get self.new.extents extent)) }
         ensures room { IsSome (get self.old.extents extent) → IsOk result }
         ensures kept { (k : ℕ) → IsSome (get self.old.extents k)
@@ -207,7 +209,7 @@ impl SparseStore {
     /// Removes the extent of a write if it is all 00. It isn't looked at if one of the bytes that
     /// were written isn't. Nothing is seen of it.
     fn give_back(&mut self, extent: u64, bytes: &[u8])
-        ensures disk { disk_in self.new ≡ disk_in self.old }
+        ensures disk { extents_disk self.new ≡ extents_disk self.old }
         ensures kept { (k : ℕ) → IsSome (get self.old.extents k)
             → (k ≡ extent) ⊎ IsSome (get self.new.extents k) }
     {
@@ -228,7 +230,7 @@ impl SparseStore {
         requires one { n % 64 + length bytes.now / 512 ≤ 64 }
         requires inside { n + length bytes.now / 512 ≤ self.old.count }
         requires there { AreZeros bytes.now ⊎ IsSome (get self.old.extents (n / 64)) }
-        ensures disk { disk_in self.new ≡ written n bytes.now (disk_in self.old) }
+        ensures disk { extents_disk self.new ≡ disk_written n bytes.now (extents_disk self.old) }
         ensures kept { (k : ℕ) → IsSome (get self.old.extents k)
             → IsSome (get self.new.extents k) }
     {
@@ -260,7 +262,7 @@ impl SparseStore {
     /// Makes room for the extents of some blocks. Nothing is seen of it.
     fn reserve_all(&mut self, first: u64, count: u64) -> Result<(), AllocError>
         requires { first + count ≤ self.old.count }
-        ensures disk { disk_in self.new ≡ disk_in self.old }
+        ensures disk { extents_disk self.new ≡ extents_disk self.old }
         ensures there { OnOk result (HasBlocks self.new.extents first count) }
         ensures room { HasBlocks self.old.extents first count → IsOk result }
     {
@@ -281,7 +283,7 @@ impl SparseStore {
         requires inside { first + length bytes.now / 512 ≤ self.old.count }
         requires there { AreZeros bytes.now
             ⊎ HasBlocks self.old.extents first (length bytes.now / 512) }
-        ensures { disk_in self.new ≡ written first bytes.now (disk_in self.old) }
+        ensures { extents_disk self.new ≡ disk_written first bytes.now (extents_disk self.old) }
     {
         prove!(first <= self.blocks);
         let blocks = bytes.len() / 512;
@@ -298,11 +300,11 @@ impl SparseStore {
 }
 
 impl BlockStore for SparseStore {
-    ghost disk = { disk_in };
+    ghost disk = { extents_disk };
 
     ghost failures = { λ _. 0 };
 
-    ghost kept = { λ s n c. c ≡ (disk_in s).block n };
+    ghost kept = { λ s n c. c ≡ (extents_disk s).block n };
 
     ghost stays = { λ s n. refl };
 
@@ -322,12 +324,12 @@ impl BlockStore for SparseStore {
 
     fn read(&mut self, lba: u64, out: &mut [u8]) -> Result<(), StoreFault>
         requires whole { length out.old % 512 ≡ 0 }
-        requires inside { 512 * lba + length out.old ≤ 512 * (disk_in self.old).count }
+        requires inside { 512 * lba + length out.old ≤ 512 * (extents_disk self.old).count }
         ensures works { IsOk result }
-        ensures read { out.new ≡ blocks_from (disk_in self.old) lba (length out.old / 512) }
-        ensures disk { disk_in self.new ≡ disk_in self.old }
-        ensures kept { Within (λ n c. c ≡ (disk_in self.old).block n)
-            (λ n c. c ≡ (disk_in self.new).block n) }
+        ensures read { out.new ≡ blocks_from (extents_disk self.old) lba (length out.old / 512) }
+        ensures disk { extents_disk self.new ≡ extents_disk self.old }
+        ensures kept { Within (λ n c. c ≡ (extents_disk self.old).block n)
+            (λ n c. c ≡ (extents_disk self.new).block n) }
     {
         prove!(lba <= self.blocks);
         let blocks = out.len() / 512;
@@ -353,17 +355,20 @@ impl BlockStore for SparseStore {
 
     fn write(&mut self, lba: u64, bytes: &[u8]) -> Result<(), StoreFault>
         requires whole { length bytes.now % 512 ≡ 0 }
-        requires inside { 512 * lba + length bytes.now ≤ 512 * (disk_in self.old).count }
-        ensures ok { OnOk result (disk_in self.new ≡ written lba bytes.now (disk_in self.old)) }
+        requires inside { 512 * lba + length bytes.now ≤ 512 * (extents_disk self.old).count }
+        ensures ok { OnOk result (extents_disk self.new
+            ≡ disk_written lba bytes.now (extents_disk self.old)) }
         ensures no_memory { IsErrOf result StoreFault.NoMemory
-            → (disk_in self.new ≡ disk_in self.old)
-            × Within (λ n c. c ≡ (disk_in self.old).block n)
-            (λ n c. c ≡ (disk_in self.new).block n) }
-        ensures each { IsOldOrNew (disk_in self.old) (written lba bytes.now (disk_in self.old))
-            (disk_in self.new) }
-        ensures kept { Adds (written lba bytes.now (disk_in self.old))
-            (λ n c. c ≡ (disk_in self.old).block n) (λ n c. c ≡ (disk_in self.new).block n) }
-        ensures tells { Tells true 0 0 0 0 result }
+            → (extents_disk self.new ≡ extents_disk self.old)
+            × Within (λ n c. c ≡ (extents_disk self.old).block n)
+            (λ n c. c ≡ (extents_disk self.new).block n) }
+        ensures each { IsOldOrNew (extents_disk self.old)
+            (disk_written lba bytes.now (extents_disk self.old))
+            (extents_disk self.new) }
+        ensures kept { CrashAddsDisk (disk_written lba bytes.now (extents_disk self.old))
+            (λ n c. c ≡ (extents_disk self.old).block n)
+            (λ n c. c ≡ (extents_disk self.new).block n) }
+        ensures tells { StoreTellsFailures true 0 0 0 0 result }
         // If all extents are there, no memory is needed.
         ensures room { HasBlocks self.old.extents lba (length bytes.now / 512) → IsOk result }
         // If all bytes are 00, none is needed either.

@@ -1,8 +1,8 @@
 //! What a store of blocks does, and how it fails.
 
 ghost use Rattle.std.specs.Prelude.{◌≡◌, ℕ, List, Bool, true, false, ◌+◌, ◌*◌, ◌/◌, ◌%◌, ◌≤◌, ◌++◌, length, OnOk, OnErr, IsErrOf};
-ghost use Rattle.scsi_disk.specs.Disk.{Disk, IsDisk, Appends, blocks_from, written, IsOldOrNew, Tells};
-ghost use Rattle.scsi_disk.specs.Lasting.{Adds, Lasts, Within};
+ghost use Rattle.scsi_disk.specs.Disk.{Disk, IsDisk, AppendsBytes, blocks_from, disk_written, IsOldOrNew, StoreTellsFailures};
+ghost use Rattle.scsi_disk.specs.Lasting.{CrashAddsDisk, LastsOnceSynced, Within};
 
 use std::alloc::AllocError;
 use thiserror::Error;
@@ -77,9 +77,10 @@ pub trait BlockStore {
         ensures disk { disk self.new ≡ disk self.old }
         ensures kept { Within (kept self.old) (kept self.new) }
         ensures lasts { failures self.new ≡ failures self.old
-            → Lasts (synced self.old) (disk self.old) (kept self.old)
-            → Lasts (synced self.new) (disk self.new) (kept self.new) }
-        ensures tells { Tells (disk self.old).tells (failures self.old) (failures self.new)
+            → LastsOnceSynced (synced self.old) (disk self.old) (kept self.old)
+            → LastsOnceSynced (synced self.new) (disk self.new) (kept self.new) }
+        ensures tells { StoreTellsFailures (disk self.old).tells (failures self.old)
+            (failures self.new)
             (untold self.old) (untold self.new) result };
 
     /// Appends `n` whole blocks, from block `lba` on, to `out`. They lie inside the store.
@@ -91,14 +92,15 @@ pub trait BlockStore {
         requires inside { lba + blocks ≤ (disk self.old).count }
         ensures ok { OnOk result (failures self.new ≡ failures self.old
             → out.new.items ≡ out.old.items ++ blocks_from (disk self.old) lba blocks) }
-        ensures appends { OnOk result (Appends (512 * blocks) out.old.items out.new.items) }
+        ensures appends { OnOk result (AppendsBytes (512 * blocks) out.old.items out.new.items) }
         ensures err { OnErr result (out.new.items ≡ out.old.items) }
         ensures disk { disk self.new ≡ disk self.old }
         ensures kept { Within (kept self.old) (kept self.new) }
         ensures lasts { failures self.new ≡ failures self.old
-            → Lasts (synced self.old) (disk self.old) (kept self.old)
-            → Lasts (synced self.new) (disk self.new) (kept self.new) }
-        ensures tells { Tells (disk self.old).tells (failures self.old) (failures self.new)
+            → LastsOnceSynced (synced self.old) (disk self.old) (kept self.old)
+            → LastsOnceSynced (synced self.new) (disk self.new) (kept self.new) }
+        ensures tells { StoreTellsFailures (disk self.old).tells (failures self.old)
+            (failures self.new)
             (untold self.old) (untold self.new) result }
     {
         let start = out.len();
@@ -119,18 +121,19 @@ pub trait BlockStore {
         requires whole { length bytes.now % 512 ≡ 0 }
         requires inside { 512 * lba + length bytes.now ≤ 512 * (disk self.old).count }
         ensures ok { OnOk result (failures self.new ≡ failures self.old
-            → disk self.new ≡ written lba bytes.now (disk self.old)) }
+            → disk self.new ≡ disk_written lba bytes.now (disk self.old)) }
         ensures no_memory { IsErrOf result StoreFault.NoMemory
             → (disk self.new ≡ disk self.old) × Within (kept self.old) (kept self.new) }
-        ensures each { IsOldOrNew (disk self.old) (written lba bytes.now (disk self.old))
+        ensures each { IsOldOrNew (disk self.old) (disk_written lba bytes.now (disk self.old))
             (disk self.new) }
         // A store that refuses writes is as it was.
         ensures protected { protected ≡ true → disk self.new ≡ disk self.old }
-        ensures kept { Adds (written lba bytes.now (disk self.old)) (kept self.old) (kept self.new) }
+        ensures kept { CrashAddsDisk (disk_written lba bytes.now (disk self.old)) (kept self.old) (kept self.new) }
         ensures lasts { failures self.new ≡ failures self.old
-            → Lasts (synced self.old) (disk self.old) (kept self.old)
-            → Lasts (synced self.new) (disk self.new) (kept self.new) }
-        ensures tells { Tells (disk self.old).tells (failures self.old) (failures self.new)
+            → LastsOnceSynced (synced self.old) (disk self.old) (kept self.old)
+            → LastsOnceSynced (synced self.new) (disk self.new) (kept self.new) }
+        ensures tells { StoreTellsFailures (disk self.old).tells (failures self.old)
+            (failures self.new)
             (untold self.old) (untold self.new) result };
 
     /// Makes all that was written last. `Device` comes as it does of a read; then what was written
@@ -140,9 +143,10 @@ pub trait BlockStore {
         ensures disk { disk self.new ≡ disk self.old }
         ensures kept { Within (kept self.old) (kept self.new) }
         ensures lasts { failures self.new ≡ failures self.old
-            → Lasts (synced self.old) (disk self.old) (kept self.old)
-            → Lasts (synced self.new) (disk self.new) (kept self.new) }
-        ensures tells { Tells (disk self.old).tells (failures self.old) (failures self.new)
+            → LastsOnceSynced (synced self.old) (disk self.old) (kept self.old)
+            → LastsOnceSynced (synced self.new) (disk self.new) (kept self.new) }
+        ensures tells { StoreTellsFailures (disk self.old).tells (failures self.old)
+            (failures self.new)
             (untold self.old) (untold self.new) result };
 
     /// A process that ends leaves what its device was given, so that is one of the outcomes.
@@ -150,5 +154,5 @@ pub trait BlockStore {
 
     /// Where no failure was ever counted and no write has to be synced, a crash leaves these blocks
     /// and no others.
-    ghost lasts: { (s : Self) → failures s ≡ 0 → Lasts (synced s) (disk s) (kept s) };
+    ghost lasts: { (s : Self) → failures s ≡ 0 → LastsOnceSynced (synced s) (disk s) (kept s) };
 }

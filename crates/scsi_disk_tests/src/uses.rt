@@ -1,7 +1,7 @@
 //! What another program does with `scsi_disk`.
 
 ghost use Rattle.std.specs.Prelude.{◌≡◌, ◌<◌, OnOk};
-ghost use Rattle.scsi_disk.specs.Disk.{blocks_from, written};
+ghost use Rattle.scsi_disk.specs.Disk.{blocks_from, disk_written};
 
 use scsi_disk::{BlockStore, StoreFault};
 
@@ -10,7 +10,7 @@ pub fn copy_block<S: BlockStore>(store: &mut S, from: u64, to: u64) -> Result<()
     requires from { from < (S.disk store.old).count }
     requires to { to < (S.disk store.old).count }
     ensures copied { OnOk result (S.failures store.new ≡ S.failures store.old → S.disk store.new
-        ≡ written to (blocks_from (S.disk store.old) from 1) (S.disk store.old)) }
+        ≡ disk_written to (blocks_from (S.disk store.old) from 1) (S.disk store.old)) }
 {
     let mut block = [0; 512];
     store.read(from, &mut block)?;

@@ -4,8 +4,8 @@ use Rattle.std.specs.declared.alloc.Global.{Global}
 use Rattle.scsi_file.specs.declared.crash_memory.CrashMemory.{CrashMemory}
 
 -- its bytes
-abbrev pub bytes_of : CrashMemory → List ℕ
-bytes_of m = m.bytes.items
+abbrev pub memory_bytes : CrashMemory → List ℕ
+memory_bytes m = m.bytes.items
 
 -- those before each write since the last sync
 abbrev pub past_of : CrashMemory → List (Vec ℕ Global)

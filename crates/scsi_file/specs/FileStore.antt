@@ -4,8 +4,8 @@ use Rattle.scsi_file.specs.declared.file_store.FileStore.{FileStore}
 use Rattle.scsi_file.specs.declared.medium.Medium.{Ghosts}
 
 -- what the store keeps its blocks on
-abbrev pub medium_of : {M : Type 0} {g : Ghosts M} → FileStore M g → M
-medium_of s = s.medium
+abbrev pub store_medium : {M : Type 0} {g : Ghosts M} → FileStore M g → M
+store_medium s = s.medium
 
 -- how many of its calls failed
 abbrev pub failed_by : {M : Type 0} {g : Ghosts M} → FileStore M g → ℕ

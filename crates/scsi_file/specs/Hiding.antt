@@ -10,7 +10,8 @@ hiding disk = record { count = disk.count; block = disk.block; tells = false }
 
 -- How often a medium did something else than it said, before a call and after it. A medium that
 -- tells each failure never does so, and no medium does so at a call at which memory ran out.
-pub record Hides {T : Type 0} (tells : Bool) (before after : ℕ) (result : Result T StoreFault)
+pub record HidesFailures {T : Type 0} (tells : Bool) (before after : ℕ)
+    (result : Result T StoreFault)
     : Type 0 where
   pub rises : before ≤ after
   pub honest : tells ≡ true → after ≡ before

@@ -9,5 +9,5 @@ abbrev pub unknown : ℕ → Disk
 unknown count = hiding (zeros count)
 
 -- how many blocks a file has
-abbrev pub blocks_of : HostFile → ℕ
-blocks_of f = f.blocks
+abbrev pub file_blocks : HostFile → ℕ
+file_blocks f = f.blocks

@@ -3,7 +3,7 @@
 ghost use Rattle.std.specs.Prelude.{◌≡◌, ℕ, List, [], true, ◌⊎◌, refl, length, OnOk, ◌*◌, ◌%◌, ◌+◌, ◌≤◌};
 ghost use Rattle.std.proofs.Common.{inl};
 ghost use Rattle.scsi_disk.specs.Disk.{cut, disk_of, AreBlocks};
-ghost use Rattle.scsi_disk.specs.Lasting.{Settled};
+ghost use Rattle.scsi_disk.specs.Lasting.{SettledDisk};
 ghost use Rattle.scsi_file.specs.Past.{HadBeen, MayBe};
 
 use crate::medium::Medium;
@@ -21,12 +21,12 @@ pub struct CrashMemory {
 }
 
 impl CrashMemory {
-    ghost use Rattle.scsi_file.specs.CrashMemory.{bytes_of, past_of};
+    ghost use Rattle.scsi_file.specs.CrashMemory.{memory_bytes, past_of};
 
     /// A medium of these blocks, from 1 to 65,536 of them, all of which last.
     pub fn new(alloc: Global, bytes: Vec<u8>) -> CrashMemory
         requires { AreBlocks bytes.items }
-        ensures bytes { bytes_of result ≡ bytes.items }
+        ensures bytes { memory_bytes result ≡ bytes.items }
         ensures lasts { past_of result ≡ [] }
     {
         CrashMemory {
@@ -38,7 +38,7 @@ impl CrashMemory {
 
     /// What it keeps, block after block.
     pub fn bytes(&self) -> &[u8]
-        ensures { result.now ≡ bytes_of self.now }
+        ensures { result.now ≡ memory_bytes self.now }
     {
         &self.bytes
     }
@@ -46,8 +46,8 @@ impl CrashMemory {
     /// Crashes: block n is from now on what it was before the last `back[n]` writes since the last
     /// sync. Where there were fewer, or nothing is said of a block, it stays.
     pub fn crash(&mut self, back: &[usize])
-        ensures one { (n : ℕ) → MayBe (bytes_of self.old) (past_of self.old) n
-            (cut 512 (bytes_of self.new) n) }
+        ensures one { (n : ℕ) → MayBe (memory_bytes self.old) (past_of self.old) n
+            (cut 512 (memory_bytes self.new) n) }
         ensures lasts { past_of self.new ≡ [] }
     {
         restore_all(&mut self.bytes, &self.past, back);

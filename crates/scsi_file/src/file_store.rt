@@ -1,8 +1,8 @@
 //! A store on a medium, whose writes last once it is synced.
 
 ghost use Rattle.std.specs.Prelude.{◌≡◌, ℕ, true, false, List, ◌+◌, ◌*◌, ◌/◌, ◌%◌, ◌<◌, ◌≤◌, length, OnOk, IfOk, IsErrOf, IsTrue};
-ghost use Rattle.scsi_disk.specs.Disk.{Disk, blocks_from, written};
-ghost use Rattle.scsi_disk.specs.Lasting.{Lasts, Settled};
+ghost use Rattle.scsi_disk.specs.Disk.{Disk, blocks_from, disk_written};
+ghost use Rattle.scsi_disk.specs.Lasting.{LastsOnceSynced, SettledDisk};
 
 use crate::medium::Medium;
 use scsi_disk::{BlockStore, StoreFault};
@@ -25,25 +25,26 @@ pub struct FileStore<M: Medium> {
     ghost sound: { broken ≡ false → IsTrue (M.Medium.usable medium) },
     ghost quiet: { broken ≡ true → synced ≡ true },
     ghost lasts: { failed + M.Medium.untold medium ≡ 0
-        → Lasts synced (M.Medium.seen medium) (M.Medium.kept medium) },
+        → LastsOnceSynced synced (M.Medium.seen medium) (M.Medium.kept medium) },
 }
 
 impl<M: Medium + Drop> FileStore<M> {
-    ghost use Rattle.scsi_file.specs.FileStore.{medium_of, failed_by, is_synced};
+    ghost use Rattle.scsi_file.specs.FileStore.{store_medium, failed_by, is_synced};
 
     /// A store on a medium, all that a read of it gives being made to last first. The fault is that
     /// this sync failed.
     pub fn new(medium: M) -> Result<FileStore<M>, StoreFault>
         requires { IsTrue (M.Medium.usable medium) }
         ensures seen { IfOk result (λ store.
-            M.Medium.seen (medium_of store) ≡ M.Medium.seen medium) }
+            M.Medium.seen (store_medium store) ≡ M.Medium.seen medium) }
         ensures settled { IfOk result (λ store.
-            M.Medium.untold (medium_of store) ≡ M.Medium.untold medium
-            → Settled (M.Medium.seen (medium_of store)) (M.Medium.kept (medium_of store))) }
+            M.Medium.untold (store_medium store) ≡ M.Medium.untold medium
+            → SettledDisk (M.Medium.seen (store_medium store))
+            (M.Medium.kept (store_medium store))) }
         ensures synced { IfOk result (λ store. is_synced store ≡ true) }
         ensures failed { IfOk result (λ store. failed_by store ≡ 0) }
         ensures untold { IfOk result (λ store.
-            M.Medium.untold medium ≤ M.Medium.untold (medium_of store)) }
+            M.Medium.untold medium ≤ M.Medium.untold (store_medium store)) }
     {
         let mut medium = medium;
         medium.sync()?;
@@ -59,7 +60,7 @@ impl<M: Medium + Drop> FileStore<M> {
     /// The same store, of whose writes some are answered before they last. Once a sync has failed, each
     /// later one fails as well: so no initiator that asks once more is told that all lasts.
     pub fn with_write_back(self) -> FileStore<M>
-        ensures seen { medium_of result ≡ medium_of self }
+        ensures seen { store_medium result ≡ store_medium self }
         ensures synced { is_synced result ≡ is_synced self }
         ensures failed { failed_by result ≡ failed_by self }
     {
@@ -74,11 +75,11 @@ impl<M: Medium + Drop> FileStore<M> {
 }
 
 impl<M: Medium> FileStore<M> {
-    ghost use Rattle.scsi_file.specs.FileStore.{medium_of, failed_by};
+    ghost use Rattle.scsi_file.specs.FileStore.{store_medium, failed_by};
 
     /// The medium, as the store leaves it.
     pub fn into_medium(self) -> M
-        ensures { result ≡ medium_of self }
+        ensures { result ≡ store_medium self }
     {
         self.medium
     }

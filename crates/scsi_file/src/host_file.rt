@@ -66,7 +66,7 @@ pub struct HostFile {
 }
 
 impl HostFile {
-    ghost use Rattle.scsi_file.specs.HostFile.{blocks_of};
+    ghost use Rattle.scsi_file.specs.HostFile.{file_blocks};
 
     /// Opens an image that is there, cuts nothing, and takes it for this process alone. What an
     /// earlier process left is synced, and the system's copies are dropped, since after a sync
@@ -108,7 +108,7 @@ impl HostFile {
     pub fn create(rt: &HostRuntime, path: &str, blocks: u64) -> Result<HostFile, OpenFault>
         requires some { 0 < blocks }
         requires few { blocks ≤ most_blocks }
-        ensures size { IfOk result (λ file. blocks_of file ≡ blocks) }
+        ensures size { IfOk result (λ file. file_blocks file ≡ blocks) }
     {
         let mut how = File::options();
         how.read(true)
@@ -132,7 +132,7 @@ impl HostFile {
     fn make(rt: &HostRuntime, file: File, path: &str, blocks: u64) -> Result<HostFile, OpenFault>
         requires some { 0 < blocks }
         requires few { blocks ≤ most_blocks }
-        ensures size { IfOk result (λ file. blocks_of file ≡ blocks) }
+        ensures size { IfOk result (λ file. file_blocks file ≡ blocks) }
     {
         let file = own(file)?;
         if file.set_len(512 * blocks).is_err() {
@@ -147,7 +147,7 @@ impl HostFile {
 
     // An image of `n` bytes.
     fn of(file: File, bytes: u64) -> Result<HostFile, OpenFault>
-        ensures size { IfOk result (λ file. 512 * blocks_of file ≡ bytes) }
+        ensures size { IfOk result (λ file. 512 * file_blocks file ≡ bytes) }
     {
         if bytes == 0 {
             return Err(OpenFault::Empty);

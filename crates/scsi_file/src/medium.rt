@@ -1,9 +1,9 @@
 //! What blocks are kept on, and what it keeps where all stops.
 
 ghost use Rattle.std.specs.Prelude.{◌≡◌, ℕ, List, ◌+◌, ◌*◌, ◌/◌, ◌%◌, ◌≤◌, Bool, IsTrue, length, OnOk, IsErrOf};
-ghost use Rattle.scsi_disk.specs.Disk.{Disk, IsDisk, blocks_from, written, IsOldOrNew};
-ghost use Rattle.scsi_disk.specs.Lasting.{Adds, Settled, Within};
-ghost use Rattle.scsi_file.specs.Hiding.{Hides};
+ghost use Rattle.scsi_disk.specs.Disk.{Disk, IsDisk, blocks_from, disk_written, IsOldOrNew};
+ghost use Rattle.scsi_disk.specs.Lasting.{CrashAddsDisk, SettledDisk, Within};
+ghost use Rattle.scsi_file.specs.Hiding.{HidesFailures};
 
 use scsi_disk::StoreFault;
 
@@ -41,7 +41,8 @@ pub trait Medium {
         ensures seen { seen self.new ≡ seen self.old }
         ensures kept { Within (kept self.old) (kept self.new) }
         ensures usable { IsTrue (usable self.new) }
-        ensures untold { Hides (seen self.old).tells (untold self.old) (untold self.new) result };
+        ensures untold { HidesFailures (seen self.old).tells (untold self.old) (untold self.new)
+            result };
 
     /// Writes whole blocks, from block `lba` on. They lie inside the medium.
     ///
@@ -52,24 +53,26 @@ pub trait Medium {
         requires whole { length bytes.now % 512 ≡ 0 }
         requires inside { 512 * lba + length bytes.now ≤ 512 * (seen self.old).count }
         ensures ok { OnOk result (untold self.new ≡ untold self.old
-            → seen self.new ≡ written lba bytes.now (seen self.old)) }
+            → seen self.new ≡ disk_written lba bytes.now (seen self.old)) }
         ensures no_memory { IsErrOf result StoreFault.NoMemory
             → (seen self.new ≡ seen self.old) × Within (kept self.old) (kept self.new) }
-        ensures each { IsOldOrNew (seen self.old) (written lba bytes.now (seen self.old))
+        ensures each { IsOldOrNew (seen self.old) (disk_written lba bytes.now (seen self.old))
             (seen self.new) }
-        ensures kept { Adds (written lba bytes.now (seen self.old)) (kept self.old) (kept self.new) }
+        ensures kept { CrashAddsDisk (disk_written lba bytes.now (seen self.old)) (kept self.old) (kept self.new) }
         ensures usable { IsTrue (usable self.new) }
-        ensures untold { Hides (seen self.old).tells (untold self.old) (untold self.new) result };
+        ensures untold { HidesFailures (seen self.old).tells (untold self.old) (untold self.new)
+            result };
 
     /// Makes all that a read gives last. Where it fails, the medium can't be used any more.
     fn sync(&mut self) -> Result<(), StoreFault>
         requires { IsTrue (usable self.old) }
         ensures usable { OnOk result (IsTrue (usable self.new)) }
         ensures ok { OnOk result (untold self.new ≡ untold self.old
-            → Settled (seen self.new) (kept self.new)) }
+            → SettledDisk (seen self.new) (kept self.new)) }
         ensures seen { seen self.new ≡ seen self.old }
         ensures kept { Within (kept self.old) (kept self.new) }
-        ensures untold { Hides (seen self.old).tells (untold self.old) (untold self.new) result };
+        ensures untold { HidesFailures (seen self.old).tells (untold self.old) (untold self.new)
+            result };
 
     /// A process that ends leaves what its medium was given, so that is one of the outcomes.
     ghost stays: { (s : Self) (n : ℕ) → kept s n ((seen s).block n) };

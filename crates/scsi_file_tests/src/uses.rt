@@ -1,9 +1,9 @@
 //! What another program does with `scsi_file`.
 
 ghost use Rattle.std.specs.Prelude.{◌≡◌, ◌+◌, ◌<◌, IfOk, IsTrue};
-ghost use Rattle.scsi_disk.specs.Disk.{written};
-ghost use Rattle.scsi_disk.specs.Lasting.{Settled};
-ghost use Rattle.scsi_file.specs.FileStore.{failed_by, medium_of};
+ghost use Rattle.scsi_disk.specs.Disk.{disk_written};
+ghost use Rattle.scsi_disk.specs.Lasting.{SettledDisk};
+ghost use Rattle.scsi_file.specs.FileStore.{failed_by, store_medium};
 
 use scsi_disk::{BlockStore, StoreFault};
 use scsi_file::{FileStore, Medium};
@@ -17,9 +17,9 @@ pub fn keep_block<M: Medium + Drop>(
     requires usable { IsTrue (M.Medium.usable medium) }
     requires inside { lba < (M.Medium.seen medium).count }
     ensures lasts { IfOk result (λ store.
-        failed_by store + M.Medium.untold (medium_of store) ≡ M.Medium.untold medium
-        → Settled (written lba block.now (M.Medium.seen medium))
-        (M.Medium.kept (medium_of store))) }
+        failed_by store + M.Medium.untold (store_medium store) ≡ M.Medium.untold medium
+        → SettledDisk (disk_written lba block.now (M.Medium.seen medium))
+        (M.Medium.kept (store_medium store))) }
 {
     let mut store = FileStore::new(medium)?;
     store.write(lba, block)?;

@@ -8,7 +8,7 @@ use Rattle.scsi_disk.specs.Plan.{is_read, is_write}
 use Rattle.scsi_disk.specs.declared.order.Order.{Order}
 use Rattle.scsi_disk.specs.declared.order.Outcome.{Outcome}
 use Rattle.scsi_unit.specs.LogicalUnit.{LogicalUnit}
-use Rattle.scsi_unit.specs.Telling.{told, told_outcome, data_told}
+use Rattle.scsi_unit.specs.Telling.{outcome_with_unit, told_outcome, data_told}
 
 by_command : (unit : LogicalUnit) (blocks : ℕ) (order : Order) (cdb : Cdb) (outcome : Outcome) → (is_read cdb || is_write cdb) ≡ true
     → unwrap_or (option_map (told_outcome order) (data_told unit (order.lun == 0) blocks cdb)) outcome ≡ outcome
@@ -19,6 +19,6 @@ by_command unit blocks order _ outcome e = refl
 
 -- a READ or a WRITE has the outcome that it has on any disk
 pub not_told : (unit : Option LogicalUnit) (blocks : ℕ) (order : Order) (outcome : Outcome) → (is_read order.cdb || is_write order.cdb) ≡ true
-    → told unit blocks order outcome ≡ outcome
+    → outcome_with_unit unit blocks order outcome ≡ outcome
 not_told None blocks order outcome e = refl
 not_told (Some unit) blocks order outcome e = by_command unit blocks order order.cdb outcome e

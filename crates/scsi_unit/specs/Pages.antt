@@ -5,8 +5,8 @@ use Rattle.scsi_unit.specs.LogicalUnit.{LogicalUnit}
 
 -- Standard INQUIRY data (SPC-4, section 6.6): a disk, or no unit, with the versions of the standards
 -- behind the names: iSCSI, SPC-4 and SBC-3.
-abbrev pub standard : Bool → List ℕ
-standard present =
+abbrev pub standard_inquiry : Bool → List ℕ
+standard_inquiry present =
     (if present then 0x00 else 0x7f) ∷ 0x00 ∷ 0x06 ∷ 0x12 ∷ 0x5b ∷ 0x00 ∷ 0x00 ∷ 0x02
     ∷ codes "VERIDISKISCSI DISK      0001" ++ replicate 22 0
     ++ 0x09 ∷ 0x60 ∷ 0x04 ∷ 0x60 ∷ 0x04 ∷ 0xc0 ∷ replicate 32 0

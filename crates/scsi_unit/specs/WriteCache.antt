@@ -2,7 +2,7 @@
 use Rattle.std.specs.Prelude.{Bool, true, false, not, ◌==◌, ◌||◌, bit_and, Option, None, Some}
 use Rattle.scsi_cdb.specs.declared.cdb.Cdb.{Cdb}
 use Rattle.scsi_cdb.specs.declared.cdb.Cdb.TheVariants.{SyncCache10}
-use Rattle.scsi_disk.specs.Plan.{transfer}
+use Rattle.scsi_disk.specs.Plan.{named_transfer}
 use Rattle.scsi_unit.specs.LogicalUnit.{LogicalUnit}
 
 -- A SYNCHRONIZE CACHE, also one that would be answered before it is done (IMMED): it is answered once
@@ -13,7 +13,7 @@ is_flush _ = false
 
 -- A READ or a WRITE with the bit FUA. What it reads or writes lasts before it is answered.
 abbrev pub has_fua : Cdb → Bool
-has_fua cdb = not (bit_and (transfer cdb).options 0x08 == 0)
+has_fua cdb = not (bit_and (named_transfer cdb).options 0x08 == 0)
 
 -- The command asks that what was written lasts before it is answered. All that was written does then,
 -- and not its blocks alone.

@@ -1,7 +1,7 @@
 //! The data of INQUIRY (SPC-4, sections 6.6 and 7.8; SBC-3, section 6.5).
 
 ghost use Rattle.std.specs.Prelude.{◌≡◌, ◌-◌, option_map};
-ghost use Rattle.scsi_unit.specs.Pages.{limits_page, name_page, page_list, serial_page, standard, thin_capacity, vital_page};
+ghost use Rattle.scsi_unit.specs.Pages.{limits_page, name_page, page_list, serial_page, standard_inquiry, thin_capacity, vital_page};
 ghost use Rattle.scsi_unit.specs.Telling.{inquiry_data};
 
 use crate::data::{Data, data, joined};
@@ -132,7 +132,7 @@ pub(crate) fn thin_capacity(blocks: u64) -> Data
 
 // Standard INQUIRY data, of a disk or of a unit that is not there.
 fn standard(present: bool) -> Data
-    ensures { result.items ≡ standard present }
+    ensures { result.items ≡ standard_inquiry present }
 {
     let mut bytes =
         *b"\0\0\x06\x12\x5b\0\0\x02VERIDISKISCSI DISK      0001\0\0\0\0\0\0\0\0\0\0\0\0\0\0\0\0\0\0\0\0\0\0\x09\x60\x04\x60\x04\xc0\0\0\0\0\0\0\0\0\0\0\0\0\0\0\0\0\0\0\0\0\0\0\0\0\0\0\0\0\0\0\0\0";

@@ -1,8 +1,8 @@
 //! What a unit answers of itself.
 
 ghost use Rattle.std.specs.Prelude.{◌≡◌, ◌≤◌, IfOk, IfSome, length, option_map};
-ghost use Rattle.scsi_disk.specs.Plan.{first_of, is_standard_inquiry};
-ghost use Rattle.scsi_unit.specs.Telling.{block_data, capacity_told, data_told, no_sense, told_refusals, unit_outcome};
+ghost use Rattle.scsi_disk.specs.Plan.{first_reason, is_standard_inquiry};
+ghost use Rattle.scsi_unit.specs.Telling.{unit_block_data, capacity_told, data_told, no_sense, told_refusals, unit_outcome};
 
 use crate::data::{Data, cut, data};
 use crate::pages::thin_capacity;
@@ -74,14 +74,7 @@ impl LogicalUnit {
                 ..
             } => self.capacity_told(blocks, *allocation_length),
             Cdb::Unknown(block) => self.block_data(block),
-            Cdb::TestUnitReady { .. }
-            | Cdb::Capacity10 { .. }
-            | Cdb::Read10(_)
-            | Cdb::Write10(_)
-            | Cdb::SyncCache10(_)
-            | Cdb::Read16(_)
-            | Cdb::Write16(_)
-            | Cdb::ReportLuns { .. } => None,
+            _ => None,
         }
     }
 
@@ -99,7 +92,7 @@ impl LogicalUnit {
     // The data of a command by its block.
     fn block_data(&self, block: &[u8; 16]) -> Option<Option<Data>>
         ensures { option_map (option_map (λ bytes. bytes.items)) result
-            ≡ block_data self.now block.now }
+            ≡ unit_block_data self.now block.now }
     {
         match u8_at(block, 0) {
             REQUEST_SENSE => {
@@ -139,7 +132,7 @@ fn no_sense(descriptor: bool) -> Data
 
 // The first reason to refuse a command that the unit answers of itself, but for want of a page.
 fn refusal(order: &Order) -> Option<Sense>
-    ensures { result ≡ first_of (told_refusals order.now) }
+    ensures { result ≡ first_reason (told_refusals order.now) }
 {
     if order.lun != 0 && !matches!(order.cdb, Cdb::Inquiry { evpd: false, .. }) {
         return Some(Sense::NoUnit);

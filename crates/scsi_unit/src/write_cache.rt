@@ -18,11 +18,6 @@ pub fn asks_to_last(cdb: &Cdb) -> bool
         Cdb::SyncCache10(_) => true,
         Cdb::Read10(transfer) | Cdb::Write10(transfer) => transfer.options & FUA != 0,
         Cdb::Read16(transfer) | Cdb::Write16(transfer) => transfer.options & FUA != 0,
-        Cdb::Inquiry { .. }
-        | Cdb::TestUnitReady { .. }
-        | Cdb::Capacity10 { .. }
-        | Cdb::Capacity16 { .. }
-        | Cdb::ReportLuns { .. }
-        | Cdb::Unknown(_) => false,
+        _ => false,
     }
 }

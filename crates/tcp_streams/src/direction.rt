@@ -1,7 +1,7 @@
 //! One direction of a connection, segment by segment.
 
 ghost use Rattle.std.specs.Prelude.{◌≡◌, ◌≤◌, ◌<◌, ◌==◌, ◌^◌, length, not, OnOk, IfErr};
-ghost use Rattle.tcp_streams.specs.Reassembly.{opening, Takes, FeedFails};
+ghost use Rattle.tcp_streams.specs.Reassembly.{opening_direction, TakesSegment, SegmentFails};
 
 use crate::fault::SegmentFault;
 use crate::placing::place;
@@ -25,7 +25,7 @@ pub struct Direction {
 impl Model for Direction {
     ghost use Rattle.std.specs.Prelude.{◌≤◌, ◌^◌};
     ghost use Rattle.tcp_streams.specs.Reassembly.{Taking};
-    ghost use Rattle.tcp_streams.specs.Inside.{pieces_of};
+    ghost use Rattle.tcp_streams.specs.Parts.{pieces_of};
 
     ghost Value = { Taking };
 
@@ -45,7 +45,7 @@ impl Direction {
     /// `first` is the sequence number of the stream's first byte: that of the SYN, and 1. Up to
     /// `limit` bytes may wait, where each piece that waits counts for its bytes and 64 more.
     pub fn new(alloc: Global, first: u32, limit: usize) -> Direction
-        ensures { result ≡ opening first limit }
+        ensures { result ≡ opening_direction first limit }
     {
         Direction {
             first,
@@ -74,10 +74,10 @@ impl Direction {
         out: &mut Vec<u8>,
     ) -> Result<(), SegmentFault>
         requires { length bytes.now < 2 ^ 32 }
-        ensures taken { OnOk result (Takes self.old
+        ensures taken { OnOk result (TakesSegment self.old
             (record { sequence = sequence; bytes = bytes.now })
             self.new out.old.items out.new.items) }
-        ensures err { IfErr result (FeedFails self.old
+        ensures err { IfErr result (SegmentFails self.old
             (record { sequence = sequence; bytes = bytes.now })) }
     {
         let (offset, skipped) = place(self.first, self.count, sequence);

@@ -5,7 +5,8 @@ ghost use Rattle.std.specs.List.{All, AllByRecursion, Contains};
 ghost use Rattle.tcp_streams.specs.Pieces.{Piece, Clash, NoClash};
 ghost use Rattle.tcp_streams.specs.Reassembly.{held};
 ghost use Rattle.tcp_streams.specs.declared.fault.SegmentFault.{SegmentFault};
-ghost use Rattle.tcp_streams.specs.Inside.{pieces_of, piece_of, piece, Drains, TakesPiece, AreLater, PieceFails};
+ghost use Rattle.tcp_streams.specs.Parts.{pieces_of, piece_of};
+ghost use Rattle.tcp_streams.specs.inner.Inside.{piece, DrainsWaiting, TakesPiece, AreLater, PieceFails};
 
 use crate::fault::SegmentFault;
 use std::alloc::Global;
@@ -149,7 +150,7 @@ pub(crate) fn drain(
 ) -> Result<(), SegmentFault>
     requires { count.old ≤ 2 ^ 63 }
     ensures drained { OnOk result ((more : List ℕ) × (out.new.items ≡ out.old.items ++ more)
-        × Drains count.old (pieces_of waiting.old.items)
+        × DrainsWaiting count.old (pieces_of waiting.old.items)
         count.new (pieces_of waiting.new.items) more) }
     ensures later { OnOk result (All (λ part. count.new < part.offset) waiting.new.items) }
     ensures limit { count.new ≤ 2 ^ 63 }

@@ -2,10 +2,10 @@
 
 ghost use Rattle.std.specs.Prelude.{◌≡◌, ◌<◌, ◌^◌, ℕ, List, [], length, map, IfErr, IfOk};
 ghost use Rattle.std.specs.List.{All};
-ghost use Rattle.tcp_streams.specs.Pieces.{Piece, Determines};
+ghost use Rattle.tcp_streams.specs.Pieces.{Piece, DeterminesBytes};
 ghost use Rattle.tcp_streams.specs.Placing.{ArePlaced, Numbered};
-ghost use Rattle.tcp_streams.specs.Reassembly.{FeedFails, Taking};
-ghost use Rattle.tcp_streams.specs.Whole.{numbered};
+ghost use Rattle.tcp_streams.specs.Reassembly.{SegmentFails, Taking};
+ghost use Rattle.tcp_streams.specs.Whole.{numbered_segment};
 
 use crate::direction::Direction;
 use crate::fault::SegmentFault;
@@ -33,10 +33,11 @@ pub fn reassemble(
 ) -> Result<Vec<u8>, SegmentFault>
     requires { All (λ segment. length segment.bytes.items < 2 ^ 32) segments.now }
     ensures ok { IfOk result (λ out. (pieces : List Piece)
-        × ArePlaced first [] (map numbered segments.now) pieces × Determines pieces out.items) }
+        × ArePlaced first [] (map numbered_segment segments.now) pieces
+        × DeterminesBytes pieces out.items) }
     // A fault is that of a direction with this limit, at one of the segments.
     ensures err { IfErr result (λ fault. (old : Taking) × (segment : Numbered)
-        × (old.limit ≡ limit) × FeedFails old segment fault) }
+        × (old.limit ≡ limit) × SegmentFails old segment fault) }
 {
     let mut direction = Direction::new(alloc, first, limit);
     let mut out = Vec::new(alloc);

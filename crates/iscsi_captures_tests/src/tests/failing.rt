@@ -4,7 +4,7 @@ use super::captures::{LOGIN, WHOLE};
 use super::{bytes_of, normalise};
 use crate::asserts::{same, same_bytes};
 use iscsi_captures::{CapturesFault, End, Wanted, list_connections};
-use iscsi_examples::{Sink, Source, Steps};
+use iscsi_test_support::{Sink, Source, Steps};
 use std::alloc::Global;
 use std::process::Abort;
 

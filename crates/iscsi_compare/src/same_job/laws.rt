@@ -6,7 +6,7 @@ ghost use Rattle.iscsi_stream.specs.Stream.{Message, StreamMeans};
 ghost use Rattle.iscsi_compare.specs.declared.fault.Which.{Which};
 ghost use Rattle.iscsi_compare.specs.declared.fault.CompareFault.TheVariants as fault;
 ghost use Rattle.iscsi_compare.specs.declared.verdict.Verdict.TheVariants as verdict;
-ghost use Rattle.iscsi_compare.specs.Comparing.{Input, Gave};
+ghost use Rattle.iscsi_compare.specs.Comparing.{ReadInput, GaveInput};
 ghost use Rattle.iscsi_compare.specs.SameJob.{SameJob};
 ghost use Rattle.iscsi_compare.specs.SameJobVerdict.{ComparesJobs};
 
@@ -29,15 +29,16 @@ pub fn through_a_third()
 /// a stream is returned. This holds if as much of the streams was read as was needed.
 pub fn whole_runs()
     ensures same { (s t : List ℕ) (ms ns : List Message) (left other_left : Option (List ℕ))
-        (first second : Input) → Gave (Some s) left first → Gave (Some t) other_left second
+        (first second : ReadInput) → GaveInput (Some s) left first
+        → GaveInput (Some t) other_left second
         → StreamMeans s ms → StreamMeans t ns
         → ComparesJobs (Ok verdict.Same) first second → SameJob ms ns }
     ensures differ { (s t : List ℕ) (ms ns : List Message) (left other_left : Option (List ℕ))
-        (first second : Input) (place other_place : ℕ) → Gave (Some s) left first
-        → Gave (Some t) other_left second → StreamMeans s ms → StreamMeans t ns
+        (first second : ReadInput) (place other_place : ℕ) → GaveInput (Some s) left first
+        → GaveInput (Some t) other_left second → StreamMeans s ms → StreamMeans t ns
         → ComparesJobs (Ok (verdict.Differ place other_place)) first second → SameJob ms ns → ⊥ }
     ensures no_fault { (s t : List ℕ) (ms ns : List Message) (left other_left : Option (List ℕ))
-        (first second : Input) (which : Which) (f : StreamFault) → Gave (Some s) left first
-        → Gave (Some t) other_left second → StreamMeans s ms → StreamMeans t ns
+        (first second : ReadInput) (which : Which) (f : StreamFault) → GaveInput (Some s) left first
+        → GaveInput (Some t) other_left second → StreamMeans s ms → StreamMeans t ns
         → ComparesJobs (Err (fault.Stream which f)) first second → ⊥ }
 {}

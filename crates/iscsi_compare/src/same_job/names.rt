@@ -3,7 +3,7 @@
 ghost use Rattle.std.specs.Prelude.{◌≡◌, IfOk, option_map};
 ghost use Rattle.std.proofs.lemmas.Map.Lookups.{CmpEqualImpliesEq};
 ghost use Rattle.iscsi_compare.specs.SameJob.{OneToOne};
-ghost use Rattle.iscsi_compare.specs.SameJobLearning.{Carries, IsSound, IsFresh, Joins};
+ghost use Rattle.iscsi_compare.specs.inner.SameJobLearning.{AgreesWithKnown, IsSound, IsFresh, JoinsNames};
 
 use std::alloc::{AllocError, Global};
 use std::collections::BTreeMap;
@@ -33,8 +33,8 @@ impl<K: Ord + Copy + Drop> Names<K> {
         requires exact { CmpEqualImpliesEq K.cmp }
         ensures sound { IfOk result (λ names. IsSound K.cmp names.there names.back) }
         ensures kept { IfOk result (λ names. (f : OneToOne K) → f.to name ≡ name
-            → Carries K.cmp names.there f) }
-        ensures said { IfOk result (λ names. (f : OneToOne K) → Carries K.cmp names.there f
+            → AgreesWithKnown K.cmp names.there f) }
+        ensures said { IfOk result (λ names. (f : OneToOne K) → AgreesWithKnown K.cmp names.there f
             → f.to name ≡ name) }
     {
         let mut names = Names::new(alloc);
@@ -48,7 +48,7 @@ impl<K: Ord + Copy + Drop> Names<K> {
     pub(crate) fn join(&mut self, mine: K, other: K) -> Result<bool, AllocError>
         requires exact { CmpEqualImpliesEq K.cmp }
         requires sound { IsSound K.cmp self.old.there self.old.back }
-        ensures { IfOk result (Joins K.cmp self.old.there self.new.there self.new.back
+        ensures { IfOk result (JoinsNames K.cmp self.old.there self.new.there self.new.back
             (λ f. f.to mine ≡ other)) }
     {
         if let Some(name) = self.there.get(&mine) {
@@ -70,7 +70,7 @@ impl<K: Ord + Copy + Drop> Names<K> {
     ) -> Result<bool, AllocError>
         requires exact { CmpEqualImpliesEq K.cmp }
         requires sound { IsSound K.cmp self.old.there self.old.back }
-        ensures { IfOk result (Joins K.cmp self.old.there self.new.there self.new.back
+        ensures { IfOk result (JoinsNames K.cmp self.old.there self.new.there self.new.back
             (λ f. option_map f.to mine ≡ other)) }
     {
         match (mine, other) {

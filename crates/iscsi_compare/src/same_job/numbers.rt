@@ -2,7 +2,7 @@
 //! tables of 17 kinds.
 
 ghost use Rattle.std.specs.Prelude.{◌≡◌};
-ghost use Rattle.iscsi_compare.specs.SameJobNumbers.{none, numbers, with_numbers};
+ghost use Rattle.iscsi_compare.specs.inner.SameJobNumbers.{none, numbers, with_numbers};
 
 use iscsi_pdu::{
     AsyncMessage, DataIn, DataOut, Head, LoginRequest, LoginResponse, LogoutRequest,
@@ -47,7 +47,7 @@ impl Numbers {
     }
 
     /// The numbers of a head.
-    #[tactic(auto, unfolding(crate::specs::SameJobNumbers::numbers))]
+    #[tactic(auto, unfolding(crate::specs::inner::SameJobNumbers::numbers))]
     pub(crate) fn of(head: &Head) -> Numbers
         ensures { result ≡ numbers head.now }
     {
@@ -179,7 +179,7 @@ impl Numbers {
     }
 
     /// The head with these numbers in place of its own.
-    #[tactic(auto, unfolding(crate::specs::SameJobNumbers::with_numbers))]
+    #[tactic(auto, unfolding(crate::specs::inner::SameJobNumbers::with_numbers))]
     pub(crate) fn within(&self, head: &Head) -> Head
         ensures { result ≡ with_numbers head.now self.now }
     {

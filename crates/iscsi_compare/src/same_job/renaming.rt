@@ -1,12 +1,12 @@
 //! What is known of the numbers that two runs of one job choose differently.
 
 ghost use Rattle.std.specs.Prelude.{◌≡◌, IfOk, OnOk};
-ghost use Rattle.iscsi_pdu.specs.Meaning.{Fits};
+ghost use Rattle.iscsi_pdu.specs.Meaning.{HeadFits};
 ghost use Rattle.iscsi_stream.specs.Stream.{message};
 ghost use Rattle.iscsi_compare.specs.SameJob.{Renumbering, renumbered, renumbered_message};
-ghost use Rattle.iscsi_compare.specs.SameJobLearning.{Learns};
-ghost use Rattle.iscsi_compare.specs.SameJobNumbers.{renamed};
-ghost use Rattle.iscsi_compare.specs.SameJobJudge.{Allows, IsSoundRenaming, LearnsNext};
+ghost use Rattle.iscsi_compare.specs.inner.SameJobLearning.{LearnsAnswer};
+ghost use Rattle.iscsi_compare.specs.inner.SameJobNumbers.{renamed};
+ghost use Rattle.iscsi_compare.specs.inner.SameJobJudge.{AllowsRenumbering, IsSoundRenaming, LearnsNext};
 
 use crate::same_job::heads::is_same_head;
 use crate::same_job::names::Names;
@@ -37,7 +37,7 @@ impl Renaming {
     /// runs out.
     pub(crate) fn new(alloc: Global) -> Result<Renaming, AllocError>
         ensures sound { IfOk result IsSoundRenaming }
-        ensures all { IfOk result (λ known. (r : Renumbering) → Allows known r) }
+        ensures all { IfOk result (λ known. (r : Renumbering) → AllowsRenumbering known r) }
     {
         Ok(Renaming {
             tasks: Names::fixed(alloc, RESERVED_TAG)?,
@@ -83,10 +83,11 @@ impl Renaming {
         other_continues: bool,
     ) -> Result<bool, AllocError>
         requires sound { IsSoundRenaming self.old }
-        requires mine { Fits mine.now.head }
-        requires other { Fits other.now.head }
+        requires mine { HeadFits mine.now.head }
+        requires other { HeadFits other.now.head }
         ensures sound { OnOk result (IsSoundRenaming self.new) }
-        ensures learns { IfOk result (Learns (Allows self.old) (Allows self.new)
+        ensures learns { IfOk result (LearnsAnswer (AllowsRenumbering self.old)
+            (AllowsRenumbering self.new)
             (λ r. renumbered_message r (message mine_continues mine.now.head mine.now.bytes.now)
             ≡ message other_continues other.now.head other.now.bytes.now)) }
     {
@@ -99,10 +100,11 @@ impl Renaming {
     // The same of two heads.
     fn accepts_head(&mut self, mine: &Head, other: &Head) -> Result<bool, AllocError>
         requires sound { IsSoundRenaming self.old }
-        requires mine { Fits mine.now }
-        requires other { Fits other.now }
+        requires mine { HeadFits mine.now }
+        requires other { HeadFits other.now }
         ensures sound { OnOk result (IsSoundRenaming self.new) }
-        ensures learns { IfOk result (Learns (Allows self.old) (Allows self.new)
+        ensures learns { IfOk result (LearnsAnswer (AllowsRenumbering self.old)
+            (AllowsRenumbering self.new)
             (λ r. renumbered r mine.now ≡ other.now)) }
     {
         let others = Numbers::of(other);
@@ -116,7 +118,8 @@ impl Renaming {
     fn learn(&mut self, mine: &Numbers, other: &Numbers) -> Result<bool, AllocError>
         requires sound { IsSoundRenaming self.old }
         ensures sound { OnOk result (IsSoundRenaming self.new) }
-        ensures learns { IfOk result (Learns (Allows self.old) (Allows self.new)
+        ensures learns { IfOk result (LearnsAnswer (AllowsRenumbering self.old)
+            (AllowsRenumbering self.new)
             (λ r. renamed r mine.now ≡ other.now)) }
     {
         let task = self.tasks.join(mine.task, other.task)?;

@@ -3,7 +3,7 @@
 ghost use Rattle.std.specs.Prelude.{◌≡◌, IfOk, true, false};
 ghost use Rattle.iscsi_text.specs.Canonical.{canonical_text};
 ghost use Rattle.iscsi_stream.specs.Segment.{segment_of};
-ghost use Rattle.iscsi_compare.specs.SameJobLearning.{Decides};
+ghost use Rattle.iscsi_compare.specs.inner.SameJobLearning.{AnswersTruly};
 
 use iscsi_pdu::Pdu;
 use iscsi_stream::text_of;
@@ -19,7 +19,7 @@ pub(crate) fn is_same_segment(
     other: &Pdu<'_>,
     other_continues: bool,
 ) -> Result<bool, AllocError>
-    ensures { IfOk result (Decides (segment_of mine_continues mine.now.head mine.now.bytes.now
+    ensures { IfOk result (AnswersTruly (segment_of mine_continues mine.now.head mine.now.bytes.now
         ≡ segment_of other_continues other.now.head other.now.bytes.now)) }
 {
     let text = text_of(alloc, mine, mine_continues)?;
@@ -34,7 +34,7 @@ pub(crate) fn is_same_segment(
 
 // Whether two texts have the same canonical text.
 fn is_same_text(alloc: Global, mine: &Text<'_>, other: &Text<'_>) -> Result<bool, AllocError>
-    ensures { IfOk result (Decides (canonical_text mine.now ≡ canonical_text other.now)) }
+    ensures { IfOk result (AnswersTruly (canonical_text mine.now ≡ canonical_text other.now)) }
 {
     let mut form = Vec::new(alloc);
     let mut other_form = Vec::new(alloc);
@@ -45,7 +45,7 @@ fn is_same_text(alloc: Global, mine: &Text<'_>, other: &Text<'_>) -> Result<bool
 
 // Whether bytes are equal.
 fn is_same_bytes(mine: &[u8], other: &[u8]) -> bool
-    ensures { Decides (mine.now ≡ other.now) result }
+    ensures { AnswersTruly (mine.now ≡ other.now) result }
 {
     mine == other
 }

@@ -4,7 +4,7 @@ use super::bytes_of;
 use super::worked::{CANONICAL, RAW};
 use crate::asserts::same;
 use iscsi_compare::{CompareFault, Verdict, Which, compare};
-use iscsi_examples::{SURE, Source, Steps};
+use iscsi_test_support::{SURE, Source, Steps};
 use std::alloc::Global;
 use std::process::Abort;
 

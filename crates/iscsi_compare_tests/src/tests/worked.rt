@@ -3,9 +3,9 @@
 use super::{bytes_of, compared};
 use crate::asserts::{same, same_bytes};
 use iscsi_compare::{CompareFault, Verdict, Which, compare};
-use iscsi_examples::{SURE, Source, Steps};
 use iscsi_pdu::HeadFault;
 use iscsi_stream::StreamFault;
+use iscsi_test_support::{SURE, Source, Steps};
 use std::alloc::Global;
 use std::process::Abort;
 

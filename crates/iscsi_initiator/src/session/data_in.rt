@@ -1,16 +1,17 @@
 //! The data of a read (RFC 7143, section 11.7).
 
 ghost use Rattle.std.specs.Prelude.{◌≡◌, None, Some};
-ghost use Rattle.iscsi_pdu.specs.declared.head.Head.TheVariants as heads;
 ghost use Rattle.iscsi_initiator.specs.Full.{due_to, takes, read_outcome, on_data};
 ghost use Rattle.iscsi_initiator.specs.declared.outstanding.Outstanding.TheVariants as opens;
-ghost use Rattle.iscsi_initiator.specs.Inside.{Handles, Counts, with_outstanding, data_received, received_by};
+ghost use Rattle.iscsi_initiator.specs.declared.target_pdu.Answer.TheVariants as answers;
+ghost use Rattle.iscsi_initiator.specs.inner.Inside.{SessionStepPost, CountedStepPost, with_outstanding, data_received, received_by};
 
 use super::Session;
 use super::responses::residual;
 use crate::fault::InitiatorFault;
 use crate::outstanding::{Outstanding, Reading};
 use crate::request::Done;
+use crate::target_pdu::Counters;
 use iscsi_pdu::DataIn;
 use iscsi_pdu::rule::{DATA_OUT_OF_ORDER, KIND_NOT_DUE};
 use scsi_cdb::Bytes;
@@ -21,17 +22,18 @@ impl Session {
     pub(super) fn on_data(
         &mut self,
         head: &DataIn,
+        counters: Counters,
         bytes: &[u8],
         out: &mut Vec<u8>,
     ) -> Result<Option<InitiatorFault>, AllocError>
-        ensures { Counts (takes
-            (due_to self.old.outstanding (heads.DataIn head.now)) self.old bytes.now)
+        ensures { CountedStepPost (takes
+            (due_to self.old.outstanding (answers.Data head.now)) counters self.old bytes.now)
             result self.old self.new out.old.items out.new.items }
     {
         let Some(Outstanding::In(_)) = &self.outstanding else {
             return Ok(self.protocol_error(KIND_NOT_DUE));
         };
-        let fault = self.admit(bytes, head.stat_sn, head.exp_cmd_sn, head.max_cmd_sn);
+        let fault = self.admit(bytes, counters);
         if fault.is_some() {
             return Ok(fault);
         }
@@ -45,7 +47,7 @@ impl Session {
         bytes: &[u8],
         out: &mut Vec<u8>,
     ) -> Result<Option<InitiatorFault>, AllocError>
-        ensures { Handles (data_received self.old.outstanding self.old head.now bytes.now)
+        ensures { SessionStepPost (data_received self.old.outstanding self.old head.now bytes.now)
             result self.old self.new out.old.items out.new.items }
     {
         match self.outstanding.take() {
@@ -65,7 +67,7 @@ impl Session {
         bytes: &[u8],
         out: &mut Vec<u8>,
     ) -> Result<Option<InitiatorFault>, AllocError>
-        ensures { Handles
+        ensures { SessionStepPost
             (on_data (with_outstanding self.old (opens.In reading)) reading head.now bytes.now)
             result (with_outstanding self.old (opens.In reading)) self.new
             out.old.items out.new.items }

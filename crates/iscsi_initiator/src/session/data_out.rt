@@ -1,7 +1,7 @@
 //! Sequences of Data-Out PDUs (RFC 7143, section 11.7).
 
 ghost use Rattle.std.specs.Prelude.{◌≡◌, ◌<◌, ◌≤◌, ◌+◌, ◌^◌, ◌++◌, length, take, OnOk, OnErr};
-ghost use Rattle.iscsi_pdu.specs.Meaning.{Fits};
+ghost use Rattle.iscsi_pdu.specs.Meaning.{HeadFits};
 ghost use Rattle.iscsi_pdu.specs.declared.head.Head.TheVariants as heads;
 ghost use Rattle.iscsi_stream.specs.Canonical.{canon};
 ghost use Rattle.iscsi_initiator.specs.Full.{data_outs};
@@ -19,7 +19,7 @@ pub fn write_sequence(
     bytes: &[u8],
     out: &mut Vec<u8>,
 ) -> Result<(), AllocError>
-    requires fits { Fits (heads.DataOut first) }
+    requires fits { HeadFits (heads.DataOut first) }
     requires some { 0 < most }
     requires short { most < 2 ^ 24 }
     requires within { first.buffer_offset + length bytes.now < 2 ^ 32 }
@@ -42,7 +42,7 @@ fn write_pieces(
     bytes: &[u8],
     out: &mut Vec<u8>,
 ) -> Result<(), AllocError>
-    requires fits { Fits (heads.DataOut first) }
+    requires fits { HeadFits (heads.DataOut first) }
     requires some { 0 < most }
     requires short { most < 2 ^ 24 }
     requires within { first.buffer_offset + length bytes.now < 2 ^ 32 }

@@ -3,15 +3,16 @@
 
 ghost use Rattle.std.specs.Prelude.{◌≡◌, ◌≢◌, ℕ, List, ◌≤◌, ◌<◌, ◌^◌, ◌++◌, [], length, take, drop, None, Some, OnOk, OnErr, IfOk};
 ghost use Rattle.std.specs.Option.{option_map};
-ghost use Rattle.iscsi_pdu.specs.Meaning.{Fits, whole};
+ghost use Rattle.iscsi_pdu.specs.Meaning.{HeadFits, whole};
 ghost use Rattle.iscsi_pdu.specs.declared.head.Head.TheVariants as heads;
 ghost use Rattle.iscsi_stream.specs.Segment.{Text as Whole, segment_of, text_or_bytes};
 ghost use Rattle.iscsi_login.specs.Answer.{DeclaresWell, initiator_holds};
-ghost use Rattle.iscsi_initiator.specs.Login.{following_stage, login_request, fits_segment, sends_text, sends_more, is_expected, counted, begins_stage, text_answered, is_empty_segment, goes_on, moves_on, in_turn, answered, login_step, start_step};
-ghost use Rattle.iscsi_initiator.specs.Inside.{Handles, Counts, Sends};
+ghost use Rattle.iscsi_initiator.specs.Login.{following_stage, login_request_head, fits_segment, sends_text, sends_more, is_expected, login_counted, begins_stage, login_text_answered, is_empty_segment, is_mid_text_answer, moves_on, login_answer_in_turn, login_answered, initiator_login_step, start_step};
+ghost use Rattle.iscsi_initiator.specs.inner.Inside.{SessionStepPost, CountedStepPost, SendStepPost};
 
 use super::Session;
 use crate::fault::InitiatorFault;
+use crate::target_pdu::Counters;
 use iscsi_login::{Phase, Stage};
 use iscsi_pdu::rule::{KIND_NOT_DUE, LOGIN_OUT_OF_TURN, STATUS_OUT_OF_ORDER, TEXT_AT_FAULT};
 use iscsi_pdu::{Head, LoginRequest, LoginResponse, Pdu};
@@ -22,7 +23,7 @@ use std::alloc::AllocError;
 impl Session {
     /// Starts the login: its first text is sent, or a part of it. A second start breaks a rule.
     pub fn start(&mut self, out: &mut Vec<u8>) -> Result<Option<InitiatorFault>, AllocError>
-        ensures { Handles (start_step self.old)
+        ensures { SessionStepPost (start_step self.old)
             result self.old self.new out.old.items out.new.items }
     {
         if self.started {
@@ -40,7 +41,7 @@ impl Session {
         continued: bool,
         out: &mut Vec<u8>,
     ) -> Result<Option<InitiatorFault>, AllocError>
-        ensures { Counts (login_step self.old pdu.now.head
+        ensures { CountedStepPost (initiator_login_step self.old pdu.now.head
             (segment_of continued pdu.now.head pdu.now.bytes.now))
             result self.old self.new out.old.items out.new.items }
     {
@@ -62,7 +63,7 @@ impl Session {
         bytes: &[u8],
         out: &mut Vec<u8>,
     ) -> Result<Option<InitiatorFault>, AllocError>
-        ensures { Counts (answered self.old response.now
+        ensures { CountedStepPost (login_answered self.old response.now
             (text_or_bytes (option_map (λ t. t.now) text.entry) bytes.now))
             result self.old self.new out.old.items out.new.items }
     {
@@ -91,7 +92,7 @@ impl Session {
         out: &mut Vec<u8>,
     ) -> Result<Option<InitiatorFault>, AllocError>
         requires { self.old.unsent_text ≢ [] }
-        ensures { Counts (in_turn self.old.unsent_text self.old response.now
+        ensures { CountedStepPost (login_answer_in_turn self.old.unsent_text self.old response.now
             (text_or_bytes (option_map (λ t. t.now) text.entry) bytes.now))
             result self.old self.new out.old.items out.new.items }
     {
@@ -111,8 +112,8 @@ impl Session {
         out: &mut Vec<u8>,
     ) -> Result<Option<InitiatorFault>, AllocError>
         requires { self.old.unsent_text ≡ [] }
-        ensures { (bytes : List ℕ) → Counts
-            (in_turn self.old.unsent_text self.old response.now
+        ensures { (bytes : List ℕ) → CountedStepPost
+            (login_answer_in_turn self.old.unsent_text self.old response.now
             (text_or_bytes (option_map (λ t. t.now) text.entry) bytes))
             result self.old self.new out.old.items out.new.items }
     {
@@ -132,7 +133,7 @@ impl Session {
         answer: &Text<'_>,
         out: &mut Vec<u8>,
     ) -> Result<Option<InitiatorFault>, AllocError>
-        ensures { Counts (text_answered self.old response.now (Whole answer.now))
+        ensures { CountedStepPost (login_text_answered self.old response.now (Whole answer.now))
             result self.old self.new out.old.items out.new.items }
     {
         if let Some(key) = self.config.bad_key(self.stage, answer) {
@@ -156,7 +157,7 @@ impl Session {
 
     // The stage moves, and the next text is sent, if there is one.
     fn begin_stage(&mut self, stage: Stage, out: &mut Vec<u8>) -> Result<(), AllocError>
-        ensures { Sends (begins_stage stage self.old)
+        ensures { SendStepPost (begins_stage stage self.old)
             result self.old self.new out.old.items out.new.items }
     {
         let before = self.stage;
@@ -175,10 +176,13 @@ impl Session {
 
     // The StatSN and the window of an answer are counted.
     fn count(&mut self, response: &LoginResponse)
-        ensures { self.new ≡ counted self.old response.now }
+        ensures { self.new ≡ login_counted self.old response.now }
     {
-        let stat_sn = response.stat_sn.unwrap_or(0);
-        self.update_counters(Some(stat_sn), response.exp_cmd_sn, response.max_cmd_sn);
+        self.update_counters(Counters {
+            stat_sn: Some(response.stat_sn.unwrap_or(0)),
+            exp_cmd_sn: response.exp_cmd_sn,
+            max_cmd_sn: response.max_cmd_sn,
+        });
     }
 
     // Whether the number is the expected one; the first sets it.
@@ -193,7 +197,7 @@ impl Session {
 
     // Whether the flags and the stage are those of an answer in the midst of a text.
     fn goes_on(&self, response: &LoginResponse, text: Option<&Text<'_>>, bytes: &[u8]) -> bool
-        ensures { result ≡ goes_on self.now response.now
+        ensures { result ≡ is_mid_text_answer self.now response.now
             (text_or_bytes (option_map (λ t. t.now) text.entry) bytes.now) }
     {
         !response.transits
@@ -215,7 +219,7 @@ impl Session {
     // The present text is sent whole, or its first segment is.
     #[tactic(auto, using(crate::proofs::LoginSendLemmas::sent_text))]
     fn send_text(&mut self, out: &mut Vec<u8>) -> Result<(), AllocError>
-        ensures { Sends (sends_text self.old)
+        ensures { SendStepPost (sends_text self.old)
             result self.old self.new out.old.items out.new.items }
     {
         let mut text = Vec::new(*out.allocator());
@@ -229,7 +233,7 @@ impl Session {
     // The next segment of the present text is sent.
     #[tactic(auto, using(crate::proofs::LoginSendLemmas::sent_more))]
     fn send_more(&mut self, out: &mut Vec<u8>) -> Result<(), AllocError>
-        ensures { Sends (sends_more self.old)
+        ensures { SendStepPost (sends_more self.old)
             result self.old self.new out.old.items out.new.items }
     {
         let len = self.write_segment(&self.unsent_text, out)?;
@@ -242,7 +246,8 @@ impl Session {
         ensures count { IfOk result (λ n. (n ≤ length text.now)
             × (drop n text.now ≡ drop self.now.settings.login_segment text.now)) }
         ensures ok { OnOk result (out.new.items ≡ out.old.items
-            ++ whole (heads.LoginRequest (login_request self.now (fits_segment self.now text.now)))
+            ++ whole (heads.LoginRequest (login_request_head self.now
+            (fits_segment self.now text.now)))
             (take self.now.settings.login_segment text.now)) }
         ensures err { OnErr result (out.new.items ≡ out.old.items) }
     {
@@ -255,8 +260,8 @@ impl Session {
 
     // The head of a login PDU, which is the last of its text or is not.
     fn login_request(&self, is_last: bool) -> LoginRequest
-        ensures value { result ≡ login_request self.now is_last }
-        ensures fits { Fits (heads.LoginRequest result) }
+        ensures value { result ≡ login_request_head self.now is_last }
+        ensures fits { HeadFits (heads.LoginRequest result) }
     {
         LoginRequest {
             transits: is_last,

@@ -2,18 +2,20 @@
 
 ghost use Rattle.std.specs.Prelude.{◌≡◌, ◌<◌, ◌^◌, false};
 ghost use Rattle.std.specs.Bool.{then_some};
-ghost use Rattle.iscsi_pdu.specs.Meaning.{Fits};
+ghost use Rattle.iscsi_pdu.specs.Meaning.{HeadFits};
 ghost use Rattle.iscsi_pdu.specs.Fields.{is_tag};
 ghost use Rattle.iscsi_pdu.specs.declared.head.Head.TheVariants as heads;
 ghost use Rattle.iscsi_initiator.specs.State.{sent_exp_stat_sn};
 ghost use Rattle.iscsi_initiator.specs.Full.{due_to, takes, on_r2t};
 ghost use Rattle.iscsi_initiator.specs.declared.outstanding.Outstanding.TheVariants as opens;
-ghost use Rattle.iscsi_initiator.specs.Inside.{Handles, Counts, with_outstanding, r2t_received};
+ghost use Rattle.iscsi_initiator.specs.declared.target_pdu.Answer.TheVariants as answers;
+ghost use Rattle.iscsi_initiator.specs.inner.Inside.{SessionStepPost, CountedStepPost, with_outstanding, r2t_received};
 
 use super::Session;
 use super::data_out::write_sequence;
 use crate::fault::InitiatorFault;
 use crate::outstanding::{Outstanding, Writing};
+use crate::target_pdu::Counters;
 use iscsi_login::NegKey;
 use iscsi_pdu::rule::{DATA_OUT_OF_ORDER, KIND_NOT_DUE};
 use iscsi_pdu::{DataOut, RESERVED_TAG, ReadyToTransfer};
@@ -24,17 +26,18 @@ impl Session {
     pub(super) fn on_r2t(
         &mut self,
         head: &ReadyToTransfer,
+        counters: Counters,
         bytes: &[u8],
         out: &mut Vec<u8>,
     ) -> Result<Option<InitiatorFault>, AllocError>
-        ensures { Counts (takes
-            (due_to self.old.outstanding (heads.ReadyToTransfer head.now)) self.old bytes.now)
+        ensures { CountedStepPost (takes
+            (due_to self.old.outstanding (answers.R2t head.now)) counters self.old bytes.now)
             result self.old self.new out.old.items out.new.items }
     {
         let Some(Outstanding::Out(_)) = &self.outstanding else {
             return Ok(self.protocol_error(KIND_NOT_DUE));
         };
-        let fault = self.admit(bytes, None, head.exp_cmd_sn, head.max_cmd_sn);
+        let fault = self.admit(bytes, counters);
         if fault.is_some() {
             return Ok(fault);
         }
@@ -47,7 +50,7 @@ impl Session {
         head: &ReadyToTransfer,
         out: &mut Vec<u8>,
     ) -> Result<Option<InitiatorFault>, AllocError>
-        ensures { Handles (r2t_received self.old.outstanding self.old head.now)
+        ensures { SessionStepPost (r2t_received self.old.outstanding self.old head.now)
             result self.old self.new out.old.items out.new.items }
     {
         match self.outstanding.take() {
@@ -66,7 +69,8 @@ impl Session {
         head: &ReadyToTransfer,
         out: &mut Vec<u8>,
     ) -> Result<Option<InitiatorFault>, AllocError>
-        ensures { Handles (on_r2t (with_outstanding self.old (opens.Out writing)) writing head.now)
+        ensures { SessionStepPost (on_r2t (with_outstanding self.old (opens.Out writing)) writing
+            head.now)
             result (with_outstanding self.old (opens.Out writing)) self.new
             out.old.items out.new.items }
     {
@@ -106,7 +110,7 @@ impl Session {
           data_sn = 0;
           buffer_offset = head.now.buffer_offset;
         } }
-        ensures fits { Fits (heads.DataOut result) }
+        ensures fits { HeadFits (heads.DataOut result) }
     {
         DataOut {
             is_final: false,

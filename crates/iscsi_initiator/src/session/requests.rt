@@ -2,16 +2,15 @@
 //! request, and what all of them need.
 
 ghost use Rattle.std.specs.Prelude.{◌≡◌, ◌<◌, ◌≤◌, ◌+◌, ◌++◌, false, length, None, OnOk, OnErr, IfErr};
-ghost use Rattle.scsi_cdb.specs.Blocks.{Fits as FitsTable};
-ghost use Rattle.iscsi_pdu.specs.Meaning.{Fits};
+ghost use Rattle.scsi_cdb.specs.Blocks.{CdbFits as FitsTable, record_of};
+ghost use Rattle.iscsi_pdu.specs.Meaning.{HeadFits};
 ghost use Rattle.iscsi_pdu.specs.declared.head.Head.TheVariants as heads;
 ghost use Rattle.iscsi_stream.specs.Canonical.{canon};
-ghost use Rattle.iscsi_initiator.specs.Block.{record_of};
 ghost use Rattle.iscsi_initiator.specs.State.{next_tag};
 ghost use Rattle.iscsi_initiator.specs.Calls.{refused_for};
-ghost use Rattle.iscsi_initiator.specs.Submitted.{refusal, refusal_when_full, is_too_long, accepted, immediate, has_more, unsolicited, writes, command, begun, ping, text_request, logout_request};
+ghost use Rattle.iscsi_initiator.specs.Submitted.{submit_refusal, refusal_when_full, is_request_too_long, accepted, immediate_data, has_more, unsolicited, write_submitted, command_head, request_begun, ping_head, text_request_head, logout_request_head};
 ghost use Rattle.iscsi_login.specs.Held.{is_on, unasked};
-ghost use Rattle.iscsi_initiator.specs.Inside.{unsolicited_head};
+ghost use Rattle.iscsi_initiator.specs.inner.Inside.{unsolicited_head};
 
 use super::Session;
 use super::data_out::write_sequence;
@@ -28,12 +27,12 @@ use std::alloc::{AllocError, Global};
 impl Session {
     /// Takes a request and appends what it sends, or hands it back and changes nothing.
     pub fn submit(&mut self, request: Request, out: &mut Vec<u8>) -> Result<(), Refused>
-        ensures accepted { OnOk result (refusal self.old request ≡ None) }
+        ensures accepted { OnOk result (submit_refusal self.old request ≡ None) }
         ensures begun { OnOk result (self.new ≡ (accepted self.old request).machine) }
         ensures sent { OnOk result
             (out.new.items ≡ out.old.items ++ canon (accepted self.old request).output) }
         ensures refused { IfErr result (λ refused. (refused.request ≡ request)
-            × (refusal self.old request ≡ refused_for refused.fault)) }
+            × (submit_refusal self.old request ≡ refused_for refused.fault)) }
         ensures kept { OnErr result (self.new ≡ self.old) }
         ensures unwritten { OnErr result (out.new.items ≡ out.old.items) }
     {
@@ -50,8 +49,8 @@ impl Session {
 
     // Why a request is refused, if it is.
     fn refusal(&self, request: &Request) -> Option<SubmitFault>
-        ensures fault { result ≡ refusal self.now request.now }
-        ensures short { result ≡ None → is_too_long self.now request.now ≡ false }
+        ensures fault { result ≡ submit_refusal self.now request.now }
+        ensures short { result ≡ None → is_request_too_long self.now request.now ≡ false }
     {
         match self.phase {
             Phase::Closed => Some(SubmitFault::Closed),
@@ -63,7 +62,7 @@ impl Session {
     // Why a request is refused in full feature phase, if it is.
     fn refusal_when_full(&self, request: &Request) -> Option<SubmitFault>
         ensures fault { result ≡ refusal_when_full self.now request.now }
-        ensures short { result ≡ None → is_too_long self.now request.now ≡ false }
+        ensures short { result ≡ None → is_request_too_long self.now request.now ≡ false }
     {
         if self.outstanding.is_some() || self.done.is_some() {
             return Some(SubmitFault::Busy);
@@ -79,7 +78,7 @@ impl Session {
 
     // Whether the request has or asks for more bytes than may go.
     fn is_too_long(&self, request: &Request) -> bool
-        ensures { result ≡ is_too_long self.now request.now }
+        ensures { result ≡ is_request_too_long self.now request.now }
     {
         match request {
             Request::In { expected, .. } => *expected as usize > MOST_BYTES,
@@ -94,7 +93,7 @@ impl Session {
     // Appends what an accepted request sends, or leaves `out` as it was.
     #[tactic(auto, using(crate::proofs::WritingLemmas::one_message))]
     fn write_request(&self, request: &Request, out: &mut Vec<u8>) -> Result<(), AllocError>
-        requires { is_too_long self.now request.now ≡ false }
+        requires { is_request_too_long self.now request.now ≡ false }
         ensures ok { OnOk result
             (out.new.items ≡ out.old.items ++ canon (accepted self.now request.now).output) }
         ensures err { OnErr result (out.new.items ≡ out.old.items) }
@@ -136,7 +135,7 @@ impl Session {
     ) -> Result<(), AllocError>
         requires { length bytes.now ≤ 4194304 }
         ensures ok { OnOk result (out.new.items
-            ≡ out.old.items ++ canon (writes self.now lun cdb.now bytes.now).output) }
+            ≡ out.old.items ++ canon (write_submitted self.now lun cdb.now bytes.now).output) }
         ensures err { OnErr result (out.new.items ≡ out.old.items) }
     {
         let held = out.len();
@@ -156,7 +155,7 @@ impl Session {
 
     // The head of a command of simple order that moves nothing.
     fn command(&self, is_final: bool, lun: u64, cdb: &[u8; 16]) -> ScsiCommand
-        ensures value { result ≡ command self.now is_final lun cdb.now }
+        ensures value { result ≡ command_head self.now is_final lun cdb.now }
         ensures fits { FitsTable result.cdb }
     {
         ScsiCommand {
@@ -170,7 +169,7 @@ impl Session {
             expected_data_transfer_length: 0,
             cmd_sn: self.cmd_sn,
             exp_stat_sn: self.sent_exp_stat_sn(),
-            cdb: record_of(cdb),
+            cdb: Cdb::read(cdb),
         }
     }
 
@@ -178,7 +177,7 @@ impl Session {
     fn unsolicited_head(&self, bytes: &[u8]) -> DataOut
         requires { length bytes.now ≤ 4194304 }
         ensures value { result ≡ unsolicited_head self.now bytes.now }
-        ensures fits { Fits (heads.DataOut result) }
+        ensures fits { HeadFits (heads.DataOut result) }
     {
         DataOut {
             is_final: false,
@@ -193,8 +192,8 @@ impl Session {
 
     // The head of a ping.
     fn ping(&self) -> NopOut
-        ensures value { result ≡ ping self.now }
-        ensures fits { Fits (heads.NopOut result) }
+        ensures value { result ≡ ping_head self.now }
+        ensures fits { HeadFits (heads.NopOut result) }
     {
         NopOut {
             immediate: false,
@@ -208,8 +207,8 @@ impl Session {
 
     // The head of a text request.
     fn text_request(&self) -> TextRequest
-        ensures value { result ≡ text_request self.now }
-        ensures fits { Fits (heads.TextRequest result) }
+        ensures value { result ≡ text_request_head self.now }
+        ensures fits { HeadFits (heads.TextRequest result) }
     {
         TextRequest {
             immediate: false,
@@ -225,8 +224,8 @@ impl Session {
 
     // The head of a logout of the whole session.
     fn logout_request(&self) -> LogoutRequest
-        ensures value { result ≡ logout_request self.now }
-        ensures fits { Fits (heads.LogoutRequest result) }
+        ensures value { result ≡ logout_request_head self.now }
+        ensures fits { HeadFits (heads.LogoutRequest result) }
     {
         LogoutRequest {
             immediate: false,
@@ -248,7 +247,7 @@ impl Session {
 
     // The bytes that the command itself carries.
     fn immediate<'a>(&self, bytes: &'a [u8]) -> &'a [u8]
-        ensures bytes { result.now ≡ immediate self.now bytes.now }
+        ensures bytes { result.now ≡ immediate_data self.now bytes.now }
         ensures most { length result.now ≤ length bytes.now }
     {
         if self.is_yes(NegKey::ImmediateData) {
@@ -268,7 +267,7 @@ impl Session {
     // The bytes that follow the command without being asked for.
     fn unsolicited<'a>(&self, bytes: &'a [u8]) -> &'a [u8]
         ensures bytes { result.now ≡ unsolicited self.now bytes.now }
-        ensures most { length (immediate self.now bytes.now) + length result.now
+        ensures most { length (immediate_data self.now bytes.now) + length result.now
             ≤ length bytes.now }
     {
         if self.has_more(bytes) {
@@ -287,7 +286,7 @@ impl Session {
 
     // Begins a request that was sent.
     fn begin(&mut self, request: Request, alloc: Global)
-        requires { is_too_long self.old request ≡ false }
+        requires { is_request_too_long self.old request ≡ false }
         ensures { self.new ≡ (accepted self.old request).machine }
     {
         let outstanding = self.outstanding_for(request, alloc);
@@ -298,8 +297,8 @@ impl Session {
 
     // What is outstanding once a request was sent.
     fn outstanding_for(&self, request: Request, alloc: Global) -> Outstanding
-        requires { is_too_long self.now request ≡ false }
-        ensures { begun self.now result ≡ (accepted self.now request).machine }
+        requires { is_request_too_long self.now request ≡ false }
+        ensures { request_begun self.now result ≡ (accepted self.now request).machine }
     {
         match request {
             Request::In { expected, .. } => Outstanding::In(Reading {
@@ -330,13 +329,4 @@ fn next_tag(tag: u32) -> u32
     ensures tag { result < 0xffff_ffff }
 {
     if tag == 0xffff_fffe { 0 } else { tag + 1 }
-}
-
-// The record of a descriptor block.
-#[tactic(auto, using(crate::proofs::BlockLaws::record_is))]
-fn record_of(block: &[u8; 16]) -> Cdb
-    ensures value { result ≡ record_of block.now }
-    ensures fits { FitsTable result }
-{
-    Cdb::read(block)
 }

@@ -3,17 +3,17 @@
 
 ghost use Rattle.std.specs.Prelude.{◌≡◌, None, Some};
 ghost use Rattle.std.specs.Option.{option_map};
-ghost use Rattle.iscsi_pdu.specs.Meaning.{Fits};
-ghost use Rattle.iscsi_pdu.specs.declared.head.Head.TheVariants as heads;
+ghost use Rattle.iscsi_initiator.specs.declared.target_pdu.Answer.TheVariants as answers;
 ghost use Rattle.iscsi_initiator.specs.Full.{due_to, takes, residual, sense_of, outcome_with};
-ghost use Rattle.iscsi_initiator.specs.Inside.{Handles, Counts, received_by};
+ghost use Rattle.iscsi_initiator.specs.inner.Inside.{SessionStepPost, CountedStepPost, received_by};
 
 use super::Session;
 use crate::fault::InitiatorFault;
 use crate::outstanding::Outstanding;
 use crate::request::Done;
+use crate::target_pdu::{Answer, Counters};
 use iscsi_pdu::rule::{DATA_OUT_OF_ORDER, KIND_NOT_DUE, TEXT_AT_FAULT};
-use iscsi_pdu::{Head, LogoutResponse, NopIn, ScsiResponse, TextResponse};
+use iscsi_pdu::{ScsiResponse, TextResponse};
 use scsi_cdb::{Bytes, Residual};
 use std::alloc::{AllocError, Global};
 
@@ -21,50 +21,40 @@ impl Session {
     // What may answer the outstanding request, by its kind.
     pub(super) fn on_answer(
         &mut self,
-        head: &Head,
+        answer: Answer,
+        counters: Counters,
         bytes: &[u8],
         out: &mut Vec<u8>,
     ) -> Result<Option<InitiatorFault>, AllocError>
-        requires fits { Fits head.now }
-        ensures { Counts (takes (due_to self.old.outstanding head.now) self.old bytes.now)
+        ensures { CountedStepPost (takes (due_to self.old.outstanding answer) counters self.old
+            bytes.now)
             result self.old self.new out.old.items out.new.items }
     {
-        match head {
-            Head::NopIn(head) => self.on_pong(head, bytes, out),
-            Head::DataIn(head) => self.on_data(head, bytes, out),
-            Head::ScsiResponse(head) => self.on_response(head, bytes, out),
-            Head::ReadyToTransfer(head) => self.on_r2t(head, bytes, out),
-            Head::TextResponse(head) => self.on_text_answer(head, bytes, out),
-            Head::LogoutResponse(head) => self.on_logout(head, bytes, out),
-            Head::NopOut(_)
-            | Head::ScsiCommand(_)
-            | Head::TaskRequest(_)
-            | Head::LoginRequest(_)
-            | Head::TextRequest(_)
-            | Head::DataOut(_)
-            | Head::LogoutRequest(_)
-            | Head::TaskResponse(_)
-            | Head::LoginResponse(_)
-            | Head::AsyncMessage(_)
-            | Head::Reject(_) => Ok(self.protocol_error(KIND_NOT_DUE)),
+        match answer {
+            Answer::Ping => self.on_pong(counters, bytes, out),
+            Answer::Data(head) => self.on_data(&head, counters, bytes, out),
+            Answer::Response(head) => self.on_response(&head, counters, bytes, out),
+            Answer::R2t(head) => self.on_r2t(&head, counters, bytes, out),
+            Answer::Text(head) => self.on_text_answer(&head, counters, bytes, out),
+            Answer::Logout => self.on_logout(counters, bytes, out),
         }
     }
 
     // The answer to a ping.
     fn on_pong(
         &mut self,
-        head: &NopIn,
+        counters: Counters,
         bytes: &[u8],
         out: &mut Vec<u8>,
     ) -> Result<Option<InitiatorFault>, AllocError>
-        ensures { Counts (takes
-            (due_to self.old.outstanding (heads.NopIn head.now)) self.old bytes.now)
+        ensures { CountedStepPost (takes
+            (due_to self.old.outstanding answers.Ping) counters self.old bytes.now)
             result self.old self.new out.old.items out.new.items }
     {
         let Some(Outstanding::Ping) = self.outstanding else {
             return Ok(self.protocol_error(KIND_NOT_DUE));
         };
-        let fault = self.admit(bytes, Some(head.stat_sn), head.exp_cmd_sn, head.max_cmd_sn);
+        let fault = self.admit(bytes, counters);
         if fault.is_some() {
             return Ok(fault);
         }
@@ -97,11 +87,12 @@ impl Session {
     fn on_response(
         &mut self,
         head: &ScsiResponse,
+        counters: Counters,
         bytes: &[u8],
         out: &mut Vec<u8>,
     ) -> Result<Option<InitiatorFault>, AllocError>
-        ensures { Counts (takes
-            (due_to self.old.outstanding (heads.ScsiResponse head.now)) self.old bytes.now)
+        ensures { CountedStepPost (takes
+            (due_to self.old.outstanding (answers.Response head.now)) counters self.old bytes.now)
             result self.old self.new out.old.items out.new.items }
     {
         if !matches!(
@@ -110,7 +101,7 @@ impl Session {
         ) {
             return Ok(self.protocol_error(KIND_NOT_DUE));
         }
-        let fault = self.admit(bytes, Some(head.stat_sn), head.exp_cmd_sn, head.max_cmd_sn);
+        let fault = self.admit(bytes, counters);
         if fault.is_some() {
             return Ok(fault);
         }
@@ -124,7 +115,7 @@ impl Session {
         bytes: &[u8],
         out: &mut Vec<u8>,
     ) -> Result<Option<InitiatorFault>, AllocError>
-        ensures { Handles (outcome_with (sense_of bytes.now) self.old
+        ensures { SessionStepPost (outcome_with (sense_of bytes.now) self.old
             (received_by self.old.outstanding) head.now)
             result self.old self.new out.old.items out.new.items }
     {
@@ -147,17 +138,18 @@ impl Session {
     fn on_text_answer(
         &mut self,
         head: &TextResponse,
+        counters: Counters,
         bytes: &[u8],
         out: &mut Vec<u8>,
     ) -> Result<Option<InitiatorFault>, AllocError>
-        ensures { Counts (takes
-            (due_to self.old.outstanding (heads.TextResponse head.now)) self.old bytes.now)
+        ensures { CountedStepPost (takes
+            (due_to self.old.outstanding (answers.Text head.now)) counters self.old bytes.now)
             result self.old self.new out.old.items out.new.items }
     {
         let Some(Outstanding::Text) = self.outstanding else {
             return Ok(self.protocol_error(KIND_NOT_DUE));
         };
-        let fault = self.admit(bytes, Some(head.stat_sn), head.exp_cmd_sn, head.max_cmd_sn);
+        let fault = self.admit(bytes, counters);
         if fault.is_some() {
             return Ok(fault);
         }
@@ -172,18 +164,18 @@ impl Session {
     // The answer to a logout closes the session.
     fn on_logout(
         &mut self,
-        head: &LogoutResponse,
+        counters: Counters,
         bytes: &[u8],
         out: &mut Vec<u8>,
     ) -> Result<Option<InitiatorFault>, AllocError>
-        ensures { Handles (takes
-            (due_to self.old.outstanding (heads.LogoutResponse head.now)) self.old bytes.now)
+        ensures { SessionStepPost (takes
+            (due_to self.old.outstanding answers.Logout) counters self.old bytes.now)
             result self.old self.new out.old.items out.new.items }
     {
         let Some(Outstanding::Logout) = self.outstanding else {
             return Ok(self.protocol_error(KIND_NOT_DUE));
         };
-        let fault = self.admit(bytes, Some(head.stat_sn), head.exp_cmd_sn, head.max_cmd_sn);
+        let fault = self.admit(bytes, counters);
         if fault.is_some() {
             return Ok(fault);
         }

@@ -16,9 +16,9 @@ use super::requests::REQUESTS;
 use super::words::{answer_of, outcome_of, phase_of, place_of, submit_of};
 use super::{Setup, feed_pieces, initiator_of, lines_before, request_of, setup_of};
 use crate::asserts::same;
-use iscsi_examples::{SESSION, Turn, append_pdu};
 use iscsi_initiator::{Initiator, InitiatorFault};
 use iscsi_login::{Answered, NegKey, Phase};
+use iscsi_test_support::{SESSION, Turn, append_pdu};
 use std::alloc::Global;
 use std::process::Abort;
 

@@ -2,9 +2,9 @@
 //! file, since it is tables of scripts and what runs them.
 
 use crate::asserts::same;
-use iscsi_examples::{Broken, Full};
 use iscsi_loop::{Channel, LONGEST_PIECE, run_loop, run_over};
-use iscsi_service::ServeFault;
+use iscsi_serve::ServeFault;
+use iscsi_test_support::{Broken, Full};
 use scsi_disk::MOST_BLOCKS;
 use std::alloc::Global;
 use std::fmt::Debug;

@@ -6,17 +6,17 @@ use Rattle.iscsi_stream.specs.Stream.{ReadsAs}
 use Rattle.iscsi_stream.specs.Canonical.{canon}
 use Rattle.iscsi_stream.proofs.ReadyLemmas.{apart}
 use Rattle.iscsi_target.specs.Machine as target_machine
-use Rattle.iscsi_initiator.specs.State.{opening, is_closed}
+use Rattle.iscsi_initiator.specs.State.{new_session, is_session_closed}
 use Rattle.iscsi_initiator.specs.Login.{start_step}
-use Rattle.iscsi_initiator.specs.Laws.{Input}
-use Rattle.iscsi_pair.specs.World.{World, Opening, Event, new_pair}
-use Rattle.iscsi_pair.specs.Traffic.{Traffic, Traces, TargetStands, InitiatorStands, coming, first_traffic, sent}
+use Rattle.iscsi_initiator.specs.Laws.{SessionInput}
+use Rattle.iscsi_pair.specs.World.{World, Opening, PairEvent, new_pair}
+use Rattle.iscsi_pair.specs.Traffic.{Traffic, TracesTraffic, TargetStands, InitiatorStands, coming, first_traffic, sent}
 use Rattle.iscsi_pair.proofs.Ends.TargetRun.{TargetSide, TargetLives, TargetOver}
 use Rattle.iscsi_pair.proofs.Ends.InitiatorRun.{InitiatorSide, streams, InitiatorLives, InitiatorOver, Follows, all_sent, begun}
 use Rattle.iscsi_pair.proofs.Ends.BothRuns.{Sides, SidesFrom, reached_sides, traced_sides}
 use Rattle.iscsi_stream.proofs.WritingLemmas.{canon_append}
 
-target_by : (b : Bool) (c : Opening) (t : Traffic) (w : World) → target_machine.is_closed w.target.machine ≡ b → w.target_fault ≡ None
+target_by : (b : Bool) (c : Opening) (t : Traffic) (w : World) → target_machine.is_machine_closed w.target.machine ≡ b → w.target_fault ≡ None
     → TargetSide c t.moved_to_target t.queued_for_initiator w.target w.blocks w.target_fault → TargetStands c t w
 target_by true c t w is none s =
     let o : TargetOver c t.moved_to_target t.queued_for_initiator w.target w.blocks = s.over none is in
@@ -49,15 +49,16 @@ target_by false c t w is none s =
 
 pub target_stands : (c : Opening) (t : Traffic) (w : World) → w.target_fault ≡ None
     → TargetSide c t.moved_to_target t.queued_for_initiator w.target w.blocks w.target_fault → TargetStands c t w
-target_stands c t w none s = target_by (target_machine.is_closed w.target.machine) c t w refl none s
+target_stands c t w none s = target_by (target_machine.is_machine_closed w.target.machine) c t w refl none s
 
 -- where the initiator stands that met these inputs first
-pub record StandsOn (past : List Input) (c : Opening) (t : Traffic) (w : World) : Type 0 where
-  pub inputs : List Input
+pub record StandsOn (past : List SessionInput) (c : Opening) (t : Traffic) (w : World) : Type 0 where
+  pub inputs : List SessionInput
   pub follows : Follows past inputs
   pub stands : InitiatorStands c inputs t w
 
-initiator_by : (b : Bool) (past : List Input) (c : Opening) (t : Traffic) (w : World) → is_closed w.initiator.machine ≡ b → w.initiator_fault ≡ None
+initiator_by : (b : Bool) (past : List SessionInput) (c : Opening) (t : Traffic) (w : World) → is_session_closed w.initiator.machine ≡ b → w.initiator_fault
+    ≡ None
     → InitiatorSide past c t.demands (streams t.moved_to_initiator t.queued_for_target) w.initiator w.initiator_fault → StandsOn past c t w
 initiator_by true past c t w is none s =
     let o : InitiatorOver past c t.demands t.moved_to_initiator t.queued_for_target w.initiator = s.over none is in
@@ -71,7 +72,7 @@ initiator_by true past c t w is none s =
         reads = o.reads;
         demands = o.order;
         machine = o.machine;
-        output = o.output ∙ canon_append (start_step (opening c.initiator)).output (sent (begun c) o.inputs);
+        output = o.output ∙ canon_append (start_step (new_session c.initiator)).output (sent (begun c) o.inputs);
         taken = λ live. absurd (apart is live);
         none_waits = λ live. absurd (apart is live);
       };
@@ -88,26 +89,27 @@ initiator_by false past c t w is none s =
         reads = subst (λ (k : ℕ). ReadsAs k no_login l.taken.given (coming l.inputs)) l.limit l.taken.reads;
         demands = l.order;
         machine = l.machine;
-        output = l.output ∙ canon_append (start_step (opening c.initiator)).output (sent (begun c) l.inputs);
+        output = l.output ∙ canon_append (start_step (new_session c.initiator)).output (sent (begun c) l.inputs);
         taken = λ live. l.taken;
         none_waits = λ live. l.unready;
       };
     }
 
-stands_on : (past : List Input) (c : Opening) (t : Traffic) (w : World) → w.initiator_fault ≡ None → SidesFrom past c t w → StandsOn past c t w
-stands_on past c t w none s = initiator_by (is_closed w.initiator.machine) past c t w refl none s.initiator
+stands_on : (past : List SessionInput) (c : Opening) (t : Traffic) (w : World) → w.initiator_fault ≡ None → SidesFrom past c t w → StandsOn past c t w
+stands_on past c t w none s = initiator_by (is_session_closed w.initiator.machine) past c t w refl none s.initiator
 
-pub initiator_stands : (c : Opening) (t : Traffic) (w : World) → w.initiator_fault ≡ None → Sides c t w → (inputs : List Input) × InitiatorStands c inputs t w
+pub initiator_stands : (c : Opening) (t : Traffic) (w : World) → w.initiator_fault ≡ None → Sides c t w → (inputs : List SessionInput)
+    × InitiatorStands c inputs t w
 initiator_stands c t w none s = let on : StandsOn [] c t w = stands_on [] c t w none s in (on.inputs, on.stands)
 
 -- ---- in the order of the events
 
 -- an initiator that stands so has met these inputs, and others only behind them
-sides_from : (inputs : List Input) (c : Opening) (t : Traffic) (w : World) → InitiatorStands c inputs t w → Sides c t w → SidesFrom inputs c t w
+sides_from : (inputs : List SessionInput) (c : Opening) (t : Traffic) (w : World) → InitiatorStands c inputs t w → Sides c t w → SidesFrom inputs c t w
 sides_from inputs c t w i s =
     let none_later : Follows inputs inputs = record { later = []; is = sym (append-nil inputs) } in
     let out : t.queued_for_target ≡ canon (all_sent c inputs) =
-    i.output ∙ sym (canon_append (start_step (opening c.initiator)).output (sent (begun c) inputs)) in
+    i.output ∙ sym (canon_append (start_step (new_session c.initiator)).output (sent (begun c) inputs)) in
     record {
       to_target = s.to_target;
       to_initiator = s.to_initiator;
@@ -141,10 +143,10 @@ sides_from inputs c t w i s =
     }
 
 -- what it meets later stands behind
-pub goes_on : (c : Opening) (past more : List Event) (mid w : World) (u t : Traffic) (inputs : List Input)
-    → Traces (first_traffic c) (new_pair c) past mid u → InitiatorStands c inputs u mid
-    → Traces u mid more w t → w.initiator_fault ≡ None → (later : List Input) × InitiatorStands c (inputs ++ later) t w
+pub goes_on : (c : Opening) (past more : List PairEvent) (mid w : World) (u t : Traffic) (inputs : List SessionInput)
+    → TracesTraffic (first_traffic c) (new_pair c) past mid u → InitiatorStands c inputs u mid
+    → TracesTraffic u mid more w t → w.initiator_fault ≡ None → (later : List SessionInput) × InitiatorStands c (inputs ++ later) t w
 goes_on c past more mid w u t inputs r i e none =
     let s : SidesFrom inputs c u mid = sides_from inputs c u mid i (reached_sides c past mid u r) in
     let on : StandsOn inputs c t w = stands_on inputs c t w none (traced_sides inputs c u mid more w t s e) in
-    (on.follows.later, subst (λ (x : List Input). InitiatorStands c x t w) on.follows.is on.stands)
+    (on.follows.later, subst (λ (x : List SessionInput). InitiatorStands c x t w) on.follows.is on.stands)

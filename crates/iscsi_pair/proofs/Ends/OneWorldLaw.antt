@@ -11,20 +11,20 @@ use Rattle.iscsi_target.specs.declared.fault.TargetFault.{TargetFault}
 use Rattle.iscsi_target.specs.declared.fault.TargetFault.TheVariants as target_faults
 use Rattle.iscsi_target.specs.Machine as target_machine
 use Rattle.iscsi_target.specs.Feed as target
-use Rattle.iscsi_target.proofs.OneOutcomeLaw.{one_outcome}
+use Rattle.iscsi_target.proofs.Feed.OneOutcomeLaw.{one_outcome}
 use Rattle.iscsi_initiator.specs.declared.fault.InitiatorFault.{InitiatorFault}
 use Rattle.iscsi_initiator.specs.declared.fault.InitiatorFault.TheVariants as faults
 use Rattle.iscsi_initiator.specs.declared.request.Refused.{Refused}
 use Rattle.iscsi_initiator.specs.declared.request.Request.{Request}
 use Rattle.iscsi_initiator.specs.declared.request.SubmitFault.{SubmitFault}
-use Rattle.iscsi_initiator.specs.State.{is_closed}
-use Rattle.iscsi_initiator.specs.Machine.{taken}
+use Rattle.iscsi_initiator.specs.State.{is_session_closed}
+use Rattle.iscsi_initiator.specs.Machine.{outcome_taken}
 use Rattle.iscsi_initiator.specs.Calls as initiator
 use Rattle.iscsi_initiator.proofs.OneOutcomeLaw.{one_feed, one_submit}
 use Rattle.iscsi_pair.specs.declared.step.EndFault.{EndFault}
 use Rattle.iscsi_pair.specs.declared.step.EndFault.TheVariants as ends
-use Rattle.iscsi_pair.specs.World.{World, Opening, Event, ToTarget, ToInitiator, Submits, Takes, TargetReceives, InitiatorReceives, InitiatorIsAsked}
-use Rattle.iscsi_pair.specs.World.{MovesToTarget, MovesToInitiator, Asks, Happens, RunsCalmly, LooksAlike, new_pair, store_of, feed_fault, submit_fault}
+use Rattle.iscsi_pair.specs.World.{World, Opening, PairEvent, ToTarget, ToInitiator, Submits, Takes, TargetReceives, InitiatorReceives, InitiatorIsAsked}
+use Rattle.iscsi_pair.specs.World.{MovesToTarget, MovesToInitiator, RequestHandedIn, PairEventStep, RunsCalmly, LooksAlike, new_pair, reliable_store, feed_fault, submit_fault}
 use Rattle.iscsi_pair.specs.World.{target_ran_out, initiator_ran_out, keeps_no_memory}
 use Rattle.iscsi_pair.specs.Traffic.{Traffic, coming, first_traffic, traffic_after}
 use Rattle.iscsi_pair.proofs.Ends.BothRuns.{Sides, happens_sides, opening_sides}
@@ -36,11 +36,12 @@ same_worlds old same new now l e f = subst (λ (w : World). LooksAlike w now) (s
 -- ---- the target receives
 
 -- messages that an open target has received
-record TargetTook (stream : List ℕ) (t : target.Connection) : Type 0 where
+record TargetTook (stream : List ℕ) (t : target.TargetConnection) : Type 0 where
   messages : List Message
-  taken : target_machine.is_closed t.machine ≡ false → HasTaken stream messages t.framing
+  taken : target_machine.is_machine_closed t.machine ≡ false → HasTaken stream messages t.framing
 
-target_took : (shut : Bool) (c : Opening) (t : Traffic) (w : World) → Sides c t w → target_machine.is_closed w.target.machine ≡ shut → w.target_fault ≡ None
+target_took : (shut : Bool) (c : Opening) (t : Traffic) (w : World) → Sides c t w → target_machine.is_machine_closed w.target.machine ≡ shut → w.target_fault
+    ≡ None
     → TargetTook t.moved_to_target w.target
 target_took true c t w s over none = record { messages = []; taken = λ live. absurd (apart over live) }
 target_took false c t w s live none = (let h = (s.target.lives none live).has in record { messages = h.messages; taken = λ open_. h.taken })
@@ -52,21 +53,22 @@ target_receives : (c : Opening) (t : Traffic) (old same new now : World) (moved 
     → TargetReceives moved old new → TargetReceives moved same now
     → target_ran_out new.target_fault ≡ false → target_ran_out now.target_fault ≡ false → LooksAlike new now
 target_receives c t old same new now moved s l none a b calm calm' =
-    let took : TargetTook t.moved_to_target old.target = target_took (target_machine.is_closed old.target.machine) c t old s refl none in
-    let x : target.FedAlike a.result b.result (target.scene new.target (store_of new.blocks) new.to_initiator)
-    (target.scene now.target (store_of now.blocks) now.to_initiator) =
+    let took : TargetTook t.moved_to_target old.target = target_took (target_machine.is_machine_closed old.target.machine) c t old s refl none in
+    let x : target.CallsAlike a.result b.result (target.scene new.target (reliable_store new.blocks) new.to_initiator)
+    (target.scene now.target (reliable_store now.blocks) now.to_initiator) =
     one_outcome false t.moved_to_target moved old.to_initiator new.to_initiator now.to_initiator took.messages old.target same.target new.target now.target
-    (store_of old.blocks) (store_of same.blocks) (store_of new.blocks) (store_of now.blocks) a.result b.result took.taken l.target l.disk a.fed
+    (reliable_store old.blocks) (reliable_store same.blocks) (reliable_store new.blocks) (reliable_store now.blocks) a.result b.result took.taken l.target
+    l.disk a.fed
     (record { memory = target_memory a.result (ap target_ran_out (sym a.fault) ∙ calm); device = refl })
-    (subst (λ (out : List ℕ). target.Fed false (target.scene same.target (store_of same.blocks) out) moved b.result
-    (target.scene now.target (store_of now.blocks) now.to_initiator)) l.to_initiator
+    (subst (λ (out : List ℕ). target.TargetFeedPost false (target.scene same.target (reliable_store same.blocks) out) moved b.result
+    (target.scene now.target (reliable_store now.blocks) now.to_initiator)) l.to_initiator
     b.fed)
     (record { memory = target_memory b.result (ap target_ran_out (sym b.fault) ∙ calm'); device = refl }) in
     record {
       target = x.alike;
       disk = x.disk;
-      initiator = subst (λ (y : initiator.Connection). initiator.Alike y now.initiator) (sym a.initiator)
-          (subst (λ (y : initiator.Connection). initiator.Alike old.initiator y) (sym b.initiator) l.initiator);
+      initiator = subst (λ (y : initiator.InitiatorConnection). initiator.InitiatorsAlike y now.initiator) (sym a.initiator)
+          (subst (λ (y : initiator.InitiatorConnection). initiator.InitiatorsAlike old.initiator y) (sym b.initiator) l.initiator);
       to_target = b.dropped ∙ ap (drop (length moved)) l.to_target ∙ sym a.dropped;
       to_initiator = x.output;
       target_fault = b.fault ∙ ap (λ (r : Result Phase TargetFault). result_err r) x.answered ∙ sym a.fault;
@@ -99,11 +101,11 @@ to_target (Some fault) (byte ∷ bytes) c t old same new now s l f a b calm calm
 
 -- ---- the initiator receives
 
-record InitiatorTook (stream : List ℕ) (i : initiator.Connection) : Type 0 where
+record InitiatorTook (stream : List ℕ) (i : initiator.InitiatorConnection) : Type 0 where
   messages : List Message
-  taken : is_closed i.machine ≡ false → HasTaken stream messages i.framing
+  taken : is_session_closed i.machine ≡ false → HasTaken stream messages i.framing
 
-initiator_took : (shut : Bool) (c : Opening) (t : Traffic) (w : World) → Sides c t w → is_closed w.initiator.machine ≡ shut → w.initiator_fault ≡ None
+initiator_took : (shut : Bool) (c : Opening) (t : Traffic) (w : World) → Sides c t w → is_session_closed w.initiator.machine ≡ shut → w.initiator_fault ≡ None
     → InitiatorTook t.moved_to_initiator w.initiator
 initiator_took true c t w s over none = record { messages = []; taken = λ live. absurd (apart over live) }
 initiator_took false c t w s live none = (let h = s.initiator.lives none live in record { messages = coming h.inputs; taken = λ open_. h.taken })
@@ -116,15 +118,16 @@ initiator_receives : (c : Opening) (t : Traffic) (old same new now : World) (mov
     → InitiatorReceives moved old new → InitiatorReceives moved same now
     → initiator_ran_out new.initiator_fault ≡ false → initiator_ran_out now.initiator_fault ≡ false → LooksAlike new now
 initiator_receives c t old same new now moved s l none a b calm calm' =
-    let took : InitiatorTook t.moved_to_initiator old.initiator = initiator_took (is_closed old.initiator.machine) c t old s refl none in
+    let took : InitiatorTook t.moved_to_initiator old.initiator = initiator_took (is_session_closed old.initiator.machine) c t old s refl none in
     let x : initiator.CalledAlike a.result b.result new.initiator now.initiator new.to_target now.to_target =
     one_feed t.moved_to_initiator moved old.to_target new.to_target now.to_target took.messages old.initiator same.initiator new.initiator now.initiator
     a.result b.result took.taken l.initiator a.fed
     (feed_memory a.result (ap initiator_ran_out (sym a.fault) ∙ calm))
-    (subst (λ (out : List ℕ). initiator.Feeds b.result same.initiator moved now.initiator out now.to_target) l.to_target b.fed)
+    (subst (λ (out : List ℕ). initiator.InitiatorFeedPost b.result same.initiator moved now.initiator out now.to_target) l.to_target b.fed)
     (feed_memory b.result (ap initiator_ran_out (sym b.fault) ∙ calm')) in
     record {
-      target = subst (λ (y : target.Connection). target.Alike y now.target) (sym a.target) (subst (λ (y : target.Connection). target.Alike old.target y)
+      target = subst (λ (y : target.TargetConnection). target.TargetsAlike y now.target) (sym a.target)
+          (subst (λ (y : target.TargetConnection). target.TargetsAlike old.target y)
           (sym b.target) l.target);
       disk = ap disk_of b.blocks ∙ l.disk ∙ ap disk_of (sym a.blocks);
       initiator = x.alike;
@@ -171,10 +174,11 @@ is_asked request old same new now l a b calm calm' =
     one_submit request old.to_target new.to_target now.to_target old.initiator same.initiator new.initiator now.initiator a.result b.result l.initiator
     a.submitted
     (submit_memory a.result (ap initiator_ran_out (sym a.fault) ∙ calm))
-    (subst (λ (out : List ℕ). initiator.Submits b.result same.initiator request now.initiator out now.to_target) l.to_target b.submitted)
+    (subst (λ (out : List ℕ). initiator.InitiatorSubmitPost b.result same.initiator request now.initiator out now.to_target) l.to_target b.submitted)
     (submit_memory b.result (ap initiator_ran_out (sym b.fault) ∙ calm')) in
     record {
-      target = subst (λ (y : target.Connection). target.Alike y now.target) (sym a.target) (subst (λ (y : target.Connection). target.Alike old.target y)
+      target = subst (λ (y : target.TargetConnection). target.TargetsAlike y now.target) (sym a.target)
+          (subst (λ (y : target.TargetConnection). target.TargetsAlike old.target y)
           (sym b.target) l.target);
       disk = ap disk_of b.blocks ∙ l.disk ∙ ap disk_of (sym a.blocks);
       initiator = x.alike;
@@ -184,7 +188,8 @@ is_asked request old same new now l a b calm calm' =
       initiator_fault = b.fault ∙ ap (λ (r : Result (Unit {0}) Refused). submit_fault (result_err r)) x.answered ∙ sym a.fault;
     }
 
-asks : (fault : Option EndFault) (request : Request) (old same new now : World) → LooksAlike old same → Asks fault request old new → Asks fault request same now
+asks : (fault : Option EndFault) (request : Request) (old same new now : World) → LooksAlike old same → RequestHandedIn fault request old new
+    → RequestHandedIn fault request same now
     → initiator_ran_out new.initiator_fault ≡ false → initiator_ran_out now.initiator_fault ≡ false → LooksAlike new now
 asks None request old same new now l a b calm calm' = is_asked request old same new now l a b calm calm'
 asks (Some fault) request old same new now l a b calm calm' = same_worlds old same new now l a b
@@ -196,7 +201,7 @@ takes : (old same : World) → LooksAlike old same → LooksAlike (record old { 
 takes old same l = record {
   target = l.target;
   disk = l.disk;
-  initiator = record { machine = ap taken l.initiator.machine; framing = l.initiator.framing };
+  initiator = record { machine = ap outcome_taken l.initiator.machine; framing = l.initiator.framing };
   to_target = l.to_target;
   to_initiator = l.to_initiator;
   target_fault = l.target_fault;
@@ -205,8 +210,9 @@ takes old same l = record {
 
 -- ---- one event, and all
 
-one_event : (c : Opening) (t : Traffic) (old same : World) (event : Event) (new now : World) → Sides c t old → LooksAlike old same → Happens old event new
-    → Happens same event now
+one_event : (c : Opening) (t : Traffic) (old same : World) (event : PairEvent) (new now : World) → Sides c t old → LooksAlike old same
+    → PairEventStep old event new
+    → PairEventStep same event now
     → keeps_no_memory new ≡ false → keeps_no_memory now ≡ false → LooksAlike new now
 one_event c t old same (ToTarget k) new now s l a b calm calm' =
     to_target old.target_fault (take k old.to_target) c t old same new now s l refl a
@@ -221,14 +227,15 @@ one_event c t old same (ToInitiator k) new now s l a b calm calm' =
     (or_parts (target_ran_out new.target_fault) (initiator_ran_out new.initiator_fault) calm).1
     (or_parts (target_ran_out now.target_fault) (initiator_ran_out now.initiator_fault) calm').1
 one_event c t old same (Submits request) new now s l a b calm calm' =
-    asks old.initiator_fault request old same new now l a (subst (λ (f : Option EndFault). Asks f request same now) l.initiator_fault b)
+    asks old.initiator_fault request old same new now l a (subst (λ (f : Option EndFault). RequestHandedIn f request same now) l.initiator_fault b)
     (or_parts (target_ran_out new.target_fault) (initiator_ran_out new.initiator_fault) calm).1
     (or_parts (target_ran_out now.target_fault) (initiator_ran_out now.initiator_fault) calm').1
 one_event c t old same Takes new now s l a b calm calm' =
     same_worlds (record old { initiator = initiator.after_taking old.initiator }) (record same { initiator = initiator.after_taking same.initiator }) new now
     (takes old same l) a b
 
-all_events : (c : Opening) (t : Traffic) (old same : World) (events : List Event) (v w : World) → Sides c t old → LooksAlike old same → RunsCalmly old events v
+all_events : (c : Opening) (t : Traffic) (old same : World) (events : List PairEvent) (v w : World) → Sides c t old → LooksAlike old same
+    → RunsCalmly old events v
     → RunsCalmly same events w → LooksAlike v w
 unfolding RunsCalmly
 all_events c t old same [] v w s l a b = same_worlds old same v w l a b
@@ -247,5 +254,5 @@ itself w = record {
   initiator_fault = refl;
 }
 
-pub one_world : (c : Opening) (events : List Event) (v w : World) → RunsCalmly (new_pair c) events v → RunsCalmly (new_pair c) events w → LooksAlike v w
+pub one_world : (c : Opening) (events : List PairEvent) (v w : World) → RunsCalmly (new_pair c) events v → RunsCalmly (new_pair c) events w → LooksAlike v w
 one_world c events v w a b = all_events c (first_traffic c) (new_pair c) (new_pair c) events v w (opening_sides c) (itself (new_pair c)) a b

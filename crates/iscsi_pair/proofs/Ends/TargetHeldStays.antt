@@ -3,8 +3,8 @@ use Rattle.std.proofs.Common.{false, ◌∙◌, List, [], ◌∷◌, refl}
 use Rattle.scsi_disk.specs.Disk.{Disk}
 use Rattle.iscsi_stream.specs.Stream.{Message}
 use Rattle.iscsi_target.specs.State.{Machine}
-use Rattle.iscsi_target.specs.Machine.{step, answers}
-use Rattle.iscsi_target.proofs.KeepingLemmas.{IsLater, Stays, step_stays}
+use Rattle.iscsi_target.specs.Machine.{target_step, answers}
+use Rattle.iscsi_target.proofs.Steps.KeepingLemmas.{IsLater, Stays, step_stays}
 use Rattle.iscsi_target.specs.Execution.{reliable}
 
 -- what is held after the login stays, whatever comes
@@ -12,8 +12,8 @@ pub held_stays : (s : Machine) (disk : Disk) (ms : List Message) → IsLater s.s
 unfolding answers
 held_stays s disk [] l = record { stage = refl; held = refl; has_text = refl; name = refl; progress = refl; later = λ l. l }
 held_stays s disk (m ∷ ms) l =
-    let k : Stays s (step false s disk m).machine = step_stays (reliable false) s disk m l in
-    let n = held_stays (step false s disk m).machine (step false s disk m).disk ms (k.later l) in
+    let k : Stays s (target_step false s disk m).machine = step_stays (reliable false) s disk m l in
+    let n = held_stays (target_step false s disk m).machine (target_step false s disk m).disk ms (k.later l) in
     record {
       stage = n.stage ∙ k.stage;
       held = n.held ∙ k.held;

@@ -3,23 +3,23 @@ use Rattle.std.specs.List.{AllByRecursion}
 use Rattle.std.proofs.Common.{false, ◌≡◌, ◌≤◌, ℕ, ◌+◌, ◌-◌, ◌*◌, ◌/◌, List, [], ◌∷◌, ◌++◌, length, take, drop, refl, sym, ap, ◌∙◌, subst, arith}
 use Rattle.std.proofs.lemmas.List.{drop_at, length-append, length-drop, length-take-le, take_at}
 use borrow.Rule.Slice.PartMut.{put_mid}
-use Rattle.scsi_disk.specs.Disk.{Disk, disk_of, joined, written}
-use Rattle.scsi_disk.specs.Effect.{block_data, disk_by, effect}
-use Rattle.scsi_disk.specs.Plan.{plan_of, transfer}
+use Rattle.scsi_disk.specs.Disk.{Disk, disk_of, joined_blocks, disk_written}
+use Rattle.scsi_disk.specs.Effect.{write_block_data, disk_by, effect}
+use Rattle.scsi_disk.specs.Plan.{plan_of, named_transfer}
 use Rattle.scsi_disk.specs.declared.order.Order.{Order}
 use Rattle.scsi_disk.specs.declared.order.Plan.{Plan}
 use Rattle.scsi_disk.specs.declared.order.Plan.TheVariants.{Refuse, Take, Give}
 use Rattle.scsi_disk.proofs.BlockLemmas.{cut-put, joined-cut, same_disk}
 use Rattle.scsi_disk.proofs.PlanLemmas.{IsTaken, taken}
 use Rattle.scsi_disk.proofs.RepeatLemmas.{block_data_size}
-use Rattle.iscsi_stream.specs.Pieces.{Pieces, TilesFrom, data_of}
+use Rattle.iscsi_stream.specs.Pieces.{Pieces, TilesFrom, piece_data}
 use Rattle.iscsi_stream.specs.Stream.{Message}
-use Rattle.iscsi_target.specs.State.{Machine, Execution, Stepped}
+use Rattle.iscsi_target.specs.State.{Machine, Execution, TargetStep}
 use Rattle.iscsi_target.specs.Execution.{reliable}
-use Rattle.iscsi_target.specs.Machine.{answers, step}
+use Rattle.iscsi_target.specs.Machine.{answers, target_step}
 use Rattle.iscsi_target.specs.Tiles.{IsTiled, TilesPlan}
-use Rattle.iscsi_target.proofs.DiskFoldLemmas.{Does, step_does}
-use Rattle.iscsi_target.proofs.WriteTilingLaws.{IsSound, step_count, step_goes}
+use Rattle.iscsi_target.proofs.Steps.DiskFoldLemmas.{Does, step_does}
+use Rattle.iscsi_target.proofs.Writes.WriteTilingLaws.{IsSound, step_count, step_goes}
 
 -- some bytes have these blocks
 pub record HasBlocks (disk : Disk) : Type 0 where
@@ -37,7 +37,7 @@ length_put a k xs ys e room =
     omega (arith, front, back, one, two, e, room)
 
 -- whole blocks inside the disk are written
-writes : (xs ys : List ℕ) (first count : ℕ) → length ys ≡ 512 * count → first + count ≤ length xs / 512 → HasBlocks (written first ys (disk_of xs))
+writes : (xs ys : List ℕ) (first count : ℕ) → length ys ≡ 512 * count → first + count ≤ length xs / 512 → HasBlocks (disk_written first ys (disk_of xs))
 writes xs ys first count whole inside =
     let room : 512 * first + length ys ≤ length xs = omega (arith, whole, inside) in
     record {
@@ -48,12 +48,12 @@ writes xs ys first count whole inside =
 
 -- what is written there is read there
 pub joined_back : (xs ys : List ℕ) (first count : ℕ) → length ys ≡ 512 * count → first + count ≤ length xs / 512
-    → joined (written first ys (disk_of xs)).block first count ≡ ys
+    → joined_blocks (disk_written first ys (disk_of xs)).block first count ≡ ys
 joined_back xs ys first count whole inside =
     let a : ℕ = 512 * first in
     let tail : List ℕ = drop (length ys) (drop a xs) in
     let room : a ≤ length xs = omega (arith, inside) in
-    ap (λ (block : ℕ → List ℕ). joined block first count) (sym (cut-put 512 xs ys first count whole room))
+    ap (λ (block : ℕ → List ℕ). joined_blocks block first count) (sym (cut-put 512 xs ys first count whole room))
     ∙ joined-cut 512 (put_mid a (length ys) xs ys) first count
     ∙ ap (take (512 * count)) (drop_at (take a xs) (ys ++ tail) a (length-take-le a xs room))
     ∙ take_at ys tail (512 * count) whole
@@ -61,27 +61,27 @@ joined_back xs ys first count whole inside =
 -- ---- an order
 
 -- pieces that tile n bytes have as many
-tiles_size : (at : ℕ) (pieces : Pieces) (end : ℕ) → TilesFrom at pieces end → at + length (data_of pieces) ≡ end
+tiles_size : (at : ℕ) (pieces : Pieces) (end : ℕ) → TilesFrom at pieces end → at + length (piece_data pieces) ≡ end
 tiles_size at [] end e = omega (arith, e)
 tiles_size at (piece ∷ pieces) end e =
     let more = tiles_size (at + length piece.1) pieces end e.1 in
-    let both = length-append piece.1 (data_of pieces) in
+    let both = length-append piece.1 (piece_data pieces) in
     omega (arith, more, both)
 
 by_plan : (plan : Plan) (xs : List ℕ) (order : Order) (pieces : Pieces) → plan_of order (length xs / 512) ≡ plan → TilesPlan plan pieces
-    → HasBlocks (disk_by plan (disk_of xs) order (data_of pieces))
+    → HasBlocks (disk_by plan (disk_of xs) order (piece_data pieces))
 by_plan (Refuse sense) xs order pieces is t = record { bytes = xs; is = refl }
 by_plan (Give n) xs order pieces is t = record { bytes = xs; is = refl }
 by_plan (Take n) xs order pieces is t =
     let f : IsTaken order (length xs / 512) n = taken order (length xs / 512) n is in
     let size = tiles_size 0 pieces n t in
-    let same : length (data_of pieces) ≡ n = omega (arith, size) in
-    writes xs (block_data order (data_of pieces)) (transfer order.cdb).first (transfer order.cdb).count
-    (block_data_size order (length xs / 512) n (data_of pieces) f same) f.names.inside
+    let same : length (piece_data pieces) ≡ n = omega (arith, size) in
+    writes xs (write_block_data order (piece_data pieces)) (named_transfer order.cdb).first (named_transfer order.cdb).count
+    (block_data_size order (length xs / 512) n (piece_data pieces) f same) f.names.inside
 
 -- an order is executed, with data that tile what it takes
 executes : (xs : List ℕ) (order : Order) (pieces : Pieces) → TilesPlan (plan_of order (length xs / 512)) pieces
-    → HasBlocks (effect false (disk_of xs) order (data_of pieces)).disk
+    → HasBlocks (effect false (disk_of xs) order (piece_data pieces)).disk
 executes xs order pieces t = by_plan (plan_of order (length xs / 512)) xs order pieces refl t
 
 -- ---- messages
@@ -91,13 +91,13 @@ does_blocks : (xs : List ℕ) (es : List Execution) (last : Disk) → Does (reli
 does_blocks xs [] last d t = record { bytes = xs; is = sym d }
 does_blocks xs (e ∷ es) last d t =
     let tiled : TilesPlan (plan_of e.order (length xs / 512)) e.pieces = subst (λ (x : Disk). TilesPlan (plan_of e.order x.count) e.pieces) d.0 t.0 in
-    let h : HasBlocks (effect false e.disk e.order (data_of e.pieces)).disk =
-    subst (λ (x : Disk). HasBlocks (effect false x e.order (data_of e.pieces)).disk) (sym d.0) (executes xs e.order e.pieces tiled) in
+    let h : HasBlocks (effect false e.disk e.order (piece_data e.pieces)).disk =
+    subst (λ (x : Disk). HasBlocks (effect false x e.order (piece_data e.pieces)).disk) (sym d.0) (executes xs e.order e.pieces tiled) in
     does_blocks h.bytes es last (subst (λ (x : Disk). Does (reliable false) x es last) (sym h.is) d.1) t.1
 
-step_blocks : (s : Machine) (disk : Disk) (m : Message) → IsSound disk.count s.tasks → HasBlocks disk → HasBlocks (step false s disk m).disk
+step_blocks : (s : Machine) (disk : Disk) (m : Message) → IsSound disk.count s.tasks → HasBlocks disk → HasBlocks (target_step false s disk m).disk
 step_blocks s disk m o h =
-    let r : Stepped = step false s disk m in
+    let r : TargetStep = target_step false s disk m in
     does_blocks h.bytes r.executed r.disk (subst (λ (x : Disk). Does (reliable false) x r.executed r.disk) (sym h.is) (step_does (reliable false) s disk m).is)
     (step_goes false disk s m o).tiled
 
@@ -105,6 +105,6 @@ pub answers_blocks : (s : Machine) (disk : Disk) (ms : List Message) → IsSound
 unfolding answers
 answers_blocks s disk [] o h = h
 answers_blocks s disk (m ∷ ms) o h =
-    let r : Stepped = step false s disk m in
+    let r : TargetStep = target_step false s disk m in
     answers_blocks r.machine r.disk ms (subst (λ (n : ℕ). IsSound n r.machine.tasks) (sym (step_count false s disk m)) (step_goes false disk s m o).sound)
     (step_blocks s disk m o h)

@@ -10,7 +10,8 @@ use Rattle.scsi_cdb.specs.declared.cdb.Cdb.TheVariants.{Read10, Write10}
 use Rattle.scsi_cdb.specs.declared.cdb.Transfer10.{Transfer10}
 use Rattle.scsi_cdb.specs.declared.residual.Residual.{Residual}
 use Rattle.scsi_cdb.specs.declared.residual.Residual.TheVariants.{Exact}
-use Rattle.scsi_disk.specs.Disk.{Disk, disk_of, joined, written}
+use Rattle.scsi_cdb.specs.Blocks.{record_of}
+use Rattle.scsi_disk.specs.Disk.{Disk, disk_of, joined_blocks, disk_written}
 use Rattle.scsi_disk.specs.Effect.{disk_by, effect, outcome_by, residual_of}
 use Rattle.scsi_disk.specs.Plan.{plan_of}
 use Rattle.scsi_disk.specs.declared.order.Order.{Order}
@@ -18,15 +19,14 @@ use Rattle.scsi_disk.specs.declared.order.Plan.{Plan}
 use Rattle.scsi_disk.specs.declared.order.Plan.TheVariants.{Take, Give}
 use Rattle.iscsi_pdu.specs.Meaning.{AreBytes}
 use Rattle.iscsi_login.specs.Name.{IsName}
-use Rattle.iscsi_login.specs.Negotiation.{IsInRange, standard}
-use Rattle.iscsi_initiator.specs.Block.{record_of}
+use Rattle.iscsi_login.specs.Negotiation.{ArePreferencesInRange, standard_preferences}
 use Rattle.iscsi_initiator.specs.declared.request.Done.TheVariants as done
 use Rattle.iscsi_initiator.specs.declared.request.Request.{Request}
 use Rattle.iscsi_initiator.specs.declared.request.Request.TheVariants as requests
 use Rattle.iscsi_pair.specs.World.{Opening}
 use Rattle.iscsi_pair.specs.LocalDisk.{local, local_outcomes, reading_order, reported, writing_order}
 use Rattle.iscsi_pair.specs.Served.{IsNormal, SomeRunServes, disk_outcomes}
-use Rattle.iscsi_pair.specs.Example.{NameSame, first_read, first_written, good, standard_opening}
+use Rattle.iscsi_pair.specs.Example.{NameSame, first_read, first_written, good_done, standard_opening}
 use Rattle.iscsi_pair.proofs.Lists.BlockLemmas.{joined_back}
 use Rattle.iscsi_pair.proofs.Lists.ListsAreServedLaw.{serves_all}
 use Rattle.iscsi_stream.proofs.CanonBytesLaw.{cons_bytes}
@@ -89,7 +89,7 @@ none_over n = (let same : nat_lt n n ≡ false = le-ltb n n (omega arith) in rw 
 
 -- the write is told to be good, and leaves its bytes
 write_outcome : (most : ℕ) (c : Opening) (write_cdb read_cdb bytes : List ℕ) → NameSame c write_cdb read_cdb bytes
-    → (local most (disk_of c.blocks) (requests.Out 0 write_cdb bytes)).outcome ≡ good []
+    → (local most (disk_of c.blocks) (requests.Out 0 write_cdb bytes)).outcome ≡ good_done []
 write_outcome most c write_cdb read_cdb bytes p =
     let disk : Disk = disk_of c.blocks in
     ap (λ (x : Order). reported (effect false disk x bytes).outcome) (write_order c write_cdb read_cdb bytes p)
@@ -97,7 +97,7 @@ write_outcome most c write_cdb read_cdb bytes p =
     ∙ ap (λ (x : Residual). done.Command 0 0x00 [] [] x) (none_over (512 * p.named.blocks))
 
 write_disk : (most : ℕ) (c : Opening) (write_cdb read_cdb bytes : List ℕ) → (p : NameSame c write_cdb read_cdb bytes)
-    → (local most (disk_of c.blocks) (requests.Out 0 write_cdb bytes)).disk ≡ written p.named.logical_block_address bytes (disk_of c.blocks)
+    → (local most (disk_of c.blocks) (requests.Out 0 write_cdb bytes)).disk ≡ disk_written p.named.logical_block_address bytes (disk_of c.blocks)
 write_disk most c write_cdb read_cdb bytes p =
     let disk : Disk = disk_of c.blocks in
     ap (λ (x : Order). (effect false disk x bytes).disk) (write_order c write_cdb read_cdb bytes p)
@@ -105,34 +105,34 @@ write_disk most c write_cdb read_cdb bytes p =
 
 -- the read gives them
 read_outcome : (most : ℕ) (c : Opening) (write_cdb read_cdb bytes : List ℕ) → (p : NameSame c write_cdb read_cdb bytes)
-    → (local most (written p.named.logical_block_address bytes (disk_of c.blocks)) (requests.In 0 read_cdb (length bytes))).outcome ≡ good bytes
+    → (local most (disk_written p.named.logical_block_address bytes (disk_of c.blocks)) (requests.In 0 read_cdb (length bytes))).outcome ≡ good_done bytes
 read_outcome most c write_cdb read_cdb bytes p =
     let first : ℕ = p.named.logical_block_address in
-    let disk : Disk = written first bytes (disk_of c.blocks) in
+    let disk : Disk = disk_written first bytes (disk_of c.blocks) in
     let size : ℕ = 512 * p.named.blocks in
-    let all : take size (joined disk.block first p.named.blocks) ≡ bytes =
+    let all : take size (joined_blocks disk.block first p.named.blocks) ≡ bytes =
     ap (take size) (joined_back c.blocks bytes first p.named.blocks p.size p.inside) ∙ take_all size bytes (let same = p.size in omega (arith, same)) in
     ap (λ (x : Order). reported (effect false disk x []).outcome) (read_order c write_cdb read_cdb bytes p)
     ∙ ap (λ (x : Plan). reported (outcome_by x disk (a_read p.named))) (read_plan p.named (length c.blocks / 512) (are_fine c write_cdb read_cdb bytes p))
-    ∙ ap (λ (x : Residual). done.Command 0 0x00 [] (take size (joined disk.block first p.named.blocks)) x) (none_over size)
-    ∙ ap good all
+    ∙ ap (λ (x : Residual). done.Command 0 0x00 [] (take size (joined_blocks disk.block first p.named.blocks)) x) (none_over size)
+    ∙ ap good_done all
 
 -- both outcomes
 outcomes_are : (c : Opening) (write_cdb read_cdb bytes : List ℕ) → NameSame c write_cdb read_cdb bytes
-    → disk_outcomes c (requests.Out 0 write_cdb bytes ∷ requests.In 0 read_cdb (length bytes) ∷ []) ≡ good [] ∷ good bytes ∷ []
+    → disk_outcomes c (requests.Out 0 write_cdb bytes ∷ requests.In 0 read_cdb (length bytes) ∷ []) ≡ good_done [] ∷ good_done bytes ∷ []
 unfolding local_outcomes
 outcomes_are c write_cdb read_cdb bytes p =
     let most : ℕ = c.initiator.proposal.prefs.max_recv in
     let disk : Disk = disk_of c.blocks in
-    let wrote : (local most disk (requests.Out 0 write_cdb bytes)).outcome ≡ good [] = write_outcome most c write_cdb read_cdb bytes p in
-    let gave : (local most (local most disk (requests.Out 0 write_cdb bytes)).disk (requests.In 0 read_cdb (length bytes))).outcome ≡ good bytes =
+    let wrote : (local most disk (requests.Out 0 write_cdb bytes)).outcome ≡ good_done [] = write_outcome most c write_cdb read_cdb bytes p in
+    let gave : (local most (local most disk (requests.Out 0 write_cdb bytes)).disk (requests.In 0 read_cdb (length bytes))).outcome ≡ good_done bytes =
     ap (λ (d : Disk). (local most d (requests.In 0 read_cdb (length bytes))).outcome) (write_disk most c write_cdb read_cdb bytes p)
     ∙ read_outcome most c write_cdb read_cdb bytes p in
     λ j. wrote j ∷ gave j ∷ []
 
 -- some run serves both
 pub reads_back : (c : Opening) (write_cdb read_cdb bytes : List ℕ) → IsNormal c → NameSame c write_cdb read_cdb bytes
-    → SomeRunServes c (requests.Out 0 write_cdb bytes ∷ requests.In 0 read_cdb (length bytes) ∷ []) (good [] ∷ good bytes ∷ [])
+    → SomeRunServes c (requests.Out 0 write_cdb bytes ∷ requests.In 0 read_cdb (length bytes) ∷ []) (good_done [] ∷ good_done bytes ∷ [])
 reads_back c write_cdb read_cdb bytes o p =
     let all : List Request = requests.Out 0 write_cdb bytes ∷ requests.In 0 read_cdb (length bytes) ∷ [] in
     let most : length bytes ≤ 4194304 = (let few = p.few in let size = p.size in omega (arith, few, size)) in
@@ -212,7 +212,7 @@ standard_normal blocks = record {
   plain = refl;
 }
   where
-    ranges : IsInRange standard
+    ranges : ArePreferencesInRange standard_preferences
     ranges = record {
       max_burst = (omega arith, omega arith);
       first_burst = (omega arith, omega arith);

@@ -12,18 +12,18 @@ use Rattle.iscsi_initiator.specs.declared.request.Done.{Done}
 use Rattle.iscsi_initiator.specs.declared.request.Request.{Request}
 use Rattle.iscsi_initiator.specs.declared.request.Request.TheVariants as requests
 use Rattle.iscsi_initiator.specs.Laws.{listed}
-use Rattle.iscsi_initiator.specs.Machine.{taken}
+use Rattle.iscsi_initiator.specs.Machine.{outcome_taken}
 use Rattle.iscsi_initiator.specs.State as initiator
 use Rattle.iscsi_initiator.specs.Submitted.{submitted}
 use Rattle.iscsi_pair.specs.declared.step.RunFault.{RunFault}
 use Rattle.iscsi_pair.specs.declared.step.RunFault.TheVariants as faults
 use Rattle.iscsi_pair.specs.declared.step.Step.{Step}
 use Rattle.iscsi_pair.specs.declared.step.Step.TheVariants as steps
-use Rattle.iscsi_pair.specs.World.{World, Opening, IsOpening, Suits, Event, Submits, Takes, ToTarget, ToInitiator, Happens, Runs, event_of, new_pair, keeps_no_memory}
+use Rattle.iscsi_pair.specs.World.{World, Opening, IsOpening, SuitEachOther, PairEvent, Submits, Takes, ToTarget, ToInitiator, PairEventStep, PairRuns, event_of, new_pair, keeps_no_memory}
 use Rattle.iscsi_pair.specs.World.{target_ran_out, initiator_ran_out}
 use Rattle.iscsi_pair.specs.LocalDisk.{AreInStep, local_outcomes}
-use Rattle.iscsi_pair.specs.Served.{AreAtEnd, EndsInLogout, IsAlwaysTaken, IsNormal, IsServed, RunsServed, requests_of, given_in, disk_after, disk_outcomes}
-use Rattle.iscsi_pair.specs.Outcomes.{Gives, CanBeServed, IsIdle, request_of, requests_among}
+use Rattle.iscsi_pair.specs.Served.{AreAtEnd, EndsInLogout, IsAlwaysTaken, IsNormal, IsServed, RunsServed, requests_of, pair_outcome_in, local_disk_after, disk_outcomes}
+use Rattle.iscsi_pair.specs.Outcomes.{GivesOutcomes, CanBeServed, IsIdle, step_request, requests_among}
 use Rattle.iscsi_pair.proofs.Login.NoFailure.{both_none}
 use Rattle.iscsi_pair.proofs.Request.AnswersInOrder.{most_answers}
 use Rattle.iscsi_pair.proofs.Request.OneRequestLaw.{accepts}
@@ -48,12 +48,12 @@ pub record HasLess (c : Opening) (turns : ℕ) (w : World) : Type 0 where
 pub record HasTurned (old : World) (turns : ℕ) (new : World) : Type 0 where
   pub taken : List Step
   pub none_asked : requests_among taken ≡ []
-  pub ran : Runs old (map event_of taken) new
-  pub left : (c : Opening) (events : List Event) (outcomes : List Done) → IsNormal c → RunsServed (new_pair c) events old outcomes
+  pub ran : PairRuns old (map event_of taken) new
+  pub left : (c : Opening) (events : List PairEvent) (outcomes : List Done) → IsNormal c → RunsServed (new_pair c) events old outcomes
       → keeps_no_memory new ≡ false → HasLess c turns new
 
 pub none_turned : (w : World) → HasTurned w 0 w
-unfolding Runs
+unfolding PairRuns
 none_turned w = record {
   taken = [];
   none_asked = refl;
@@ -75,13 +75,13 @@ less_by c k turns mid new less busy t = record {
   ];
 }
 
-none_more : (taken : List Step) (step : Step) → requests_among taken ≡ [] → request_of step ≡ [] → requests_among (taken ++ step ∷ []) ≡ []
-none_more taken step none e = flat_map-append request_of taken (step ∷ []) ∙ ap (λ (x : List Request). x ++ (request_of step ++ [])) none
+none_more : (taken : List Step) (step : Step) → requests_among taken ≡ [] → step_request step ≡ [] → requests_among (taken ++ step ∷ []) ≡ []
+none_more taken step none e = flat_map-append step_request taken (step ∷ []) ∙ ap (λ (x : List Request). x ++ (step_request step ++ [])) none
     ∙ ap (λ (x : List Request). x ++ []) e
 
 -- one turn more
 pub turned_more : (old mid half new : World) (turns : ℕ) → HasTurned old turns mid → (IsSilent mid → ⊥)
-    → Happens mid (ToTarget (length mid.to_target)) half → Happens half (ToInitiator (length half.to_initiator)) new → HasTurned old (turns + 1) new
+    → PairEventStep mid (ToTarget (length mid.to_target)) half → PairEventStep half (ToInitiator (length half.to_initiator)) new → HasTurned old (turns + 1) new
 turned_more old mid half new turns h busy e f =
     let there : Step = steps.ToTarget (length mid.to_target) in
     let here : Step = steps.ToInitiator (length half.to_initiator) in
@@ -90,9 +90,9 @@ turned_more old mid half new turns h busy e f =
       none_asked = none_more (h.taken ++ there ∷ []) here (none_more h.taken there h.none_asked refl) refl;
       ran = step_more old half new (h.taken ++ there ∷ []) here (step_more old mid half h.taken there h.ran e) f;
       left = λ c events outcomes o r calm.
-          (let first : Event = ToTarget (length mid.to_target) in
-          let second : Event = ToInitiator (length half.to_initiator) in
-          let both : Runs mid (([] ++ first ∷ []) ++ second ∷ []) new =
+          (let first : PairEvent = ToTarget (length mid.to_target) in
+          let second : PairEvent = ToInitiator (length half.to_initiator) in
+          let both : PairRuns mid (([] ++ first ∷ []) ++ second ∷ []) new =
           runs_more mid half new ([] ++ first ∷ []) second (runs_more mid mid half [] first (runs_none mid) e) f in
           let l : HasLess c turns mid = h.left c events outcomes o r (calm_first mid (([] ++ first ∷ []) ++ second ∷ []) new both calm) in
           less_by c l.k turns mid new l.less busy (turns_on c l.k mid half new o l.turned e f calm));
@@ -100,7 +100,8 @@ turned_more old mid half new turns h busy e f =
 
 -- behind the last turn a served run is idle
 pub comes_to_rest : (old new : World) (turns : ℕ) → HasTurned old turns new → IsSilent new ⊎ (most_answers < turns) → (IsIdle new → ⊥)
-    → keeps_no_memory new ≡ false → (c : Opening) (events : List Event) (outcomes : List Done) → IsNormal c → RunsServed (new_pair c) events old outcomes → ⊥
+    → keeps_no_memory new ≡ false → (c : Opening) (events : List PairEvent) (outcomes : List Done) → IsNormal c → RunsServed (new_pair c) events old outcomes
+    → ⊥
 comes_to_rest old new turns h how not_idle calm c events outcomes o r =
     let l : HasLess c turns new = h.left c events outcomes o r calm in
     let silent : IsSilent new = elim how [
@@ -114,38 +115,40 @@ comes_to_rest old new turns h how not_idle calm c events outcomes o r =
 
 -- ---- requests, one after another
 
-gives_append : (old mid new : World) (xs ys : List Event) (a b : List Done) → Gives old xs mid a → Gives mid ys new b → Gives old (xs ++ ys) new (a ++ b)
-unfolding Gives
+gives_append : (old mid new : World) (xs ys : List PairEvent) (a b : List Done) → GivesOutcomes old xs mid a → GivesOutcomes mid ys new b
+    → GivesOutcomes old (xs ++ ys) new (a ++ b)
+unfolding GivesOutcomes
 gives_append old mid new [] ys a b g h =
-    subst (λ (x : List Done). Gives old ys new (x ++ b)) (sym g.1) (subst (λ (w : World). Gives w ys new b) g.0 h)
+    subst (λ (x : List Done). GivesOutcomes old ys new (x ++ b)) (sym g.1) (subst (λ (w : World). GivesOutcomes w ys new b) g.0 h)
 gives_append old mid new (event ∷ xs) ys a b g h = (
   g.0,
   g.1 ++ b,
   g.2,
-  ap (λ (x : List Done). x ++ b) g.3 ∙ append_assoc (given_in event old) g.1 b,
+  ap (λ (x : List Done). x ++ b) g.3 ∙ append_assoc (pair_outcome_in event old) g.1 b,
   gives_append g.0 mid new xs ys g.1 b g.4 h,
 )
 
 -- steps give nothing
-gives_steps : (old new : World) (taken : List Step) → Runs old (map event_of taken) new → Gives old (map event_of taken) new []
-unfolding Gives Runs
+gives_steps : (old new : World) (taken : List Step) → PairRuns old (map event_of taken) new → GivesOutcomes old (map event_of taken) new []
+unfolding GivesOutcomes PairRuns
 gives_steps old new [] r = (r, refl)
-gives_steps old new (step ∷ taken) r = (r.0, [], r.1, sym (append-nil (given_in (event_of step) old) ∙ none_given step old), gives_steps r.0 new taken r.2)
+gives_steps old new (step ∷ taken) r =
+    (r.0, [], r.1, sym (append-nil (pair_outcome_in (event_of step) old) ∙ none_given step old), gives_steps r.0 new taken r.2)
 
 steps_ask : (taken : List Step) → requests_of (map event_of taken) ≡ requests_among taken
 steps_ask [] = refl
 steps_ask (step ∷ taken) = ap (λ (x : List Request). x ++ requests_of (map event_of taken)) (same_request step)
-    ∙ ap (λ (x : List Request). request_of step ++ x) (steps_ask taken)
+    ∙ ap (λ (x : List Request). step_request step ++ x) (steps_ask taken)
 
 -- these requests were handed in, and gave these outcomes; nothing is on its way
 pub record HasServed (first : World) (asked : List Request) (w : World) (outcomes : List Done) : Type 0 where
-  pub events : List Event
-  pub gives : Gives first events w outcomes
+  pub events : List PairEvent
+  pub gives : GivesOutcomes first events w outcomes
   pub requests : requests_of events ≡ asked
   pub idle : IsIdle w
   pub none_left : (w.initiator.machine.done ≡ None) ⊎ (asked ≡ [])
 
-pub served_first : (first : World) (taken : List Step) (w : World) → requests_among taken ≡ [] → Runs first (map event_of taken) w → IsIdle w
+pub served_first : (first : World) (taken : List Step) (w : World) → requests_among taken ≡ [] → PairRuns first (map event_of taken) w → IsIdle w
     → HasServed first [] w []
 served_first first taken w none r idle = record {
   events = map event_of taken;
@@ -156,20 +159,20 @@ served_first first taken w none r idle = record {
 }
 
 pub served_next : (first : World) (asked : List Request) (request : Request) (old mid settled new : World) (taken : List Step) (outcomes : List Done)
-    → HasServed first asked old outcomes → Happens old (Submits request) mid → requests_among taken ≡ [] → Runs mid (map event_of taken) settled
-    → IsIdle settled → Happens settled Takes new
+    → HasServed first asked old outcomes → PairEventStep old (Submits request) mid → requests_among taken ≡ [] → PairRuns mid (map event_of taken) settled
+    → IsIdle settled → PairEventStep settled Takes new
     → HasServed first (asked ++ request ∷ []) new (outcomes ++ listed settled.initiator.machine.done)
 served_next first asked request old mid settled new taken outcomes h e none r idle t =
-    let events : List Event = h.events ++ Submits request ∷ [] in
-    let more : List Event = map event_of taken in
-    let asks : Gives first events mid (outcomes ++ []) = gives_more first old mid h.events (Submits request) outcomes h.gives e in
-    let second : Gives first (events ++ more) settled ((outcomes ++ []) ++ []) =
+    let events : List PairEvent = h.events ++ Submits request ∷ [] in
+    let more : List PairEvent = map event_of taken in
+    let asks : GivesOutcomes first events mid (outcomes ++ []) = gives_more first old mid h.events (Submits request) outcomes h.gives e in
+    let second : GivesOutcomes first (events ++ more) settled ((outcomes ++ []) ++ []) =
     gives_append first mid settled events more (outcomes ++ []) [] asks (gives_steps mid settled taken r) in
-    let third : Gives first ((events ++ more) ++ Takes ∷ []) new (((outcomes ++ []) ++ []) ++ listed settled.initiator.machine.done) =
+    let third : GivesOutcomes first ((events ++ more) ++ Takes ∷ []) new (((outcomes ++ []) ++ []) ++ listed settled.initiator.machine.done) =
     gives_more first settled new (events ++ more) Takes ((outcomes ++ []) ++ []) second t in
     record {
       events = (events ++ more) ++ Takes ∷ [];
-      gives = subst (λ (x : List Done). Gives first ((events ++ more) ++ Takes ∷ []) new (x ++ listed settled.initiator.machine.done))
+      gives = subst (λ (x : List Done). GivesOutcomes first ((events ++ more) ++ Takes ∷ []) new (x ++ listed settled.initiator.machine.done))
           (append-nil (outcomes ++ []) ∙ append-nil outcomes) third;
       requests = requests_more (events ++ more) (Takes ∷ []) ∙ append-nil (requests_of (events ++ more))
           ∙ requests_more events more ∙ ap (λ (x : List Request). requests_of events ++ x) (steps_ask taken ∙ none) ∙ append-nil (requests_of events)
@@ -204,9 +207,10 @@ none_waits c asked w outcomes o h r =
 -- what was given is what one local disk gives
 pub record AreServed (c : Opening) (asked : List Request) (w : World) (outcomes : List Done) : Type 0 where
   pub outcomes_are : outcomes ≡ disk_outcomes c asked
-  pub disk_is : disk_of w.blocks ≡ disk_after c asked
+  pub disk_is : disk_of w.blocks ≡ local_disk_after c asked
 
-pub served_on_disk : (c : Opening) (asked : List Request) (w : World) (outcomes : List Done) → IsOpening c → HasServed (new_pair c) asked w outcomes → Suits c
+pub served_on_disk : (c : Opening) (asked : List Request) (w : World) (outcomes : List Done) → IsOpening c → HasServed (new_pair c) asked w outcomes
+    → SuitEachOther c
     → c.initiator.proposal.session ≡ sessions.Normal → c.target.extras.unit ≡ None → AllByRecursion IsServed asked → AreServed c asked w outcomes
 served_on_disk c asked w outcomes opening h suits normal plain served =
     let o : IsNormal c = record { opening = opening; suits = suits; session = normal; plain = plain } in
@@ -215,7 +219,7 @@ served_on_disk c asked w outcomes opening h suits normal plain served =
     record {
       outcomes_are = sym (append-nil outcomes) ∙ ap (λ (x : Option Done). outcomes ++ listed x) (sym (none_waits c asked w outcomes o h r)) ∙ whole.0
           ∙ ap (λ (x : List Request). disk_outcomes c x) h.requests;
-      disk_is = whole.1 ∙ ap (λ (x : List Request). disk_after c x) h.requests;
+      disk_is = whole.1 ∙ ap (λ (x : List Request). local_disk_after c x) h.requests;
     }
 
 -- ---- the next request is accepted
@@ -235,7 +239,8 @@ next_served request next = elim next [
   | inr e ↦ subst IsServed (sym e) tt
 ]
 
-next_accepted : (request : Request) (m : initiator.Machine) (t : target.Machine) → AreInStep m t → IsNext request → (submitted m request).refusal ≡ None
+next_accepted : (request : Request) (m : initiator.InitiatorSession) (t : target.Machine) → AreInStep m t → IsNext request → (submitted m request).refusal
+    ≡ None
 next_accepted request m t s next = elim next [
   | inl a ↦ accepts m t request s (taken_short request m t s a)
   | inr e ↦ subst (λ (r : Request). (submitted m r).refusal ≡ None) (sym e) (accepts m t requests.Logout s refl)
@@ -246,7 +251,8 @@ no_logout : (asked : List Request) → AllByRecursion IsAlwaysTaken asked → En
 no_logout asked a e = (let parts = all_parts IsAlwaysTaken e.0 (requests.Logout ∷ []) (subst (λ (x : List Request). AllByRecursion IsAlwaysTaken x) e.1 a) in
     parts.1.0)
 
-are_in_step : (asked : List Request) (m : initiator.Machine) (t : target.Machine) → AllByRecursion IsAlwaysTaken asked → AreAtEnd asked m t → AreInStep m t
+are_in_step : (asked : List Request) (m : initiator.InitiatorSession) (t : target.Machine) → AllByRecursion IsAlwaysTaken asked → AreAtEnd asked m t
+    → AreInStep m t
 are_in_step asked m t a end = elim end [
   | inl on ↦ on
   | inr over ↦ absurd (no_logout asked a over.1)
@@ -254,26 +260,26 @@ are_in_step asked m t a end = elim end [
 
 -- so the run is served with it, too
 pub asks_next : (c : Opening) (asked : List Request) (request : Request) (old mid : World) (outcomes : List Done) → IsNormal c
-    → (h : HasServed (new_pair c) asked old outcomes) → AllByRecursion IsAlwaysTaken asked → IsNext request → Happens old (Submits request) mid
+    → (h : HasServed (new_pair c) asked old outcomes) → AllByRecursion IsAlwaysTaken asked → IsNext request → PairEventStep old (Submits request) mid
     → keeps_no_memory mid ≡ false → RunsServed (new_pair c) (h.events ++ Submits request ∷ []) mid (outcomes ++ [])
 asks_next c asked request old mid outcomes o h a next e calm =
     let r : RunsServed (new_pair c) h.events old outcomes = runs_served c asked old outcomes h (all_served asked a) in
     let none : old.initiator.machine.done ≡ None = none_waits c asked old outcomes o h r in
-    let same : taken old.initiator.machine ≡ old.initiator.machine = ap (λ (d : Option Done). record old.initiator.machine { done = d }) (sym none) in
-    let end : AreAtEnd asked (taken old.initiator.machine) old.target.machine =
-    subst (λ (x : List Request). AreAtEnd x (taken old.initiator.machine) old.target.machine) h.requests
+    let same : outcome_taken old.initiator.machine ≡ old.initiator.machine = ap (λ (d : Option Done). record old.initiator.machine { done = d }) (sym none) in
+    let end : AreAtEnd asked (outcome_taken old.initiator.machine) old.target.machine =
+    subst (λ (x : List Request). AreAtEnd x (outcome_taken old.initiator.machine) old.target.machine) h.requests
     (idle_rests c h.events old outcomes o r h.idle.2 h.idle.3) in
     let on : AreInStep old.initiator.machine old.target.machine =
-    subst (λ (m : initiator.Machine). AreInStep m old.target.machine) same
-    (are_in_step asked (taken old.initiator.machine) old.target.machine a end) in
+    subst (λ (m : initiator.InitiatorSession). AreInStep m old.target.machine) same
+    (are_in_step asked (outcome_taken old.initiator.machine) old.target.machine a end) in
     served_more (new_pair c) h.events old outcomes (Submits request) mid r e
     (next_served request next, next_accepted request old.initiator.machine old.target.machine on next) calm
 
 -- a request that isn't served so doesn't come about
 pub not_refused : (c : Opening) (asked : List Request) (request : Request) (old mid settled : World) (taken : List Step) (outcomes : List Done) → IsNormal c
-    → HasServed (new_pair c) asked old outcomes → AllByRecursion IsAlwaysTaken asked → IsNext request → Happens old (Submits request) mid
-    → Runs mid (map event_of taken) settled → keeps_no_memory settled ≡ false
-    → ((c : Opening) (events : List Event) (outcomes : List Done) → IsNormal c → RunsServed (new_pair c) events mid outcomes → ⊥) → ⊥
+    → HasServed (new_pair c) asked old outcomes → AllByRecursion IsAlwaysTaken asked → IsNext request → PairEventStep old (Submits request) mid
+    → PairRuns mid (map event_of taken) settled → keeps_no_memory settled ≡ false
+    → ((c : Opening) (events : List PairEvent) (outcomes : List Done) → IsNormal c → RunsServed (new_pair c) events mid outcomes → ⊥) → ⊥
 not_refused c asked request old mid settled taken outcomes o h a next e r calm refuted =
     refuted c (h.events ++ Submits request ∷ []) (outcomes ++ []) o
     (asks_next c asked request old mid outcomes o h a next e (calm_first mid (map event_of taken) settled r calm))
@@ -284,7 +290,7 @@ first_runs c = (refl, refl)
 
 -- nor does a login
 pub not_failed : (c : Opening) → IsNormal c
-    → ((c' : Opening) (events : List Event) (outcomes : List Done) → IsNormal c' → RunsServed (new_pair c') events (new_pair c) outcomes → ⊥) → ⊥
+    → ((c' : Opening) (events : List PairEvent) (outcomes : List Done) → IsNormal c' → RunsServed (new_pair c') events (new_pair c) outcomes → ⊥) → ⊥
 not_failed c o refuted = refuted c [] [] o (first_runs c)
 
 -- ---- lists that can be served
@@ -310,7 +316,7 @@ are_next all past request more e a = next_of past request more (subst CanBeServe
 pub at_last : (result : Result (Unit {0}) RunFault) (old new : World) (turns : ℕ) → HasTurned old turns new → IsSilent new ⊎ (most_answers < turns)
     → IfErr result (λ fault. (fault ≡ faults.NoMemory) ⊎ ((keeps_no_memory new ≡ false) × (IsIdle new → ⊥)))
     → IfErr result (λ fault. (fault ≡ faults.NoMemory) ⊎ ((keeps_no_memory new ≡ false)
-    × ((c : Opening) (events : List Event) (outcomes : List Done) → IsNormal c → RunsServed (new_pair c) events old outcomes → ⊥)))
+    × ((c : Opening) (events : List PairEvent) (outcomes : List Done) → IsNormal c → RunsServed (new_pair c) events old outcomes → ⊥)))
 at_last (Ok done_) old new turns h how e = e
 at_last (Err fault) old new turns h how e = elim e [
   | inl memory ↦ inl memory
@@ -320,7 +326,8 @@ at_last (Err fault) old new turns h how e = elim e [
 -- what a login that failed says
 pub first_memory : (c : Opening) (w settled : World) (fault : RunFault) → w ≡ new_pair c → IsNormal c
     → (fault ≡ faults.NoMemory) ⊎ ((keeps_no_memory settled ≡ false)
-    × ((c' : Opening) (events : List Event) (outcomes : List Done) → IsNormal c' → RunsServed (new_pair c') events w outcomes → ⊥)) → fault ≡ faults.NoMemory
+    × ((c' : Opening) (events : List PairEvent) (outcomes : List Done) → IsNormal c' → RunsServed (new_pair c') events w outcomes → ⊥)) → fault
+    ≡ faults.NoMemory
 first_memory c w settled fault is o e = elim e [
   | inl memory ↦ memory
   | inr x ↦ absurd (x.1 c [] [] o (subst (λ (v : World). RunsServed (new_pair c) [] v []) (sym is) (first_runs c)))
@@ -328,10 +335,11 @@ first_memory c w settled fault is o e = elim e [
 
 -- and what a request that failed says
 pub next_memory : (c : Opening) (past : List Request) (request : Request) (old mid settled : World) (taken : List Step) (outcomes : List Done)
-    (fault : RunFault) → IsNormal c → HasServed (new_pair c) past old outcomes → AreNext past request → Happens old (Submits request) mid
-    → Runs mid (map event_of taken) settled
+    (fault : RunFault) → IsNormal c → HasServed (new_pair c) past old outcomes → AreNext past request → PairEventStep old (Submits request) mid
+    → PairRuns mid (map event_of taken) settled
     → (fault ≡ faults.NoMemory) ⊎ ((keeps_no_memory settled ≡ false)
-    × ((c' : Opening) (events : List Event) (outcomes : List Done) → IsNormal c' → RunsServed (new_pair c') events mid outcomes → ⊥)) → fault ≡ faults.NoMemory
+    × ((c' : Opening) (events : List PairEvent) (outcomes : List Done) → IsNormal c' → RunsServed (new_pair c') events mid outcomes → ⊥)) → fault
+    ≡ faults.NoMemory
 next_memory c past request old mid settled taken outcomes fault o h n e r how = elim how [
   | inl memory ↦ memory
   | inr x ↦ absurd (not_refused c past request old mid settled taken outcomes o h n.past_are n.next e r x.0 x.1)

@@ -17,7 +17,7 @@ use Rattle.iscsi_login.specs.declared.offers.Auth.{Auth}
 use Rattle.iscsi_login.specs.declared.offers.Auth.TheVariants as auths
 use Rattle.iscsi_login.specs.declared.preferences.Preferences.{Preferences}
 use Rattle.iscsi_login.specs.Name.{IsName}
-use Rattle.iscsi_login.specs.Negotiation.{IsInRange}
+use Rattle.iscsi_login.specs.Negotiation.{ArePreferencesInRange}
 use Rattle.iscsi_login.specs.Answer.{max_recv_key}
 use Rattle.iscsi_login.specs.Offers.{Proposal, names, target_pair, offers_at, security_offers, operational_offers, single_offers}
 use Rattle.iscsi_initiator.specs.Configured.{IsStart}
@@ -28,19 +28,19 @@ use Rattle.iscsi_pair.proofs.Wire.TextSizes.{IsShort, text_short, length-in_orde
 use Rattle.iscsi_target_session.specs.Configured.{is_allowed}
 use Rattle.iscsi_target_session.specs.declared.status.Status.{Status}
 use Rattle.iscsi_target_session.specs.Session.{Session as TargetSession}
-use Rattle.scsi_disk.specs.Plan.{first_of}
+use Rattle.scsi_disk.specs.Plan.{first_reason}
 use Rattle.iscsi_text.specs.Key.{known_keys}
 use Rattle.iscsi_target_session.specs.Session.{none_seen}
-use Rattle.iscsi_target_session.specs.LoginText.{answer_pairs, is_normal, session_for, text_refusals, repeats_key, seen_with, value_for, is_name}
+use Rattle.iscsi_target_session.specs.LoginText.{answer_pairs, is_normal, session_for, text_refusals, repeats_key, seen_with, login_value, is_given_name}
 use Rattle.iscsi_target_session.specs.LoginText.{session_in, names_target, demands_authentication, is_bad_length, name_in}
 
 -- ---- what a target reads in an offer
 
 -- the first text of a login says who speaks to whom
 pub record SaysWho (o : Proposal) (pairs : Pairs) : Type 0 where
-  pub initiator : value_for (codes "InitiatorName") pairs ≡ Some (values.Plain o.initiator)
+  pub initiator : login_value (codes "InitiatorName") pairs ≡ Some (values.Plain o.initiator)
   pub session : session_in pairs ≡ Some o.session
-  pub target : o.session ≡ sessions.Normal → value_for (codes "TargetName") pairs ≡ Some (values.Plain o.target)
+  pub target : o.session ≡ sessions.Normal → login_value (codes "TargetName") pairs ≡ Some (values.Plain o.target)
 
 pub says_security : (session : Session) (o : Proposal) → o.session ≡ session → SaysWho o (in_order (security_offers o))
 says_security sessions.Normal o e =
@@ -75,53 +75,54 @@ first_gives pairs = refl
 
 -- authentication isn't demanded
 pub security_auth : (session : Session) (auth : Auth) (o : Proposal) (p : Preferences) → o.session ≡ session → o.auth ≡ auth → auth ≢ auths.Chap
-    → demands_authentication p (value_for (codes "AuthMethod") (in_order (security_offers o))) ≡ false
+    → demands_authentication p (login_value (codes "AuthMethod") (in_order (security_offers o))) ≡ false
 security_auth sessions.Normal auths.None o p e a n = ap (λ (s : Session). demands_authentication p
-    (value_for (codes "AuthMethod") (in_order (security_offers (record o { session = s }))))) e
-    ∙ ap (λ (x : Auth). demands_authentication p (value_for (codes "AuthMethod")
+    (login_value (codes "AuthMethod") (in_order (security_offers (record o { session = s }))))) e
+    ∙ ap (λ (x : Auth). demands_authentication p (login_value (codes "AuthMethod")
     (in_order (security_offers (record o { session = sessions.Normal; auth = x }))))) a ∙ refl
 security_auth sessions.Normal auths.ChapOrNone o p e a n = ap (λ (s : Session). demands_authentication p
-    (value_for (codes "AuthMethod") (in_order (security_offers (record o { session = s }))))) e
-    ∙ ap (λ (x : Auth). demands_authentication p (value_for (codes "AuthMethod")
+    (login_value (codes "AuthMethod") (in_order (security_offers (record o { session = s }))))) e
+    ∙ ap (λ (x : Auth). demands_authentication p (login_value (codes "AuthMethod")
     (in_order (security_offers (record o { session = sessions.Normal; auth = x }))))) a ∙ refl
 security_auth sessions.Discovery auths.None o p e a n = ap (λ (s : Session). demands_authentication p
-    (value_for (codes "AuthMethod") (in_order (security_offers (record o { session = s }))))) e
-    ∙ ap (λ (x : Auth). demands_authentication p (value_for (codes "AuthMethod")
+    (login_value (codes "AuthMethod") (in_order (security_offers (record o { session = s }))))) e
+    ∙ ap (λ (x : Auth). demands_authentication p (login_value (codes "AuthMethod")
     (in_order (security_offers (record o { session = sessions.Discovery; auth = x }))))) a ∙ refl
 security_auth sessions.Discovery auths.ChapOrNone o p e a n = ap (λ (s : Session). demands_authentication p
-    (value_for (codes "AuthMethod") (in_order (security_offers (record o { session = s }))))) e
-    ∙ ap (λ (x : Auth). demands_authentication p (value_for (codes "AuthMethod")
+    (login_value (codes "AuthMethod") (in_order (security_offers (record o { session = s }))))) e
+    ∙ ap (λ (x : Auth). demands_authentication p (login_value (codes "AuthMethod")
     (in_order (security_offers (record o { session = sessions.Discovery; auth = x }))))) a ∙ refl
 security_auth session auths.Chap o p e a n = absurd (n refl)
 
-pub operational_auth : (o : Proposal) (p : Preferences) → demands_authentication p (value_for (codes "AuthMethod") (in_order (operational_offers o))) ≡ false
+pub operational_auth : (o : Proposal) (p : Preferences) → demands_authentication p (login_value (codes "AuthMethod") (in_order (operational_offers o))) ≡ false
 operational_auth o p = refl
 
 pub single_auth : (session : Session) (o : Proposal) (p : Preferences) → o.session ≡ session
-    → demands_authentication p (value_for (codes "AuthMethod") (in_order (single_offers o))) ≡ false
+    → demands_authentication p (login_value (codes "AuthMethod") (in_order (single_offers o))) ≡ false
 single_auth sessions.Normal o p e = ap (λ (s : Session). demands_authentication p
-    (value_for (codes "AuthMethod") (in_order (single_offers (record o { session = s }))))) e ∙ refl
+    (login_value (codes "AuthMethod") (in_order (single_offers (record o { session = s }))))) e ∙ refl
 single_auth sessions.Discovery o p e = ap (λ (s : Session). demands_authentication p
-    (value_for (codes "AuthMethod") (in_order (single_offers (record o { session = s }))))) e ∙ refl
+    (login_value (codes "AuthMethod") (in_order (single_offers (record o { session = s }))))) e ∙ refl
 
 -- the length that is declared may be
-length_good : (o : Proposal) → IsInRange o.prefs → is_bad_length (Some (values.Number o.prefs.max_recv)) ≡ false
+length_good : (o : Proposal) → ArePreferencesInRange o.prefs → is_bad_length (Some (values.Number o.prefs.max_recv)) ≡ false
 length_good o r = rw (le-leb 512 o.prefs.max_recv r.max_recv.0, le-leb o.prefs.max_recv 16777215 r.max_recv.1) refl
 
-pub security_length : (session : Session) (o : Proposal) → o.session ≡ session → is_bad_length (value_for max_recv_key (in_order (security_offers o))) ≡ false
-security_length sessions.Normal o e = ap (λ (s : Session). is_bad_length (value_for max_recv_key (in_order (security_offers (record o { session = s }))))) e
+pub security_length : (session : Session) (o : Proposal) → o.session ≡ session → is_bad_length (login_value max_recv_key (in_order (security_offers o))) ≡ false
+security_length sessions.Normal o e = ap (λ (s : Session). is_bad_length (login_value max_recv_key (in_order (security_offers (record o { session = s }))))) e
     ∙ refl
-security_length sessions.Discovery o e = ap (λ (s : Session). is_bad_length (value_for max_recv_key (in_order (security_offers (record o { session = s }))))) e
+security_length sessions.Discovery o e =
+    ap (λ (s : Session). is_bad_length (login_value max_recv_key (in_order (security_offers (record o { session = s }))))) e
     ∙ refl
 
-pub operational_length : (o : Proposal) → IsInRange o.prefs → is_bad_length (value_for max_recv_key (in_order (operational_offers o))) ≡ false
+pub operational_length : (o : Proposal) → ArePreferencesInRange o.prefs → is_bad_length (login_value max_recv_key (in_order (operational_offers o))) ≡ false
 operational_length o r = length_good o r
 
-pub single_length : (session : Session) (o : Proposal) → IsInRange o.prefs → o.session ≡ session
-    → is_bad_length (value_for max_recv_key (in_order (single_offers o))) ≡ false
-single_length sessions.Normal o r e = ap (λ (s : Session). is_bad_length (value_for max_recv_key (in_order (single_offers (record o { session = s }))))) e
+pub single_length : (session : Session) (o : Proposal) → ArePreferencesInRange o.prefs → o.session ≡ session
+    → is_bad_length (login_value max_recv_key (in_order (single_offers o))) ≡ false
+single_length sessions.Normal o r e = ap (λ (s : Session). is_bad_length (login_value max_recv_key (in_order (single_offers (record o { session = s }))))) e
     ∙ length_good o r
-single_length sessions.Discovery o r e = ap (λ (s : Session). is_bad_length (value_for max_recv_key (in_order (single_offers (record o { session = s }))))) e
+single_length sessions.Discovery o r e = ap (λ (s : Session). is_bad_length (login_value max_recv_key (in_order (single_offers (record o { session = s }))))) e
     ∙ length_good o r
 
 -- ---- the texts are short
@@ -137,7 +138,7 @@ target_count sessions.Discovery name = omega arith
 ordered_few : (pairs : Pairs) → AllByRecursion IsShort pairs → length pairs ≤ 20 → IsFew (in_order pairs)
 ordered_few pairs a le = record { short = all_in_order IsShort pairs a; few = (let n = length-in_order pairs in omega (arith, n, le)) }
 
-pub offers_few : (start stage : Stage) (o : Proposal) → IsName o.initiator → IsName o.target → IsInRange o.prefs → IsStart stage
+pub offers_few : (start stage : Stage) (o : Proposal) → IsName o.initiator → IsName o.target → ArePreferencesInRange o.prefs → IsStart stage
     → IsFew (in_order (offers_at o start stage))
 offers_few start stages.Security o a b r is = ordered_few (security_offers o) (security_short o a.few b.few) (let n = target_count o.session o.target in
     omega (arith, n))
@@ -154,7 +155,7 @@ few_fits pairs f = (let a = text_short pairs f.short in let b = f.few in omega (
 
 -- ---- no reason to refuse a text
 
-pub none_of : (rows : List (Bool × Status)) → AllByRecursion (λ row. row.0 ≡ false) rows → first_of rows ≡ None
+pub none_of : (rows : List (Bool × Status)) → AllByRecursion (λ row. row.0 ≡ false) rows → first_reason rows ≡ None
 none_of [] a = refl
 none_of (row ∷ rows) a = rw a.0 (none_of rows a.1)
 
@@ -192,8 +193,8 @@ session_is e pairs session t s = by e.has_text t
 -- a session that asks for a target asks for this one
 asks_for : (session : Session) (e : TargetSession) (o : Proposal) (pairs : Pairs) → o.session ≡ session → e.has_text ≡ false → SaysWho o pairs
     → (o.session ≡ sessions.Discovery) ⊎ (o.target ≡ e.settings.name)
-    → ((is_normal (session_for e pairs) ≡ false) ⊎ (is_none (value_for (codes "TargetName") pairs) ≡ false))
-    × ((is_normal (session_for e pairs) ≡ false) ⊎ (not (names_target e.settings.name (value_for (codes "TargetName") pairs)) ≡ false))
+    → ((is_normal (session_for e pairs) ≡ false) ⊎ (is_none (login_value (codes "TargetName") pairs) ≡ false))
+    × ((is_normal (session_for e pairs) ≡ false) ⊎ (not (names_target e.settings.name (login_value (codes "TargetName") pairs)) ≡ false))
 asks_for sessions.Normal e o pairs is t s name =
     let v = s.target is in (
       inr (ap is_none v),
@@ -208,17 +209,17 @@ asks_for sessions.Discovery e o pairs is t s name =
 
 pub first_text : (e : TargetSession) (o : Proposal) (pairs : Pairs) → e.has_text ≡ false → e.seen_keys ≡ none_seen → IsName o.initiator →
     SaysWho o pairs
-    → (o.session ≡ sessions.Discovery) ⊎ (o.target ≡ e.settings.name) → demands_authentication e.settings.preferences (value_for (codes "AuthMethod") pairs)
+    → (o.session ≡ sessions.Discovery) ⊎ (o.target ≡ e.settings.name) → demands_authentication e.settings.preferences (login_value (codes "AuthMethod") pairs)
     ≡ false
-    → is_bad_length (value_for max_recv_key pairs) ≡ false → nat_lt 8192 (length (canonical_text (answer_pairs e pairs))) ≡ false
+    → is_bad_length (login_value max_recv_key pairs) ≡ false → nat_lt 8192 (length (canonical_text (answer_pairs e pairs))) ≡ false
     → is_allowed e.settings.extras o.initiator ≡ true
-    → first_of (text_refusals e pairs) ≡ None
+    → first_reason (text_refusals e pairs) ≡ None
 first_text e o pairs t g i s name auth len size allowed =
     let a = asks_for o.session e o pairs refl t s name in
     none_of (text_refusals e pairs) (
       ap (λ (x : List Bool). repeats_key known_keys x pairs) g ∙ first_gives pairs,
       (
-        on e.has_text _ (ap (λ (x : Option Typed). not (is_name x)) s.initiator ∙ not_empty o.initiator i),
+        on e.has_text _ (ap (λ (x : Option Typed). not (is_given_name x)) s.initiator ∙ not_empty o.initiator i),
         (
           on e.has_text _ (ap is_none s.session),
           (
@@ -245,9 +246,9 @@ first_text e o pairs t g i s name auth len size allowed =
     )
 
 pub second_text : (e : TargetSession) (pairs : Pairs) → e.has_text ≡ true → repeats_key known_keys e.seen_keys pairs ≡ false
-    → demands_authentication e.settings.preferences (value_for (codes "AuthMethod") pairs) ≡ false
-    → is_bad_length (value_for max_recv_key pairs) ≡ false → nat_lt 8192 (length (canonical_text (answer_pairs e pairs))) ≡ false
-    → first_of (text_refusals e pairs) ≡ None
+    → demands_authentication e.settings.preferences (login_value (codes "AuthMethod") pairs) ≡ false
+    → is_bad_length (login_value max_recv_key pairs) ≡ false → nat_lt 8192 (length (canonical_text (answer_pairs e pairs))) ≡ false
+    → first_reason (text_refusals e pairs) ≡ None
 second_text e pairs t g auth len size =
     none_of (text_refusals e pairs)
     (g, (off e.has_text _ t, (off e.has_text _ t, (off_both e.has_text _ _ t, (off_both e.has_text _ _ t, (auth, (len, (size, (off e.has_text _ t, tt)))))))))

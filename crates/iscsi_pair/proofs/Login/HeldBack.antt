@@ -12,14 +12,14 @@ use Rattle.iscsi_text.proofs.WithoutLemmas.{meaning_kept, left_out}
 use Rattle.iscsi_text.specs.declared.negotiated.NegKey.TheVariants as keys
 use Rattle.iscsi_login.specs.declared.preferences.Preferences.{Preferences}
 use Rattle.iscsi_text.specs.declared.negotiated.Session.{Session as SessionType}
-use Rattle.iscsi_login.specs.Negotiation.{IsInRange}
+use Rattle.iscsi_login.specs.Negotiation.{ArePreferencesInRange}
 use Rattle.iscsi_login.specs.Answer.{answer, answer_to}
 use Rattle.iscsi_login.proofs.AnswerLemmas.{answers_of_key}
 use Rattle.iscsi_login.proofs.AnswerMeaningLaw.{Writable, answer_meaning, kind_of_name, pair_of}
 use Rattle.iscsi_login.proofs.KeyTestLemmas.{key_from, no_zero_from}
 use Rattle.iscsi_text.specs.Key.{is_among}
 use Rattle.iscsi_access.specs.Chap.{Chap}
-use Rattle.iscsi_access.specs.Exchange.{judge, has_chap_key, lists, value_for}
+use Rattle.iscsi_access.specs.Exchange.{judge, has_chap_key, lists, exchange_value}
 use Rattle.iscsi_access.specs.declared.verdict.Progress.{Progress}
 use Rattle.iscsi_access.specs.declared.verdict.Progress.TheVariants.{Unasked, Chosen, Challenged, Passed}
 use Rattle.iscsi_access.specs.declared.verdict.Said.{Said}
@@ -41,7 +41,7 @@ chosen_by false p said e = absurd (cc e)
 judged_first : (c : Chap) (before p : Progress) (name : List ℕ) (pairs : Pairs) (said : Said) → before ≡ Unasked → judge c before name pairs ≡ Goes p said
     → Chooses p said
 judged_first c Unasked p name pairs said is e =
-    chosen_by (not (has_chap_key pairs) && lists (codes "CHAP") (value_for (codes "AuthMethod") pairs)) p said e
+    chosen_by (not (has_chap_key pairs) && lists (codes "CHAP") (exchange_value (codes "AuthMethod") pairs)) p said e
 judged_first c Chosen p name pairs said is e = absurd (cc is)
 judged_first c Challenged p name pairs said is e = absurd (cc is)
 judged_first c Passed p name pairs said is e = absurd (cc is)
@@ -79,7 +79,7 @@ with_method pairs is none = record {
   each = all_in_order IsPair (method ∷ pairs) (method_is, is.each);
 }
 
-pub said_meaning : (session : SessionType) (p : Preferences) → IsInRange p → (tag max_recv : Option ℕ) → IfSome tag (λ n. n < 2 ^ 64)
+pub said_meaning : (session : SessionType) (p : Preferences) → ArePreferencesInRange p → (tag max_recv : Option ℕ) → IfSome tag (λ n. n < 2 ^ 64)
     → IfSome max_recv (λ n. n < 2 ^ 64) → (pairs : Pairs) → IsMeaning pairs → IsMeaning (in_order (method ∷ answer session p tag max_recv (rest_of pairs)))
 said_meaning session p range tag max_recv small_tag small_max pairs is =
     with_method (answer session p tag max_recv (rest_of pairs))

@@ -3,7 +3,7 @@ use Rattle.std.proofs.Common.{◌≡◌, ◌≤◌, ◌⊎◌, inl, inr, ℕ, Bo
 use Rattle.std.proofs.lemmas.List.{append-nil}
 use Rattle.scsi_disk.specs.Disk.{Disk, disk_of}
 use Rattle.iscsi_stream.specs.declared.logins.Logins.{Logins}
-use Rattle.iscsi_stream.specs.Segment.{no_login, segment_bytes, after as logins_after}
+use Rattle.iscsi_stream.specs.Segment.{no_login, segment_bytes, logins_after}
 use Rattle.iscsi_stream.specs.Stream.{Message, ReadsAs, NoPdu}
 use Rattle.iscsi_stream.specs.Canonical.{canon, canonical_bytes}
 use Rattle.iscsi_stream.specs.Framing.{Framing, HasTaken, is_ready}
@@ -15,11 +15,11 @@ use Rattle.iscsi_target_session.specs.Session as target_session
 use Rattle.iscsi_target.specs.Machine as target_machine
 use Rattle.iscsi_target.specs.Machine.{answers}
 use Rattle.iscsi_initiator.specs.State as initiator
-use Rattle.iscsi_initiator.specs.State.{is_closed}
+use Rattle.iscsi_initiator.specs.State.{is_session_closed}
 use Rattle.iscsi_login.specs.Stage.{is_closed_phase}
 use Rattle.iscsi_initiator.specs.Login.{start_step}
 use Rattle.iscsi_pair.specs.World.{World, Opening, IsOpening}
-use Rattle.iscsi_pair.specs.Traffic.{Traffic, said, after_all, sent, coming}
+use Rattle.iscsi_pair.specs.Traffic.{Traffic, target_said, session_after_all, sent, coming}
 use Rattle.iscsi_pair.proofs.Ends.InitiatorRun.{InitiatorLives, begun}
 use Rattle.iscsi_pair.proofs.Ends.TargetRun.{TargetLives, TargetOver}
 use Rattle.iscsi_pair.proofs.Ends.BothRuns.{Sides}
@@ -39,8 +39,9 @@ not_waiting : (limit : ℕ) (logins : Logins) (rest more : List ℕ) (m : Messag
 not_waiting limit logins rest more m h r short e = h.none (canonical_bytes m) (segment_bytes m.segment) more m.head e r.means (omega (arith, short, h.enough))
 
 -- where the initiator receives no more, and each end holds no whole PDU of the other, the login is completed
-none_waits : (ms : List Message) (w : Way) (i : initiator.Machine) (t : target.Machine) (disk : Disk) → IsOpening w.opening → LoginExchange w [] i t disk ms
-    → HoldsNone w.target_limit w.left_there ⊎ (target_machine.is_closed (answers false t disk ms).machine ≡ true)
+none_waits : (ms : List Message) (w : Way) (i : initiator.InitiatorSession) (t : target.Machine) (disk : Disk) → IsOpening w.opening
+    → LoginExchange w [] i t disk ms
+    → HoldsNone w.target_limit w.left_there ⊎ (target_machine.is_machine_closed (answers false t disk ms).machine ≡ true)
     → HoldsNone w.initiator_limit w.left_here → ⊥
 unfolding answers
 none_waits [] w i t disk o x (inl h) there =
@@ -53,9 +54,9 @@ none_waits (n ∷ ms) w i t disk o x here there =
     let r : Message = x.request in
     let one : (n ≡ r) × IsFirst w.target_limit x.there w.left_there (canon (sent i [])) r ms =
     first_is w.target_limit x.there x.given w.left_there (canon (sent i [])) n r ms (asking_readable c i t x.there r o x.asking) x.reads x.sends in
-    let turn : Round c i (target_machine.step false t disk r) (logins_after x.there r.head) = round c i t x.there r disk o x.asking in
-    let now : target.Stepped = target_machine.step false t disk r in
-    let later : target.Stepped = answers false now.machine now.disk ms in
+    let turn : Round c i (target_machine.target_step false t disk r) (logins_after x.there r.head) = round c i t x.there r disk o x.asking in
+    let now : target.TargetStep = target_machine.target_step false t disk r in
+    let later : target.TargetStep = answers false now.machine now.disk ms in
     let said_ : canon ((answers false t disk (n ∷ ms)).answers ++ w.extra) ≡ canonical_bytes turn.answer ++ canon (later.answers ++ w.extra) =
     ap (λ (v : Message). canon ((answers false t disk (v ∷ ms)).answers ++ w.extra)) one.0
     ∙ ap (λ (xs : List Message). canon ((xs ++ later.answers) ++ w.extra)) turn.is in
@@ -63,12 +64,13 @@ none_waits (n ∷ ms) w i t disk o x here there =
     (ap (λ (z : List ℕ). z ++ w.left_here) (sym (nothing_read w.initiator_limit x.here x.received x.receives)) ∙ x.answered ∙ said_)
 
 -- an exchange that has ended so
-ended_idle : (w : Way) (r : target.Machine) (m : initiator.Machine) → IsOpening w.opening → Ended w (Unit {0}) anything r m
-    → HoldsNone w.target_limit w.left_there ⊎ (target_machine.is_closed r ≡ true) → HoldsNone w.initiator_limit w.left_here → is_closed m ≡ false
+ended_idle : (w : Way) (r : target.Machine) (m : initiator.InitiatorSession) → IsOpening w.opening → Ended w (Unit {0}) anything r m
+    → HoldsNone w.target_limit w.left_there ⊎ (target_machine.is_machine_closed r ≡ true) → HoldsNone w.initiator_limit w.left_here → is_session_closed m
+    ≡ false
     → m.stage ≡ stages.Full
 ended_idle w r m o (Waiting t disk ms p x is) here there live =
     absurd (none_waits ms w m t disk o x
-    (subst (λ (z : target.Machine). HoldsNone w.target_limit w.left_there ⊎ (target_machine.is_closed z ≡ true)) is here) there)
+    (subst (λ (z : target.Machine). HoldsNone w.target_limit w.left_there ⊎ (target_machine.is_machine_closed z ≡ true)) is here) there)
 ended_idle w r m o (Closing may closed start) here there live = absurd (apart (ap is_closed_phase closed) live)
 ended_idle w r m o (Agreeing stage held own) here there live = own
 
@@ -87,17 +89,17 @@ all_moved moved queue queued none e = sym (append-nil moved) ∙ ap (λ (x : Lis
 
 idle_open : (c : Opening) (u : Traffic) (w : World) (l : ℕ) (ms : List Message) (given rest : List ℕ) → IsOpening c → Sides c u w → w.to_target ≡ []
     → w.to_initiator ≡ []
-    → (i : InitiatorLives [] c u.demands u.moved_to_initiator u.queued_for_target w.initiator) → is_closed w.initiator.machine ≡ false
-    → ReadsAs l no_login given ms → u.moved_to_target ≡ given ++ rest → HoldsNone l rest ⊎ (target_machine.is_closed (said c ms).machine ≡ true)
-    → u.queued_for_initiator ≡ canon (said c ms).answers
+    → (i : InitiatorLives [] c u.demands u.moved_to_initiator u.queued_for_target w.initiator) → is_session_closed w.initiator.machine ≡ false
+    → ReadsAs l no_login given ms → u.moved_to_target ≡ given ++ rest → HoldsNone l rest ⊎ (target_machine.is_machine_closed (target_said c ms).machine ≡ true)
+    → u.queued_for_initiator ≡ canon (target_said c ms).answers
     → w.initiator.machine.stage ≡ stages.Full
 idle_open c u w l ms given rest o s none_out none_back i live p whole here out =
-    let a : Asks_on c (start_step (initiator.opening c.initiator)) (target.opening c.target c.first_stat_sn) no_login = first_asks c o in
+    let a : Asks_on c (start_step (initiator.new_session c.initiator)) (target.opening_machine c.target c.first_stat_sn) no_login = first_asks c o in
     let limit_ : 8192 ≤ w.initiator.framing.limit = (let e = i.limit in omega (arith, e)) in
     let e : given ++ rest ≡ canonical_bytes a.request ++ canon (sent (begun c) i.inputs) =
     sym whole ∙ all_moved u.moved_to_target w.to_target u.queued_for_target none_out s.to_target ∙ i.output
     ∙ ap (λ (x : List Message). canon (x ++ sent (begun c) i.inputs)) a.is in
-    let f : i.taken.given ++ i.taken.rest ≡ canon (answers false (target.opening c.target c.first_stat_sn) (disk_of c.blocks) ms).answers =
+    let f : i.taken.given ++ i.taken.rest ≡ canon (answers false (target.opening_machine c.target c.first_stat_sn) (disk_of c.blocks) ms).answers =
     sym i.taken.whole ∙ all_moved u.moved_to_initiator w.to_initiator u.queued_for_initiator none_back s.to_initiator ∙ out in
     let way : Way = record {
       opening = c;
@@ -107,9 +109,9 @@ idle_open c u w l ms given rest o s none_out none_back i live p whole here out =
       left_there = rest;
       left_here = i.taken.rest;
     } in
-    ap (λ (m : initiator.Machine). m.stage) i.machine
-    ∙ ended_idle way (answers false (target.opening c.target c.first_stat_sn) (disk_of c.blocks) ms).machine (after_all (begun c) i.inputs) o
-    (exchange_ends i.inputs way (Unit {0}) anything (begun c) (target.opening c.target c.first_stat_sn) (disk_of c.blocks) ms o (any_turns c) tt
+    ap (λ (m : initiator.InitiatorSession). m.stage) i.machine
+    ∙ ended_idle way (answers false (target.opening_machine c.target c.first_stat_sn) (disk_of c.blocks) ms).machine (session_after_all (begun c) i.inputs) o
+    (exchange_ends i.inputs way (Unit {0}) anything (begun c) (target.opening_machine c.target c.first_stat_sn) (disk_of c.blocks) ms o (any_turns c) tt
     (record {
       there = no_login;
       here = no_login;
@@ -122,18 +124,19 @@ idle_open c u w l ms given rest o s none_out none_back i live p whole here out =
       sends = e;
       received = i.taken.given;
       receives = i.taken.reads;
-      answered = f ∙ ap canon (sym (append-nil (answers false (target.opening c.target c.first_stat_sn) (disk_of c.blocks) ms).answers));
+      answered = f ∙ ap canon (sym (append-nil (answers false (target.opening_machine c.target c.first_stat_sn) (disk_of c.blocks) ms).answers));
       only = inl refl;
     })) here (holds_none u.moved_to_initiator (coming i.inputs) w.initiator.framing i.taken i.unready limit_)
-    (ap is_closed (sym i.machine) ∙ live)
+    (ap is_session_closed (sym i.machine) ∙ live)
 
-by_ends : (b d : Bool) (c : Opening) (u : Traffic) (w : World) → is_closed w.initiator.machine ≡ b → target_machine.is_closed w.target.machine ≡ d → IsOpening c
+by_ends : (b d : Bool) (c : Opening) (u : Traffic) (w : World) → is_session_closed w.initiator.machine ≡ b → target_machine.is_machine_closed w.target.machine
+    ≡ d → IsOpening c
     → Sides c u w → w.to_target ≡ [] → w.to_initiator ≡ []
     → w.target_fault ≡ None → w.initiator_fault ≡ None → w.initiator.machine.stage ≡ stages.Full
 by_ends true d c u w is there o s none_out none_back target_well well = (s.initiator.over well is).full
 by_ends false true c u w is there o s none_out none_back target_well well =
     let t : TargetOver c u.moved_to_target u.queued_for_initiator w.target w.blocks = s.target.over target_well there in
-    idle_open c u w (target_session.limit c.target) t.messages t.given t.rest o s none_out none_back (s.initiator.lives well is) is t.reads t.whole
+    idle_open c u w (target_session.target_limit c.target) t.messages t.given t.rest o s none_out none_back (s.initiator.lives well is) is t.reads t.whole
     (inr t.closed) t.output
 by_ends false false c u w is there o s none_out none_back target_well well =
     let t : TargetLives c u.moved_to_target u.queued_for_initiator w.target w.blocks = s.target.lives target_well there in
@@ -147,4 +150,4 @@ pub world_idle : (c : Opening) (u : Traffic) (w : World) → IsOpening c → Sid
     → w.initiator_fault ≡ None
     → w.initiator.machine.stage ≡ stages.Full
 world_idle c u w o s none_out none_back target_well well =
-    by_ends (is_closed w.initiator.machine) (target_machine.is_closed w.target.machine) c u w refl refl o s none_out none_back target_well well
+    by_ends (is_session_closed w.initiator.machine) (target_machine.is_machine_closed w.target.machine) c u w refl refl o s none_out none_back target_well well

@@ -14,14 +14,14 @@ use Rattle.iscsi_text.specs.Reading.{text_in, in_order}
 use Rattle.iscsi_pdu.specs.declared.head.login_request.LoginRequest.{LoginRequest}
 use Rattle.iscsi_pdu.specs.declared.head.login_response.LoginResponse.{LoginResponse}
 use Rattle.iscsi_stream.specs.declared.logins.Logins.{Logins}
-use Rattle.iscsi_stream.specs.Segment.{Segment, Text, Bytes, after, no_login, segment_bytes}
+use Rattle.iscsi_stream.specs.Segment.{Segment, Text, Bytes, logins_after, no_login, segment_bytes}
 use Rattle.iscsi_stream.specs.Stream.{Message}
 use Rattle.iscsi_login.specs.declared.phase.Phase.TheVariants as phases
 use Rattle.iscsi_login.specs.declared.stage.Stage.{Stage}
 use Rattle.iscsi_login.specs.declared.stage.Stage.TheVariants as stages
 use Rattle.iscsi_text.specs.declared.negotiated.Answered.{Answered}
 use Rattle.iscsi_login.specs.Held.{Held}
-use Rattle.iscsi_login.specs.Negotiation.{IsInRange}
+use Rattle.iscsi_login.specs.Negotiation.{ArePreferencesInRange}
 use Rattle.iscsi_login.specs.Answer as login
 use Rattle.iscsi_login.specs.Answer.{initiator_holds, declared_max_recv}
 use Rattle.iscsi_login.specs.Offers.{offers_at}
@@ -32,10 +32,10 @@ use Rattle.iscsi_text.proofs.TextLaws as texts
 use Rattle.iscsi_initiator.specs.Configured.{AreValid, IsStart}
 use Rattle.iscsi_initiator.specs.State as initiator
 use Rattle.iscsi_initiator.specs.State.{sent_exp_stat_sn}
-use Rattle.iscsi_initiator.specs.Steps.{Stepped, sends}
-use Rattle.iscsi_initiator.specs.Login.{offered, following_stage, login_request, login_message, counted, sends_cut, sends_more, sends_text}
+use Rattle.iscsi_initiator.specs.Steps.{InitiatorStep, step_sending}
+use Rattle.iscsi_initiator.specs.Login.{offered, following_stage, login_request_head, login_request_message, login_counted, sends_cut, sends_more, sends_text}
 use Rattle.iscsi_initiator.specs.Login.{begins_stage, fits_segment, start_step}
-use Rattle.iscsi_initiator.specs.Machine.{step}
+use Rattle.iscsi_initiator.specs.Machine.{initiator_step}
 use Rattle.iscsi_target_session.specs.Configured as target_settings
 use Rattle.iscsi_target_session.specs.Session as target_session
 use Rattle.iscsi_target.specs.State as target
@@ -56,7 +56,7 @@ is_sent [] = true
 is_sent (byte ∷ bytes) = false
 
 -- the whole text is on its way
-pub record IsWhole (i : initiator.Machine) (t : target.Machine) (logins : Logins) (segment : Segment) : Type 0 where
+pub record IsWhole (i : initiator.InitiatorSession) (t : target.Machine) (logins : Logins) (segment : Segment) : Type 0 where
   pub is : segment ≡ Text (offered i)
   pub unsent_text : i.unsent_text ≡ []
   pub gathered : t.session.gathered ≡ []
@@ -64,7 +64,7 @@ pub record IsWhole (i : initiator.Machine) (t : target.Machine) (logins : Logins
   pub short : length (canonical_text (offered i)) ≤ 8192
 
 -- a part of the text is on its way
-pub record IsPart (i : initiator.Machine) (t : target.Machine) (logins : Logins) (segment : Segment) : Type 0 where
+pub record IsPart (i : initiator.InitiatorSession) (t : target.Machine) (logins : Logins) (segment : Segment) : Type 0 where
   pub bytes : List ℕ
   pub is : segment ≡ Bytes bytes
   pub text : t.session.gathered ++ (bytes ++ i.unsent_text) ≡ canonical_text (offered i)
@@ -73,7 +73,7 @@ pub record IsPart (i : initiator.Machine) (t : target.Machine) (logins : Logins)
 
 -- The initiator has asked, and the target has not yet received the request. Both are in their login, and hold the same
 -- but for what the initiator has not yet declared of itself.
-pub record Asking (c : Opening) (i : initiator.Machine) (t : target.Machine) (logins : Logins) (r : Message) : Type 0 where
+pub record Asking (c : Opening) (i : initiator.InitiatorSession) (t : target.Machine) (logins : Logins) (r : Message) : Type 0 where
   pub settings : i.settings ≡ c.initiator
   pub phase : i.phase ≡ phases.Login
   pub started : i.started ≡ true
@@ -86,7 +86,7 @@ pub record Asking (c : Opening) (i : initiator.Machine) (t : target.Machine) (lo
   pub values : t.session.held.values ≡ i.held.values
   pub most : t.session.held.target_max_recv ≡ i.held.target_max_recv
   pub segment : Segment
-  pub request : r ≡ login_message i (is_sent i.unsent_text) segment
+  pub request : r ≡ login_request_message i (is_sent i.unsent_text) segment
   pub how : IsWhole i t logins segment ⊎ IsPart i t logins segment
 
 -- ---- what is on its way is read as it was written
@@ -104,42 +104,44 @@ stage_fits stages.Security = omega arith
 stage_fits stages.Operational = omega arith
 stage_fits stages.Full = omega arith
 
-pub request_fits : (c : Opening) (i : initiator.Machine) (last : Bool) → IsOpening c → i.settings ≡ c.initiator → sent_exp_stat_sn i < 2 ^ 32
-    → RequestFits (login_request i last)
+pub request_fits : (c : Opening) (i : initiator.InitiatorSession) (last : Bool) → IsOpening c → i.settings ≡ c.initiator → sent_exp_stat_sn i < 2 ^ 32
+    → RequestFits (login_request_head i last)
 request_fits c i last o e n = record {
   current_stage = stage_fits i.stage;
   has_next = some_then last (stage_number (following_stage i.stage));
   next_stage = if_then last (stage_number (following_stage i.stage)) (stage_fits (following_stage i.stage));
   version_max = omega arith;
   version_min = omega arith;
-  isid = ap (λ (s : initiator.Settings). length s.isid) e ∙ o.isid;
+  isid = ap (λ (s : initiator.InitiatorSettings). length s.isid) e ∙ o.isid;
   tsih = omega arith;
   initiator_task_tag = omega arith;
   connection_id = omega arith;
-  cmd_sn = subst (λ (s : initiator.Settings). s.first_cmd_sn < 2 ^ 32) (sym e) o.cmd_sn;
+  cmd_sn = subst (λ (s : initiator.InitiatorSettings). s.first_cmd_sn < 2 ^ 32) (sym e) o.cmd_sn;
   exp_stat_sn = n;
 }
 
-pub offered_read : (c : Opening) (i : initiator.Machine) → IsOpening c → i.settings ≡ c.initiator → IsStart i.stage
+pub offered_read : (c : Opening) (i : initiator.InitiatorSession) → IsOpening c → i.settings ≡ c.initiator → IsStart i.stage
     → text_in (canonical_text (offered i)) ≡ Some (offered i)
 offered_read c i o e is = offers_read i.settings i.stage (subst AreValid (sym e) o.initiator) is
 
-offers_are_meant : (c : Opening) (i : initiator.Machine) → IsOpening c → i.settings ≡ c.initiator → IsStart i.stage → IsMeaning (offered i)
+offers_are_meant : (c : Opening) (i : initiator.InitiatorSession) → IsOpening c → i.settings ≡ c.initiator → IsStart i.stage → IsMeaning (offered i)
 offers_are_meant c i o e is =
     let valid : AreValid i.settings = subst AreValid (sym e) o.initiator in
     offers_mean i.settings.start i.stage i.settings.proposal valid.names.initiator valid.names.target valid.in_range.preferences is
 
-pub asking_readable : (c : Opening) (i : initiator.Machine) (t : target.Machine) (logins : Logins) (r : Message) → IsOpening c → Asking c i t logins r
+pub asking_readable : (c : Opening) (i : initiator.InitiatorSession) (t : target.Machine) (logins : Logins) (r : Message) → IsOpening c → Asking c i t logins r
     → Readable logins r
 asking_readable c i t logins r o a =
-    let f : RequestFits (login_request i (is_sent i.unsent_text)) = request_fits c i (is_sent i.unsent_text) o a.settings a.number in
+    let f : RequestFits (login_request_head i (is_sent i.unsent_text)) = request_fits c i (is_sent i.unsent_text) o a.settings a.number in
     subst (Readable logins) (sym a.request)
     (elim a.how [
-      | inl w ↦ subst (λ (x : Segment). Readable logins (login_message i (is_sent i.unsent_text) x)) (sym w.is)
-          (request_readable logins (login_request i (is_sent i.unsent_text)) (offered i) w.first (ap (λ (l : List ℕ). not (is_sent l)) w.unsent_text) f w.short
+      | inl w ↦ subst (λ (x : Segment). Readable logins (login_request_message i (is_sent i.unsent_text) x)) (sym w.is)
+          (request_readable logins (login_request_head i (is_sent i.unsent_text)) (offered i) w.first (ap (λ (l : List ℕ). not (is_sent l)) w.unsent_text) f
+          w.short
           (offered_read c i o a.settings a.stage))
-      | inr p ↦ subst (λ (x : Segment). Readable logins (login_message i (is_sent i.unsent_text) x)) (sym p.is)
-          (part_readable logins (login_request i (is_sent i.unsent_text)) p.bytes (ap (λ (b : Bool). not logins.request && b) (not-not (is_sent i.unsent_text))
+      | inr p ↦ subst (λ (x : Segment). Readable logins (login_request_message i (is_sent i.unsent_text) x)) (sym p.is)
+          (part_readable logins (login_request_head i (is_sent i.unsent_text)) p.bytes
+          (ap (λ (b : Bool). not logins.request && b) (not-not (is_sent i.unsent_text))
           ∙ p.part) f
           p.short)
     ])
@@ -147,7 +149,7 @@ asking_readable c i t logins r o a =
 -- ---- what comes of it
 
 -- both ends are in full feature phase, and hold the same
-pub record Agreed (i : Stepped) (t : target.Machine) : Type 0 where
+pub record Agreed (i : InitiatorStep) (t : target.Machine) : Type 0 where
   pub stage : i.machine.stage ≡ stages.Full
   pub silent : i.output ≡ []
   pub target_stage : t.session.stage ≡ stages.Full
@@ -155,23 +157,23 @@ pub record Agreed (i : Stepped) (t : target.Machine) : Type 0 where
   pub held : t.session.held ≡ i.machine.held
 
 -- the next request is on its way
-pub record Asks_on (c : Opening) (i : Stepped) (t : target.Machine) (logins : Logins) : Type 0 where
+pub record Asks_on (c : Opening) (i : InitiatorStep) (t : target.Machine) (logins : Logins) : Type 0 where
   pub request : Message
   pub is : i.output ≡ request ∷ []
   pub asking : Asking c i.machine t logins request
 
 -- what the answer leads to
-abbrev pub Leads : Opening → initiator.Machine → Stepped → target.Machine → Logins → Type 0
+abbrev pub Leads : Opening → initiator.InitiatorSession → InitiatorStep → target.Machine → Logins → Type 0
 Leads c i s t logins = Closes i s ⊎ (Agreed s t ⊎ Asks_on c s t logins)
 
 -- the target gives one answer, which is read as it was written
-pub record Round (c : Opening) (i : initiator.Machine) (t : target.Stepped) (logins : Logins) : Type 0 where
+pub record Round (c : Opening) (i : initiator.InitiatorSession) (t : target.TargetStep) (logins : Logins) : Type 0 where
   pub answer : Message
   pub is : t.answers ≡ answer ∷ []
   pub readable : (back : Logins) → back.response ≡ false → Readable back answer
-  pub last : (back : Logins) → back.response ≡ false → (after back answer.head).response ≡ false
+  pub last : (back : Logins) → back.response ≡ false → (logins_after back answer.head).response ≡ false
   pub short : length (segment_bytes answer.segment) ≤ 8192
-  pub leads : Leads c i (step i answer) t.machine logins
+  pub leads : Leads c i (initiator_step i answer) t.machine logins
 
 -- ---- the next request
 
@@ -184,7 +186,7 @@ fits_drop : (n : ℕ) (l : List ℕ) → nat_le (length l) n ≡ is_sent (drop n
 fits_drop n l = fits_by (drop n l) n (length l) (length-drop n l)
 
 -- what both hold where a login goes on
-record Goes (c : Opening) (m : initiator.Machine) (t : target.Machine) : Type 0 where
+record Goes (c : Opening) (m : initiator.InitiatorSession) (t : target.Machine) : Type 0 where
   settings : m.settings ≡ c.initiator
   phase : m.phase ≡ phases.Login
   started : m.started ≡ true
@@ -198,14 +200,14 @@ record Goes (c : Opening) (m : initiator.Machine) (t : target.Machine) : Type 0 
   most : t.session.held.target_max_recv ≡ m.held.target_max_recv
 
 -- a segment of the text goes out, and the rest waits
-sends_part : (c : Opening) (m : initiator.Machine) (t : target.Machine) (logins : Logins) (text : List ℕ) (last : Bool) → IsOpening c → Goes c m t
+sends_part : (c : Opening) (m : initiator.InitiatorSession) (t : target.Machine) (logins : Logins) (text : List ℕ) (last : Bool) → IsOpening c → Goes c m t
     → t.session.gathered ++ text ≡ canonical_text (offered m) → last ≡ is_sent (drop m.settings.login_segment text) → (not logins.request && last) ≡ false
     → Asks_on c (sends_cut m text last) t logins
 sends_part c m t logins text last o g whole is part =
     let n : ℕ = m.settings.login_segment in
-    let short : n ≤ 8192 = subst (λ (s : initiator.Settings). s.login_segment ≤ 8192) (sym g.settings) o.initiator.in_range.most in
+    let short : n ≤ 8192 = subst (λ (s : initiator.InitiatorSettings). s.login_segment ≤ 8192) (sym g.settings) o.initiator.in_range.most in
     record {
-      request = login_message m last (Bytes (take n text));
+      request = login_request_message m last (Bytes (take n text));
       is = refl;
       asking = record {
         settings = g.settings;
@@ -220,7 +222,7 @@ sends_part c m t logins text last o g whole is part =
         values = g.values;
         most = g.most;
         segment = Bytes (take n text);
-        request = ap (λ (b : Bool). login_message m b (Bytes (take n text))) is;
+        request = ap (λ (b : Bool). login_request_message m b (Bytes (take n text))) is;
         how = inr (record {
           bytes = take n text;
           is = refl;
@@ -232,17 +234,18 @@ sends_part c m t logins text last o g whole is part =
     }
 
 -- the text of the next stage goes out, whole or a part of it
-sends_next : (c : Opening) (m : initiator.Machine) (t : target.Machine) (logins : Logins) → IsOpening c → Goes c m t → t.session.gathered ≡ []
+sends_next : (c : Opening) (m : initiator.InitiatorSession) (t : target.Machine) (logins : Logins) → IsOpening c → Goes c m t → t.session.gathered ≡ []
     → logins.request ≡ false
     → Asks_on c (sends_text m) t logins
 sends_next c m t logins o g none first =
     let text : List ℕ = canonical_text (offered m) in
     let n : ℕ = m.settings.login_segment in
-    let short : n ≤ 8192 = subst (λ (s : initiator.Settings). s.login_segment ≤ 8192) (sym g.settings) o.initiator.in_range.most in
-    by_fit (nat_le (length text) n) (λ r. Asks_on c r t logins) (sends (record m { unsent_text = [] }) (login_message m true (Text (offered m)) ∷ []))
+    let short : n ≤ 8192 = subst (λ (s : initiator.InitiatorSettings). s.login_segment ≤ 8192) (sym g.settings) o.initiator.in_range.most in
+    by_fit (nat_le (length text) n) (λ r. Asks_on c r t logins) (step_sending (record m { unsent_text = [] })
+    (login_request_message m true (Text (offered m)) ∷ []))
     (sends_cut m text false)
     (λ fits. record {
-      request = login_message m true (Text (offered m));
+      request = login_request_message m true (Text (offered m));
       is = refl;
       asking = record {
         settings = g.settings;
@@ -263,7 +266,7 @@ sends_next c m t logins o g none first =
     })
     (λ long. sends_part c m t logins text false o g (ap (λ (x : List ℕ). x ++ text) none) (sym long ∙ fits_drop n text) (and-false (not logins.request)))
   where
-    by_fit : (b : Bool) (P : Stepped → Type 0) (x y : Stepped) → (b ≡ true → P x) → (b ≡ false → P y) → P (if b then x else y)
+    by_fit : (b : Bool) (P : InitiatorStep → Type 0) (x y : InitiatorStep) → (b ≡ true → P x) → (b ≡ false → P y) → P (if b then x else y)
     by_fit true P x y p q = p refl
     by_fit false P x y p q = q refl
 
@@ -272,8 +275,8 @@ sends_next c m t logins o g none first =
 empty_read : text_in (canonical_text []) ≡ Some []
 empty_read = refl
 
-response_last : (back : Logins) (h : LoginResponse) (pairs : Pairs) → h.continues ≡ false → (after back (answering h pairs).head).response ≡ false
-unfolding after
+response_last : (back : Logins) (h : LoginResponse) (pairs : Pairs) → h.continues ≡ false → (logins_after back (answering h pairs).head).response ≡ false
+unfolding logins_after
 response_last back h pairs last = last
 
 short_text : (pairs : Pairs) → length (canonical_text pairs) ≤ 8192 → length (segment_bytes (Text pairs)) ≤ 8192
@@ -285,7 +288,7 @@ unfolding segment_bytes
 short_bytes bytes le = le
 
 -- what is asked has no longer segment than each end takes
-pub asking_short : (c : Opening) (i : initiator.Machine) (t : target.Machine) (logins : Logins) (r : Message) → Asking c i t logins r
+pub asking_short : (c : Opening) (i : initiator.InitiatorSession) (t : target.Machine) (logins : Logins) (r : Message) → Asking c i t logins r
     → length (segment_bytes r.segment) ≤ 8192
 asking_short c i t logins r a =
     subst (λ (x : Message). length (segment_bytes x.segment) ≤ 8192) (sym a.request)
@@ -298,9 +301,9 @@ asking_short c i t logins r a =
 abbrev behind : target.Machine → target_session.Reply → target.Machine
 behind t reply = record { session = reply.session; tasks = target.left reply.session t.tasks }
 
-refused_round : (c : Opening) (i : initiator.Machine) (t : target.Machine) (logins next : Logins) (r : Message) (disk : Disk) (last : Bool)
+refused_round : (c : Opening) (i : initiator.InitiatorSession) (t : target.Machine) (logins next : Logins) (r : Message) (disk : Disk) (last : Bool)
     (reply : target_session.Reply) → Asking c i t logins r
-    → Refuses (login_request i last) reply → Round c i (target.on disk t.tasks reply) next
+    → Refuses (login_request_head i last) reply → Round c i (target.on disk t.tasks reply) next
 refused_round c i t logins next r disk last reply a q = record {
   answer = answering q.answer [];
   is = q.is;
@@ -311,10 +314,11 @@ refused_round c i t logins next r disk last reply a q = record {
 }
 
 -- the login goes on with the next part of the text
-gathered_round : (c : Opening) (i : initiator.Machine) (t : target.Machine) (logins next : Logins) (r : Message) (disk : Disk) (bytes : List ℕ) (byte : ℕ)
+gathered_round : (c : Opening) (i : initiator.InitiatorSession) (t : target.Machine) (logins next : Logins) (r : Message) (disk : Disk) (bytes : List ℕ)
+    (byte : ℕ)
     (more : List ℕ) (reply : target_session.Reply) → IsOpening c → Asking c i t logins r
     → i.unsent_text ≡ byte ∷ more → t.session.gathered ++ (bytes ++ i.unsent_text) ≡ canonical_text (offered i) → next.request ≡ true
-    → Gathers t.session (login_request i false) bytes reply → Round c i (target.on disk t.tasks reply) next
+    → Gathers t.session (login_request_head i false) bytes reply → Round c i (target.on disk t.tasks reply) next
 gathered_round c i t logins next r disk bytes byte more reply o a left text request q = record {
   answer = answering q.answer [];
   is = q.is;
@@ -323,12 +327,12 @@ gathered_round c i t logins next r disk bytes byte more reply o a left text requ
   short = short_text [] (omega arith);
   leads = elim (receives_more i q.answer [] byte more a.phase a.started q.tag q.class left) [
     | inl closes ↦ inl closes
-    | inr e ↦ inr (inr (subst (λ (s : Stepped). Asks_on c s (behind t reply) next) (sym e) goes))
+    | inr e ↦ inr (inr (subst (λ (s : InitiatorStep). Asks_on c s (behind t reply) next) (sym e) goes))
   ];
 }
   where
-    m : initiator.Machine
-    m = counted i q.answer
+    m : initiator.InitiatorSession
+    m = login_counted i q.answer
 
     goes : Asks_on c (sends_more m) (behind t reply) next
     goes = sends_part c m (behind t reply) next m.unsent_text (fits_segment m m.unsent_text) o
@@ -364,21 +368,23 @@ held_same declared answer i t v m = record {
 }
 
 -- the answer leads on: to the next stage, or to full feature phase
-told_to : (stage : Stage) (c : Opening) (i : initiator.Machine) (t : target.Machine) (logins next : Logins) (r : Message) (reply : target_session.Reply)
+told_to : (stage : Stage) (c : Opening) (i : initiator.InitiatorSession) (t : target.Machine) (logins next : Logins) (r : Message)
+    (reply : target_session.Reply)
     → IsOpening c → Asking c i t logins r → i.stage ≡ stage
-    → next.request ≡ false → (q : Tells t.session (login_request i true) (offered i) reply)
+    → next.request ≡ false → (q : Tells t.session (login_request_head i true) (offered i) reply)
     → let answer : Pairs = login.answer q.session t.session.settings.preferences q.group q.most (offered i) in
     Leads c i (begins_stage (following_stage stage) (with_answer i q.answer answer)) (behind t reply) next
 told_to stages.Security c i t logins next r reply o a is first q =
     let answer : Pairs = login.answer q.session t.session.settings.preferences q.group q.most (offered i) in
-    let m : initiator.Machine = record (with_answer i q.answer answer) { stage = stages.Operational } in
-    let range : IsInRange t.session.settings.preferences = subst (λ (x : target_settings.Settings). IsInRange x.preferences) (sym a.target_settings)
+    let m : initiator.InitiatorSession = record (with_answer i q.answer answer) { stage = stages.Operational } in
+    let range : ArePreferencesInRange t.session.settings.preferences = subst (λ (x : target_settings.TargetSettings). ArePreferencesInRange x.preferences)
+    (sym a.target_settings)
     o.preferences in
     let h : reply.session.held ≡ initiator_holds (declared_max_recv (offered i)) answer t.session.held =
     q.held ∙ sym (texts_agree q.session t.session.settings.preferences range q.group q.most (offered i) t.session.held) in
     let s : SameHeld (initiator_holds None answer i.held) (initiator_holds (declared_max_recv (offered i)) answer t.session.held) =
     held_same (declared_max_recv (offered i)) answer i.held t.session.held a.values a.most in
-    let asked_is : target_login.stage_asked (login_request i true) ≡ Some stages.Operational =
+    let asked_is : target_login.stage_asked (login_request_head i true) ≡ Some stages.Operational =
     ap (λ (x : Stage). target_login.stage_named (stage_number (following_stage x))) is in
     inr (inr (sends_next c m (behind t reply) next o
     (record {
@@ -397,7 +403,8 @@ told_to stages.Security c i t logins next r reply o a is first q =
     q.gathered first))
 told_to stages.Operational c i t logins next r reply o a is first q =
     let answer : Pairs = login.answer q.session t.session.settings.preferences q.group q.most (offered i) in
-    let range : IsInRange t.session.settings.preferences = subst (λ (x : target_settings.Settings). IsInRange x.preferences) (sym a.target_settings)
+    let range : ArePreferencesInRange t.session.settings.preferences = subst (λ (x : target_settings.TargetSettings). ArePreferencesInRange x.preferences)
+    (sym a.target_settings)
     o.preferences in
     let h : reply.session.held ≡ initiator_holds (declared_max_recv (offered i)) answer t.session.held =
     q.held ∙ sym (texts_agree q.session t.session.settings.preferences range q.group q.most (offered i) t.session.held) in
@@ -406,12 +413,13 @@ told_to stages.Operational c i t logins next r reply o a is first q =
     let valid : AreValid i.settings = subst AreValid (sym a.settings) o.initiator in
     let d : declared_max_recv (offered i) ≡ Some c.initiator.proposal.prefs.max_recv =
     ap (λ (x : Stage). declared_max_recv (in_order (offers_at i.settings.proposal i.settings.start x))) is
-    ∙ declares i.settings.proposal i.settings.start valid.in_range.start ∙ ap (λ (x : initiator.Settings). Some x.proposal.prefs.max_recv) a.settings in
+    ∙ declares i.settings.proposal i.settings.start valid.in_range.start ∙ ap (λ (x : initiator.InitiatorSettings). Some x.proposal.prefs.max_recv)
+    a.settings in
     let own : unwrap_or (declared_max_recv (offered i)) t.session.held.initiator_max_recv ≡ i.held.initiator_max_recv =
     ap (λ (x : Option ℕ). unwrap_or x t.session.held.initiator_max_recv) d ∙ sym a.own in
     let same : initiator_holds (declared_max_recv (offered i)) answer t.session.held ≡ initiator_holds None answer i.held =
     λ j. record { values = s.values j; initiator_max_recv = own j; target_max_recv = s.most j } in
-    let asked_is : target_login.stage_asked (login_request i true) ≡ Some stages.Full =
+    let asked_is : target_login.stage_asked (login_request_head i true) ≡ Some stages.Full =
     ap (λ (x : Stage). target_login.stage_named (stage_number (following_stage x))) is in
     inr (inl (record {
       stage = refl;
@@ -422,9 +430,10 @@ told_to stages.Operational c i t logins next r reply o a is first q =
     }))
 told_to stages.Full c i t logins next r reply o a is first q = absurd (subst IsStart is a.stage)
 
-told_round : (c : Opening) (i : initiator.Machine) (t : target.Machine) (logins next : Logins) (r : Message) (disk : Disk) (reply : target_session.Reply)
+told_round : (c : Opening) (i : initiator.InitiatorSession) (t : target.Machine) (logins next : Logins) (r : Message) (disk : Disk)
+    (reply : target_session.Reply)
     → IsOpening c → Asking c i t logins r
-    → i.unsent_text ≡ [] → next.request ≡ false → Tells t.session (login_request i true) (offered i) reply → Round c i (target.on disk t.tasks reply) next
+    → i.unsent_text ≡ [] → next.request ≡ false → Tells t.session (login_request_head i true) (offered i) reply → Round c i (target.on disk t.tasks reply) next
 told_round c i t logins next r disk reply o a left first q = record {
   answer = answering q.answer answer;
   is = q.is;
@@ -433,7 +442,7 @@ told_round c i t logins next r disk reply o a left first q = record {
   short = short_text answer q.short;
   leads = elim (receives_answer i q.answer answer a.phase a.started q.tag q.class left) [
     | inl closes ↦ inl closes
-    | inr e ↦ subst (λ (s : Stepped). Leads c i s (behind t reply) next) (sym e) (told_to i.stage c i t logins next r reply o a refl first q)
+    | inr e ↦ subst (λ (s : InitiatorStep). Leads c i s (behind t reply) next) (sym e) (told_to i.stage c i t logins next r reply o a refl first q)
   ];
 }
   where
@@ -442,12 +451,14 @@ told_round c i t logins next r disk reply o a left first q = record {
 
     read : text_in (canonical_text answer) ≡ Some answer
     read = (texts.reading_some (canonical_text answer) answer).1 (texts.canonical_means answer
-        (answer_meaning q.session t.session.settings.preferences (subst (λ (x : target_settings.Settings). IsInRange x.preferences) (sym a.target_settings)
+        (answer_meaning q.session t.session.settings.preferences (subst (λ (x : target_settings.TargetSettings). ArePreferencesInRange x.preferences)
+        (sym a.target_settings)
         o.preferences) q.group q.most q.group_fits q.most_fits (offered i) (offers_are_meant c i o a.settings a.stage)))
 
 -- the login stays where it is, and so the initiator gives up
-stayed_round : (c : Opening) (i : initiator.Machine) (t : target.Machine) (logins next : Logins) (r : Message) (disk : Disk) (reply : target_session.Reply)
-    → Asking c i t logins r → i.unsent_text ≡ [] → HoldsBack (login_request i true) reply → Round c i (target.on disk t.tasks reply) next
+stayed_round : (c : Opening) (i : initiator.InitiatorSession) (t : target.Machine) (logins next : Logins) (r : Message) (disk : Disk)
+    (reply : target_session.Reply)
+    → Asking c i t logins r → i.unsent_text ≡ [] → HoldsBack (login_request_head i true) reply → Round c i (target.on disk t.tasks reply) next
 stayed_round c i t logins next r disk reply a left q = record {
   answer = answering q.answer q.text;
   is = q.is;
@@ -460,60 +471,63 @@ stayed_round c i t logins next r disk reply a left q = record {
 
 -- ---- one round
 
-next_request : (logins : Logins) (i : initiator.Machine) (last : Bool) (segment : Segment)
-    → (after logins (login_message i last segment).head).request ≡ not last
-unfolding after
+next_request : (logins : Logins) (i : initiator.InitiatorSession) (last : Bool) (segment : Segment)
+    → (logins_after logins (login_request_message i last segment).head).request ≡ not last
+unfolding logins_after
 next_request logins i last segment = refl
 
 target_fits : (c : Opening) (t : target.Machine) → IsOpening c → t.session.settings ≡ c.target → SettingsFit t.session.settings
 target_fits c t o e = subst SettingsFit (sym e) (record { preferences = o.preferences; group = o.group; tsih = o.tsih })
 
 -- a request that ends its text
-last_round : (c : Opening) (i : initiator.Machine) (t : target.Machine) (logins : Logins) (r : Message) (disk : Disk) (segment : Segment) → IsOpening c
+last_round : (c : Opening) (i : initiator.InitiatorSession) (t : target.Machine) (logins : Logins) (r : Message) (disk : Disk) (segment : Segment) → IsOpening c
     → Asking c i t logins r
     → i.unsent_text ≡ [] → is_over_limit t segment ≡ false → target_login.text_ending t.session.gathered segment ≡ Some (offered i)
-    → Round c i (target_machine.step false t disk (login_message i true segment)) (after logins (login_message i true segment).head)
+    → Round c i (target_machine.target_step false t disk (login_request_message i true segment))
+    (logins_after logins (login_request_message i true segment).head)
 last_round c i t logins r disk segment o a left short read =
-    let h : LoginRequest = login_request i true in
-    let next : Logins = after logins (login_message i true segment).head in
+    let h : LoginRequest = login_request_head i true in
+    let next : Logins = logins_after logins (login_request_message i true segment).head in
     let f : RequestFits h = request_fits c i true o a.settings a.number in
-    subst (λ (x : target.Stepped). Round c i x next) (sym (login_step_is t disk h segment a.logs_in.phase short))
+    subst (λ (x : target.TargetStep). Round c i x next) (sym (login_step_is t disk h segment a.logs_in.phase short))
     (elim (tells_text t.session h segment (offered i) (target_fits c t o a.target_settings) a.logs_in f refl (offers_are_meant c i o a.settings a.stage) read) [
-      | inl q ↦ refused_round c i t logins next r disk true (target_login.login_request t.session h segment) a q
-      | inr (inl q) ↦ told_round c i t logins next r disk (target_login.login_request t.session h segment) o a left (next_request logins i true segment) q
-      | inr (inr q) ↦ stayed_round c i t logins next r disk (target_login.login_request t.session h segment) a left q
+      | inl q ↦ refused_round c i t logins next r disk true (target_login.on_login_request t.session h segment) a q
+      | inr (inl q) ↦ told_round c i t logins next r disk (target_login.on_login_request t.session h segment) o a left (next_request logins i true segment) q
+      | inr (inr q) ↦ stayed_round c i t logins next r disk (target_login.on_login_request t.session h segment) a left q
     ])
 
 -- a request whose text goes on
-part_round : (c : Opening) (i : initiator.Machine) (t : target.Machine) (logins : Logins) (r : Message) (disk : Disk) (bytes : List ℕ) (byte : ℕ)
+part_round : (c : Opening) (i : initiator.InitiatorSession) (t : target.Machine) (logins : Logins) (r : Message) (disk : Disk) (bytes : List ℕ) (byte : ℕ)
     (more : List ℕ) → IsOpening c → Asking c i t logins r
     → i.unsent_text ≡ byte ∷ more → is_over_limit t (Bytes bytes) ≡ false → t.session.gathered ++ (bytes ++ i.unsent_text) ≡ canonical_text (offered i)
-    → Round c i (target_machine.step false t disk (login_message i false (Bytes bytes))) (after logins (login_message i false (Bytes bytes)).head)
+    → Round c i (target_machine.target_step false t disk (login_request_message i false (Bytes bytes)))
+    (logins_after logins (login_request_message i false (Bytes bytes)).head)
 part_round c i t logins r disk bytes byte more o a left short text =
-    let h : LoginRequest = login_request i false in
-    let next : Logins = after logins (login_message i false (Bytes bytes)).head in
+    let h : LoginRequest = login_request_head i false in
+    let next : Logins = logins_after logins (login_request_message i false (Bytes bytes)).head in
     let f : RequestFits h = request_fits c i false o a.settings a.number in
-    subst (λ (x : target.Stepped). Round c i x next) (sym (login_step_is t disk h (Bytes bytes) a.logs_in.phase short))
+    subst (λ (x : target.TargetStep). Round c i x next) (sym (login_step_is t disk h (Bytes bytes) a.logs_in.phase short))
     (elim (gathers_more t.session h bytes a.logs_in f refl) [
-      | inl q ↦ refused_round c i t logins next r disk false (target_login.login_request t.session h (Bytes bytes)) a q
-      | inr q ↦ gathered_round c i t logins next r disk bytes byte more (target_login.login_request t.session h (Bytes bytes)) o a left text
+      | inl q ↦ refused_round c i t logins next r disk false (target_login.on_login_request t.session h (Bytes bytes)) a q
+      | inr q ↦ gathered_round c i t logins next r disk bytes byte more (target_login.on_login_request t.session h (Bytes bytes)) o a left text
           (next_request logins i false (Bytes bytes)) q
     ])
 
 pub fits_limit : (t : target.Machine) (bytes : List ℕ) → length bytes ≤ 8192 → is_over_limit t (Bytes bytes) ≡ false
-fits_limit t bytes le = le-ltb (target_session.limit t.session.settings) (length bytes) (omega (arith, le))
+fits_limit t bytes le = le-ltb (target_session.target_limit t.session.settings) (length bytes) (omega (arith, le))
 
 -- the message that is on its way, by what is left behind it
-round_at : (left : List ℕ) (c : Opening) (i : initiator.Machine) (t : target.Machine) (logins : Logins) (r : Message) (disk : Disk) → IsOpening c
+round_at : (left : List ℕ) (c : Opening) (i : initiator.InitiatorSession) (t : target.Machine) (logins : Logins) (r : Message) (disk : Disk) → IsOpening c
     → (a : Asking c i t logins r) → i.unsent_text ≡ left
-    → Round c i (target_machine.step false t disk (login_message i (is_sent left) a.segment)) (after logins (login_message i (is_sent left) a.segment).head)
+    → Round c i (target_machine.target_step false t disk (login_request_message i (is_sent left) a.segment))
+    (logins_after logins (login_request_message i (is_sent left) a.segment).head)
 round_at [] c i t logins r disk o a left =
     elim a.how [
-      | inl w ↦ subst (λ (x : Segment). Round c i (target_machine.step false t disk (login_message i true x))
-          (after logins (login_message i true x).head)) (sym w.is)
+      | inl w ↦ subst (λ (x : Segment). Round c i (target_machine.target_step false t disk (login_request_message i true x))
+          (logins_after logins (login_request_message i true x).head)) (sym w.is)
           (last_round c i t logins r disk (Text (offered i)) o a left refl refl)
-      | inr p ↦ subst (λ (x : Segment). Round c i (target_machine.step false t disk (login_message i true x))
-          (after logins (login_message i true x).head)) (sym p.is)
+      | inr p ↦ subst (λ (x : Segment). Round c i (target_machine.target_step false t disk (login_request_message i true x))
+          (logins_after logins (login_request_message i true x).head)) (sym p.is)
           (last_round c i t logins r disk (Bytes p.bytes) o a left (fits_limit t p.bytes p.short)
           (ap text_in (ap (λ (x : List ℕ). t.session.gathered ++ x) (sym (append-nil p.bytes) ∙ ap (λ (x : List ℕ). p.bytes ++ x) (sym left)) ∙ p.text)
           ∙ offered_read c i o a.settings a.stage))
@@ -521,22 +535,25 @@ round_at [] c i t logins r disk o a left =
 round_at (byte ∷ more) c i t logins r disk o a left =
     elim a.how [
       | inl w ↦ absurd (let bad : [] ≡ byte ∷ more = sym w.unsent_text ∙ left in cc)
-      | inr p ↦ subst (λ (x : Segment). Round c i (target_machine.step false t disk (login_message i false x)) (after logins (login_message i false x).head))
+      | inr p ↦ subst (λ (x : Segment). Round c i (target_machine.target_step false t disk (login_request_message i false x))
+          (logins_after logins (login_request_message i false x).head))
           (sym p.is)
           (part_round c i t logins r disk p.bytes byte more o a left (fits_limit t p.bytes p.short) p.text)
     ]
 
-pub round : (c : Opening) (i : initiator.Machine) (t : target.Machine) (logins : Logins) (r : Message) (disk : Disk) → IsOpening c → Asking c i t logins r
-    → Round c i (target_machine.step false t disk r) (after logins r.head)
+pub round : (c : Opening) (i : initiator.InitiatorSession) (t : target.Machine) (logins : Logins) (r : Message) (disk : Disk) → IsOpening c
+    → Asking c i t logins r
+    → Round c i (target_machine.target_step false t disk r) (logins_after logins r.head)
 round c i t logins r disk o a =
-    subst (λ (x : Message). Round c i (target_machine.step false t disk x) (after logins x.head)) (sym a.request)
+    subst (λ (x : Message). Round c i (target_machine.target_step false t disk x) (logins_after logins x.head)) (sym a.request)
     (round_at i.unsent_text c i t logins r disk o a refl)
 
 -- ---- the first request
 
-pub first_asks : (c : Opening) → IsOpening c → Asks_on c (start_step (initiator.opening c.initiator)) (target.opening c.target c.first_stat_sn) no_login
+pub first_asks : (c : Opening) → IsOpening c → Asks_on c (start_step (initiator.new_session c.initiator)) (target.opening_machine c.target c.first_stat_sn)
+    no_login
 first_asks c o =
-    sends_next c (record (initiator.opening c.initiator) { started = true }) (target.opening c.target c.first_stat_sn) no_login o
+    sends_next c (record (initiator.new_session c.initiator) { started = true }) (target.opening_machine c.target c.first_stat_sn) no_login o
     (record {
       settings = refl;
       phase = refl;

@@ -26,28 +26,28 @@ use Rattle.iscsi_login.specs.declared.stage.Stage.TheVariants as stages
 use Rattle.iscsi_text.specs.declared.negotiated.Session.TheVariants as sessions
 use Rattle.iscsi_login.specs.declared.offers.Auth.TheVariants as auths
 use Rattle.iscsi_login.specs.declared.preferences.Preferences.{Preferences}
-use Rattle.iscsi_login.specs.Negotiation.{IsInRange, max_recv_range}
+use Rattle.iscsi_login.specs.Negotiation.{ArePreferencesInRange, max_recv_range}
 use Rattle.iscsi_login.specs.Stage.{stage_number, is_closed_phase}
 use Rattle.iscsi_login.specs.Offers.{Proposal, offers_at, security_offers, operational_offers, single_offers}
 use Rattle.iscsi_initiator.specs.Configured.{IsStart}
 use Rattle.iscsi_initiator.specs.State as initiator
-use Rattle.iscsi_initiator.specs.State.{is_closed}
-use Rattle.iscsi_initiator.specs.Steps.{Stepped, sends}
-use Rattle.iscsi_initiator.specs.Login.{offered, following_stage, login_request, login_message, is_expected, goes_on, moves_on, in_turn}
-use Rattle.iscsi_initiator.specs.Login.{judged, begins_stage, counted, sends_more, sends_text, sends_cut, fits_segment, start_step}
-use Rattle.iscsi_initiator.specs.Machine.{step}
+use Rattle.iscsi_initiator.specs.State.{is_session_closed}
+use Rattle.iscsi_initiator.specs.Steps.{InitiatorStep, step_sending}
+use Rattle.iscsi_initiator.specs.Login.{offered, following_stage, login_request_head, login_request_message, is_expected, is_mid_text_answer, moves_on, login_answer_in_turn}
+use Rattle.iscsi_initiator.specs.Login.{answer_judged, begins_stage, login_counted, sends_more, sends_text, sends_cut, fits_segment, start_step}
+use Rattle.iscsi_initiator.specs.Machine.{initiator_step}
 use Rattle.iscsi_target_session.specs.declared.status.Status.{Status}
 use Rattle.iscsi_target_session.specs.Configured as target_settings
 use Rattle.iscsi_target_session.specs.Session as target_session
 use Rattle.iscsi_target.specs.State as target
-use Rattle.scsi_disk.specs.Plan.{first_of}
+use Rattle.scsi_disk.specs.Plan.{first_reason}
 use Rattle.iscsi_text.specs.Key.{known_keys}
 use Rattle.iscsi_target_session.specs.Session.{none_seen}
 use Rattle.iscsi_target_session.specs.LoginText.{repeats_key, seen_with, text_refusals, answer_pairs, negotiated_as, declared_tag, declared_length}
 use Rattle.iscsi_target_session.specs.Login as login
-use Rattle.iscsi_target_session.specs.Login.{request_refusals, is_same_stage, stage_named, stage_asked, is_move, numbered, entered, gather, text_answered}
+use Rattle.iscsi_target_session.specs.Login.{request_refusals, is_same_stage, stage_named, stage_asked, is_move, numbers_settled, entered, gather, pairs_answered}
 use Rattle.iscsi_target_session.specs.Login.{text_ending}
-use Rattle.iscsi_pair.specs.World.{Opening, IsOpening, Suits}
+use Rattle.iscsi_pair.specs.World.{Opening, IsOpening, SuitEachOther}
 use Rattle.iscsi_target.specs.Machine as target_machine
 use Rattle.iscsi_target.specs.Machine.{is_over_limit}
 use Rattle.iscsi_target_session.proofs.ExchangeLemmas.{open_text}
@@ -62,20 +62,20 @@ use Rattle.iscsi_pdu.specs.Serial.{next_sn}
 -- ---- where the login is, beside what the initiator asks
 
 -- the target has no text yet
-pub record HasNone (c : Opening) (i : initiator.Machine) (t : target.Machine) : Type 0 where
+pub record HasNone (c : Opening) (i : initiator.InitiatorSession) (t : target.Machine) : Type 0 where
   pub none : t.session.has_text ≡ false
   pub seen_keys : t.session.seen_keys ≡ none_seen
   pub stage : i.stage ≡ c.initiator.start
 
 -- it has the text of the security stage
-pub record HasFirst (c : Opening) (i : initiator.Machine) (t : target.Machine) : Type 0 where
+pub record HasFirst (c : Opening) (i : initiator.InitiatorSession) (t : target.Machine) : Type 0 where
   pub one : t.session.has_text ≡ true
   pub seen_keys : t.session.seen_keys ≡ seen_with known_keys none_seen (in_order (security_offers c.initiator.proposal))
   pub start : c.initiator.start ≡ stages.Security
   pub stage : i.stage ≡ stages.Operational
 
 -- both ends expect of each other what will come
-pub record Suited (c : Opening) (i : initiator.Machine) (t : target.Machine) : Type 0 where
+pub record Suited (c : Opening) (i : initiator.InitiatorSession) (t : target.Machine) : Type 0 where
   pub expected : is_expected i.exp_stat_sn t.session.stat_sn ≡ true
   pub due : (if t.session.begun then is_same_stage t.session.stage (stage_named (stage_number i.stage)) else nat_le (stage_number i.stage) 1) ≡ true
   pub texts : HasNone c i t ⊎ HasFirst c i t
@@ -93,9 +93,9 @@ moves true stages.Operational is = refl
 moves true stages.Full is = absurd is
 moves false stage is = refl
 
-not_refused : (c : Opening) (i : initiator.Machine) (t : target.Machine) (last : Bool) → IsStart i.stage → Suited c i t
-    → first_of (request_refusals t.session (login_request i last)) ≡ None
-not_refused c i t last is s = none_of (request_refusals t.session (login_request i last)) (
+not_refused : (c : Opening) (i : initiator.InitiatorSession) (t : target.Machine) (last : Bool) → IsStart i.stage → Suited c i t
+    → first_reason (request_refusals t.session (login_request_head i last)) ≡ None
+not_refused c i t last is s = none_of (request_refusals t.session (login_request_head i last)) (
   refl,
   (refl, (ap not s.due, (last_or_not last, (moves last i.stage is, tt)))),
 )
@@ -118,7 +118,7 @@ pub record SameState (s e : target_session.Session) : Type 0 where
 
 pub entered_same : (s : target_session.Session) (h : LoginRequest) → SameState s (entered s h)
 entered_same s h =
-    let k : SameState s (numbered s h) = cond_both s.begun s (record s { begun = true; exp_cmd_sn = h.cmd_sn; isid = h.isid }) (SameState s)
+    let k : SameState s (numbers_settled s h) = cond_both s.begun s (record s { begun = true; exp_cmd_sn = h.cmd_sn; isid = h.isid }) (SameState s)
     (λ is. record { has_text = refl; seen_keys = refl; settings = refl; stat_sn = refl; gathered = refl }) (λ is. record {
       has_text = refl;
       seen_keys = refl;
@@ -133,38 +133,39 @@ entered_same s h =
 answer_fits : (c : Opening) (e : target_session.Session) (pairs : Pairs) → IsOpening c → e.settings ≡ c.target → IsFew pairs
     → nat_lt 8192 (length (canonical_text (answer_pairs e pairs))) ≡ false
 answer_fits c e pairs o same few =
-    let range : IsInRange e.settings.preferences = subst (λ (x : target_settings.Settings). IsInRange x.preferences) (sym same) o.preferences in
-    let group : e.settings.group < 2 ^ 16 = subst (λ (x : target_settings.Settings). x.group < 2 ^ 16) (sym same) o.group in
+    let range : ArePreferencesInRange e.settings.preferences = subst (λ (x : target_settings.TargetSettings). ArePreferencesInRange x.preferences) (sym same)
+    o.preferences in
+    let group : e.settings.group < 2 ^ 16 = subst (λ (x : target_settings.TargetSettings). x.group < 2 ^ 16) (sym same) o.group in
     le-ltb 8192 (length (canonical_text (answer_pairs e pairs)))
     (answer_is_short (negotiated_as e pairs) e.settings.preferences (declared_tag e pairs) (declared_length e) pairs range
     (some_if _ e.settings.group (2 ^ 64) (omega (arith, group))) (some_if _ e.settings.preferences.max_recv (2 ^ 64) (omega (arith, range.max_recv.1)))
     few.short few.few)
 
 -- the target's name, as the target has it
-suited_name : (c : Opening) (e : target_session.Session) → Suits c → e.settings ≡ c.target
+suited_name : (c : Opening) (e : target_session.Session) → SuitEachOther c → e.settings ≡ c.target
     → (c.initiator.proposal.session ≡ sessions.Discovery) ⊎ (c.initiator.proposal.target ≡ e.settings.name)
 suited_name c e suits same = elim suits.name [
   | inl d ↦ inl d
-  | inr n ↦ inr (n ∙ ap (λ (x : target_settings.Settings). x.name) (sym same))
+  | inr n ↦ inr (n ∙ ap (λ (x : target_settings.TargetSettings). x.name) (sym same))
 ]
 
 -- the initiator may log in
-suited_access : (c : Opening) (e : target_session.Session) → Suits c → e.settings ≡ c.target
+suited_access : (c : Opening) (e : target_session.Session) → SuitEachOther c → e.settings ≡ c.target
     → target_settings.is_allowed e.settings.extras c.initiator.proposal.initiator ≡ true
 suited_access c e suits same =
-    ap (λ (x : target_settings.Settings). target_settings.is_allowed x.extras c.initiator.proposal.initiator) same ∙ suits.access
+    ap (λ (x : target_settings.TargetSettings). target_settings.is_allowed x.extras c.initiator.proposal.initiator) same ∙ suits.access
 
-demands_chap : (c : Opening) → Suits c → c.initiator.start ≡ stages.Security → c.initiator.proposal.auth ≢ auths.Chap
+demands_chap : (c : Opening) → SuitEachOther c → c.initiator.start ≡ stages.Security → c.initiator.proposal.auth ≢ auths.Chap
 demands_chap c suits started = elim suits.auth [
   | inl s ↦ absurd (let bad : stages.Security ≡ stages.Operational = sym started ∙ s in cc)
   | inr n ↦ n
 ]
 
 -- the text that a stage has, by where the login started
-text_at : (start stage : Stage) (c : Opening) (i : initiator.Machine) (t : target.Machine) (e : target_session.Session) → IsOpening c → Suits c
+text_at : (start stage : Stage) (c : Opening) (i : initiator.InitiatorSession) (t : target.Machine) (e : target_session.Session) → IsOpening c → SuitEachOther c
     → c.initiator.start ≡ start → i.stage ≡ stage → SameText t.session e → t.session.settings ≡ c.target
     → HasNone c i t ⊎ HasFirst c i t → IsStart stage
-    → first_of (text_refusals e (in_order (offers_at c.initiator.proposal start stage))) ≡ None
+    → first_reason (text_refusals e (in_order (offers_at c.initiator.proposal start stage))) ≡ None
 text_at stages.Security stages.Security c i t e o suits started is same settings (inl f) ok =
     let p : Proposal = c.initiator.proposal in
     let there : e.settings ≡ c.target = same.settings ∙ settings in
@@ -210,93 +211,95 @@ text_at stages.Operational stages.Full c i t e o suits started is same settings 
 -- ---- what the target does
 
 -- a part of the text is gathered
-gathers_well : (t : target_session.Session) (h : LoginRequest) (bytes : List ℕ) → first_of (request_refusals t h) ≡ None
+gathers_well : (t : target_session.Session) (h : LoginRequest) (bytes : List ℕ) → first_reason (request_refusals t h) ≡ None
     → length (entered t h).gathered + length bytes ≤ 16384 → h.continues ≡ true
-    → login.login_request t h (Bytes bytes) ≡ gather (entered t h) h bytes
+    → login.on_login_request t h (Bytes bytes) ≡ gather (entered t h) h bytes
 unfolding segment_bytes
 gathers_well t h bytes none short more =
     let e : target_session.Session = entered t h in
-    ap (λ (o : Option Status). login.refuse_or o (numbered t h) h (login.segment_taken e h (Bytes bytes))) none
+    ap (λ (o : Option Status). login.refuse_or o (numbers_settled t h) h (login.segment_taken e h (Bytes bytes))) none
     ∙ cond-false (nat_lt 16384 (length e.gathered + length bytes)) _ _ (le-ltb 16384 (length e.gathered + length bytes) short)
     ∙ cond-true h.continues _ _ more
 
 -- a whole text is answered
-answers_well : (t : target_session.Session) (h : LoginRequest) (segment : Segment) (pairs : Pairs) → first_of (request_refusals t h) ≡ None
+answers_well : (t : target_session.Session) (h : LoginRequest) (segment : Segment) (pairs : Pairs) → first_reason (request_refusals t h) ≡ None
     → length (entered t h).gathered + length (segment_bytes segment) ≤ 16384 → h.continues ≡ false
-    → text_ending (entered t h).gathered segment ≡ Some pairs → first_of (text_refusals (record (entered t h) { gathered = [] }) pairs) ≡ None
+    → text_ending (entered t h).gathered segment ≡ Some pairs → first_reason (text_refusals (record (entered t h) { gathered = [] }) pairs) ≡ None
     → (entered t h).settings.extras.chap ≡ None
-    → login.login_request t h segment ≡ text_answered (record (entered t h) { gathered = [] }) h pairs
+    → login.on_login_request t h segment ≡ pairs_answered (record (entered t h) { gathered = [] }) h pairs
 answers_well t h segment pairs none short last read good open_ =
     let e : target_session.Session = entered t h in
     let f : target_session.Session = record e { gathered = [] } in
-    ap (λ (o : Option Status). login.refuse_or o (numbered t h) h (login.segment_taken e h segment)) none
+    ap (λ (o : Option Status). login.refuse_or o (numbers_settled t h) h (login.segment_taken e h segment)) none
     ∙ cond-false (nat_lt 16384 (length e.gathered + length (segment_bytes segment))) _ _ (le-ltb 16384 (length e.gathered + length (segment_bytes segment))
     short)
     ∙ cond-false h.continues _ _ last
     ∙ ap (login.whole_text f h) read
     ∙ open_text f h pairs open_
-    ∙ ap (λ (o : Option Status). login.refuse_or o f h (text_answered f h pairs)) good
+    ∙ ap (λ (o : Option Status). login.refuse_or o f h (pairs_answered f h pairs)) good
 
 -- ---- what the initiator does
 
-receives_more_well : (m : initiator.Machine) (h : LoginResponse) (byte : ℕ) (bytes : List ℕ) → m.phase ≡ phases.Login → m.started ≡ true →
+receives_more_well : (m : initiator.InitiatorSession) (h : LoginResponse) (byte : ℕ) (bytes : List ℕ) → m.phase ≡ phases.Login → m.started ≡ true →
     h.initiator_task_tag ≡ 0
     → h.status_class ≡ 0
-    → is_expected m.exp_stat_sn (unwrap_or h.stat_sn 0) ≡ true → m.unsent_text ≡ byte ∷ bytes → goes_on m h (Text []) ≡ true
-    → step m (answering h []) ≡ sends_more (counted m h)
+    → is_expected m.exp_stat_sn (unwrap_or h.stat_sn 0) ≡ true → m.unsent_text ≡ byte ∷ bytes → is_mid_text_answer m h (Text []) ≡ true
+    → initiator_step m (answering h []) ≡ sends_more (login_counted m h)
 receives_more_well m h byte bytes p s tag class number left on =
     receives m h [] p s tag
     ∙ cond-false (not (h.status_class == 0)) _ _ (ap (λ (n : ℕ). not (n == 0)) class)
     ∙ cond-false (not (is_expected m.exp_stat_sn (unwrap_or h.stat_sn 0))) _ _ (ap not number)
-    ∙ ap (λ (l : List ℕ). in_turn l m h (Text [])) left
-    ∙ cond-true (goes_on m h (Text [])) _ _ on
+    ∙ ap (λ (l : List ℕ). login_answer_in_turn l m h (Text [])) left
+    ∙ cond-true (is_mid_text_answer m h (Text [])) _ _ on
 
-receives_last_well : (m : initiator.Machine) (h : LoginResponse) (pairs : Pairs) → m.phase ≡ phases.Login → m.started ≡ true → h.initiator_task_tag ≡ 0
+receives_last_well : (m : initiator.InitiatorSession) (h : LoginResponse) (pairs : Pairs) → m.phase ≡ phases.Login → m.started ≡ true → h.initiator_task_tag ≡ 0
     → h.status_class ≡ 0
     → is_expected m.exp_stat_sn (unwrap_or h.stat_sn 0) ≡ true → m.unsent_text ≡ [] → moves_on m h ≡ true → bad_key (offered m) pairs ≡ None
-    → step m (answering h pairs) ≡ begins_stage (following_stage m.stage) (with_answer m h pairs)
+    → initiator_step m (answering h pairs) ≡ begins_stage (following_stage m.stage) (with_answer m h pairs)
 receives_last_well m h pairs p s tag class number left on good =
     receives m h pairs p s tag
     ∙ cond-false (not (h.status_class == 0)) _ _ (ap (λ (n : ℕ). not (n == 0)) class)
     ∙ cond-false (not (is_expected m.exp_stat_sn (unwrap_or h.stat_sn 0))) _ _ (ap not number)
-    ∙ ap (λ (l : List ℕ). in_turn l m h (Text pairs)) left
+    ∙ ap (λ (l : List ℕ). login_answer_in_turn l m h (Text pairs)) left
     ∙ cond-true (moves_on m h) _ _ on
-    ∙ ap (λ (o : Option (List ℕ)). judged o m h pairs) good
+    ∙ ap (λ (o : Option (List ℕ)). answer_judged o m h pairs) good
 
 -- ---- the login goes on
 
 -- neither end closes, and both expect of each other what comes next
-pub record Well (c : Opening) (i : initiator.Machine) (t : target.Stepped) (s : Stepped) (logins : Logins) : Type 0 where
+pub record Well (c : Opening) (i : initiator.InitiatorSession) (t : target.TargetStep) (s : InitiatorStep) (logins : Logins) : Type 0 where
   pub on : Agreed s t.machine ⊎ (Asks_on c s t.machine logins × Suited c s.machine t.machine)
-  pub open_ : target_machine.is_closed t.machine ≡ false
+  pub open_ : target_machine.is_machine_closed t.machine ≡ false
   pub rule : t.rule ≡ None
-  pub live : is_closed s.machine ≡ false
+  pub live : is_session_closed s.machine ≡ false
   pub fault : s.fault ≡ None
 
 -- a step that goes on
-record GoesOn (s : Stepped) : Type 0 where
-  live : is_closed s.machine ≡ false
+record GoesOn (s : InitiatorStep) : Type 0 where
+  live : is_session_closed s.machine ≡ false
   fault : s.fault ≡ None
 
-text_on : (m : initiator.Machine) → m.phase ≡ phases.Login → GoesOn (sends_text m)
+text_on : (m : initiator.InitiatorSession) → m.phase ≡ phases.Login → GoesOn (sends_text m)
 text_on m p =
-    cond_both (fits_segment m (canonical_text (offered m))) (sends (record m { unsent_text = [] }) (login_message m true (Text (offered m)) ∷ []))
+    cond_both (fits_segment m (canonical_text (offered m))) (step_sending (record m { unsent_text = [] })
+    (login_request_message m true (Text (offered m)) ∷ []))
     (sends_cut m (canonical_text (offered m)) false) GoesOn
     (λ is. record { live = ap is_closed_phase p; fault = refl }) (λ is. record { live = ap is_closed_phase p; fault = refl })
 
-enters_on : (stage : Stage) (m : initiator.Machine) → m.phase ≡ phases.Login → GoesOn (begins_stage stage m)
+enters_on : (stage : Stage) (m : initiator.InitiatorSession) → m.phase ≡ phases.Login → GoesOn (begins_stage stage m)
 enters_on stages.Security m p = text_on (record m { stage = stages.Security }) p
 enters_on stages.Operational m p = text_on (record m { stage = stages.Operational }) p
 enters_on stages.Full m p = record { live = refl; fault = refl }
 
 -- what a text that goes out leaves
-pub record TextKeeps (m : initiator.Machine) (s : Stepped) : Type 0 where
+pub record TextKeeps (m : initiator.InitiatorSession) (s : InitiatorStep) : Type 0 where
   pub stage : s.machine.stage ≡ m.stage
   pub number : s.machine.exp_stat_sn ≡ m.exp_stat_sn
 
-pub text_keeps : (m : initiator.Machine) → TextKeeps m (sends_text m)
+pub text_keeps : (m : initiator.InitiatorSession) → TextKeeps m (sends_text m)
 text_keeps m =
-    cond_both (fits_segment m (canonical_text (offered m))) (sends (record m { unsent_text = [] }) (login_message m true (Text (offered m)) ∷ []))
+    cond_both (fits_segment m (canonical_text (offered m))) (step_sending (record m { unsent_text = [] })
+    (login_request_message m true (Text (offered m)) ∷ []))
     (sends_cut m (canonical_text (offered m)) false) (TextKeeps m)
     (λ is. record { stage = refl; number = refl }) (λ is. record { stage = refl; number = refl })
 
@@ -345,22 +348,25 @@ offers_offer stages.Operational stages.Operational o is = single_is_offer o
 offers_offer stages.Full stages.Operational o is = operational_is_offer o
 offers_offer start stages.Full o is = absurd is
 
-within_if : (b : Bool) (p : Preferences) → IsInRange p → IfSome (if b then Some p.max_recv else None) (IsWithin max_recv_range)
+within_if : (b : Bool) (p : Preferences) → ArePreferencesInRange p → IfSome (if b then Some p.max_recv else None) (IsWithin max_recv_range)
 within_if true p r = r.max_recv
 within_if false p r = tt
 
 -- the initiator finds no fault in the answer
-takes : (c : Opening) (i : initiator.Machine) (e : target_session.Session) → IsOpening c → i.settings ≡ c.initiator → IsStart i.stage → e.settings ≡ c.target
+takes : (c : Opening) (i : initiator.InitiatorSession) (e : target_session.Session) → IsOpening c → i.settings ≡ c.initiator → IsStart i.stage → e.settings
+    ≡ c.target
     → bad_key (offered i) (answer_pairs e (offered i)) ≡ None
 takes c i e o there is here =
-    let range : IsInRange e.settings.preferences = subst (λ (x : target_settings.Settings). IsInRange x.preferences) (sym here) o.preferences in
+    let range : ArePreferencesInRange e.settings.preferences = subst (λ (x : target_settings.TargetSettings). ArePreferencesInRange x.preferences) (sym here)
+    o.preferences in
     good_is_taken (offered i) (answer_pairs e (offered i))
     (good_answer (negotiated_as e (offered i)) e.settings.preferences range (declared_tag e (offered i)) (declared_length e)
     (within_if _ e.settings.preferences range) (offered i)
     (offers_offer i.settings.start i.stage i.settings.proposal is))
 
 -- where the answer leads, since it leads on
-leads_on : (c : Opening) (i : initiator.Machine) (s : Stepped) (t : target.Machine) (logins : Logins) → Leads c i s t logins → is_closed s.machine ≡ false
+leads_on : (c : Opening) (i : initiator.InitiatorSession) (s : InitiatorStep) (t : target.Machine) (logins : Logins) → Leads c i s t logins
+    → is_session_closed s.machine ≡ false
     → (Asks_on c s t logins → Suited c s.machine t)
     → Agreed s t ⊎ (Asks_on c s t logins × Suited c s.machine t)
 leads_on c i s t logins leads live suited = elim leads [
@@ -382,56 +388,61 @@ emptied t h = record (entered t h) { gathered = [] }
 
 -- the head of the answer to a text
 abbrev pub text_head : target_session.Session → LoginRequest → LoginResponse
-text_head e h = record (login.text_response e h) { stat_sn = Some e.stat_sn }
+text_head e h = record (login.login_text_response e h) { stat_sn = Some e.stat_sn }
 
 -- the head of the answer to a part of a text
 abbrev pub part_head : target_session.Session → LoginRequest → LoginResponse
-part_head e h = record (login.response e h) { stat_sn = Some e.stat_sn }
+part_head e h = record (login.login_response_to e h) { stat_sn = Some e.stat_sn }
 
 -- both ends behind a request that ends its text
-pub record LastTurn (i : initiator.Machine) (t : target.Machine) (disk : Disk) (r answer : Message) : Type 0 where
-  pub there : target_machine.step false t disk r ≡ target.on disk t.tasks (text_answered (emptied t.session (login_request i true)) (login_request i true)
+pub record LastTurn (i : initiator.InitiatorSession) (t : target.Machine) (disk : Disk) (r answer : Message) : Type 0 where
+  pub there : target_machine.target_step false t disk r ≡ target.on disk t.tasks
+      (pairs_answered (emptied t.session (login_request_head i true)) (login_request_head i true)
       (offered i))
-  pub now : step i answer ≡ begins_stage (following_stage i.stage) (with_answer i (text_head (emptied t.session (login_request i true)) (login_request i true))
-      (answer_pairs (emptied t.session (login_request i true)) (offered i)))
+  pub now : initiator_step i answer ≡ begins_stage (following_stage i.stage)
+      (with_answer i (text_head (emptied t.session (login_request_head i true)) (login_request_head i true))
+      (answer_pairs (emptied t.session (login_request_head i true)) (offered i)))
 
 -- both ends behind a request whose text goes on
-pub record PartTurn (i : initiator.Machine) (t : target.Machine) (disk : Disk) (r answer : Message) : Type 0 where
+pub record PartTurn (i : initiator.InitiatorSession) (t : target.Machine) (disk : Disk) (r answer : Message) : Type 0 where
   -- some of it is left
   pub some : 0 < length i.unsent_text
   pub bytes : List ℕ
-  pub there : target_machine.step false t disk r ≡ target.on disk t.tasks (gather (entered t.session (login_request i false)) (login_request i false) bytes)
-  pub now : step i answer ≡ sends_more (counted i (part_head (entered t.session (login_request i false)) (login_request i false)))
+  pub there : target_machine.target_step false t disk r ≡ target.on disk t.tasks
+      (gather (entered t.session (login_request_head i false)) (login_request_head i false) bytes)
+  pub now : initiator_step i answer ≡ sends_more (login_counted i (part_head (entered t.session (login_request_head i false)) (login_request_head i false)))
 
 -- a request that ends its text is answered, and the answer is taken
-last_turn : (c : Opening) (i : initiator.Machine) (t : target.Machine) (logins next : Logins) (r : Message) (disk : Disk) (segment : Segment) → IsOpening c
-    → Suits c → Asking c i t logins r → Suited c i t
+last_turn : (c : Opening) (i : initiator.InitiatorSession) (t : target.Machine) (logins next : Logins) (r : Message) (disk : Disk) (segment : Segment)
+    → IsOpening c
+    → SuitEachOther c → Asking c i t logins r → Suited c i t
     → i.unsent_text ≡ [] → is_over_limit t segment ≡ false → text_ending t.session.gathered segment ≡ Some (offered i)
     → length t.session.gathered + length (segment_bytes segment) ≤ 16384
-    → (turn : Round c i (target_machine.step false t disk (login_message i true segment)) next) → LastTurn i t disk (login_message i true segment) turn.answer
+    → (turn : Round c i (target_machine.target_step false t disk (login_request_message i true segment)) next)
+    → LastTurn i t disk (login_request_message i true segment) turn.answer
 last_turn c i t logins next r disk segment o suits a s left fits read size turn =
-    let h : LoginRequest = login_request i true in
+    let h : LoginRequest = login_request_head i true in
     let e : target_session.Session = emptied t.session h in
     let same : SameState t.session (entered t.session h) = entered_same t.session h in
     let given : Pairs = offered i in
     let pairs_are : in_order (offers_at c.initiator.proposal c.initiator.start i.stage) ≡ given =
-    ap (λ (x : initiator.Settings). in_order (offers_at x.proposal x.start i.stage)) (sym a.settings) in
-    let good : first_of (text_refusals e given) ≡ None =
-    subst (λ (x : Pairs). first_of (text_refusals e x) ≡ None) pairs_are
+    ap (λ (x : initiator.InitiatorSettings). in_order (offers_at x.proposal x.start i.stage)) (sym a.settings) in
+    let good : first_reason (text_refusals e given) ≡ None =
+    subst (λ (x : Pairs). first_reason (text_refusals e x) ≡ None) pairs_are
     (text_at c.initiator.start i.stage c i t e o suits refl refl (record { has_text = same.has_text; seen_keys = same.seen_keys; settings = same.settings })
     a.target_settings s.texts a.stage) in
-    let q : login.login_request t.session h segment ≡ text_answered e h given =
+    let q : login.on_login_request t.session h segment ≡ pairs_answered e h given =
     answers_well t.session h segment given (not_refused c i t true a.stage s) (subst (λ (x : List ℕ). length x + length (segment_bytes segment) ≤ 16384)
     (sym same.gathered) size) refl
     (ap (λ (x : List ℕ). text_ending x segment) same.gathered ∙ read) good
-    (ap (λ (x : target_settings.Settings). x.extras.chap) (same.settings ∙ a.target_settings) ∙ suits.chap) in
-    let there : target_machine.step false t disk (login_message i true segment) ≡ target.on disk t.tasks (text_answered e h given) =
+    (ap (λ (x : target_settings.TargetSettings). x.extras.chap) (same.settings ∙ a.target_settings) ∙ suits.chap) in
+    let there : target_machine.target_step false t disk (login_request_message i true segment) ≡ target.on disk t.tasks (pairs_answered e h given) =
     login_step_is t disk h segment a.logs_in.phase fits ∙ ap (target.on disk t.tasks) q in
     let is : turn.answer ≡ answering (text_head e h) (answer_pairs e given) =
-    one_answer turn.answer (answering (text_head e h) (answer_pairs e given)) (sym turn.is ∙ ap (λ (x : target.Stepped). x.answers) there) in
+    one_answer turn.answer (answering (text_head e h) (answer_pairs e given)) (sym turn.is ∙ ap (λ (x : target.TargetStep). x.answers) there) in
     record {
       there = there;
-      now = ap (step i) is ∙ receives_last_well i (text_head e h) (answer_pairs e given) a.phase a.started refl refl (ap (is_expected i.exp_stat_sn)
+      now = ap (initiator_step i) is ∙ receives_last_well i (text_head e h) (answer_pairs e given) a.phase a.started refl refl (ap (is_expected i.exp_stat_sn)
           same.stat_sn
           ∙ s.expected) left
           (and_from _ _ (eq-eqb (stage_number i.stage) (stage_number i.stage) refl)
@@ -440,33 +451,36 @@ last_turn c i t logins next r disk segment o suits a s left fits read size turn 
     }
 
 -- a request whose text goes on is answered, and the next part goes
-part_turn : (c : Opening) (i : initiator.Machine) (t : target.Machine) (logins next : Logins) (r : Message) (disk : Disk) (segment : Segment) (bytes : List ℕ)
+part_turn : (c : Opening) (i : initiator.InitiatorSession) (t : target.Machine) (logins next : Logins) (r : Message) (disk : Disk) (segment : Segment)
+    (bytes : List ℕ)
     (byte : ℕ) (more : List ℕ) → Asking c i t logins r → Suited c i t
     → i.unsent_text ≡ byte ∷ more → segment ≡ Bytes bytes → is_over_limit t segment ≡ false → length t.session.gathered + length bytes ≤ 16384
-    → (turn : Round c i (target_machine.step false t disk (login_message i false segment)) next) → PartTurn i t disk (login_message i false segment) turn.answer
+    → (turn : Round c i (target_machine.target_step false t disk (login_request_message i false segment)) next)
+    → PartTurn i t disk (login_request_message i false segment) turn.answer
 part_turn c i t logins next r disk segment bytes byte more a s left part fits size turn =
-    let h : LoginRequest = login_request i false in
+    let h : LoginRequest = login_request_head i false in
     let e : target_session.Session = entered t.session h in
     let same : SameState t.session e = entered_same t.session h in
-    let q : login.login_request t.session h segment ≡ gather e h bytes =
-    ap (login.login_request t.session h) part ∙ gathers_well t.session h bytes (not_refused c i t false a.stage s)
+    let q : login.on_login_request t.session h segment ≡ gather e h bytes =
+    ap (login.on_login_request t.session h) part ∙ gathers_well t.session h bytes (not_refused c i t false a.stage s)
     (subst (λ (x : List ℕ). length x + length bytes ≤ 16384) (sym same.gathered) size) refl in
-    let there : target_machine.step false t disk (login_message i false segment) ≡ target.on disk t.tasks (gather e h bytes) =
+    let there : target_machine.target_step false t disk (login_request_message i false segment) ≡ target.on disk t.tasks (gather e h bytes) =
     login_step_is t disk h segment a.logs_in.phase fits ∙ ap (target.on disk t.tasks) q in
     let is : turn.answer ≡ answering (part_head e h) [] = one_answer turn.answer (answering (part_head e h) [])
-    (sym turn.is ∙ ap (λ (x : target.Stepped). x.answers) there) in
+    (sym turn.is ∙ ap (λ (x : target.TargetStep). x.answers) there) in
     record {
       some = subst (λ (x : List ℕ). 0 < length x) (sym left) (omega arith);
       bytes = bytes;
       there = there;
-      now = ap (step i) is ∙ receives_more_well i (part_head e h) byte more a.phase a.started refl refl (ap (is_expected i.exp_stat_sn) same.stat_sn ∙
+      now = ap (initiator_step i) is ∙ receives_more_well i (part_head e h) byte more a.phase a.started refl refl (ap (is_expected i.exp_stat_sn) same.stat_sn ∙
           s.expected)
           left (and_from _ _ (eq-eqb (stage_number i.stage) (stage_number i.stage) refl) refl);
     }
 
-pub text_fits : (c : Opening) (i : initiator.Machine) → IsOpening c → i.settings ≡ c.initiator → IsStart i.stage → length (canonical_text (offered i)) ≤ 8192
+pub text_fits : (c : Opening) (i : initiator.InitiatorSession) → IsOpening c → i.settings ≡ c.initiator → IsStart i.stage
+    → length (canonical_text (offered i)) ≤ 8192
 text_fits c i o same is =
-    subst (λ (x : initiator.Settings). length (canonical_text (in_order (offers_at x.proposal x.start i.stage))) ≤ 8192) (sym same)
+    subst (λ (x : initiator.InitiatorSettings). length (canonical_text (in_order (offers_at x.proposal x.start i.stage))) ≤ 8192) (sym same)
     (few_fits (in_order (offers_at c.initiator.proposal c.initiator.start i.stage))
     (offers_few c.initiator.start i.stage c.initiator.proposal o.initiator.names.initiator o.initiator.names.target o.initiator.in_range.preferences is))
 
@@ -479,11 +493,13 @@ part_fits gathered bytes left text e le =
     omega (arith, f, a, b, le)
 
 -- the message that is on its way, by what is left behind it
-turns_at : (left : List ℕ) (c : Opening) (i : initiator.Machine) (t : target.Machine) (logins next : Logins) (r : Message) (disk : Disk) → IsOpening c → Suits c
+turns_at : (left : List ℕ) (c : Opening) (i : initiator.InitiatorSession) (t : target.Machine) (logins next : Logins) (r : Message) (disk : Disk) → IsOpening c
+    → SuitEachOther c
     → Asking c i t logins r → Suited c i t → i.unsent_text ≡ left
     → (segment : Segment) → (IsWhole i t logins segment ⊎ IsPart i t logins segment)
-    → (turn : Round c i (target_machine.step false t disk (login_message i (is_sent left) segment)) next)
-    → LastTurn i t disk (login_message i (is_sent left) segment) turn.answer ⊎ PartTurn i t disk (login_message i (is_sent left) segment) turn.answer
+    → (turn : Round c i (target_machine.target_step false t disk (login_request_message i (is_sent left) segment)) next)
+    → LastTurn i t disk (login_request_message i (is_sent left) segment) turn.answer
+    ⊎ PartTurn i t disk (login_request_message i (is_sent left) segment) turn.answer
 unfolding segment_bytes
 turns_at [] c i t logins next r disk o suits a s left segment (inl w) turn =
     inl (last_turn c i t logins next r disk segment o suits a s left (ap (is_over_limit t) w.is) (ap (text_ending t.session.gathered) w.is)
@@ -501,24 +517,26 @@ turns_at (byte ∷ more) c i t logins next r disk o suits a s left segment (inr 
     (part_fits t.session.gathered p.bytes i.unsent_text (canonical_text (offered i)) p.text (text_fits c i o a.settings a.stage)) turn)
 
 -- a round ends a text, or its text goes on
-pub turns : (c : Opening) (i : initiator.Machine) (t : target.Machine) (logins next : Logins) (r : Message) (disk : Disk) → IsOpening c → Suits c
+pub turns : (c : Opening) (i : initiator.InitiatorSession) (t : target.Machine) (logins next : Logins) (r : Message) (disk : Disk) → IsOpening c
+    → SuitEachOther c
     → Asking c i t logins r → Suited c i t
-    → (turn : Round c i (target_machine.step false t disk r) next) → LastTurn i t disk r turn.answer ⊎ PartTurn i t disk r turn.answer
+    → (turn : Round c i (target_machine.target_step false t disk r) next) → LastTurn i t disk r turn.answer ⊎ PartTurn i t disk r turn.answer
 turns c i t logins next r disk o suits a s =
-    subst (λ (x : Message). (turn : Round c i (target_machine.step false t disk x) next) → LastTurn i t disk x turn.answer ⊎ PartTurn i t disk x turn.answer)
+    subst (λ (x : Message). (turn : Round c i (target_machine.target_step false t disk x) next) → LastTurn i t disk x turn.answer
+    ⊎ PartTurn i t disk x turn.answer)
     (sym a.request)
     (turns_at i.unsent_text c i t logins next r disk o suits a s refl a.segment a.how)
 
 -- ---- behind it both suit
 
 -- the next text goes out, behind the one of the security stage
-next_suited : (c : Opening) (i : initiator.Machine) (t : target.Machine) (disk : Disk) (h : LoginRequest) → (g : LoginResponse) (answer : Pairs)
+next_suited : (c : Opening) (i : initiator.InitiatorSession) (t : target.Machine) (disk : Disk) (h : LoginRequest) → (g : LoginResponse) (answer : Pairs)
     → i.settings ≡ c.initiator → Suited c i t → i.stage ≡ stages.Security
-    → h ≡ login_request i true → let e : target_session.Session = emptied t.session h in g.stat_sn ≡ Some e.stat_sn
-    → Suited c (begins_stage stages.Operational (with_answer i g answer)).machine (target.on disk t.tasks (text_answered e h (offered i))).machine
+    → h ≡ login_request_head i true → let e : target_session.Session = emptied t.session h in g.stat_sn ≡ Some e.stat_sn
+    → Suited c (begins_stage stages.Operational (with_answer i g answer)).machine (target.on disk t.tasks (pairs_answered e h (offered i))).machine
 next_suited c i t disk h g answer there s is hs number =
     let e : target_session.Session = emptied t.session h in
-    let m : initiator.Machine = record (with_answer i g answer) { stage = stages.Operational } in
+    let m : initiator.InitiatorSession = record (with_answer i g answer) { stage = stages.Operational } in
     let k : TextKeeps m (sends_text m) = text_keeps m in
     let same : SameState t.session (entered t.session h) = entered_same t.session h in
     let asked_is : stage_asked h ≡ Some stages.Operational = ap stage_asked hs ∙ ap (λ (x : Stage). stage_named (stage_number (following_stage x))) is in
@@ -532,7 +550,7 @@ next_suited c i t disk h g answer there s is hs number =
           one = refl;
           seen_keys = ap (λ (x : List Bool). seen_with known_keys x (offered i)) (same.seen_keys ∙ f.seen_keys)
               ∙ ap (λ (x : Stage). seen_with known_keys none_seen (in_order (offers_at i.settings.proposal i.settings.start x))) is
-              ∙ ap (λ (x : initiator.Settings). seen_with known_keys none_seen (in_order (security_offers x.proposal))) there;
+              ∙ ap (λ (x : initiator.InitiatorSettings). seen_with known_keys none_seen (in_order (security_offers x.proposal))) there;
           start = sym f.stage ∙ is;
           stage = k.stage;
         })
@@ -541,54 +559,59 @@ next_suited c i t disk h g answer there s is hs number =
     }
 
 -- behind the text of the security stage the next one suits too; behind another there is none
-suited_by : (c : Opening) (i : initiator.Machine) (t : target.Machine) (logins next : Logins) (r answer : Message) (disk : Disk) → Asking c i t logins r
+suited_by : (c : Opening) (i : initiator.InitiatorSession) (t : target.Machine) (logins next : Logins) (r answer : Message) (disk : Disk)
+    → Asking c i t logins r
     → Suited c i t → LastTurn i t disk r answer
-    → (stage : Stage) → i.stage ≡ stage → Asks_on c (step i answer) (target_machine.step false t disk r).machine next
-    → Suited c (step i answer).machine (target_machine.step false t disk r).machine
+    → (stage : Stage) → i.stage ≡ stage → Asks_on c (initiator_step i answer) (target_machine.target_step false t disk r).machine next
+    → Suited c (initiator_step i answer).machine (target_machine.target_step false t disk r).machine
 suited_by c i t logins next r answer disk a s q stages.Security is asks =
-    let h : LoginRequest = login_request i true in
+    let h : LoginRequest = login_request_head i true in
     let e : target_session.Session = emptied t.session h in
-    let w : initiator.Machine = with_answer i (text_head e h) (answer_pairs e (offered i)) in
-    subst (λ (x : Stepped). Suited c x.machine (target_machine.step false t disk r).machine)
+    let w : initiator.InitiatorSession = with_answer i (text_head e h) (answer_pairs e (offered i)) in
+    subst (λ (x : InitiatorStep). Suited c x.machine (target_machine.target_step false t disk r).machine)
     (sym (q.now ∙ ap (λ (x : Stage). begins_stage (following_stage x) w) is))
-    (subst (λ (x : target.Stepped). Suited c (begins_stage stages.Operational w).machine x.machine) (sym q.there)
+    (subst (λ (x : target.TargetStep). Suited c (begins_stage stages.Operational w).machine x.machine) (sym q.there)
     (next_suited c i t disk h (text_head e h) (answer_pairs e (offered i)) a.settings s is refl refl))
 suited_by c i t logins next r answer disk a s q stages.Operational is asks =
-    absurd (subst IsStart (ap (λ (x : Stepped). x.machine.stage) q.now
-    ∙ ap (λ (x : Stage). (begins_stage (following_stage x) (with_answer i (text_head (emptied t.session (login_request i true)) (login_request i true))
-    (answer_pairs (emptied t.session (login_request i true)) (offered i)))).machine.stage) is) asks.asking.stage)
+    absurd (subst IsStart (ap (λ (x : InitiatorStep). x.machine.stage) q.now
+    ∙ ap (λ (x : Stage). (begins_stage (following_stage x) (with_answer i
+    (text_head (emptied t.session (login_request_head i true)) (login_request_head i true))
+    (answer_pairs (emptied t.session (login_request_head i true)) (offered i)))).machine.stage) is) asks.asking.stage)
 suited_by c i t logins next r answer disk a s q stages.Full is asks = absurd (subst IsStart is a.stage)
 
 -- behind a request that ends its text
-last_well : (c : Opening) (i : initiator.Machine) (t : target.Machine) (logins next : Logins) (r : Message) (disk : Disk) → Asking c i t logins r → Suited c i t
-    → (turn : Round c i (target_machine.step false t disk r) next) → LastTurn i t disk r turn.answer
-    → Well c i (target_machine.step false t disk r) (step i turn.answer) next
+last_well : (c : Opening) (i : initiator.InitiatorSession) (t : target.Machine) (logins next : Logins) (r : Message) (disk : Disk) → Asking c i t logins r
+    → Suited c i t
+    → (turn : Round c i (target_machine.target_step false t disk r) next) → LastTurn i t disk r turn.answer
+    → Well c i (target_machine.target_step false t disk r) (initiator_step i turn.answer) next
 last_well c i t logins next r disk a s turn q =
-    let h : LoginRequest = login_request i true in
+    let h : LoginRequest = login_request_head i true in
     let e : target_session.Session = emptied t.session h in
-    let w : initiator.Machine = with_answer i (text_head e h) (answer_pairs e (offered i)) in
+    let w : initiator.InitiatorSession = with_answer i (text_head e h) (answer_pairs e (offered i)) in
     let on_ : GoesOn (begins_stage (following_stage i.stage) w) = enters_on (following_stage i.stage) w a.phase in
-    let live : is_closed (step i turn.answer).machine ≡ false = ap (λ (x : Stepped). is_closed x.machine) q.now ∙ on_.live in
+    let live : is_session_closed (initiator_step i turn.answer).machine ≡ false = ap (λ (x : InitiatorStep). is_session_closed x.machine) q.now ∙ on_.live in
     record {
-      on = leads_on c i (step i turn.answer) (target_machine.step false t disk r).machine next turn.leads live
+      on = leads_on c i (initiator_step i turn.answer) (target_machine.target_step false t disk r).machine next turn.leads live
           (suited_by c i t logins next r turn.answer disk a s q
           i.stage refl);
-      open_ = ap (λ (x : target.Stepped). target_machine.is_closed x.machine) q.there ∙ phase_open (login.stage_after e h);
-      rule = ap (λ (x : target.Stepped). x.rule) q.there;
+      open_ = ap (λ (x : target.TargetStep). target_machine.is_machine_closed x.machine) q.there ∙ phase_open (login.stage_after e h);
+      rule = ap (λ (x : target.TargetStep). x.rule) q.there;
       live = live;
-      fault = ap (λ (x : Stepped). x.fault) q.now ∙ on_.fault;
+      fault = ap (λ (x : InitiatorStep). x.fault) q.now ∙ on_.fault;
     }
 
 -- behind a request whose text goes on
-part_well : (c : Opening) (i : initiator.Machine) (t : target.Machine) (logins next : Logins) (r : Message) (disk : Disk) → Asking c i t logins r → Suited c i t
-    → (turn : Round c i (target_machine.step false t disk r) next) → PartTurn i t disk r turn.answer
-    → Well c i (target_machine.step false t disk r) (step i turn.answer) next
+part_well : (c : Opening) (i : initiator.InitiatorSession) (t : target.Machine) (logins next : Logins) (r : Message) (disk : Disk) → Asking c i t logins r
+    → Suited c i t
+    → (turn : Round c i (target_machine.target_step false t disk r) next) → PartTurn i t disk r turn.answer
+    → Well c i (target_machine.target_step false t disk r) (initiator_step i turn.answer) next
 part_well c i t logins next r disk a s turn q =
-    let h : LoginRequest = login_request i false in
+    let h : LoginRequest = login_request_head i false in
     let e : target_session.Session = entered t.session h in
     let same : SameState t.session e = entered_same t.session h in
-    let n : Stepped = sends_more (counted i (part_head e h)) in
-    let live : is_closed (step i turn.answer).machine ≡ false = ap (λ (x : Stepped). is_closed x.machine) q.now ∙ ap is_closed_phase a.phase in
+    let n : InitiatorStep = sends_more (login_counted i (part_head e h)) in
+    let live : is_session_closed (initiator_step i turn.answer).machine ≡ false = ap (λ (x : InitiatorStep). is_session_closed x.machine) q.now
+    ∙ ap is_closed_phase a.phase in
     let begun : Suited c n.machine (target.on disk t.tasks (gather e h q.bytes)).machine = record {
       expected = eq-eqb (next_sn e.stat_sn) (next_sn e.stat_sn) refl;
       due = due_at e.begun i.stage _ _ (entered_begun t.session h) (in_stage i.stage t.session.stage);
@@ -597,21 +620,24 @@ part_well c i t logins next r disk a s turn q =
         | inr f ↦ inr (record { one = same.has_text ∙ f.one; seen_keys = same.seen_keys ∙ f.seen_keys; start = f.start; stage = f.stage })
       ];
     } in
-    let suited : Suited c (step i turn.answer).machine (target_machine.step false t disk r).machine =
-    subst (λ (x : Stepped). Suited c x.machine (target_machine.step false t disk r).machine) (sym q.now)
-    (subst (λ (x : target.Stepped). Suited c n.machine x.machine) (sym q.there) begun) in
+    let suited : Suited c (initiator_step i turn.answer).machine (target_machine.target_step false t disk r).machine =
+    subst (λ (x : InitiatorStep). Suited c x.machine (target_machine.target_step false t disk r).machine) (sym q.now)
+    (subst (λ (x : target.TargetStep). Suited c n.machine x.machine) (sym q.there) begun) in
     record {
-      on = leads_on c i (step i turn.answer) (target_machine.step false t disk r).machine next turn.leads live (λ asks. suited);
-      open_ = ap (λ (x : target.Stepped). target_machine.is_closed x.machine) q.there ∙ ap is_closed_phase (entered_phase t.session h ∙ a.logs_in.phase);
-      rule = ap (λ (x : target.Stepped). x.rule) q.there;
+      on = leads_on c i (initiator_step i turn.answer) (target_machine.target_step false t disk r).machine next turn.leads live (λ asks. suited);
+      open_ = ap (λ (x : target.TargetStep). target_machine.is_machine_closed x.machine) q.there
+          ∙ ap is_closed_phase (entered_phase t.session h ∙ a.logs_in.phase);
+      rule = ap (λ (x : target.TargetStep). x.rule) q.there;
       live = live;
-      fault = ap (λ (x : Stepped). x.fault) q.now;
+      fault = ap (λ (x : InitiatorStep). x.fault) q.now;
     }
 
 -- where both ends suit each other the login goes on
-pub goes_well : (c : Opening) (i : initiator.Machine) (t : target.Machine) (logins next : Logins) (r : Message) (disk : Disk) → IsOpening c → Suits c
+pub goes_well : (c : Opening) (i : initiator.InitiatorSession) (t : target.Machine) (logins next : Logins) (r : Message) (disk : Disk) → IsOpening c
+    → SuitEachOther c
     → Asking c i t logins r → Suited c i t
-    → (turn : Round c i (target_machine.step false t disk r) next) → Well c i (target_machine.step false t disk r) (step i turn.answer) next
+    → (turn : Round c i (target_machine.target_step false t disk r) next)
+    → Well c i (target_machine.target_step false t disk r) (initiator_step i turn.answer) next
 goes_well c i t logins next r disk o suits a s turn = elim (turns c i t logins next r disk o suits a s turn) [
   | inl q ↦ last_well c i t logins next r disk a s turn q
   | inr q ↦ part_well c i t logins next r disk a s turn q
@@ -623,9 +649,10 @@ stage_at_most stages.Operational is = refl
 stage_at_most stages.Full is = absurd is
 
 -- a new pair suits
-pub first_suited : (c : Opening) → IsOpening c → Suited c (start_step (initiator.opening c.initiator)).machine (target.opening c.target c.first_stat_sn)
+pub first_suited : (c : Opening) → IsOpening c → Suited c (start_step (initiator.new_session c.initiator)).machine
+    (target.opening_machine c.target c.first_stat_sn)
 first_suited c o =
-    let m : initiator.Machine = record (initiator.opening c.initiator) { started = true } in
+    let m : initiator.InitiatorSession = record (initiator.new_session c.initiator) { started = true } in
     let k : TextKeeps m (sends_text m) = text_keeps m in
     record {
       expected = ap (λ (n : Option ℕ). is_expected n c.first_stat_sn) k.number;

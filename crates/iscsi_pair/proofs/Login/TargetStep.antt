@@ -20,19 +20,19 @@ use Rattle.iscsi_login.specs.declared.stage.Stage.{Stage}
 use Rattle.iscsi_login.specs.declared.stage.Stage.TheVariants as stages
 use Rattle.iscsi_text.specs.declared.negotiated.Session.{Session as SessionType}
 use Rattle.iscsi_login.specs.Held.{Held}
-use Rattle.iscsi_login.specs.Negotiation.{IsInRange}
+use Rattle.iscsi_login.specs.Negotiation.{ArePreferencesInRange}
 use Rattle.iscsi_login.specs.Answer as login
 use Rattle.iscsi_login.specs.Answer.{target_holds}
 use Rattle.iscsi_target_session.specs.declared.status.Status.{Status}
-use Rattle.iscsi_target_session.specs.Configured.{Settings}
+use Rattle.iscsi_target_session.specs.Configured.{TargetSettings}
 use Rattle.iscsi_target_session.specs.Session.{Session, Reply}
 use Rattle.iscsi_target.specs.State.{Machine, on}
-use Rattle.scsi_disk.specs.Plan.{first_of}
+use Rattle.scsi_disk.specs.Plan.{first_reason}
 use Rattle.iscsi_target_session.specs.LoginText.{out_of_resources, text_refusals, is_operational, initiator_for, negotiated_as, declared_tag, declared_length, answer_pairs}
-use Rattle.iscsi_target_session.specs.Login.{login_request, request_refusals, refuse, refuse_or, response, login_message, numbered, entered, segment_taken}
+use Rattle.iscsi_target_session.specs.Login.{on_login_request, request_refusals, refuse, refuse_or, login_response_to, login_response_message, numbers_settled, entered, segment_taken}
 use Rattle.iscsi_target_session.specs.Login.{rest_of, has_passed, verdict_for, held_back, allowed_move, exchange_pairs, exchange_answered}
-use Rattle.iscsi_target_session.specs.Login.{gather, whole_text, text_ending, text_answered, text_response, stage_asked, stage_after, phase_at, tsih_at}
-use Rattle.iscsi_target.specs.Machine.{step, is_closed, is_over_limit, phase_step}
+use Rattle.iscsi_target_session.specs.Login.{gather, whole_text, text_ending, pairs_answered, login_text_response, stage_asked, stage_after, phase_at, tsih_at}
+use Rattle.iscsi_target.specs.Machine.{target_step, is_machine_closed, is_over_limit, phase_step}
 use Rattle.iscsi_login.specs.Stage.{is_closed_phase}
 use Rattle.iscsi_target_session.proofs.ExchangeLemmas.{IsReason, text_cases}
 use Rattle.iscsi_access.specs.Chap.{Chap}
@@ -56,10 +56,10 @@ pub record LogsIn (s : Session) : Type 0 where
   pub progress : s.progress ≡ Unasked
 
 pub login_step_is : (s : Machine) (disk : Disk) (h : LoginRequest) (segment : Segment) → s.session.phase ≡ phases.Login → is_over_limit s segment ≡ false
-    → step false s disk (record { head = heads.LoginRequest h; segment = segment }) ≡ on disk s.tasks (login_request s.session h segment)
+    → target_step false s disk (record { head = heads.LoginRequest h; segment = segment }) ≡ on disk s.tasks (on_login_request s.session h segment)
 login_step_is s disk h segment p short =
     let m : Message = record { head = heads.LoginRequest h; segment = segment } in
-    let open_ : is_closed s ≡ false = ap is_closed_phase p in
+    let open_ : is_machine_closed s ≡ false = ap is_closed_phase p in
     rw (open_, short) (ap (λ (x : Phase). phase_step (reliable false) x s disk m) p)
 
 -- ---- refusals
@@ -68,16 +68,16 @@ login_step_is s disk h segment p short =
 abbrev IsRefusal : Status → Type 0
 IsRefusal why = ((why.class == 0) ≡ false) × ((why.class < 256) × (why.detail < 256))
 
-refusal_if : (b : Bool) (row : Bool × Status) (rows : List (Bool × Status)) (why : Status) → IsRefusal row.1 → (first_of rows ≡ Some why → IsRefusal why)
-    → (if b then Some row.1 else first_of rows) ≡ Some why → IsRefusal why
+refusal_if : (b : Bool) (row : Bool × Status) (rows : List (Bool × Status)) (why : Status) → IsRefusal row.1 → (first_reason rows ≡ Some why → IsRefusal why)
+    → (if b then Some row.1 else first_reason rows) ≡ Some why → IsRefusal why
 refusal_if true row rows why this others e = subst IsRefusal (cc e) this
 refusal_if false row rows why this others e = others e
 
-refusal_of : (rows : List (Bool × Status)) (why : Status) → AllByRecursion (λ row. IsRefusal row.1) rows → first_of rows ≡ Some why → IsRefusal why
+refusal_of : (rows : List (Bool × Status)) (why : Status) → AllByRecursion (λ row. IsRefusal row.1) rows → first_reason rows ≡ Some why → IsRefusal why
 refusal_of [] why all e = absurd (cc e)
 refusal_of (row ∷ rows) why all e = refusal_if row.0 row rows why all.0 (refusal_of rows why all.1) e
 
-request_refusal : (s : Session) (h : LoginRequest) (why : Status) → first_of (request_refusals s h) ≡ Some why → IsRefusal why
+request_refusal : (s : Session) (h : LoginRequest) (why : Status) → first_reason (request_refusals s h) ≡ Some why → IsRefusal why
 request_refusal s h why e =
     refusal_of (request_refusals s h) why (
       (refl, (omega arith, omega arith)),
@@ -87,7 +87,7 @@ request_refusal s h why e =
       ),
     ) e
 
-text_refusal : (s : Session) (pairs : Pairs) (why : Status) → first_of (text_refusals s pairs) ≡ Some why → IsRefusal why
+text_refusal : (s : Session) (pairs : Pairs) (why : Status) → first_reason (text_refusals s pairs) ≡ Some why → IsRefusal why
 text_refusal s pairs why e =
     refusal_of (text_refusals s pairs) why (
       (refl, (omega arith, omega arith)),
@@ -117,10 +117,10 @@ none_if : (b : Bool) (row : Bool × Status) (o : Option Status) → (if b then S
 none_if true row o e = absurd (cc e)
 none_if false row o e = (refl, e)
 
-none_holds : (rows : List (Bool × Status)) → first_of rows ≡ None → AllByRecursion (λ row. row.0 ≡ false) rows
+none_holds : (rows : List (Bool × Status)) → first_reason rows ≡ None → AllByRecursion (λ row. row.0 ≡ false) rows
 none_holds [] e = tt
 none_holds (row ∷ rows) e =
-    let n = none_if row.0 row (first_of rows) e in
+    let n = none_if row.0 row (first_reason rows) e in
     (n.0, none_holds rows n.1)
 
 -- ---- what is sent
@@ -128,7 +128,15 @@ none_holds (row ∷ rows) e =
 fits_response : (s : Session) (h : LoginRequest) → s.exp_cmd_sn < 2 ^ 32 → RequestFits h → (o : Option ℕ)
     → (class detail tsih : ℕ) (transits : Bool) (next : Option ℕ)
     → is_some next ≡ transits → IfSome next (λ n. n ≤ 3) → tsih < 2 ^ 16 → is_some o ≡ (class == 0) → IfSome o (λ n. n < 2 ^ 32) → class < 256 → detail < 256
-    → ResponseFits (record (response s h) { transits = transits; next_stage = next; tsih = tsih; stat_sn = o; status_class = class; status_detail = detail })
+    → ResponseFits (record (login_response_to s h) {
+      transits = transits;
+      next_stage = next;
+      tsih = tsih;
+      stat_sn = o;
+      status_class = class;
+      status_detail =
+          detail;
+    })
 fits_response s h sn f o class detail tsih transits next has range tsih_is has_sn sn_is class_is detail_is = record {
   current_stage = f.current_stage;
   has_next = has;
@@ -149,7 +157,7 @@ fits_response s h sn f o class detail tsih transits next has range tsih_is has_s
 -- the login is refused
 pub record Refuses (h : LoginRequest) (r : Reply) : Type 0 where
   pub answer : LoginResponse
-  pub is : r.answers ≡ login_message answer [] ∷ []
+  pub is : r.answers ≡ login_response_message answer [] ∷ []
   pub class : (answer.status_class == 0) ≡ false
   pub tag : answer.initiator_task_tag ≡ h.initiator_task_tag
   pub last : answer.continues ≡ false
@@ -157,7 +165,7 @@ pub record Refuses (h : LoginRequest) (r : Reply) : Type 0 where
 
 refuses : (s : Session) (h : LoginRequest) (why : Status) → s.exp_cmd_sn < 2 ^ 32 → RequestFits h → IsRefusal why → Refuses h (refuse s h why)
 refuses s h why sn f is = record {
-  answer = record (response s h) { status_class = why.class; status_detail = why.detail };
+  answer = record (login_response_to s h) { status_class = why.class; status_detail = why.detail };
   is = refl;
   class = is.0;
   tag = refl;
@@ -168,7 +176,7 @@ refuses s h why sn f is = record {
 -- a part of the text is gathered
 pub record Gathers (s : Session) (h : LoginRequest) (bytes : List ℕ) (r : Reply) : Type 0 where
   pub answer : LoginResponse
-  pub is : r.answers ≡ login_message answer [] ∷ []
+  pub is : r.answers ≡ login_response_message answer [] ∷ []
   pub class : answer.status_class ≡ 0
   pub tag : answer.initiator_task_tag ≡ h.initiator_task_tag
   pub last : answer.continues ≡ false
@@ -186,7 +194,7 @@ pub record Tells (s : Session) (h : LoginRequest) (pairs : Pairs) (r : Reply) : 
   pub most : Option ℕ
   pub most_fits : IfSome most (λ n. n < 2 ^ 64)
   pub answer : LoginResponse
-  pub is : r.answers ≡ login_message answer (login.answer session s.settings.preferences group most pairs) ∷ []
+  pub is : r.answers ≡ login_response_message answer (login.answer session s.settings.preferences group most pairs) ∷ []
   pub short : length (canonical_text (login.answer session s.settings.preferences group most pairs)) ≤ 8192
   pub class : answer.status_class ≡ 0
   pub tag : answer.initiator_task_tag ≡ h.initiator_task_tag
@@ -205,7 +213,7 @@ pub record Tells (s : Session) (h : LoginRequest) (pairs : Pairs) (r : Reply) : 
 pub record HoldsBack (h : LoginRequest) (r : Reply) : Type 0 where
   pub answer : LoginResponse
   pub text : Pairs
-  pub is : r.answers ≡ login_message answer text ∷ []
+  pub is : r.answers ≡ login_response_message answer text ∷ []
   pub means : IsMeaning text
   pub short : length (canonical_text text) ≤ 8192
   pub class : answer.status_class ≡ 0
@@ -224,7 +232,7 @@ record Keeps (s e : Session) : Type 0 where
   cmd_sn : e.exp_cmd_sn < 2 ^ 32
   progress : e.progress ≡ s.progress
 
-numbered_keeps : (s : Session) (h : LoginRequest) → s.exp_cmd_sn < 2 ^ 32 → RequestFits h → Keeps s (numbered s h)
+numbered_keeps : (s : Session) (h : LoginRequest) → s.exp_cmd_sn < 2 ^ 32 → RequestFits h → Keeps s (numbers_settled s h)
 numbered_keeps s h sn f =
     cond_both s.begun s (record s { begun = true; exp_cmd_sn = h.cmd_sn; isid = h.isid }) (Keeps s)
     (λ is. record { phase = refl; settings = refl; held = refl; gathered = refl; stat_sn = refl; cmd_sn = sn; progress = refl })
@@ -232,12 +240,12 @@ numbered_keeps s h sn f =
 
 entered_keeps : (s : Session) (h : LoginRequest) → s.exp_cmd_sn < 2 ^ 32 → RequestFits h → Keeps s (entered s h)
 entered_keeps s h sn f =
-    let k : Keeps s (numbered s h) = numbered_keeps s h sn f in
+    let k : Keeps s (numbers_settled s h) = numbered_keeps s h sn f in
     record { phase = k.phase; settings = k.settings; held = k.held; gathered = k.gathered; stat_sn = k.stat_sn; cmd_sn = k.cmd_sn; progress = k.progress }
 
 gathers : (s e : Session) (h : LoginRequest) (bytes : List ℕ) → Keeps s e → LogsIn s → RequestFits h → Gathers s h bytes (gather e h bytes)
 gathers s e h bytes k l f = record {
-  answer = record (response e h) { stat_sn = Some e.stat_sn };
+  answer = record (login_response_to e h) { stat_sn = Some e.stat_sn };
   is = refl;
   class = refl;
   tag = refl;
@@ -257,7 +265,7 @@ by_reason (Some why) P s h r p q = p why refl
 
 -- a request whose text goes on is refused, or its part is gathered
 pub gathers_more : (s : Session) (h : LoginRequest) (bytes : List ℕ) → LogsIn s → RequestFits h → h.continues ≡ true
-    → Refuses h (login_request s h (Bytes bytes)) ⊎ Gathers s h bytes (login_request s h (Bytes bytes))
+    → Refuses h (on_login_request s h (Bytes bytes)) ⊎ Gathers s h bytes (on_login_request s h (Bytes bytes))
 unfolding segment_bytes
 gathers_more s h bytes l f more =
     let P : Reply → Type 0 = λ r. Refuses h r ⊎ Gathers s h bytes r in
@@ -266,8 +274,8 @@ gathers_more s h bytes l f more =
     let part : Reply = gather now h (segment_bytes (Bytes bytes)) in
     let whole : Reply = whole_text (record now { gathered = [] }) h (text_ending now.gathered (Bytes bytes)) in
     let long : Bool = nat_lt 16384 (length now.gathered + length (segment_bytes (Bytes bytes))) in
-    by_reason (first_of (request_refusals s h)) P (numbered s h) h (segment_taken (entered s h) h (Bytes bytes))
-    (λ why is. inl (refuses (numbered s h) h why (numbered_keeps s h l.cmd_sn f).cmd_sn f (request_refusal s h why is)))
+    by_reason (first_reason (request_refusals s h)) P (numbers_settled s h) h (segment_taken (entered s h) h (Bytes bytes))
+    (λ why is. inl (refuses (numbers_settled s h) h why (numbered_keeps s h l.cmd_sn f).cmd_sn f (request_refusal s h why is)))
     (λ none. cond_both long (refuse now h out_of_resources) (if h.continues then part else whole) P
     (λ over. inl (refuses (entered s h) h out_of_resources k.cmd_sn f (refl, (omega arith, omega arith))))
     (λ short. cond_both h.continues part whole P (λ is. inr (gathers s (entered s h) h bytes k l f)) (λ is. absurd (apart more is))))
@@ -275,8 +283,8 @@ gathers_more s h bytes l f more =
 -- ---- a whole text
 
 -- what a target's settings have
-pub record SettingsFit (settings : Settings) : Type 0 where
-  pub preferences : IsInRange settings.preferences
+pub record SettingsFit (settings : TargetSettings) : Type 0 where
+  pub preferences : ArePreferencesInRange settings.preferences
   pub group : settings.group < 2 ^ 16
   pub tsih : settings.tsih < 2 ^ 16
 
@@ -291,12 +299,12 @@ tsih_fits s stages.Operational lt = omega arith
 tsih_fits s stages.Full lt = lt
 
 tells : (s e : Session) (h : LoginRequest) (pairs : Pairs) → Keeps s e → SettingsFit s.settings → LogsIn s → RequestFits h
-    → nat_lt 8192 (length (canonical_text (answer_pairs e pairs))) ≡ false → Tells s h pairs (text_answered (record e { gathered = [] }) h pairs)
+    → nat_lt 8192 (length (canonical_text (answer_pairs e pairs))) ≡ false → Tells s h pairs (pairs_answered (record e { gathered = [] }) h pairs)
 tells s e h pairs k fit l f short =
     let session : SessionType = negotiated_as e pairs in
     let group : Option ℕ = declared_tag e pairs in
     let most : Option ℕ = declared_length e in
-    let text : (p : Settings) → Pairs = λ p. login.answer session p.preferences group most pairs in
+    let text : (p : TargetSettings) → Pairs = λ p. login.answer session p.preferences group most pairs in
     let fits : SettingsFit e.settings = subst SettingsFit (sym k.settings) fit in
     record {
       session = session;
@@ -304,9 +312,9 @@ tells s e h pairs k fit l f short =
       group_fits = some_if _ e.settings.group (2 ^ 64) (omega (arith, fits.group));
       most = most;
       most_fits = some_if _ e.settings.preferences.max_recv (2 ^ 64) (omega (arith, fits.preferences.max_recv.1));
-      answer = record (text_response e h) { stat_sn = Some e.stat_sn };
-      is = ap (λ (p : Settings). login_message (record (text_response e h) { stat_sn = Some e.stat_sn }) (text p) ∷ []) k.settings;
-      short = subst (λ (p : Settings). length (canonical_text (text p)) ≤ 8192) k.settings
+      answer = record (login_text_response e h) { stat_sn = Some e.stat_sn };
+      is = ap (λ (p : TargetSettings). login_response_message (record (login_text_response e h) { stat_sn = Some e.stat_sn }) (text p) ∷ []) k.settings;
+      short = subst (λ (p : TargetSettings). length (canonical_text (text p)) ≤ 8192) k.settings
           (omega (arith, ltb-false 8192 (length (canonical_text (answer_pairs e pairs))) short));
       class = refl;
       tag = refl;
@@ -315,7 +323,7 @@ tells s e h pairs k fit l f short =
           (tsih_fits e (stage_after e h) fits.tsih) refl
           (omega (arith, k.stat_sn, l.stat_sn)) (omega arith) (omega arith);
       settings = k.settings;
-      held = ap (λ (p : Settings). target_holds session p.preferences most pairs e.held) k.settings
+      held = ap (λ (p : TargetSettings). target_holds session p.preferences most pairs e.held) k.settings
           ∙ ap (λ (x : Held). target_holds session s.settings.preferences most pairs x) k.held;
       gathered = refl;
       stage = λ to asked. ap (λ (o : Option Stage). unwrap_or o e.stage) asked;
@@ -332,7 +340,7 @@ holds_back : (s e : Session) (c : Chap) (h : LoginRequest) (pairs : Pairs) → K
 holds_back s e c h pairs k fit l f is short =
     let fits : SettingsFit e.settings = subst SettingsFit (sym k.settings) fit in
     record {
-      answer = record (text_response e (held_back h)) { stat_sn = Some e.stat_sn };
+      answer = record (login_text_response e (held_back h)) { stat_sn = Some e.stat_sn };
       text = exchange_pairs c Method e (rest_of pairs);
       is = refl;
       means = said_meaning (negotiated_as e (rest_of pairs)) e.settings.preferences fits.preferences (declared_tag e (rest_of pairs)) (declared_length e)
@@ -357,7 +365,7 @@ reason_refuses s why (inr (inr (inr x))) = text_refusal s x.0 why x.1
 -- a request that ends a text is refused, or the text is answered, or CHAP is chosen
 pub tells_text : (s : Session) (h : LoginRequest) (segment : Segment) (pairs : Pairs) → SettingsFit s.settings → LogsIn s → RequestFits h → h.continues ≡ false
     → IsMeaning pairs → text_ending s.gathered segment ≡ Some pairs
-    → Refuses h (login_request s h segment) ⊎ (Tells s h pairs (login_request s h segment) ⊎ HoldsBack h (login_request s h segment))
+    → Refuses h (on_login_request s h segment) ⊎ (Tells s h pairs (on_login_request s h segment) ⊎ HoldsBack h (on_login_request s h segment))
 tells_text s h segment pairs fit l f last means read =
     let P : Reply → Type 0 = λ r. Refuses h r ⊎ (Tells s h pairs r ⊎ HoldsBack h r) in
     let k : Keeps s (entered s h) = entered_keeps s h l.cmd_sn f in
@@ -366,8 +374,8 @@ tells_text s h segment pairs fit l f last means read =
     let whole : Reply = whole_text (record now { gathered = [] }) h (text_ending now.gathered segment) in
     let long : Bool = nat_lt 16384 (length now.gathered + length (segment_bytes segment)) in
     let e : Session = record (entered s h) { gathered = [] } in
-    by_reason (first_of (request_refusals s h)) P (numbered s h) h (segment_taken (entered s h) h segment)
-    (λ why is. inl (refuses (numbered s h) h why (numbered_keeps s h l.cmd_sn f).cmd_sn f (request_refusal s h why is)))
+    by_reason (first_reason (request_refusals s h)) P (numbers_settled s h) h (segment_taken (entered s h) h segment)
+    (λ why is. inl (refuses (numbers_settled s h) h why (numbered_keeps s h l.cmd_sn f).cmd_sn f (request_refusal s h why is)))
     (λ none. cond_both long (refuse now h out_of_resources) (if h.continues then part else whole) P
     (λ over. inl (refuses (entered s h) h out_of_resources k.cmd_sn f (refl, (omega arith, omega arith))))
     (λ short. cond_both h.continues part whole P (λ is. absurd (apart is last))
@@ -378,11 +386,11 @@ tells_text s h segment pairs fit l f last means read =
       exchange = λ c p said given same demanded none2 verdict fits. inr (inr (chosen c p said given (let q : pairs ≡ given = cc same in sym q) verdict fits));
     })))))
   where
-    told : (given : Pairs) → given ≡ pairs → first_of (text_refusals (record (entered s h) { gathered = [] }) given) ≡ None
-        → Tells s h pairs (text_answered (record (entered s h) { gathered = [] }) h given)
+    told : (given : Pairs) → given ≡ pairs → first_reason (text_refusals (record (entered s h) { gathered = [] }) given) ≡ None
+        → Tells s h pairs (pairs_answered (record (entered s h) { gathered = [] }) h given)
     told given same none =
         let e : Session = record (entered s h) { gathered = [] } in
-        subst (λ (g : Pairs). Tells s h g (text_answered e h given)) same
+        subst (λ (g : Pairs). Tells s h g (pairs_answered e h given)) same
         (tells s (entered s h) h given (entered_keeps s h l.cmd_sn f) fit l f (none_holds (text_refusals e given) none).1.1.1.1.1.1.1.0)
 
     chosen : (c : Chap) (p : Progress) (said : Said) (given : Pairs) → given ≡ pairs

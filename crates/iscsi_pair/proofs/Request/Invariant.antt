@@ -2,8 +2,8 @@
 use Rattle.std.proofs.Common.{◌≡◌, ◌≤◌, ℕ, false, List, [], ◌∷◌, ◌++◌, length, Some, None}
 use Rattle.scsi_disk.specs.Disk.{Disk}
 use Rattle.iscsi_stream.specs.declared.logins.Logins.{Logins}
-use Rattle.iscsi_stream.specs.Segment.{after, segment_bytes}
-use Rattle.iscsi_stream.specs.Stream.{Message, after_all}
+use Rattle.iscsi_stream.specs.Segment.{logins_after, segment_bytes}
+use Rattle.iscsi_stream.specs.Stream.{Message, logins_after_all}
 use Rattle.iscsi_target_session.specs.Session as target_session
 use Rattle.iscsi_target.specs.State as target
 use Rattle.iscsi_target.specs.Machine as target_machine
@@ -11,12 +11,12 @@ use Rattle.iscsi_target.specs.Machine.{answers}
 use Rattle.iscsi_initiator.specs.declared.request.Done.{Done}
 use Rattle.iscsi_initiator.specs.declared.request.Request.{Request}
 use Rattle.iscsi_initiator.specs.State as initiator
-use Rattle.iscsi_initiator.specs.State.{is_closed}
-use Rattle.iscsi_initiator.specs.Machine.{step, taken}
+use Rattle.iscsi_initiator.specs.State.{is_session_closed}
+use Rattle.iscsi_initiator.specs.Machine.{initiator_step, outcome_taken}
 use Rattle.iscsi_initiator.specs.Submitted.{submitted}
 use Rattle.iscsi_initiator.specs.Calls as calls
 use Rattle.iscsi_pair.specs.World.{Opening}
-use Rattle.iscsi_pair.specs.LocalDisk.{Exchange}
+use Rattle.iscsi_pair.specs.LocalDisk.{DiskExchange}
 use Rattle.iscsi_pair.specs.Served.{IsServed}
 use Rattle.iscsi_pair.proofs.Wire.PrefixLemmas.{Readable}
 
@@ -30,19 +30,20 @@ pub record IsWritten (most : ℕ) (logins : Logins) (m : Message) : Type 0 where
 -- so it is of all of these, one behind the other
 abbrev pub AreWritten : ℕ → Logins → List Message → Type 0
 AreWritten most logins [] = Unit {0}
-AreWritten most logins (m ∷ ms) = IsWritten most logins m × AreWritten most (after logins m.head) ms
+AreWritten most logins (m ∷ ms) = IsWritten most logins m × AreWritten most (logins_after logins m.head) ms
 
 -- two parts are written so where each is
-pub written_append : (most : ℕ) (logins : Logins) (a b : List Message) → AreWritten most logins a → AreWritten most (after_all logins a) b
+pub written_append : (most : ℕ) (logins : Logins) (a b : List Message) → AreWritten most logins a → AreWritten most (logins_after_all logins a) b
     → AreWritten most logins (a ++ b)
 written_append most logins [] b p q = q
-written_append most logins (m ∷ a) b p q = (p.0, written_append most (after logins m.head) a b p.1 q)
+written_append most logins (m ∷ a) b p q = (p.0, written_append most (logins_after logins m.head) a b p.1 q)
 
 -- the target's session is open when each of these comes
 abbrev pub IsOpenFor : target.Machine → Disk → List Message → Type 0
 IsOpenFor t disk [] = Unit {0}
 IsOpenFor t disk (m ∷ ms) =
-    (target_machine.is_closed t ≡ false) × IsOpenFor (target_machine.step false t disk m).machine (target_machine.step false t disk m).disk ms
+    (target_machine.is_machine_closed t ≡ false) × IsOpenFor (target_machine.target_step false t disk m).machine
+    (target_machine.target_step false t disk m).disk ms
 
 -- The target receives these well: its session is open when each comes, none breaks a rule, and the answers are read as they
 -- were written.
@@ -59,7 +60,7 @@ pub record History : Type 0 where
   pub outcomes : List Done
 
 -- two ends with the disk between them, where these answers are on their way to the initiator
-abbrev pub between : initiator.Machine → target.Machine → Disk → List Message → Exchange
+abbrev pub between : initiator.InitiatorSession → target.Machine → Disk → List Message → DiskExchange
 between i t disk back = record { initiator = i; target = t; disk = disk; answers = back }
 
 -- what login PDUs said on the way out and back, those included that are on their way, and what was asked and taken
@@ -82,37 +83,37 @@ abbrev pub limits : ℕ → ℕ → Limits
 limits out back = record { out = out; back = back }
 
 abbrev pub limits_of : Opening → Limits
-limits_of c = limits (target_session.limit c.target) (calls.limit c.initiator)
+limits_of c = limits (target_session.target_limit c.target) (calls.initiator_limit c.initiator)
 
 -- What holds of both ends and the disk once the target has received all that was sent. The relation speaks also of
 -- the answers that the initiator has not yet received, and of what was said, asked and taken.
 abbrev pub Relation : Type 1
-Relation = Exchange → SoFar → Type 0
+Relation = DiskExchange → SoFar → Type 0
 
 -- The initiator sends these: they are read as they were written, the target receives them well, and the relation holds then.
-pub record Sends (most : Limits) (P : Relation) (x : Exchange) (out : List Message) (s : SoFar) : Type 0 where
+pub record Sends (most : Limits) (P : Relation) (x : DiskExchange) (out : List Message) (s : SoFar) : Type 0 where
   pub written : AreWritten most.out s.there out
   pub received : ReceivesWell most.back x.target x.disk s.here out
   pub kept : (let r = answers false x.target x.disk out in
-      P (between x.initiator r.machine r.disk (x.answers ++ r.answers)) (so_far (after_all s.there out) (after_all s.here r.answers) s.history))
+      P (between x.initiator r.machine r.disk (x.answers ++ r.answers)) (so_far (logins_after_all s.there out) (logins_after_all s.here r.answers) s.history))
 
 -- the initiator receives an answer well, with those of the exchange behind it
-pub record Goes (most : Limits) (P : Relation) (x : Exchange) (m : Message) (s : SoFar) : Type 0 where
-  pub live : is_closed x.initiator ≡ false
-  pub fault : (step x.initiator m).fault ≡ None
-  pub sends : Sends most P (record x { initiator = (step x.initiator m).machine }) (step x.initiator m).output s
+pub record Goes (most : Limits) (P : Relation) (x : DiskExchange) (m : Message) (s : SoFar) : Type 0 where
+  pub live : is_session_closed x.initiator ≡ false
+  pub fault : (initiator_step x.initiator m).fault ≡ None
+  pub sends : Sends most P (record x { initiator = (initiator_step x.initiator m).machine }) (initiator_step x.initiator m).output s
 
 -- The relation is kept by all that can happen.
 pub record IsKept (most : Limits) (P : Relation) : Type 1 where
   -- the next answer comes
-  pub receives : (i : initiator.Machine) (t : target.Machine) (disk : Disk) (m : Message) (back : List Message) (there here : Logins) (h : History)
+  pub receives : (i : initiator.InitiatorSession) (t : target.Machine) (disk : Disk) (m : Message) (back : List Message) (there here : Logins) (h : History)
       → P (between i t disk (m ∷ back)) (so_far there here h) → Goes most P (between i t disk back) m (so_far there here h)
   -- a request is accepted
-  pub asks : (i : initiator.Machine) (t : target.Machine) (disk : Disk) (back : List Message) (there here : Logins) (h : History) (request : Request)
+  pub asks : (i : initiator.InitiatorSession) (t : target.Machine) (disk : Disk) (back : List Message) (there here : Logins) (h : History) (request : Request)
       → P (between i t disk back) (so_far there here h) → IsServed request → (submitted i request).refusal ≡ None
       → Sends most P (between (submitted i request).machine t disk back) (submitted i request).output
       (so_far there here (record h { requests = h.requests ++ request ∷ [] }))
   -- an outcome is taken
-  pub takes : (i : initiator.Machine) (t : target.Machine) (disk : Disk) (back : List Message) (there here : Logins) (h : History) (d : Done)
+  pub takes : (i : initiator.InitiatorSession) (t : target.Machine) (disk : Disk) (back : List Message) (there here : Logins) (h : History) (d : Done)
       → P (between i t disk back) (so_far there here h) → i.done ≡ Some d
-      → P (between (taken i) t disk back) (so_far there here (record h { outcomes = h.outcomes ++ d ∷ [] }))
+      → P (between (outcome_taken i) t disk back) (so_far there here (record h { outcomes = h.outcomes ++ d ∷ [] }))

@@ -19,8 +19,8 @@ use Rattle.iscsi_target.specs.State.{on}
 use Rattle.iscsi_pdu.specs.Serial.{next_sn, is_within}
 use Rattle.iscsi_target_session.specs.Requests.{logged_out, logout_head, nop_in_head}
 use Rattle.iscsi_target.specs.Machine.{answers, having_accepted, step_on}
-use Rattle.iscsi_target.proofs.SingleTaskLemmas.{request_alone}
-use Rattle.iscsi_target.proofs.ContinuationLemmas.{then_nothing}
+use Rattle.iscsi_target.proofs.Turns.SingleTaskLemmas.{request_alone}
+use Rattle.iscsi_target.proofs.Steps.TurnLemmas.{then_nothing}
 use Rattle.iscsi_initiator.specs.declared.outstanding.Outstanding.TheVariants as opens
 use Rattle.iscsi_initiator.specs.declared.request.Done.TheVariants as done
 use Rattle.iscsi_initiator.specs.declared.request.Request.{Request}
@@ -28,9 +28,9 @@ use Rattle.iscsi_initiator.specs.declared.request.Request.TheVariants as request
 use Rattle.iscsi_initiator.specs.State as initiator
 use Rattle.iscsi_initiator.specs.State.{next_tag}
 use Rattle.iscsi_initiator.specs.Steps.{quiet}
-use Rattle.iscsi_initiator.specs.Machine.{step}
-use Rattle.iscsi_initiator.specs.Submitted.{Submitted, accepted, logout_request, ping, refusal, refusal_in, refusal_when_full, submitted}
-use Rattle.iscsi_pair.specs.LocalDisk.{AreInStep, Exchange, window_of_eight}
+use Rattle.iscsi_initiator.specs.Machine.{initiator_step}
+use Rattle.iscsi_initiator.specs.Submitted.{SubmitStep, accepted, logout_request_head, ping_head, submit_refusal, refusal_in, refusal_when_full, submitted}
+use Rattle.iscsi_pair.specs.LocalDisk.{AreInStep, DiskExchange, window_of_eight}
 use Rattle.iscsi_pair.proofs.Wire.WindowLemmas.{near_next, tells_eight, tag_after}
 use Rattle.iscsi_pair.proofs.Wire.WrittenPdus.{left_readable, logout_readable, ping_readable, pong_readable}
 use Rattle.iscsi_pair.proofs.Request.Invariant.{IsOpenFor}
@@ -45,32 +45,33 @@ use Rattle.iscsi_login.specs.Stage.{is_closed_phase}
 names_task : (tag : ℕ) → tag ≤ 0xffff_fffe → (tag == 0xffff_ffff) ≡ false
 names_task tag le = ne_eqb tag 0xffff_ffff (λ e. omega (arith, e, le))
 
-abbrev ping_message : initiator.Machine → List ℕ → Message
-ping_message m bytes = record { head = heads.NopOut (ping m); segment = Bytes bytes }
+abbrev ping_message : initiator.InitiatorSession → List ℕ → Message
+ping_message m bytes = record { head = heads.NopOut (ping_head m); segment = Bytes bytes }
 
 -- the target answers
-ping_taken : (m : initiator.Machine) (t : target.Machine) (disk : Disk) (bytes : List ℕ) → m.cmd_sn < 2 ^ 32 → m.initiator_task_tag ≤ 0xffff_fffe
-    → length bytes ≤ t.session.held.target_max_recv → t.session.held.target_max_recv ≤ target_session.limit t.session.settings
+ping_taken : (m : initiator.InitiatorSession) (t : target.Machine) (disk : Disk) (bytes : List ℕ) → m.cmd_sn < 2 ^ 32 → m.initiator_task_tag ≤ 0xffff_fffe
+    → length bytes ≤ t.session.held.target_max_recv → t.session.held.target_max_recv ≤ target_session.target_limit t.session.settings
     → step_on (reliable false) (ready t m.cmd_sn) disk (ping_message m bytes)
     ≡ having_accepted (ping_message m bytes ∷ []) (on disk [] (send_response (ready t (next_sn m.cmd_sn)).session
     (nop_in_head (ready t (next_sn m.cmd_sn)).session 0
-    (ping m)) (take t.session.held.initiator_max_recv bytes)))
+    (ping_head m)) (take t.session.held.initiator_max_recv bytes)))
 unfolding segment_bytes
 ping_taken m t disk bytes lt tag short limit =
-    request_alone (reliable false) (ready t m.cmd_sn).session disk (ping_message m bytes)
+    request_alone (reliable false) (ready t m.cmd_sn).session disk (ping_message m bytes) _
     (record {
       phase = refl;
-      within = le-ltb (target_session.limit t.session.settings) (length bytes) (omega (arith, short, limit));
-      kind = refl;
+      within = le-ltb (target_session.target_limit t.session.settings) (length bytes) (omega (arith, short, limit));
+      came = refl;
+      may = refl;
       short = le-ltb t.session.held.target_max_recv (length bytes) short;
-    }) refl (window_now m.cmd_sn lt) refl
+    }) refl refl (window_now m.cmd_sn lt) refl
     ∙ rw (names_task (next_tag m.initiator_task_tag) (tag_after m.initiator_task_tag tag)) refl
 
 -- an initiator that has an open ping
-abbrev pinging : initiator.Machine → Window → initiator.Machine
+abbrev pinging : initiator.InitiatorSession → Window → initiator.InitiatorSession
 pinging m window = record m { phase = phases.Full; outstanding = Some opens.Ping; window = window }
 
-abbrev pinged : initiator.Machine → target.Machine → Window → List ℕ → initiator.Machine
+abbrev pinged : initiator.InitiatorSession → target.Machine → Window → List ℕ → initiator.InitiatorSession
 pinged m t window bytes = record m {
   phase = phases.Full;
   exp_stat_sn = Some (next_sn t.session.stat_sn);
@@ -80,11 +81,12 @@ pinged m t window bytes = record m {
 }
 
 -- the initiator receives the answer
-pong_received : (m before : initiator.Machine) (t : target.Machine) (window : Window) (bytes : List ℕ) → m.exp_stat_sn ≡ Some t.session.stat_sn
+pong_received : (m before : initiator.InitiatorSession) (t : target.Machine) (window : Window) (bytes : List ℕ) → m.exp_stat_sn ≡ Some t.session.stat_sn
     → m.initiator_task_tag ≡ next_tag before.initiator_task_tag
     → m.initiator_task_tag ≤ 0xffff_fffe → length bytes ≤ m.held.initiator_max_recv
-    → step (pinging m window) (target_session.message (nop_in_head t.session (target.waiting t.tasks) (ping before)) bytes) ≡ quiet (pinged m t window bytes)
-unfolding step segment_bytes
+    → initiator_step (pinging m window) (target_session.answer_message (nop_in_head t.session (target.waiting_tasks t.tasks) (ping_head before)) bytes)
+    ≡ quiet (pinged m t window bytes)
+unfolding initiator_step segment_bytes
 pong_received m before t window bytes e same tag short =
     rw (
       sym same,
@@ -96,17 +98,17 @@ pong_received m before t window bytes e same tag short =
     ) refl
 
 -- a request that is accepted is not too long
-short_ping : (m : initiator.Machine) (bytes : List ℕ) → m.phase ≡ phases.Full → (submitted m (requests.Ping bytes)).refusal ≡ None
+short_ping : (m : initiator.InitiatorSession) (bytes : List ℕ) → m.phase ≡ phases.Full → (submitted m (requests.Ping bytes)).refusal ≡ None
     → length bytes ≤ m.held.target_max_recv
 unfolding submitted
 short_ping m bytes full e =
-    let none : refusal_in m.phase m (requests.Ping bytes) ≡ None = unrefused (refusal m (requests.Ping bytes)) m (requests.Ping bytes) e in
+    let none : refusal_in m.phase m (requests.Ping bytes) ≡ None = unrefused (submit_refusal m (requests.Ping bytes)) m (requests.Ping bytes) e in
     let when : refusal_when_full m (requests.Ping bytes) ≡ None = subst (λ (p : Phase). refusal_in p m (requests.Ping bytes) ≡ None) full none in
     ltb-false m.held.target_max_recv (length bytes)
     (not_long (is_some m.outstanding || is_some m.done) (not (is_within m.cmd_sn m.window.exp.0 m.window.max.0)) (nat_lt m.held.target_max_recv (length bytes))
     when)
 
-pub local_ping : (m : initiator.Machine) (t : target.Machine) (disk : Disk) (bytes : List ℕ) → AreInStep m t
+pub local_ping : (m : initiator.InitiatorSession) (t : target.Machine) (disk : Disk) (bytes : List ℕ) → AreInStep m t
     → (submitted m (requests.Ping bytes)).refusal ≡ None
     → Begins m.held m t disk (requests.Ping bytes) (record { outcome = done.Ping (take m.held.initiator_max_recv bytes); disk = disk })
 unfolding answers
@@ -116,7 +118,7 @@ local_ping m t disk bytes a e =
     let fits : n < 2 ^ 32 = mod-lt (m.cmd_sn + 1) (omega arith) in
     let short : length bytes ≤ m.held.target_max_recv = short_ping m bytes a.initiator_phase e in
     let sent : submitted m request ≡ accepted m request = submitted_is m request e in
-    let begun_ : initiator.Machine = record m { initiator_task_tag = next_tag m.initiator_task_tag; cmd_sn = next_sn m.cmd_sn } in
+    let begun_ : initiator.InitiatorSession = record m { initiator_task_tag = next_tag m.initiator_task_tag; cmd_sn = next_sn m.cmd_sn } in
     let t' : target.Machine = ready t n in
     let given : List ℕ = take m.held.initiator_max_recv bytes in
     let few : length given ≤ m.held.initiator_max_recv = omega (arith, length-take m.held.initiator_max_recv bytes) in
@@ -131,21 +133,22 @@ local_ping m t disk bytes a e =
       tasks = a.no_task i;
     } in
     let is_m : (accepted m request).machine ≡ pinging begun_ m.window = λ i. record begun_ { phase = a.initiator_phase i; outstanding = Some opens.Ping } in
-    let answer : Message = target_session.message (nop_in_head t'.session 0 (ping m)) given in
-    let executed : target.Stepped = having_accepted (ping_message m bytes ∷ []) (on disk []
-    (send_response t'.session (nop_in_head t'.session 0 (ping m)) given)) in
+    let answer : Message = target_session.answer_message (nop_in_head t'.session 0 (ping_head m)) given in
+    let executed : target.TargetStep = having_accepted (ping_message m bytes ∷ []) (on disk []
+    (send_response t'.session (nop_in_head t'.session 0 (ping_head m)) given)) in
     let r : answers false t disk (submitted m request).output ≡ executed =
-    ap (λ (s : Submitted). answers false t disk s.output) sent
+    ap (λ (s : SubmitStep). answers false t disk s.output) sent
     ∙ then_nothing (step_on (reliable false) t disk (ping_message m bytes))
     ∙ ap (λ (x : target.Machine). step_on (reliable false) x disk (ping_message m bytes)) is_t
     ∙ ping_taken m t disk bytes a.cmd_sn_fits a.tag_fits (subst (λ (h : Held). length bytes ≤ h.target_max_recv) (sym a.held) short)
-    (subst (λ (h : Held). h.target_max_recv ≤ target_session.limit t.session.settings) (sym a.held) a.segment)
-    ∙ ap (λ (h : Held). having_accepted (ping_message m bytes ∷ []) (on disk [] (send_response t'.session (nop_in_head t'.session 0 (ping m))
+    (subst (λ (h : Held). h.target_max_recv ≤ target_session.target_limit t.session.settings) (sym a.held) a.segment)
+    ∙ ap (λ (h : Held). having_accepted (ping_message m bytes ∷ []) (on disk [] (send_response t'.session (nop_in_head t'.session 0 (ping_head m))
     (take h.initiator_max_recv bytes)))) a.held in
-    let one : step (pinging begun_ m.window) answer ≡ quiet (pinged begun_ t' m.window given) = pong_received begun_ m t' m.window given a.stat_sn refl tag
+    let one : initiator_step (pinging begun_ m.window) answer ≡ quiet (pinged begun_ t' m.window given) =
+    pong_received begun_ m t' m.window given a.stat_sn refl tag
     few in
     let told_ : told_window m.window t' ≡ window_of_eight n = tells_eight n m.window fits (near_next n m.cmd_sn m.window a.cmd_sn_fits refl a.window) in
-    let last : Exchange = record { initiator = pinged begun_ t' m.window given; target = counted_on t'; disk = disk; answers = [] } in
+    let last : DiskExchange = record { initiator = pinged begun_ t' m.window given; target = counted_on t'; disk = disk; answers = [] } in
     let ends_ : Ends most_answers m.held (pinging begun_ m.window) executed (record { outcome = done.Ping given; disk = disk }) = record {
       last = last;
       leads = receives_quiet 0 most_answers (omega arith) m.held (pinging begun_ m.window) (pinged begun_ t' m.window given) (counted_on t') disk answer [] last one refl refl a.none_done
@@ -162,43 +165,44 @@ local_ping m t disk bytes a e =
     (λ logins. ping_readable logins m bytes a.tag_fits a.cmd_sn_fits (stat_sn_sent m t a) (omega (arith, short, a.is_held.target_max_recv.1)))
     (short_message (ping_message m bytes).head bytes m.held.target_max_recv short) in
     record {
-      received = received_by m.held t disk (submitted m request).output executed r (subst (λ (s : Submitted). ArePlain m.held.target_max_recv s.output) (sym
+      received = received_by m.held t disk (submitted m request).output executed r (subst (λ (s : SubmitStep). ArePlain m.held.target_max_recv s.output) (sym
           sent)
           written) refl refl
           (plain_one m.held.initiator_max_recv answer
-          (λ logins. pong_readable logins t' (ping m) given (omega (arith, tag)) a.stat_sn_fits fits (omega (arith, few, a.is_held.initiator_max_recv.1)))
+          (λ logins. pong_readable logins t' (ping_head m) given (omega (arith, tag)) a.stat_sn_fits fits (omega (arith, few, a.is_held.initiator_max_recv.1)))
           (short_message answer.head given m.held.initiator_max_recv few));
-      ends = subst (λ (s : Submitted). Ends most_answers m.held s.machine (answers false t disk (submitted m request).output)
+      ends = subst (λ (s : SubmitStep). Ends most_answers m.held s.machine (answers false t disk (submitted m request).output)
           (record { outcome = done.Ping given; disk = disk }))
           (sym sent)
-          (subst (λ (x : initiator.Machine). Ends most_answers m.held x (answers false t disk (submitted m request).output)
+          (subst (λ (x : initiator.InitiatorSession). Ends most_answers m.held x (answers false t disk (submitted m request).output)
           (record { outcome = done.Ping given; disk = disk }))
           (sym is_m)
-          (subst (λ (x : target.Stepped). Ends most_answers m.held (pinging begun_ m.window) x (record { outcome = done.Ping given; disk = disk })) (sym r) ends_));
+          (subst (λ (x : target.TargetStep). Ends most_answers m.held (pinging begun_ m.window) x (record { outcome = done.Ping given; disk = disk })) (sym r) ends_));
     }
 
 -- ---- a logout
 
-abbrev logout_message : initiator.Machine → Message
-logout_message m = record { head = heads.LogoutRequest (logout_request m); segment = Bytes [] }
+abbrev logout_message : initiator.InitiatorSession → Message
+logout_message m = record { head = heads.LogoutRequest (logout_request_head m); segment = Bytes [] }
 
-logout_taken : (m : initiator.Machine) (t : target.Machine) (disk : Disk) → m.cmd_sn < 2 ^ 32
+logout_taken : (m : initiator.InitiatorSession) (t : target.Machine) (disk : Disk) → m.cmd_sn < 2 ^ 32
     → step_on (reliable false) (ready t m.cmd_sn) disk (logout_message m) ≡ having_accepted (logout_message m ∷ [])
-    (on disk [] (logged_out (ready t (next_sn m.cmd_sn)).session 0 (logout_request m)))
+    (on disk [] (logged_out (ready t (next_sn m.cmd_sn)).session 0 (logout_request_head m)))
 unfolding segment_bytes
 logout_taken m t disk lt =
-    request_alone (reliable false) (ready t m.cmd_sn).session disk (logout_message m)
+    request_alone (reliable false) (ready t m.cmd_sn).session disk (logout_message m) _
     (record {
       phase = refl;
-      within = le-ltb (target_session.limit t.session.settings) 0 (omega arith);
-      kind = refl;
+      within = le-ltb (target_session.target_limit t.session.settings) 0 (omega arith);
+      came = refl;
+      may = refl;
       short = le-ltb t.session.held.target_max_recv 0 (omega arith);
-    }) refl (window_now m.cmd_sn lt) refl
+    }) refl refl (window_now m.cmd_sn lt) refl
 
-abbrev leaving : initiator.Machine → Window → initiator.Machine
+abbrev leaving : initiator.InitiatorSession → Window → initiator.InitiatorSession
 leaving m window = record m { phase = phases.Full; outstanding = Some opens.Logout; window = window }
 
-abbrev left : initiator.Machine → target.Machine → Window → initiator.Machine
+abbrev left : initiator.InitiatorSession → target.Machine → Window → initiator.InitiatorSession
 left m t window = record m {
   phase = phases.Closed;
   exp_stat_sn = Some (next_sn t.session.stat_sn);
@@ -207,10 +211,11 @@ left m t window = record m {
   done = Some done.Closed;
 }
 
-logout_received : (m before : initiator.Machine) (t : target.Machine) (window : Window) → m.exp_stat_sn ≡ Some t.session.stat_sn
+logout_received : (m before : initiator.InitiatorSession) (t : target.Machine) (window : Window) → m.exp_stat_sn ≡ Some t.session.stat_sn
     → m.initiator_task_tag ≡ next_tag before.initiator_task_tag
-    → step (leaving m window) (target_session.message (logout_head t.session (target.waiting t.tasks) (logout_request before)) []) ≡ quiet (left m t window)
-unfolding step segment_bytes
+    → initiator_step (leaving m window) (target_session.answer_message (logout_head t.session (target.waiting_tasks t.tasks) (logout_request_head before)) [])
+    ≡ quiet (left m t window)
+unfolding initiator_step segment_bytes
 logout_received m before t window e same =
     rw (
       sym same,
@@ -220,7 +225,7 @@ logout_received m before t window e same =
       eq-eqb t.session.stat_sn t.session.stat_sn refl,
     ) refl
 
-pub local_logout : (m : initiator.Machine) (t : target.Machine) (disk : Disk) → AreInStep m t → (submitted m requests.Logout).refusal ≡ None
+pub local_logout : (m : initiator.InitiatorSession) (t : target.Machine) (disk : Disk) → AreInStep m t → (submitted m requests.Logout).refusal ≡ None
     → Begins m.held m t disk requests.Logout (record { outcome = done.Closed; disk = disk })
 unfolding answers
 local_logout m t disk a e =
@@ -228,7 +233,7 @@ local_logout m t disk a e =
     let n : ℕ = next_sn m.cmd_sn in
     let fits : n < 2 ^ 32 = mod-lt (m.cmd_sn + 1) (omega arith) in
     let sent : submitted m request ≡ accepted m request = submitted_is m request e in
-    let begun_ : initiator.Machine = record m { initiator_task_tag = next_tag m.initiator_task_tag; cmd_sn = next_sn m.cmd_sn } in
+    let begun_ : initiator.InitiatorSession = record m { initiator_task_tag = next_tag m.initiator_task_tag; cmd_sn = next_sn m.cmd_sn } in
     let t' : target.Machine = ready t n in
     let tag : next_tag m.initiator_task_tag ≤ 0xffff_fffe = tag_after m.initiator_task_tag a.tag_fits in
     let is_t : t ≡ ready t m.cmd_sn = λ i. record {
@@ -241,14 +246,14 @@ local_logout m t disk a e =
       tasks = a.no_task i;
     } in
     let is_m : (accepted m request).machine ≡ leaving begun_ m.window = λ i. record begun_ { phase = a.initiator_phase i; outstanding = Some opens.Logout } in
-    let answer : Message = target_session.message (logout_head t'.session 0 (logout_request m)) [] in
-    let executed : target.Stepped = having_accepted (logout_message m ∷ []) (on disk [] (logged_out t'.session 0 (logout_request m))) in
+    let answer : Message = target_session.answer_message (logout_head t'.session 0 (logout_request_head m)) [] in
+    let executed : target.TargetStep = having_accepted (logout_message m ∷ []) (on disk [] (logged_out t'.session 0 (logout_request_head m))) in
     let r : answers false t disk (submitted m request).output ≡ executed =
-    ap (λ (s : Submitted). answers false t disk s.output) sent
+    ap (λ (s : SubmitStep). answers false t disk s.output) sent
     ∙ then_nothing (step_on (reliable false) t disk (logout_message m))
     ∙ ap (λ (x : target.Machine). step_on (reliable false) x disk (logout_message m)) is_t
     ∙ logout_taken m t disk a.cmd_sn_fits in
-    let last : Exchange = record { initiator = left begun_ t' m.window; target = executed.machine; disk = disk; answers = [] } in
+    let last : DiskExchange = record { initiator = left begun_ t' m.window; target = executed.machine; disk = disk; answers = [] } in
     let ends_ : Ends most_answers m.held (leaving begun_ m.window) executed (record { outcome = done.Closed; disk = disk }) = record {
       last = last;
       leads = receives_quiet 0 most_answers (omega arith) m.held (leaving begun_ m.window) (left begun_ t' m.window) executed.machine disk answer [] last
@@ -267,21 +272,22 @@ local_logout m t disk a e =
     plain_one m.held.target_max_recv (logout_message m) (λ logins. logout_readable logins m a.tag_fits a.cmd_sn_fits (stat_sn_sent m t a))
     (short_message (logout_message m).head [] m.held.target_max_recv (omega arith)) in
     let open_ : IsOpenFor t disk (submitted m request).output =
-    subst (λ (s : Submitted). IsOpenFor t disk s.output) (sym sent) (ap is_closed_phase a.target_phase, tt) in
+    subst (λ (s : SubmitStep). IsOpenFor t disk s.output) (sym sent) (ap is_closed_phase a.target_phase, tt) in
     record {
       received = record {
-        written = subst (λ (s : Submitted). ArePlain m.held.target_max_recv s.output) (sym sent) written;
+        written = subst (λ (s : SubmitStep). ArePlain m.held.target_max_recv s.output) (sym sent) written;
         open_ = open_;
-        rule = ap (λ (x : target.Stepped). x.rule) r;
-        answered = subst (λ (x : target.Stepped). ArePlain m.held.initiator_max_recv x.answers) (sym r)
-            (plain_one m.held.initiator_max_recv answer (λ logins. left_readable logins t' (logout_request m) (omega (arith, tag)) a.stat_sn_fits fits)
+        rule = ap (λ (x : target.TargetStep). x.rule) r;
+        answered = subst (λ (x : target.TargetStep). ArePlain m.held.initiator_max_recv x.answers) (sym r)
+            (plain_one m.held.initiator_max_recv answer (λ logins. left_readable logins t' (logout_request_head m) (omega (arith, tag)) a.stat_sn_fits fits)
             (short_message answer.head [] m.held.initiator_max_recv (omega arith)));
       };
-      ends = subst (λ (s : Submitted). Ends most_answers m.held s.machine (answers false t disk (submitted m request).output)
+      ends = subst (λ (s : SubmitStep). Ends most_answers m.held s.machine (answers false t disk (submitted m request).output)
           (record { outcome = done.Closed; disk = disk }))
           (sym sent)
-          (subst (λ (x : initiator.Machine). Ends most_answers m.held x (answers false t disk (submitted m request).output)
+          (subst (λ (x : initiator.InitiatorSession). Ends most_answers m.held x (answers false t disk (submitted m request).output)
           (record { outcome = done.Closed; disk = disk }))
           (sym is_m)
-          (subst (λ (x : target.Stepped). Ends most_answers m.held (leaving begun_ m.window) x (record { outcome = done.Closed; disk = disk })) (sym r) ends_));
+          (subst (λ (x : target.TargetStep). Ends most_answers m.held (leaving begun_ m.window) x (record { outcome = done.Closed; disk = disk })) (sym r)
+          ends_));
     }

@@ -15,7 +15,7 @@ use Rattle.scsi_disk.specs.declared.order.Plan.{Plan}
 use Rattle.scsi_disk.specs.declared.order.Plan.TheVariants.{Refuse, Take, Give}
 use Rattle.scsi_disk.specs.Disk.{Disk}
 use Rattle.scsi_disk.specs.Effect.{Effect, effect, outcome_by, wanted_data}
-use Rattle.scsi_disk.specs.Plan.{expected_length, first_refusal, is_unknown, is_write, plan_by, plan_of, refusals, taken_length, transfer, wanted_length}
+use Rattle.scsi_disk.specs.Plan.{expected_length, first_refusal, is_unknown, is_write, plan_by, plan_of, refusals, taken_length, named_transfer, wanted_length}
 use Rattle.scsi_disk.proofs.PlanLemmas.{all_false}
 use Rattle.iscsi_pdu.specs.declared.head.Head.TheVariants as heads
 use Rattle.iscsi_pdu.specs.declared.serial.Window.{Window}
@@ -32,20 +32,21 @@ use Rattle.iscsi_login.specs.Held.{Held, IsHeld, max_burst}
 use Rattle.iscsi_target_session.specs.Session as target_session
 use Rattle.iscsi_target.specs.State as target
 use Rattle.iscsi_target.specs.State.{max_cmd_sn}
-use Rattle.iscsi_target_session.specs.Session.{message}
-use Rattle.iscsi_target.specs.Command.{planned}
-use Rattle.iscsi_target.specs.Machine.{answers, having_accepted, step_on}
-use Rattle.iscsi_target.specs.Execution.{command_answers, execute, data_ins, data_in_head, marked, data_in_parts, response_head, sequence_parts, sense_segment}
+use Rattle.iscsi_target_session.specs.Session.{answer_message}
+use Rattle.iscsi_target.specs.Command.{task_planned}
+use Rattle.iscsi_target.specs.Machine.{task_begun, answers, having_accepted, step_on}
+use Rattle.iscsi_target.specs.Execution.{command_answers, execute, data_ins, data_in_head, marked_parts, data_in_parts, response_head, sequence_parts, sense_segment}
 use Rattle.iscsi_target.specs.Execution.{reliable}
 use Rattle.iscsi_stream.specs.Pieces.{chunks_within, chunks}
-use Rattle.iscsi_target.proofs.SendingLemmas.{can_give}
-use Rattle.iscsi_target.proofs.SingleTaskLemmas.{request_alone}
-use Rattle.iscsi_target.proofs.ContinuationLemmas.{then_nothing}
-use Rattle.iscsi_target.proofs.DataInTilingLaw.{Parts, all_given, bytes_of}
+use Rattle.iscsi_target.proofs.Steps.SendingLemmas.{can_give}
+use Rattle.iscsi_target.proofs.Turns.SingleTaskLemmas.{request_alone}
+use Rattle.iscsi_target.proofs.Steps.TurnLemmas.{then_nothing}
+use Rattle.iscsi_target.proofs.Answers.DataInTilingLaw.{Parts, all_given, bytes_of}
 use Rattle.iscsi_stream.proofs.ChunkLemmas.{joined, joined_chunks}
 use Rattle.iscsi_initiator.specs.declared.request.Done.TheVariants as done
 use Rattle.iscsi_initiator.specs.declared.outstanding.Outstanding.{Outstanding}
 use Rattle.iscsi_initiator.specs.declared.outstanding.Outstanding.TheVariants as opens
+use Rattle.iscsi_initiator.proofs.StepLemmas.{response_answer}
 use Rattle.iscsi_initiator.specs.Full.{Response, due_to}
 use Rattle.iscsi_initiator.specs.State as initiator
 use Rattle.iscsi_initiator.specs.State.{next_tag, sent_exp_stat_sn, serial}
@@ -53,23 +54,23 @@ use Rattle.iscsi_initiator.specs.declared.request.Request.{Request}
 use Rattle.iscsi_initiator.specs.declared.request.Request.TheVariants as requests
 use Rattle.iscsi_initiator.specs.declared.request.SubmitFault.{SubmitFault}
 use Rattle.iscsi_initiator.specs.declared.request.SubmitFault.TheVariants as refusals_
-use Rattle.iscsi_initiator.specs.Submitted.{Submitted, accepted, command, or_accepted, refusal, refusal_in, refusal_when_full, submitted}
-use Rattle.iscsi_initiator.specs.Progress.{Reading}
+use Rattle.iscsi_initiator.specs.Submitted.{SubmitStep, accepted, command_head, or_accepted, submit_refusal, refusal_in, refusal_when_full, submitted}
+use Rattle.iscsi_initiator.specs.Progress.{ReadProgress}
 use Rattle.iscsi_initiator.specs.Steps.{quiet}
-use Rattle.iscsi_initiator.specs.Machine.{step}
-use Rattle.iscsi_target.proofs.CommandLemmas.{plain_executed, plain_order, plainly}
-use Rattle.iscsi_pair.specs.LocalDisk.{AreInStep, Exchange, reading_order, reported_sense, window_of_eight, local_command}
+use Rattle.iscsi_initiator.specs.Machine.{initiator_step}
+use Rattle.iscsi_target.proofs.Answers.CommandLemmas.{plain_executed, plain_order, plainly}
+use Rattle.iscsi_pair.specs.LocalDisk.{AreInStep, DiskExchange, reading_order, reported_sense, window_of_eight, local_command}
 use Rattle.iscsi_pair.proofs.Wire.WindowLemmas.{IsNear, near_next, near_now, tag_after, tells_eight}
 use Rattle.iscsi_pair.proofs.Wire.WrittenPdus.{command_readable, data_in_readable, outcome_readable}
 use Rattle.iscsi_pair.proofs.Wire.OutcomeRanges.{HasRoom, outcome_fits}
 use Rattle.iscsi_pair.proofs.Request.AnswersInOrder.{ArePlain, Begins, Ends, LeadsWithin, leads_less, most_answers, received_by, receives_quiet, plain_more, plain_one, short_message}
 use Rattle.iscsi_pair.proofs.Request.Invariant.{between}
-use Rattle.iscsi_target.proofs.OrderLemmas.{expected_by}
+use Rattle.iscsi_target.proofs.Answers.OrderLemmas.{expected_by}
 
 -- ---- the initiator receives the data
 
 -- an initiator that has an outstanding read, and was told this window
-abbrev reading : initiator.Machine → Reading → Window → initiator.Machine
+abbrev reading : initiator.InitiatorSession → ReadProgress → Window → initiator.InitiatorSession
 reading m r window = record m { phase = phases.Full; outstanding = Some (opens.In r); window = window }
 
 -- the window that the target tells
@@ -77,12 +78,13 @@ abbrev pub told_window : Window → target.Machine → Window
 told_window window t = moved window (serial t.session.exp_cmd_sn) (serial (max_cmd_sn t))
 
 -- one part that is due
-part_received : (m : initiator.Machine) (t : target.Machine) (r : Reading) (window : Window) (part : List ℕ × Bool)
+part_received : (m : initiator.InitiatorSession) (t : target.Machine) (r : ReadProgress) (window : Window) (part : List ℕ × Bool)
     → length part.0 ≤ m.held.initiator_max_recv → length r.received + length part.0 ≤ r.expected
-    → step (reading m r window) (message (data_in_head t.session (target.waiting t.tasks) m.initiator_task_tag r.next_data_sn (length r.received) part.1)
+    → initiator_step (reading m r window) (answer_message (data_in_head t.session (target.waiting_tasks t.tasks) m.initiator_task_tag r.next_data_sn
+    (length r.received) part.1)
     part.0)
     ≡ quiet (reading m (record r { received = r.received ++ part.0; next_data_sn = next_sn r.next_data_sn }) (told_window window t))
-unfolding step segment_bytes
+unfolding initiator_step segment_bytes
 part_received m t r window part short room =
     rw (
       eq-eqb m.initiator_task_tag m.initiator_task_tag refl,
@@ -97,21 +99,22 @@ pub next_small : (n : ℕ) → n + 1 < 2 ^ 32 → next_sn n ≡ n + 1
 next_small n lt = mod-eq_of_lt lt
 
 -- parts that are due, one behind the other
-record PartsReceived (m : initiator.Machine) (t : target.Machine) (r : Reading) (window : Window) (given : Parts) (more : List Message) : Type 0 where
+record PartsReceived (m : initiator.InitiatorSession) (t : target.Machine) (r : ReadProgress) (window : Window) (given : Parts) (more : List Message) : Type
+    0 where
   told : Window
   -- what each told window keeps is kept
   kept : (n : ℕ) → ((w : Window) → IsNear n w → IsNear n (told_window w t)) → IsNear n window → IsNear n told
-  leads : (low most : ℕ) → low + length given ≤ most → (held : Held) (s : target.Machine) (disk : Disk) (x : Exchange)
+  leads : (low most : ℕ) → low + length given ≤ most → (held : Held) (s : target.Machine) (disk : Disk) (x : DiskExchange)
       → LeadsWithin low held (between (reading m (record r { received = r.received ++ bytes_of given; next_data_sn = r.next_data_sn + length given }) told) s disk more)
       x
-      → LeadsWithin most held (between (reading m r window) s disk (data_ins t.session (target.waiting t.tasks) m.initiator_task_tag r.next_data_sn (length r.received)
+      → LeadsWithin most held (between (reading m r window) s disk (data_ins t.session (target.waiting_tasks t.tasks) m.initiator_task_tag r.next_data_sn (length r.received)
       given ++ more)) x
 
 -- each part is one that the initiator takes
 abbrev AreShort : ℕ → Parts → Type 0
 AreShort most given = AllByRecursion (λ part. length part.0 ≤ most) given
 
-parts_received : (m : initiator.Machine) (t : target.Machine) (r : Reading) (window : Window) (given : Parts) (more : List Message)
+parts_received : (m : initiator.InitiatorSession) (t : target.Machine) (r : ReadProgress) (window : Window) (given : Parts) (more : List Message)
     → m.done ≡ None → AreShort m.held.initiator_max_recv given → length r.received + length (bytes_of given) ≤ r.expected
     → r.next_data_sn + length given < 2 ^ 32
     → PartsReceived m t r window given more
@@ -127,10 +130,10 @@ parts_received m t r window [] more none short room few =
       told = window;
       kept = λ n keeps near. near;
       leads = λ low most le held s disk x l. leads_less low most held (between (reading m r window) s disk more) x (omega (arith, le))
-          (subst (λ (y : Reading). LeadsWithin low held (between (reading m y window) s disk more) x) (sym same) l);
+          (subst (λ (y : ReadProgress). LeadsWithin low held (between (reading m y window) s disk more) x) (sym same) l);
     }
 parts_received m t r window (part ∷ given) more none short room few =
-    let r' : Reading = record { expected = r.expected; received = r.received ++ part.0; next_data_sn = r.next_data_sn + 1 } in
+    let r' : ReadProgress = record { expected = r.expected; received = r.received ++ part.0; next_data_sn = r.next_data_sn + 1 } in
     let room' : length r.received + length part.0 ≤ r.expected = omega (arith, room, length-append part.0 (bytes_of given)) in
     let sn : next_sn r.next_data_sn ≡ r.next_data_sn + 1 = next_small r.next_data_sn (omega (arith, few)) in
     let h : PartsReceived m t r' (told_window window t) given more =
@@ -140,7 +143,8 @@ parts_received m t r window (part ∷ given) more none short room few =
       length-append part.0 (bytes_of given),
       length-append r.received part.0,
     )) (omega (arith, few)) in
-    let one : step (reading m r window) (message (data_in_head t.session (target.waiting t.tasks) m.initiator_task_tag r.next_data_sn (length r.received)
+    let one : initiator_step (reading m r window) (answer_message (data_in_head t.session (target.waiting_tasks t.tasks) m.initiator_task_tag r.next_data_sn
+    (length r.received)
     part.1) part.0) ≡ quiet (reading m r' (told_window window t)) =
     part_received m t r window part short.0 room'
     ∙ ap (λ (n : ℕ). quiet (reading m (record r { received = r.received ++ part.0; next_data_sn = n }) (told_window window t))) sn in
@@ -158,12 +162,13 @@ parts_received m t r window (part ∷ given) more none short room few =
       told = h.told;
       kept = λ n keeps near. h.kept n keeps (keeps window near);
       leads = λ low most le held s disk x l. receives_quiet (low + length given) most (omega (arith, le)) held (reading m r window) (reading m r' (told_window window t)) s disk
-          (message (data_in_head t.session (target.waiting t.tasks) m.initiator_task_tag r.next_data_sn (length r.received) part.1) part.0)
-          (data_ins t.session (target.waiting t.tasks) m.initiator_task_tag (r.next_data_sn + 1) (length r.received + length part.0) given ++ more) x one refl
+          (answer_message (data_in_head t.session (target.waiting_tasks t.tasks) m.initiator_task_tag r.next_data_sn (length r.received) part.1) part.0)
+          (data_ins t.session (target.waiting_tasks t.tasks) m.initiator_task_tag (r.next_data_sn + 1) (length r.received + length part.0) given ++ more) x one
+          refl
           refl none
           (subst (λ (n : ℕ). LeadsWithin (low + length given) held (between (reading m r' (told_window window t)) s disk
-          (data_ins t.session (target.waiting t.tasks) m.initiator_task_tag (r.next_data_sn + 1) n given ++ more)) x) (length-append r.received part.0)
-          (h.leads low (low + length given) (omega arith) held s disk x (subst (λ (y : Reading). LeadsWithin low held (between (reading m y h.told) s disk more) x) (sym same) l)));
+          (data_ins t.session (target.waiting_tasks t.tasks) m.initiator_task_tag (r.next_data_sn + 1) n given ++ more)) x) (length-append r.received part.0)
+          (h.leads low (low + length given) (omega arith) held s disk x (subst (λ (y : ReadProgress). LeadsWithin low held (between (reading m y h.told) s disk more) x) (sym same) l)));
     }
 
 -- ---- the data of a command, in parts
@@ -177,7 +182,7 @@ parts_short zero size bytes = tt
 parts_short (suc more) size [] = tt
 parts_short (suc more) size (b ∷ bytes) = (omega (arith, length-take size (b ∷ bytes)), parts_short more size (drop size (b ∷ bytes)))
 
-marked_short : (most : ℕ) (xs : List (List ℕ)) → AllByRecursion (λ part. length part ≤ most) xs → AreShort most (marked xs)
+marked_short : (most : ℕ) (xs : List (List ℕ)) → AllByRecursion (λ part. length part ≤ most) xs → AreShort most (marked_parts xs)
 marked_short most [] all = tt
 marked_short most (x ∷ []) all = (all.0, tt)
 marked_short most (x ∷ y ∷ xs) all = (all.0, marked_short most (y ∷ xs) all.1)
@@ -193,7 +198,7 @@ parts_few zero size bytes lt = omega arith
 parts_few (suc more) size [] lt = omega arith
 parts_few (suc more) size (b ∷ bytes) lt = omega (arith, parts_few more size (drop size (b ∷ bytes)) lt, length-drop size (b ∷ bytes), lt)
 
-marked_few : (xs : List (List ℕ)) → length (marked xs) ≡ length xs
+marked_few : (xs : List (List ℕ)) → length (marked_parts xs) ≡ length xs
 marked_few [] = refl
 marked_few (x ∷ []) = refl
 marked_few (x ∷ y ∷ xs) = ap suc (marked_few (y ∷ xs))
@@ -218,7 +223,7 @@ given_few held bytes burst most =
 -- ---- the initiator receives the response
 
 -- an initiator whose command has this outcome
-abbrev pub finished : initiator.Machine → target.Machine → Window → Outcome → List ℕ → initiator.Machine
+abbrev pub finished : initiator.InitiatorSession → target.Machine → Window → Outcome → List ℕ → initiator.InitiatorSession
 finished m t window outcome received = record m {
   phase = phases.Full;
   exp_stat_sn = Some (next_sn t.session.stat_sn);
@@ -228,21 +233,23 @@ finished m t window outcome received = record m {
 }
 
 -- an initiator with this request open
-abbrev pub waiting : initiator.Machine → Outstanding → Window → initiator.Machine
+abbrev pub waiting : initiator.InitiatorSession → Outstanding → Window → initiator.InitiatorSession
 waiting m open_ window = record m { phase = phases.Full; outstanding = Some open_; window = window }
 
 -- a command that is open takes its response, and has received these bytes
 abbrev pub Awaits : Outstanding → List ℕ → Type 0
-Awaits open_ received = (h : ScsiResponse) → due_to (Some open_) (heads.ScsiResponse h) ≡ Some (Response received h)
+Awaits open_ received = (h : ScsiResponse) → due_to (Some open_) (response_answer h) ≡ Some (Response received h)
 
-pub outcome_received : (m : initiator.Machine) (t : target.Machine) (open_ : Outstanding) (received : List ℕ) (window : Window) (status : ℕ) (sense : Option
+pub outcome_received : (m : initiator.InitiatorSession) (t : target.Machine) (open_ : Outstanding) (received : List ℕ) (window : Window) (status : ℕ)
+    (sense : Option
     Sense)
     (bytes : List ℕ) (residual : Residual) (count : ℕ)
     → Awaits open_ received → m.exp_stat_sn ≡ Some t.session.stat_sn → 20 ≤ m.held.initiator_max_recv
     → (let outcome : Outcome = record { status = status; sense = sense; bytes = bytes; residual = residual } in
-    step (waiting m open_ window) (message (response_head t.session (target.waiting t.tasks) m.initiator_task_tag outcome count) (sense_segment sense))
+    initiator_step (waiting m open_ window) (answer_message (response_head t.session (target.waiting_tasks t.tasks) m.initiator_task_tag outcome count)
+    (sense_segment sense))
     ≡ quiet (finished m t window outcome received))
-unfolding step segment_bytes
+unfolding initiator_step segment_bytes
 outcome_received m t open_ received window status None bytes Exact count d e le =
     rw (
       eq-eqb m.initiator_task_tag m.initiator_task_tag refl,
@@ -278,12 +285,12 @@ outcome_received m t open_ received window status (Some sense) bytes (Over n) co
     refl
 
 -- what the target answers to a read
-record ReadReceived (m : initiator.Machine) (t : target.Machine) (r : Reading) (window : Window) (outcome : Outcome) : Type 0 where
+record ReadReceived (m : initiator.InitiatorSession) (t : target.Machine) (r : ReadProgress) (window : Window) (outcome : Outcome) : Type 0 where
   told : Window
   kept : (n : ℕ) → ((w : Window) → IsNear n w → IsNear n (told_window w t)) → IsNear n window → IsNear n told
-  leads : (low most : ℕ) → low + length outcome.bytes + 1 ≤ most → (held : Held) (s : target.Machine) (disk : Disk) (x : Exchange)
+  leads : (low most : ℕ) → low + length outcome.bytes + 1 ≤ most → (held : Held) (s : target.Machine) (disk : Disk) (x : DiskExchange)
       → LeadsWithin low held (between (finished m t told outcome outcome.bytes) s disk []) x
-      → LeadsWithin most held (between (reading m r window) s disk (command_answers t.session (target.waiting t.tasks) m.initiator_task_tag outcome
+      → LeadsWithin most held (between (reading m r window) s disk (command_answers t.session (target.waiting_tasks t.tasks) m.initiator_task_tag outcome
       (data_in_parts t.session.held outcome.bytes))) x
 
 -- the parts of what is given
@@ -301,18 +308,20 @@ are_given held bytes is =
       few = given_few held bytes (can_give held is).burst most;
     }
 
-read_received : (m : initiator.Machine) (t : target.Machine) (window : Window) (outcome : Outcome) (expected : ℕ) → t.session.held ≡ m.held → IsHeld m.held
+read_received : (m : initiator.InitiatorSession) (t : target.Machine) (window : Window) (outcome : Outcome) (expected : ℕ) → t.session.held ≡ m.held
+    → IsHeld m.held
     → m.exp_stat_sn ≡ Some t.session.stat_sn → m.done ≡ None
     → length outcome.bytes ≤ expected → expected < 2 ^ 32 → ReadReceived m t (record { expected = expected; received = []; next_data_sn = 0 }) window outcome
 read_received m t window outcome expected held is_held stat_sn none room small =
-    let r : Reading = record { expected = expected; received = []; next_data_sn = 0 } in
+    let r : ReadProgress = record { expected = expected; received = []; next_data_sn = 0 } in
     let g : AreGiven t.session.held outcome.bytes = are_given t.session.held outcome.bytes (subst IsHeld (sym held) is_held) in
     let given : Parts = data_in_parts t.session.held outcome.bytes in
-    let last : Message = message (response_head t.session (target.waiting t.tasks) m.initiator_task_tag outcome (length given)) (sense_segment outcome.sense) in
+    let last : Message = answer_message (response_head t.session (target.waiting_tasks t.tasks) m.initiator_task_tag outcome (length given))
+    (sense_segment outcome.sense) in
     let h : PartsReceived m t r window given (last ∷ []) =
     parts_received m t r window given (last ∷ []) none (subst (λ (k : Held). AreShort k.initiator_max_recv given) held g.short)
     (omega (arith, room, ap (λ (x : List ℕ). length x) g.all)) (omega (arith, g.few, room, small)) in
-    let r' : Reading = record { expected = expected; received = bytes_of given; next_data_sn = 0 + length given } in
+    let r' : ReadProgress = record { expected = expected; received = bytes_of given; next_data_sn = 0 + length given } in
     let one = outcome_received m t (opens.In r') r'.received h.told outcome.status outcome.sense outcome.bytes outcome.residual (length given) (λ h. refl)
     stat_sn
     (omega (arith, is_held.initiator_max_recv.0)) in
@@ -329,15 +338,15 @@ read_received m t window outcome expected held is_held stat_sn none room small =
 data_ins_written : (most : ℕ) (t : target.Machine) (tag data_sn offset : ℕ) (given : Parts) (more : List Message) → tag < 2 ^ 32 → t.session.exp_cmd_sn < 2 ^ 32
     → most < 2 ^ 24 → AreShort most given
     → data_sn + length given < 2 ^ 32 → offset + length (bytes_of given) < 2 ^ 32 → ArePlain most more
-    → ArePlain most (data_ins t.session (target.waiting t.tasks) tag data_sn offset given ++ more)
+    → ArePlain most (data_ins t.session (target.waiting_tasks t.tasks) tag data_sn offset given ++ more)
 data_ins_written most t tag data_sn offset [] more tag_fits cmd_sn size short few room plain = plain
 data_ins_written most t tag data_sn offset (part ∷ given) more tag_fits cmd_sn size short few room plain =
     let len = length-append part.0 (bytes_of given) in
-    plain_more most (message (data_in_head t.session (target.waiting t.tasks) tag data_sn offset part.1) part.0)
-    (data_ins t.session (target.waiting t.tasks) tag (data_sn + 1) (offset + length part.0) given ++ more)
+    plain_more most (answer_message (data_in_head t.session (target.waiting_tasks t.tasks) tag data_sn offset part.1) part.0)
+    (data_ins t.session (target.waiting_tasks t.tasks) tag (data_sn + 1) (offset + length part.0) given ++ more)
     (λ logins. data_in_readable logins t tag data_sn offset part.1 part.0 tag_fits (omega (arith, few)) (omega (arith, room)) cmd_sn
     (omega (arith, short.0, size)))
-    (short_message (data_in_head t.session (target.waiting t.tasks) tag data_sn offset part.1) part.0 most short.0)
+    (short_message (data_in_head t.session (target.waiting_tasks t.tasks) tag data_sn offset part.1) part.0 most short.0)
     (data_ins_written most t tag (data_sn + 1) (offset + length part.0) given more tag_fits cmd_sn size short.1 (omega (arith, few)) (omega (arith, room, len))
     plain)
 
@@ -347,19 +356,21 @@ sense_most (Some sense) = omega arith
 
 pub command_written : (t : target.Machine) (tag : ℕ) (outcome : Outcome) → IsHeld t.session.held → tag < 2 ^ 32 → t.session.exp_cmd_sn < 2 ^ 32
     → t.session.stat_sn < 2 ^ 32 → length outcome.bytes ≤ 4194304 → HasRoom outcome
-    → ArePlain t.session.held.initiator_max_recv (command_answers t.session (target.waiting t.tasks) tag outcome (data_in_parts t.session.held outcome.bytes))
+    → ArePlain t.session.held.initiator_max_recv (command_answers t.session (target.waiting_tasks t.tasks) tag outcome
+    (data_in_parts t.session.held outcome.bytes))
 command_written t tag outcome is tag_fits cmd_sn stat_sn room fits =
     let most : ℕ = t.session.held.initiator_max_recv in
     let g : AreGiven t.session.held outcome.bytes = are_given t.session.held outcome.bytes is in
     let given : Parts = data_in_parts t.session.held outcome.bytes in
     let size : most < 2 ^ 24 = omega (arith, is.initiator_max_recv.1) in
     let count : length given < 2 ^ 32 = omega (arith, g.few, room) in
-    data_ins_written most t tag 0 0 given (message (response_head t.session (target.waiting t.tasks) tag outcome (length given)) (sense_segment outcome.sense)
+    data_ins_written most t tag 0 0 given (answer_message (response_head t.session (target.waiting_tasks t.tasks) tag outcome (length given))
+    (sense_segment outcome.sense)
     ∷ []) tag_fits cmd_sn size g.short (omega (arith, count))
     (omega (arith, ap (λ (x : List ℕ). length x) g.all, room))
-    (plain_one most (message (response_head t.session (target.waiting t.tasks) tag outcome (length given)) (sense_segment outcome.sense))
+    (plain_one most (answer_message (response_head t.session (target.waiting_tasks t.tasks) tag outcome (length given)) (sense_segment outcome.sense))
     (λ logins. outcome_readable logins t tag outcome (length given) fits.status fits.residual tag_fits count stat_sn cmd_sn)
-    (short_message (response_head t.session (target.waiting t.tasks) tag outcome (length given)) (sense_segment outcome.sense) most
+    (short_message (response_head t.session (target.waiting_tasks t.tasks) tag outcome (length given)) (sense_segment outcome.sense) most
     (omega (arith, sense_most outcome.sense, is.initiator_max_recv.0))))
 
 -- ---- the target answers the command
@@ -373,12 +384,12 @@ ready t cmd_sn = record {
 
 -- the target once an answer went out that carries StatSN
 abbrev pub counted_on : target.Machine → target.Machine
-counted_on t = record t { session = target_session.counted t.session }
+counted_on t = record t { session = target_session.stat_sn_advanced t.session }
 
 -- what goes out for a read
-abbrev read_command : initiator.Machine → ℕ → List ℕ → ℕ → Message
+abbrev read_command : initiator.InitiatorSession → ℕ → List ℕ → ℕ → Message
 read_command m lun cdb expected = record {
-  head = heads.ScsiCommand (record (command m true lun cdb) { read = not (expected == 0); expected_data_transfer_length = expected });
+  head = heads.ScsiCommand (record (command_head m true lun cdb) { read = not (expected == 0); expected_data_transfer_length = expected });
   segment = Bytes [];
 }
 
@@ -391,7 +402,8 @@ window_now n lt =
 
 -- a command that takes no data waits for none
 planned_now : (p : Plan) (t : target.Machine) (cmd_sn : ℕ) (disk : Disk) (h : ScsiCommand) (order : Order) → ((total : ℕ) → p ≡ Take total → total ≡ 0)
-    → planned (reliable false) (ready t cmd_sn) disk h order [] p ≡ execute (reliable false) (ready t cmd_sn) disk h.initiator_task_tag order []
+    → task_begun (reliable false) (ready t cmd_sn) disk (task_planned h order [] p)
+    ≡ execute (reliable false) (ready t cmd_sn) disk h.initiator_task_tag order []
 planned_now (Take total) t cmd_sn disk h order none = (let e : total ≡ 0 = none total refl in rw e refl)
 planned_now (Give n) t cmd_sn disk h order none = refl
 planned_now (Refuse sense) t cmd_sn disk h order none = refl
@@ -407,7 +419,7 @@ takes_none (Some sense) lun cdb expected blocks total f e = absurd cc
 takes_none None lun cdb expected blocks total f e =
     let order : Order = reading_order lun cdb expected in
     let tests = all_false (refusals order blocks) f in
-    none_by (is_write order.cdb) (transfer order.cdb).count (min (wanted_length order blocks) (expected_length order)) total tests.1.1.1.1.1.1.1.1.1.0 e
+    none_by (is_write order.cdb) (named_transfer order.cdb).count (min (wanted_length order blocks) (expected_length order)) total tests.1.1.1.1.1.1.1.1.1.0 e
 
 -- no more is given than is expected
 given_by : (b : Bool) (size wanted most n : ℕ) → (if b then Take size else Give (min wanted most)) ≡ Give n → n ≤ most
@@ -429,7 +441,7 @@ outcome_few (Take n) disk order most few = omega arith
 outcome_few (Give n) disk order most few = omega (arith, few n refl, length-take n (wanted_data disk order))
 
 -- the command is executed
-read_taken : (m : initiator.Machine) (t : target.Machine) (disk : Disk) (lun : ℕ) (cdb : List ℕ) (expected : ℕ) → m.cmd_sn < 2 ^ 32
+read_taken : (m : initiator.InitiatorSession) (t : target.Machine) (disk : Disk) (lun : ℕ) (cdb : List ℕ) (expected : ℕ) → m.cmd_sn < 2 ^ 32
     → t.session.settings.extras.unit ≡ None
     → step_on (reliable false) (ready t m.cmd_sn) disk (read_command m lun cdb expected)
     ≡ having_accepted (read_command m lun cdb expected ∷ []) (execute (reliable false) (ready t (next_sn m.cmd_sn)) disk (next_tag m.initiator_task_tag)
@@ -437,30 +449,31 @@ read_taken : (m : initiator.Machine) (t : target.Machine) (disk : Disk) (lun : �
 unfolding segment_bytes
 read_taken m t disk lun cdb expected lt plain =
     let order : Order = reading_order lun cdb expected in
-    let h : ScsiCommand = record (command m true lun cdb) { read = not (expected == 0); expected_data_transfer_length = expected } in
-    request_alone (reliable false) (ready t m.cmd_sn).session disk (read_command m lun cdb expected)
+    let h : ScsiCommand = record (command_head m true lun cdb) { read = not (expected == 0); expected_data_transfer_length = expected } in
+    request_alone (reliable false) (ready t m.cmd_sn).session disk (read_command m lun cdb expected) _
     (record {
       phase = refl;
-      within = le-ltb (target_session.limit t.session.settings) 0 (omega arith);
-      kind = refl;
+      within = le-ltb (target_session.target_limit t.session.settings) 0 (omega arith);
+      came = refl;
+      may = refl;
       short = le-ltb t.session.held.target_max_recv 0 (omega arith);
-    }) refl (window_now m.cmd_sn lt) refl
-    ∙ ap (λ (o : Order). having_accepted (read_command m lun cdb expected ∷ []) (planned (reliable false) (ready t (next_sn m.cmd_sn)) disk
-    h o [] (plan_of o disk.count))) (plain_order t.session.settings.extras.unit h plain)
+    }) refl refl (window_now m.cmd_sn lt) refl
+    ∙ ap (λ (o : Order). having_accepted (read_command m lun cdb expected ∷ []) (task_begun (reliable false) (ready t (next_sn m.cmd_sn)) disk
+    (task_planned h o [] (plan_of o disk.count)))) (plain_order t.session.settings.extras.unit h plain)
     ∙ ap (having_accepted (read_command m lun cdb expected ∷ []))
     (planned_now (plan_of order disk.count) t (next_sn m.cmd_sn) disk h order (λ total. takes_none (first_refusal order disk.count) lun cdb expected disk.count total
     refl))
 
 -- ---- the whole of a read
 
-pub accepts_it : (f : Option SubmitFault) (m : initiator.Machine) (request : Request) → (or_accepted f m request).refusal ≡ None
+pub accepts_it : (f : Option SubmitFault) (m : initiator.InitiatorSession) (request : Request) → (or_accepted f m request).refusal ≡ None
     → or_accepted f m request ≡ accepted m request
 accepts_it None m request e = refl
 accepts_it (Some fault) m request e = absurd cc
 
-pub submitted_is : (m : initiator.Machine) (request : Request) → (submitted m request).refusal ≡ None → submitted m request ≡ accepted m request
+pub submitted_is : (m : initiator.InitiatorSession) (request : Request) → (submitted m request).refusal ≡ None → submitted m request ≡ accepted m request
 unfolding submitted
-submitted_is m request e = accepts_it (refusal m request) m request e
+submitted_is m request e = accepts_it (submit_refusal m request) m request e
 
 -- a request that is accepted is not too long
 pub not_long : (busy shut long : Bool) → (if busy then Some refusals_.Busy else
@@ -470,24 +483,24 @@ not_long false true long e = absurd cc
 not_long false false true e = absurd cc
 not_long false false false e = refl
 
-pub unrefused : (f : Option SubmitFault) (m : initiator.Machine) (request : Request) → (or_accepted f m request).refusal ≡ None → f ≡ None
+pub unrefused : (f : Option SubmitFault) (m : initiator.InitiatorSession) (request : Request) → (or_accepted f m request).refusal ≡ None → f ≡ None
 unrefused None m request e = refl
 unrefused (Some fault) m request e = absurd cc
 
-few_expected : (m : initiator.Machine) (lun : ℕ) (cdb : List ℕ) (expected : ℕ) → m.phase ≡ phases.Full
+few_expected : (m : initiator.InitiatorSession) (lun : ℕ) (cdb : List ℕ) (expected : ℕ) → m.phase ≡ phases.Full
     → (submitted m (requests.In lun cdb expected)).refusal ≡ None → expected ≤ 4194304
 unfolding submitted
 few_expected m lun cdb expected full e =
     let none : refusal_in m.phase m (requests.In lun cdb expected) ≡ None =
-    unrefused (refusal m (requests.In lun cdb expected)) m (requests.In lun cdb expected) e in
+    unrefused (submit_refusal m (requests.In lun cdb expected)) m (requests.In lun cdb expected) e in
     let when : refusal_when_full m (requests.In lun cdb expected) ≡ None = subst (λ (p : Phase). refusal_in p m (requests.In lun cdb expected) ≡ None) full
     none in
     ltb-false 4194304 expected
     (not_long (is_some m.outstanding || is_some m.done) (not (is_within m.cmd_sn m.window.exp.0 m.window.max.0)) (nat_lt 4194304 expected) when)
 
 -- A command or a ping was answered: both ends are in step again.
-pub in_step_again : (m : initiator.Machine) (t : target.Machine) (window : Window) → t.session.held ≡ m.held → IsHeld m.held
-    → m.held.target_max_recv ≤ target_session.limit t.session.settings → t.session.settings.extras.unit ≡ None → m.initiator_task_tag ≤ 0xffff_fffe → m.cmd_sn < 2 ^ 32
+pub in_step_again : (m : initiator.InitiatorSession) (t : target.Machine) (window : Window) → t.session.held ≡ m.held → IsHeld m.held
+    → m.held.target_max_recv ≤ target_session.target_limit t.session.settings → t.session.settings.extras.unit ≡ None → m.initiator_task_tag ≤ 0xffff_fffe → m.cmd_sn < 2 ^ 32
     → told_window window (ready t m.cmd_sn) ≡ window_of_eight m.cmd_sn
     → AreInStep (record m {
       phase = phases.Full;
@@ -517,10 +530,10 @@ in_step_again m t window held is_held segment plain tag cmd_sn told_ = record {
 }
 
 -- the number of what was received goes out
-pub stat_sn_sent : (m : initiator.Machine) (t : target.Machine) → AreInStep m t → sent_exp_stat_sn m < 2 ^ 32
+pub stat_sn_sent : (m : initiator.InitiatorSession) (t : target.Machine) → AreInStep m t → sent_exp_stat_sn m < 2 ^ 32
 stat_sn_sent m t a = subst (λ (n : Option ℕ). unwrap_or n 0 < 2 ^ 32) (sym a.stat_sn) a.stat_sn_fits
 
-pub local_read : (m : initiator.Machine) (t : target.Machine) (disk : Disk) (lun : ℕ) (cdb : List ℕ) (expected : ℕ) → lun < 2 ^ 64 → length cdb ≡ 16
+pub local_read : (m : initiator.InitiatorSession) (t : target.Machine) (disk : Disk) (lun : ℕ) (cdb : List ℕ) (expected : ℕ) → lun < 2 ^ 64 → length cdb ≡ 16
     → AreBytes cdb → AreInStep m t → (submitted m (requests.In lun cdb expected)).refusal ≡ None
     → (let after : Effect = effect false disk (reading_order lun cdb expected) [] in Begins m.held m t disk (requests.In lun cdb expected)
     (local_command after))
@@ -533,9 +546,9 @@ local_read m t disk lun cdb expected on_ size are a e =
     let fits : n < 2 ^ 32 = mod-lt (m.cmd_sn + 1) (omega arith) in
     let few : expected ≤ 4194304 = few_expected m lun cdb expected a.initiator_phase e in
     let sent : submitted m request ≡ accepted m request = submitted_is m request e in
-    let begun_ : initiator.Machine = record m { initiator_task_tag = next_tag m.initiator_task_tag; cmd_sn = next_sn m.cmd_sn } in
+    let begun_ : initiator.InitiatorSession = record m { initiator_task_tag = next_tag m.initiator_task_tag; cmd_sn = next_sn m.cmd_sn } in
     let t' : target.Machine = ready t n in
-    let r0 : Reading = record { expected = expected; received = []; next_data_sn = 0 } in
+    let r0 : ReadProgress = record { expected = expected; received = []; next_data_sn = 0 } in
     let is_t : t ≡ ready t m.cmd_sn = λ i. record {
       session = record t.session {
         phase = a.target_phase i;
@@ -550,11 +563,11 @@ local_read m t disk lun cdb expected on_ size are a e =
       outstanding =
           Some (opens.In r0);
     } in
-    let executed : target.Stepped = having_accepted (read_command m lun cdb expected ∷ [])
+    let executed : target.TargetStep = having_accepted (read_command m lun cdb expected ∷ [])
     (plainly (reliable false) t' disk (next_tag m.initiator_task_tag) order
     []) in
     let r : answers false t disk (submitted m request).output ≡ executed =
-    ap (λ (s : Submitted). answers false t disk s.output) sent
+    ap (λ (s : SubmitStep). answers false t disk s.output) sent
     ∙ then_nothing (step_on (reliable false) t disk (read_command m lun cdb expected))
     ∙ ap (λ (x : target.Machine). step_on (reliable false) x disk (read_command m lun cdb expected)) is_t
     ∙ read_taken m t disk lun cdb expected a.cmd_sn_fits a.plain
@@ -566,7 +579,7 @@ local_read m t disk lun cdb expected on_ size are a e =
     let h : ReadReceived begun_ t' r0 m.window after.outcome = read_received begun_ t' m.window after.outcome expected a.held a.is_held a.stat_sn a.none_done
     room
     (omega (arith, few)) in
-    let last : Exchange = record {
+    let last : DiskExchange = record {
       initiator = finished begun_ t' h.told after.outcome after.outcome.bytes;
       target = counted_on t';
       disk = after.disk;
@@ -592,13 +605,14 @@ local_read m t disk lun cdb expected on_ size are a e =
     (omega (arith, few)) a.cmd_sn_fits (stat_sn_sent m t a) (omega arith))
     (short_message (read_command m lun cdb expected).head [] m.held.target_max_recv (omega arith)) in
     record {
-      received = received_by m.held t disk (submitted m request).output executed r (subst (λ (s : Submitted). ArePlain m.held.target_max_recv s.output) (sym
+      received = received_by m.held t disk (submitted m request).output executed r (subst (λ (s : SubmitStep). ArePlain m.held.target_max_recv s.output) (sym
           sent)
           written) refl refl
           (subst (λ (k : Held). ArePlain k.initiator_max_recv executed.answers) a.held
           (command_written t' (next_tag m.initiator_task_tag) after.outcome (subst IsHeld (sym a.held) a.is_held) (omega (arith, tag)) fits a.stat_sn_fits
           (omega (arith, room, few)) (outcome_fits disk order [] few)));
-      ends = subst (λ (s : Submitted). Ends most_answers m.held s.machine (answers false t disk (submitted m request).output) (local_command after)) (sym sent)
-          (subst (λ (x : initiator.Machine). Ends most_answers m.held x (answers false t disk (submitted m request).output) (local_command after)) (sym is_m)
-          (subst (λ (x : target.Stepped). Ends most_answers m.held (reading begun_ r0 m.window) x (local_command after)) (sym r) ends_));
+      ends = subst (λ (s : SubmitStep). Ends most_answers m.held s.machine (answers false t disk (submitted m request).output) (local_command after)) (sym sent)
+          (subst (λ (x : initiator.InitiatorSession). Ends most_answers m.held x (answers false t disk (submitted m request).output) (local_command after))
+          (sym is_m)
+          (subst (λ (x : target.TargetStep). Ends most_answers m.held (reading begun_ r0 m.window) x (local_command after)) (sym r) ends_));
     }

@@ -12,7 +12,7 @@ use Rattle.std.proofs.lemmas.Grind.{flat_map-append}
 use Rattle.scsi_cdb.specs.declared.sense.Sense.{Sense}
 use Rattle.scsi_disk.specs.Disk.{Disk}
 use Rattle.scsi_disk.specs.Effect.{Effect, disk_by, effect, outcome_by, wanted_data}
-use Rattle.scsi_disk.specs.Plan.{expected_length, first_refusal, is_unknown, is_write, plan_by, plan_of, refusals, taken_length, transfer, wanted_length}
+use Rattle.scsi_disk.specs.Plan.{expected_length, first_refusal, is_unknown, is_write, plan_by, plan_of, refusals, taken_length, named_transfer, wanted_length}
 use Rattle.scsi_disk.specs.declared.order.Plan.{Plan}
 use Rattle.scsi_disk.specs.declared.order.Plan.TheVariants.{Refuse, Take, Give}
 use Rattle.scsi_disk.specs.declared.order.Order.{Order}
@@ -34,36 +34,36 @@ use Rattle.iscsi_target.specs.declared.due.Due.{Due}
 use Rattle.iscsi_target.specs.declared.due.Due.TheVariants.{Nothing, Unsolicited, Solicited}
 use Rattle.iscsi_target_session.specs.Session as target_session
 use Rattle.iscsi_target.specs.State as target
-use Rattle.iscsi_target_session.specs.Session.{message}
+use Rattle.iscsi_target_session.specs.Session.{answer_message}
 use Rattle.iscsi_target.specs.Write.{Write}
 use Rattle.iscsi_target.specs.declared.tasks.Task.TheVariants.{Data}
-use Rattle.iscsi_target.specs.State.{Stepped, unchanged}
-use Rattle.iscsi_stream.specs.Pieces.{Pieces, data_of, chunks_within, chunks}
+use Rattle.iscsi_target.specs.State.{TargetStep, unchanged}
+use Rattle.iscsi_stream.specs.Pieces.{Pieces, piece_data, chunks_within, chunks}
 use Rattle.iscsi_pdu.specs.Serial.{moved, next_sn, is_within}
-use Rattle.iscsi_target.specs.Transfer.{with_r2t, continued, desired, is_idle, is_in_sequence, is_whole, received, with_data, with_piece}
+use Rattle.iscsi_target.specs.Transfer.{with_r2t, continued, desired, is_nothing_due, is_in_sequence, is_whole_write, bytes_received, with_data, with_piece}
 use Rattle.iscsi_target.specs.Execution.{command_answers, execute, data_in_parts, response_head, sense_segment, reliable}
-use Rattle.iscsi_target.specs.Command.{send_r2t, breaks_burst_rules, is_bad_announcement, is_bad_segment, opened, planned, proceed, r2t_head}
-use Rattle.iscsi_target.specs.Machine.{answers, having_accepted, is_closed, step_on, then_stepped}
-use Rattle.iscsi_target.proofs.SingleTaskLemmas.{data_alone, request_alone}
-use Rattle.iscsi_target.proofs.ContinuationLemmas.{then_nothing}
-use Rattle.iscsi_target.proofs.SendingLemmas.{can_give}
+use Rattle.iscsi_target.specs.Command.{send_r2t, breaks_burst_rules, is_bad_announcement, is_bad_segment, write_opened, task_planned, proceed, r2t_head}
+use Rattle.iscsi_target.specs.Machine.{task_begun, answers, having_accepted, is_machine_closed, step_on, then_stepped}
+use Rattle.iscsi_target.proofs.Turns.SingleTaskLemmas.{data_alone, request_alone}
+use Rattle.iscsi_target.proofs.Steps.TurnLemmas.{then_nothing}
+use Rattle.iscsi_target.proofs.Steps.SendingLemmas.{can_give}
 use Rattle.iscsi_initiator.specs.declared.outstanding.Outstanding.{Outstanding}
 use Rattle.iscsi_initiator.specs.declared.outstanding.Outstanding.TheVariants as opens
 use Rattle.iscsi_initiator.specs.declared.request.Done.TheVariants as done
 use Rattle.iscsi_initiator.specs.State as initiator
 use Rattle.iscsi_initiator.specs.State.{next_tag, sent_exp_stat_sn, serial}
-use Rattle.iscsi_initiator.specs.Progress.{Writing}
-use Rattle.iscsi_initiator.specs.Steps.{quiet, sends}
-use Rattle.iscsi_initiator.specs.Full.{data_outs, is_last, sequence}
+use Rattle.iscsi_initiator.specs.Progress.{WriteProgress}
+use Rattle.iscsi_initiator.specs.Steps.{quiet, step_sending}
+use Rattle.iscsi_initiator.specs.Full.{data_outs, is_last_piece, sequence}
 use Rattle.iscsi_initiator.specs.Submitted as initiator_writes
-use Rattle.iscsi_initiator.specs.Submitted.{Submitted, accepted, command, has_more, immediate, refusal, refusal_in, refusal_when_full, submitted}
+use Rattle.iscsi_initiator.specs.Submitted.{SubmitStep, accepted, command_head, has_more, immediate_data, submit_refusal, refusal_in, refusal_when_full, submitted}
 use Rattle.iscsi_initiator.specs.declared.request.Request.{Request}
 use Rattle.iscsi_initiator.specs.declared.request.Request.TheVariants as requests
-use Rattle.iscsi_initiator.specs.Machine.{step, taken}
+use Rattle.iscsi_initiator.specs.Machine.{initiator_step, outcome_taken}
 use Rattle.iscsi_stream.proofs.ChunkLemmas.{joined, joined_chunks}
-use Rattle.iscsi_target.proofs.OpenWriteLemmas.{data_of_one}
-use Rattle.iscsi_target.proofs.CommandLemmas.{plain_executed, plain_order, plainly}
-use Rattle.iscsi_pair.specs.LocalDisk.{AreInStep, Exchange, reported_sense, writing_order, local_command}
+use Rattle.iscsi_target.proofs.Writes.OpenWriteLemmas.{data_of_one}
+use Rattle.iscsi_target.proofs.Answers.CommandLemmas.{plain_executed, plain_order, plainly}
+use Rattle.iscsi_pair.specs.LocalDisk.{AreInStep, DiskExchange, reported_sense, writing_order, local_command}
 use Rattle.iscsi_pair.proofs.Wire.WindowLemmas.{IsNear, last_with, near_next, tells_fewer, tells_eight, tag_after}
 use Rattle.iscsi_pair.proofs.Login.RoundAgrees.{some_then}
 use Rattle.iscsi_pair.proofs.Wire.WrittenPdus.{command_readable, data_out_readable, ready_readable}
@@ -89,37 +89,38 @@ abbrev data_message : DataOut → List ℕ → Message
 data_message h piece = record { head = heads.DataOut h; segment = Bytes piece }
 
 data_taken : (t : target.Machine) (cmd_sn : ℕ) (w : Write) (disk : Disk) (h : DataOut) (piece : List ℕ) → length piece ≤ t.session.held.target_max_recv
-    → t.session.held.target_max_recv ≤ target_session.limit t.session.settings
-    → h.initiator_task_tag ≡ w.initiator_task_tag → is_in_sequence (first_burst t.session.held) w h (received w + length piece) w.due ≡ true
+    → t.session.held.target_max_recv ≤ target_session.target_limit t.session.settings
+    → h.initiator_task_tag ≡ w.initiator_task_tag → is_in_sequence (first_burst t.session.held) w h (bytes_received w + length piece) w.due ≡ true
     → step_on (reliable false) (writer t cmd_sn w) disk (data_message h piece) ≡ proceed (reliable false) (ready t cmd_sn) disk (with_data w h piece)
 unfolding segment_bytes
 data_taken t cmd_sn w disk h piece short limit tag due =
     data_alone (reliable false) (writer t cmd_sn w).session disk w (data_message h piece) h
     (record {
       phase = refl;
-      within = le-ltb (target_session.limit t.session.settings) (length piece) (omega (arith, short, limit));
-      kind = refl;
+      within = le-ltb (target_session.target_limit t.session.settings) (length piece) (omega (arith, short, limit));
+      came = refl;
+      may = refl;
       short = le-ltb t.session.held.target_max_recv (length piece) short;
-    }) refl (eq-eqb w.initiator_task_tag h.initiator_task_tag (sym tag)) due
+    }) (eq-eqb w.initiator_task_tag h.initiator_task_tag (sym tag)) due
 
 -- ---- a sequence
 
 -- Data-Outs of one sequence are due, up to this byte: their tag, and what is due for each DataSN
 record IsSequence (most total tag end : ℕ) (due : ℕ → Due) : Type 0 where
   goes_on : (data_sn : ℕ) → continued (due data_sn) ≡ due (next_sn data_sn)
-  busy : (data_sn : ℕ) → is_idle (due data_sn) ≡ false
-  takes : (w : Write) (h : DataOut) (reached : ℕ) → w.total ≡ total → h.buffer_offset ≡ received w → h.target_transfer_tag ≡ tag
+  busy : (data_sn : ℕ) → is_nothing_due (due data_sn) ≡ false
+  takes : (w : Write) (h : DataOut) (reached : ℕ) → w.total ≡ total → h.buffer_offset ≡ bytes_received w → h.target_transfer_tag ≡ tag
       → ((h.is_final ≡ false) × (reached < end)) ⊎ ((h.is_final ≡ true) × (reached ≡ end))
       → is_in_sequence most w h reached (due h.data_sn) ≡ true
 
-unsolicited_takes : (most total data_sn : ℕ) (w : Write) (h : DataOut) (reached : ℕ) → w.total ≡ total → h.buffer_offset ≡ received w
+unsolicited_takes : (most total data_sn : ℕ) (w : Write) (h : DataOut) (reached : ℕ) → w.total ≡ total → h.buffer_offset ≡ bytes_received w
     → h.target_transfer_tag ≡ reserved_tag
     → ((h.is_final ≡ false) × (reached < min total most)) ⊎ ((h.is_final ≡ true) × (reached ≡ min total most))
     → is_in_sequence most w h reached (Unsolicited h.data_sn) ≡ true
 unsolicited_takes most total data_sn w h reached all at tag (inl c) =
     rw (
       eq-eqb h.data_sn h.data_sn refl,
-      eq-eqb h.buffer_offset (received w) at,
+      eq-eqb h.buffer_offset (bytes_received w) at,
       eq-eqb h.target_transfer_tag reserved_tag tag,
       all,
       lt-ltb reached (min total most) c.1,
@@ -127,7 +128,7 @@ unsolicited_takes most total data_sn w h reached all at tag (inl c) =
 unsolicited_takes most total data_sn w h reached all at tag (inr c) =
     rw (
       eq-eqb h.data_sn h.data_sn refl,
-      eq-eqb h.buffer_offset (received w) at,
+      eq-eqb h.buffer_offset (bytes_received w) at,
       eq-eqb h.target_transfer_tag reserved_tag tag,
       all,
       le-ltb reached (min total most) (omega (arith, c.1)),
@@ -142,15 +143,15 @@ unsolicited most total = record {
   takes = λ w h reached. unsolicited_takes most total h.data_sn w h reached;
 }
 
-solicited_takes : (most total tag end : ℕ) (w : Write) (h : DataOut) (reached : ℕ) → h.buffer_offset ≡ received w → h.target_transfer_tag ≡ tag
+solicited_takes : (most total tag end : ℕ) (w : Write) (h : DataOut) (reached : ℕ) → h.buffer_offset ≡ bytes_received w → h.target_transfer_tag ≡ tag
     → ((h.is_final ≡ false) × (reached < end)) ⊎ ((h.is_final ≡ true) × (reached ≡ end))
     → is_in_sequence most w h reached (Solicited tag h.data_sn end) ≡ true
 solicited_takes most total tag end w h reached at e (inl c) =
-    rw (eq-eqb h.data_sn h.data_sn refl, eq-eqb h.buffer_offset (received w) at, eq-eqb h.target_transfer_tag tag e, lt-ltb reached end c.1, c.0) refl
+    rw (eq-eqb h.data_sn h.data_sn refl, eq-eqb h.buffer_offset (bytes_received w) at, eq-eqb h.target_transfer_tag tag e, lt-ltb reached end c.1, c.0) refl
 solicited_takes most total tag end w h reached at e (inr c) =
     rw (
       eq-eqb h.data_sn h.data_sn refl,
-      eq-eqb h.buffer_offset (received w) at,
+      eq-eqb h.buffer_offset (bytes_received w) at,
       eq-eqb h.target_transfer_tag tag e,
       le-ltb reached end (omega (arith, c.1)),
       eq-eqb reached end c.1,
@@ -168,33 +169,33 @@ solicited most total tag end = record {
 abbrev ArePieces : ℕ → List (List ℕ) → Type 0
 ArePieces most ps = AllByRecursion (λ piece. (0 < length piece) × (length piece ≤ most)) ps
 
-received_more : (w : Write) (offset : ℕ) (piece : List ℕ) → 0 < length piece → data_of (with_piece w.pieces offset piece) ≡ data_of w.pieces ++ piece
+received_more : (w : Write) (offset : ℕ) (piece : List ℕ) → 0 < length piece → piece_data (with_piece w.pieces offset piece) ≡ piece_data w.pieces ++ piece
 received_more w offset [] some = absurd (omega (arith, some))
 received_more w offset (b ∷ bytes) some =
-    flat_map-append (λ piece. piece.1) w.pieces ((offset, b ∷ bytes) ∷ []) ∙ ap (λ (x : List ℕ). data_of w.pieces ++ x) (append-nil (b ∷ bytes))
+    flat_map-append (λ piece. piece.1) w.pieces ((offset, b ∷ bytes) ∷ []) ∙ ap (λ (x : List ℕ). piece_data w.pieces ++ x) (append-nil (b ∷ bytes))
 
 -- a Data-Out that isn't the last of its sequence
 piece_taken : (t : target.Machine) (cmd_sn : ℕ) (w : Write) (disk : Disk) (h : DataOut) (piece : List ℕ) (end : ℕ) (due : ℕ → Due)
     → IsSequence (first_burst t.session.held) w.total h.target_transfer_tag end due
-    → w.due ≡ due h.data_sn → h.is_final ≡ false → h.buffer_offset ≡ received w → h.initiator_task_tag ≡ w.initiator_task_tag → 0 < length piece
+    → w.due ≡ due h.data_sn → h.is_final ≡ false → h.buffer_offset ≡ bytes_received w → h.initiator_task_tag ≡ w.initiator_task_tag → 0 < length piece
     → length piece ≤ t.session.held.target_max_recv
-    → t.session.held.target_max_recv ≤ target_session.limit t.session.settings → received w + length piece < end → end ≤ w.total
+    → t.session.held.target_max_recv ≤ target_session.target_limit t.session.settings → bytes_received w + length piece < end → end ≤ w.total
     → step_on (reliable false) (writer t cmd_sn w) disk (data_message h piece)
     ≡ unchanged (writer t cmd_sn (record w { pieces = with_piece w.pieces h.buffer_offset piece; due = due (next_sn h.data_sn) })) disk
 piece_taken t cmd_sn w disk h piece end due s is_due final at tag some short limit before_ room =
     let v : Write = record w { pieces = with_piece w.pieces h.buffer_offset piece; due = due (next_sn h.data_sn) } in
-    let here : is_in_sequence (first_burst t.session.held) w h (received w + length piece) w.due ≡ true =
-    ap (is_in_sequence (first_burst t.session.held) w h (received w + length piece)) is_due ∙ s.takes w h (received w + length piece) refl at refl
+    let here : is_in_sequence (first_burst t.session.held) w h (bytes_received w + length piece) w.due ≡ true =
+    ap (is_in_sequence (first_burst t.session.held) w h (bytes_received w + length piece)) is_due ∙ s.takes w h (bytes_received w + length piece) refl at refl
     (inl (final, before_)) in
     let is : with_data w h piece ≡ v =
     ap (λ (b : Bool). record w { pieces = with_piece w.pieces h.buffer_offset piece; due = if b then Nothing else continued w.due }) final
     ∙ ap (λ (d : Due). record w { pieces = with_piece w.pieces h.buffer_offset piece; due = d }) (ap continued is_due ∙ s.goes_on h.data_sn) in
-    let part : is_whole v ≡ false =
-    ne_eqb w.total (received v) (λ e. omega (
+    let part : is_whole_write v ≡ false =
+    ne_eqb w.total (bytes_received v) (λ e. omega (
       arith,
       e,
       ap (λ (x : List ℕ). length x) (received_more w h.buffer_offset piece some),
-      length-append (data_of w.pieces) piece,
+      length-append (piece_data w.pieces) piece,
       before_,
       room,
     )) in
@@ -205,24 +206,24 @@ piece_taken t cmd_sn w disk h piece end due s is_due final at tag some short lim
 -- what a whole sequence leads to
 record SequenceTaken (t : target.Machine) (cmd_sn : ℕ) (w : Write) (disk : Disk) (ms : List Message) (bytes : List ℕ) : Type 0 where
   came : Pieces
-  whole : data_of came ≡ data_of w.pieces ++ bytes
+  whole : piece_data came ≡ piece_data w.pieces ++ bytes
   is : answers false (writer t cmd_sn w) disk ms ≡ proceed (reliable false) (ready t cmd_sn) disk (record w { pieces = came; due = Nothing })
 
 sequence_taken : (t : target.Machine) (cmd_sn : ℕ) (w : Write) (disk : Disk) (h : DataOut) (piece : List ℕ) (more : List (List ℕ)) (end : ℕ) (due : ℕ → Due)
     → IsSequence (first_burst t.session.held) w.total h.target_transfer_tag end due
-    → w.due ≡ due h.data_sn → h.buffer_offset ≡ received w → h.initiator_task_tag ≡ w.initiator_task_tag
+    → w.due ≡ due h.data_sn → h.buffer_offset ≡ bytes_received w → h.initiator_task_tag ≡ w.initiator_task_tag
     → ArePieces t.session.held.target_max_recv (piece ∷ more)
-    → t.session.held.target_max_recv ≤ target_session.limit t.session.settings → received w + length (joined (piece ∷ more)) ≡ end → end ≤ w.total
+    → t.session.held.target_max_recv ≤ target_session.target_limit t.session.settings → bytes_received w + length (joined (piece ∷ more)) ≡ end → end ≤ w.total
     → SequenceTaken t cmd_sn w disk (data_outs h (piece ∷ more)) (joined (piece ∷ more))
 unfolding answers
 sequence_taken t cmd_sn w disk h piece [] end due s is_due at tag all limit up room =
     let h' : DataOut = record h { is_final = true } in
-    let here : is_in_sequence (first_burst t.session.held) w h' (received w + length piece) w.due ≡ true =
-    ap (is_in_sequence (first_burst t.session.held) w h' (received w + length piece)) is_due
-    ∙ s.takes w h' (received w + length piece) refl at refl (inr (refl, (let e = length-append piece [] in omega (arith, e, up)))) in
+    let here : is_in_sequence (first_burst t.session.held) w h' (bytes_received w + length piece) w.due ≡ true =
+    ap (is_in_sequence (first_burst t.session.held) w h' (bytes_received w + length piece)) is_due
+    ∙ s.takes w h' (bytes_received w + length piece) refl at refl (inr (refl, (let e = length-append piece [] in omega (arith, e, up)))) in
     record {
       came = with_piece w.pieces h.buffer_offset piece;
-      whole = received_more w h.buffer_offset piece all.0.0 ∙ ap (λ (x : List ℕ). data_of w.pieces ++ x) (sym (append-nil piece));
+      whole = received_more w h.buffer_offset piece all.0.0 ∙ ap (λ (x : List ℕ). piece_data w.pieces ++ x) (sym (append-nil piece));
       is = then_nothing (step_on (reliable false) (writer t cmd_sn w) disk (data_message h' piece))
           ∙ data_taken t cmd_sn w disk h' piece all.0.1 limit tag here;
     }
@@ -232,16 +233,17 @@ sequence_taken t cmd_sn w disk h piece (second ∷ more) end due s is_due at tag
     let h2 : DataOut = record h { data_sn = next_sn h.data_sn; buffer_offset = h.buffer_offset + length piece } in
     let len = length-append piece (joined (second ∷ more)) in
     let len2 = length-append second (joined more) in
-    let now = ap (λ (x : List ℕ). length x) (received_more w h.buffer_offset piece all.0.0) ∙ length-append (data_of w.pieces) piece in
+    let now = ap (λ (x : List ℕ). length x) (received_more w h.buffer_offset piece all.0.0) ∙ length-append (piece_data w.pieces) piece in
     let one : step_on (reliable false) (writer t cmd_sn w) disk (data_message h' piece) ≡ unchanged (writer t cmd_sn v) disk =
     piece_taken t cmd_sn w disk h' piece end due s is_due refl at tag all.0.0 all.0.1 limit (omega (arith, up, len, len2, all.1.0.0)) room in
     let r : SequenceTaken t cmd_sn v disk (data_outs h2 (second ∷ more)) (joined (second ∷ more)) =
     sequence_taken t cmd_sn v disk h2 second more end due s refl (omega (arith, at, now)) tag all.1 limit (omega (arith, up, len, now)) room in
     record {
       came = r.came;
-      whole = r.whole ∙ ap (λ (x : List ℕ). x ++ joined (second ∷ more)) (received_more w h.buffer_offset piece all.0.0) ∙ append_assoc (data_of w.pieces) piece
+      whole = r.whole ∙ ap (λ (x : List ℕ). x ++ joined (second ∷ more)) (received_more w h.buffer_offset piece all.0.0)
+          ∙ append_assoc (piece_data w.pieces) piece
           (joined (second ∷ more));
-      is = ap (λ (x : Stepped). then_stepped x (answers false x.machine x.disk (data_outs h2 (second ∷ more)))) one ∙ r.is;
+      is = ap (λ (x : TargetStep). then_stepped x (answers false x.machine x.disk (data_outs h2 (second ∷ more)))) one ∙ r.is;
     }
 
 -- ---- the pieces of a sequence
@@ -267,7 +269,7 @@ data_outs_written : (most : ℕ) (h : DataOut) (ps : List (List ℕ)) → most <
     → ArePieces most ps → ArePlain most (data_outs h ps)
 data_outs_written most h [] size a room all = λ logins. tt
 data_outs_written most h (piece ∷ more) size a room all =
-    let h' : DataOut = record h { is_final = is_last more } in
+    let h' : DataOut = record h { is_final = is_last_piece more } in
     let h2 : DataOut = record h { data_sn = next_sn h.data_sn; buffer_offset = h.buffer_offset + length piece } in
     let len = length-append piece (joined more) in
     let a2 : AreSmall h2 = record {
@@ -284,7 +286,7 @@ data_outs_written most h (piece ∷ more) size a room all =
     (data_outs_written most h2 more size a2 (omega (arith, room, len)) all.1)
 
 -- what an initiator sends in one sequence
-sequence_written : (m : initiator.Machine) (lun : Option ℕ) (transfer offset : ℕ) (bytes : List ℕ) → IsHeld m.held → m.initiator_task_tag ≤ 0xffff_fffe
+sequence_written : (m : initiator.InitiatorSession) (lun : Option ℕ) (transfer offset : ℕ) (bytes : List ℕ) → IsHeld m.held → m.initiator_task_tag ≤ 0xffff_fffe
     → sent_exp_stat_sn m < 2 ^ 32
     → is_some lun ≡ is_tag transfer → IfSome lun (λ n. n < 2 ^ 64) → transfer < 2 ^ 32 → offset + length bytes < 2 ^ 32
     → ArePlain m.held.target_max_recv (sequence m lun transfer offset bytes)
@@ -321,9 +323,9 @@ lun_fits false lun lt = tt
 -- a sequence with these bytes, if it has any
 batch_taken : (t : target.Machine) (cmd_sn : ℕ) (w : Write) (disk : Disk) (h : DataOut) (bytes : List ℕ) (end : ℕ) (due : ℕ → Due)
     → IsSequence (first_burst t.session.held) w.total h.target_transfer_tag end due
-    → w.due ≡ due h.data_sn → h.buffer_offset ≡ received w → h.initiator_task_tag ≡ w.initiator_task_tag → 0 < t.session.held.target_max_recv
-    → t.session.held.target_max_recv ≤ target_session.limit t.session.settings
-    → 0 < length bytes → received w + length bytes ≡ end → end ≤ w.total
+    → w.due ≡ due h.data_sn → h.buffer_offset ≡ bytes_received w → h.initiator_task_tag ≡ w.initiator_task_tag → 0 < t.session.held.target_max_recv
+    → t.session.held.target_max_recv ≤ target_session.target_limit t.session.settings
+    → 0 < length bytes → bytes_received w + length bytes ≡ end → end ≤ w.total
     → SequenceTaken t cmd_sn w disk (data_outs h (chunks t.session.held.target_max_recv bytes)) bytes
 batch_taken t cmd_sn w disk h [] end due s is_due at tag lt limit some up room = absurd (omega (arith, some))
 batch_taken t cmd_sn w disk h (b ∷ bytes) end due s is_due at tag lt limit some up room =
@@ -332,30 +334,31 @@ batch_taken t cmd_sn w disk h (b ∷ bytes) end due s is_due at tag lt limit som
     subst (SequenceTaken t cmd_sn w disk (data_outs h (chunks most (b ∷ bytes)))) whole
     (sequence_taken t cmd_sn w disk h (take most (b ∷ bytes)) (chunks_within (length bytes) most (drop most (b ∷ bytes))) end due s is_due at tag
     (pieces_are (length (b ∷ bytes)) most (b ∷ bytes) lt) limit
-    (ap (λ (x : List ℕ). received w + length x) whole ∙ up) room)
+    (ap (λ (x : List ℕ). bytes_received w + length x) whole ∙ up) room)
 
 -- ---- the initiator receives an R2T
 
-abbrev writing : initiator.Machine → Writing → Window → initiator.Machine
+abbrev writing : initiator.InitiatorSession → WriteProgress → Window → initiator.InitiatorSession
 writing m v window = waiting m (opens.Out v) window
 
 -- the sequence that answers it
-abbrev asked_for : initiator.Machine → Writing → Write → ℕ → List Message
+abbrev asked_for : initiator.InitiatorSession → WriteProgress → Write → ℕ → List Message
 asked_for m v w n = sequence m (then_some (is_tag w.r2t_count) w.order.lun) w.r2t_count v.sent (take n (drop v.sent v.bytes))
 
-ready_received : (m : initiator.Machine) (t : target.Machine) (v : Writing) (w : Write) (window : Window) → w.initiator_task_tag ≡ m.initiator_task_tag
-    → w.r2t_count ≡ v.next_r2t_sn → received w ≡ v.sent
+ready_received : (m : initiator.InitiatorSession) (t : target.Machine) (v : WriteProgress) (w : Write) (window : Window) → w.initiator_task_tag
+    ≡ m.initiator_task_tag
+    → w.r2t_count ≡ v.next_r2t_sn → bytes_received w ≡ v.sent
     → 1 ≤ desired t.session.held w → desired t.session.held w ≤ max_burst m.held → v.sent + desired t.session.held w ≤ length v.bytes
-    → step (writing m v window) (message (r2t_head t.session (target.waiting t.tasks) w) [])
-    ≡ sends (writing m (record v { sent = v.sent + desired t.session.held w; next_r2t_sn = next_sn v.next_r2t_sn }) (told_window window t))
+    → initiator_step (writing m v window) (answer_message (r2t_head t.session (target.waiting_tasks t.tasks) w) [])
+    ≡ step_sending (writing m (record v { sent = v.sent + desired t.session.held w; next_r2t_sn = next_sn v.next_r2t_sn }) (told_window window t))
     (asked_for m v w (desired t.session.held w))
-unfolding step segment_bytes
+unfolding initiator_step segment_bytes
 ready_received m t v w window tag r2t_count at some most room =
     rw (
       eq-eqb w.initiator_task_tag m.initiator_task_tag tag,
       le-ltb m.held.initiator_max_recv 0 (omega arith),
       eq-eqb w.r2t_count v.next_r2t_sn r2t_count,
-      eq-eqb (received w) v.sent at,
+      eq-eqb (bytes_received w) v.sent at,
       le-leb 1 (desired t.session.held w) some,
       le-leb (desired t.session.held w) (max_burst m.held) most,
       le-leb (v.sent + desired t.session.held w) (length v.bytes) room,
@@ -364,10 +367,10 @@ ready_received m t v w window tag r2t_count at some most room =
 -- ---- a write, from turn to turn
 
 -- what holds throughout a write
-record Throughout (m : initiator.Machine) (t : target.Machine) (cmd_sn : ℕ) (bytes : List ℕ) (order : Order) (disk : Disk) : Type 0 where
+record Throughout (m : initiator.InitiatorSession) (t : target.Machine) (cmd_sn : ℕ) (bytes : List ℕ) (order : Order) (disk : Disk) : Type 0 where
   held : t.session.held ≡ m.held
   is_held : IsHeld m.held
-  segment : t.session.held.target_max_recv ≤ target_session.limit t.session.settings
+  segment : t.session.held.target_max_recv ≤ target_session.target_limit t.session.settings
   plain : t.session.settings.extras.unit ≡ None
   stat_sn : m.exp_stat_sn ≡ Some t.session.stat_sn
   tag_fits : m.initiator_task_tag ≤ 0xffff_fffe
@@ -382,66 +385,67 @@ record Throughout (m : initiator.Machine) (t : target.Machine) (cmd_sn : ℕ) (b
   none_done : m.done ≡ None
 
 -- both ends have the same of the data
-record InHand (m : initiator.Machine) (v : Writing) (w : Write) (order : Order) : Type 0 where
+record InHand (m : initiator.InitiatorSession) (v : WriteProgress) (w : Write) (order : Order) : Type 0 where
   tag : w.initiator_task_tag ≡ m.initiator_task_tag
   waits : w.immediate ≡ false
   order_is : w.order ≡ order
   due : w.due ≡ Nothing
   total : w.total ≡ length v.bytes
-  came : data_of w.pieces ≡ take v.sent v.bytes
+  came : piece_data w.pieces ≡ take v.sent v.bytes
   sent : v.sent ≤ length v.bytes
   r2t_count : w.r2t_count ≡ v.next_r2t_sn
   few : w.r2t_count ≤ v.sent
 
 -- a write whose command wasn't immediate takes a place of the window
-one_waits : (w : Write) → w.immediate ≡ false → target.waiting (Data w ∷ []) ≡ 1
+one_waits : (w : Write) → w.immediate ≡ false → target.waiting_tasks (Data w ∷ []) ≡ 1
 one_waits w e = rw e refl
 
-received_is : (m : initiator.Machine) (v : Writing) (w : Write) (order : Order) → InHand m v w order → received w ≡ v.sent
+received_is : (m : initiator.InitiatorSession) (v : WriteProgress) (w : Write) (order : Order) → InHand m v w order → bytes_received w ≡ v.sent
 received_is m v w order i = omega (arith, ap (λ (x : List ℕ). length x) i.came, length-take v.sent v.bytes, i.sent)
 
 -- What the target does: it stays open, breaks no rule, and its answers are read as they were written.
-record IsAnswered (held : Held) (r : Stepped) : Type 0 where
-  live : is_closed r.machine ≡ false
+record IsAnswered (held : Held) (r : TargetStep) : Type 0 where
+  live : is_machine_closed r.machine ≡ false
   rule : r.rule ≡ None
   answered : ArePlain held.initiator_max_recv r.answers
 
 -- the response to a command is read as it was written
-executed_written : (m : initiator.Machine) (t : target.Machine) (cmd_sn : ℕ) (bytes : List ℕ) (order : Order) (disk : Disk) (tag : ℕ) (pieces_ : Pieces)
+executed_written : (m : initiator.InitiatorSession) (t : target.Machine) (cmd_sn : ℕ) (bytes : List ℕ) (order : Order) (disk : Disk) (tag : ℕ)
+    (pieces_ : Pieces)
     → Throughout m t cmd_sn bytes order disk → tag ≡ m.initiator_task_tag → IsAnswered m.held (plainly (reliable false) (ready t cmd_sn) disk tag order pieces_)
 executed_written m t cmd_sn bytes order disk tag pieces_ a same = record {
   live = refl;
   rule = refl;
   answered = subst (λ (k : Held). ArePlain k.initiator_max_recv (plainly (reliable false) (ready t cmd_sn) disk tag order pieces_).answers) a.held
-      (command_written (ready t cmd_sn) tag (effect false disk order (data_of pieces_)).outcome (subst IsHeld (sym a.held) a.is_held)
+      (command_written (ready t cmd_sn) tag (effect false disk order (piece_data pieces_)).outcome (subst IsHeld (sym a.held) a.is_held)
       (omega (arith, same, a.tag_fits)) (omega (arith, a.cmd_sn_is, a.cmd_sn_fits)) a.stat_sn_fits
-      (omega (arith, ap (λ (x : List ℕ). length x) a.none_given)) (outcome_fits disk order (data_of pieces_) a.expected));
+      (omega (arith, ap (λ (x : List ℕ). length x) a.none_given)) (outcome_fits disk order (piece_data pieces_) a.expected));
 }
 
 -- the response to a command that gives no data
-response_ends : (most : ℕ) → 1 ≤ most → (m : initiator.Machine) (t : target.Machine) (cmd_sn : ℕ) (open_ : Outstanding) (window : Window) (bytes : List ℕ) (order : Order) (disk : Disk)
+response_ends : (most : ℕ) → 1 ≤ most → (m : initiator.InitiatorSession) (t : target.Machine) (cmd_sn : ℕ) (open_ : Outstanding) (window : Window) (bytes : List ℕ) (order : Order) (disk : Disk)
     (tag : ℕ) (pieces_ : Pieces)
     → Throughout m t cmd_sn bytes order disk → IsNear cmd_sn window → Awaits open_ [] → tag ≡ m.initiator_task_tag
-    → effect false disk order (data_of pieces_) ≡ effect false disk order bytes
+    → effect false disk order (piece_data pieces_) ≡ effect false disk order bytes
     → Ends most m.held (waiting m open_ window) (plainly (reliable false) (ready t cmd_sn) disk tag order pieces_)
     (local_command (effect false disk order bytes))
 response_ends most le m t cmd_sn open_ window bytes order disk tag pieces_ a near d same data_ =
     let after : Effect = effect false disk order bytes in
     let s : target.Machine = ready t cmd_sn in
-    let response : Message = message (response_head s.session (target.waiting s.tasks) m.initiator_task_tag after.outcome 0)
+    let response : Message = answer_message (response_head s.session (target.waiting_tasks s.tasks) m.initiator_task_tag after.outcome 0)
     (sense_segment after.outcome.sense) in
-    let ended_ : initiator.Machine = finished m s window after.outcome [] in
-    let last : Exchange = record { initiator = ended_; target = counted_on s; disk = after.disk; answers = [] } in
-    let one : step (waiting m open_ window) response ≡ quiet ended_ =
+    let ended_ : initiator.InitiatorSession = finished m s window after.outcome [] in
+    let last : DiskExchange = record { initiator = ended_; target = counted_on s; disk = after.disk; answers = [] } in
+    let one : initiator_step (waiting m open_ window) response ≡ quiet ended_ =
     outcome_received m s open_ [] window after.outcome.status after.outcome.sense after.outcome.bytes after.outcome.residual 0 d a.stat_sn
     (omega (arith, a.is_held.initiator_max_recv.0)) in
     let is : (plainly (reliable false) s disk tag order pieces_).answers ≡ response ∷ [] =
-    ap (λ (x : Effect). command_answers s.session (target.waiting s.tasks) tag x.outcome (data_in_parts s.session.held x.outcome.bytes)) data_
-    ∙ ap (λ (x : List ℕ). command_answers s.session (target.waiting s.tasks) tag after.outcome (data_in_parts s.session.held x)) a.none_given
-    ∙ ap (λ (x : ℕ). command_answers s.session (target.waiting s.tasks) x after.outcome []) same in
+    ap (λ (x : Effect). command_answers s.session (target.waiting_tasks s.tasks) tag x.outcome (data_in_parts s.session.held x.outcome.bytes)) data_
+    ∙ ap (λ (x : List ℕ). command_answers s.session (target.waiting_tasks s.tasks) tag after.outcome (data_in_parts s.session.held x)) a.none_given
+    ∙ ap (λ (x : ℕ). command_answers s.session (target.waiting_tasks s.tasks) x after.outcome []) same in
     let disk_is : (plainly (reliable false) s disk tag order pieces_).disk ≡ after.disk = ap (λ (x : Effect). x.disk) data_ in
-    let again : AreInStep (taken (finished m (ready t m.cmd_sn) window after.outcome [])) (counted_on (ready t m.cmd_sn)) =
-    in_step_again m t window a.held a.is_held (subst (λ (h : Held). h.target_max_recv ≤ target_session.limit t.session.settings) a.held a.segment) a.plain a.tag_fits
+    let again : AreInStep (outcome_taken (finished m (ready t m.cmd_sn) window after.outcome [])) (counted_on (ready t m.cmd_sn)) =
+    in_step_again m t window a.held a.is_held (subst (λ (h : Held). h.target_max_recv ≤ target_session.target_limit t.session.settings) a.held a.segment) a.plain a.tag_fits
     a.cmd_sn_fits
     (tells_eight m.cmd_sn window a.cmd_sn_fits (subst (λ (x : ℕ). IsNear x window) a.cmd_sn_is near)) in
     record {
@@ -459,7 +463,7 @@ response_ends most le m t cmd_sn open_ window bytes order disk tag pieces_ a nea
         silent = refl;
         disk_is = refl;
         at_rest = inl (
-          subst (λ (x : ℕ). AreInStep (taken (finished m (ready t x) window after.outcome [])) (counted_on (ready t x))) (sym a.cmd_sn_is) again,
+          subst (λ (x : ℕ). AreInStep (outcome_taken (finished m (ready t x) window after.outcome [])) (counted_on (ready t x))) (sym a.cmd_sn_is) again,
           refl,
         );
       };
@@ -467,64 +471,64 @@ response_ends most le m t cmd_sn open_ window bytes order disk tag pieces_ a nea
 
 -- what stays throughout a write: both ends as they were, the command's number and order, and the disk
 record WriteExchange : Type 0 where
-  initiator : initiator.Machine
+  initiator : initiator.InitiatorSession
   target : target.Machine
   cmd_sn : ℕ
   order : Order
   disk : Disk
 
-abbrev write_exchange : initiator.Machine → target.Machine → ℕ → Order → Disk → WriteExchange
+abbrev write_exchange : initiator.InitiatorSession → target.Machine → ℕ → Order → Disk → WriteExchange
 write_exchange m t cmd_sn order disk = record { initiator = m; target = t; cmd_sn = cmd_sn; order = order; disk = disk }
 
 -- the write goes on from where all that was due came
-abbrev GoesOn : ℕ → WriteExchange → Writing → Write → Window → Type 0
+abbrev GoesOn : ℕ → WriteExchange → WriteProgress → Write → Window → Type 0
 GoesOn most c v w window =
     Ends most c.initiator.held (writing c.initiator v window) (proceed (reliable false) (ready c.target c.cmd_sn) c.disk w)
     (local_command (effect false c.disk c.order v.bytes))
 
 -- where all came the command is executed
-whole_is : (m : initiator.Machine) (t : target.Machine) (cmd_sn : ℕ) (v : Writing) (w : Write) (order : Order) (disk : Disk) → InHand m v w order
-    → is_whole w ≡ true → t.session.settings.extras.unit ≡ None
+whole_is : (m : initiator.InitiatorSession) (t : target.Machine) (cmd_sn : ℕ) (v : WriteProgress) (w : Write) (order : Order) (disk : Disk) → InHand m v w order
+    → is_whole_write w ≡ true → t.session.settings.extras.unit ≡ None
     → proceed (reliable false) (ready t cmd_sn) disk w ≡ plainly (reliable false) (ready t cmd_sn) disk w.initiator_task_tag order w.pieces
 whole_is m t cmd_sn v w order disk i whole plain =
     rw whole (ap (λ (x : Order). execute (reliable false) (ready t cmd_sn) disk w.initiator_task_tag x w.pieces) i.order_is)
     ∙ plain_executed (reliable false) (ready t cmd_sn) disk w.initiator_task_tag order w.pieces plain
 
 -- else the target asks for more
-part_is : (m : initiator.Machine) (t : target.Machine) (cmd_sn : ℕ) (v : Writing) (w : Write) (order : Order) (disk : Disk) → InHand m v w order
-    → is_whole w ≡ false
+part_is : (m : initiator.InitiatorSession) (t : target.Machine) (cmd_sn : ℕ) (v : WriteProgress) (w : Write) (order : Order) (disk : Disk) → InHand m v w order
+    → is_whole_write w ≡ false
     → proceed (reliable false) (ready t cmd_sn) disk w ≡ send_r2t (ready t cmd_sn) disk w
 part_is m t cmd_sn v w order disk i part = rw (part, i.due) refl
 
 -- what the target answers then is read as it was written
-proceed_written : (m : initiator.Machine) (t : target.Machine) (cmd_sn : ℕ) (v : Writing) (w : Write) (order : Order) (disk : Disk)
+proceed_written : (m : initiator.InitiatorSession) (t : target.Machine) (cmd_sn : ℕ) (v : WriteProgress) (w : Write) (order : Order) (disk : Disk)
     → Throughout m t cmd_sn v.bytes order disk → InHand m v w order
-    → (whole : Bool) → is_whole w ≡ whole → IsAnswered m.held (proceed (reliable false) (ready t cmd_sn) disk w)
+    → (whole : Bool) → is_whole_write w ≡ whole → IsAnswered m.held (proceed (reliable false) (ready t cmd_sn) disk w)
 proceed_written m t cmd_sn v w order disk a i true whole =
     subst (IsAnswered m.held) (sym (whole_is m t cmd_sn v w order disk i whole a.plain)) (executed_written m t cmd_sn v.bytes order disk w.initiator_task_tag w.pieces a
     i.tag)
 proceed_written m t cmd_sn v w order disk a i false part =
     let s : target.Machine = writer t cmd_sn w in
     let most : ℕ = m.held.initiator_max_recv in
-    let at : received w ≡ v.sent = received_is m v w order i in
+    let at : bytes_received w ≡ v.sent = received_is m v w order i in
     let on_ : w.order.lun < 2 ^ 64 = subst (λ (x : Order). x.lun < 2 ^ 64) (sym i.order_is) a.lun in
     subst (IsAnswered m.held) (sym (part_is m t cmd_sn v w order disk i part)) (record {
       live = refl;
       rule = refl;
-      answered = plain_one most (message (r2t_head s.session (target.waiting s.tasks) w) [])
+      answered = plain_one most (answer_message (r2t_head s.session (target.waiting_tasks s.tasks) w) [])
           (λ logins. ready_readable logins s w on_ (omega (arith, i.tag, a.tag_fits)) (omega (arith, i.few, i.sent, a.few)) (omega (arith, at, i.sent, a.few))
           (omega (arith, i.total, a.few)) a.stat_sn_fits
           (omega (arith, a.cmd_sn_is, a.cmd_sn_fits)))
-          (short_message (r2t_head s.session (target.waiting s.tasks) w) [] most (omega arith));
+          (short_message (r2t_head s.session (target.waiting_tasks s.tasks) w) [] most (omega arith));
     })
 
-all_came : (most : ℕ) → 1 ≤ most → (m : initiator.Machine) (t : target.Machine) (cmd_sn : ℕ) (v : Writing) (w : Write) (window : Window) (order : Order) (disk : Disk)
+all_came : (most : ℕ) → 1 ≤ most → (m : initiator.InitiatorSession) (t : target.Machine) (cmd_sn : ℕ) (v : WriteProgress) (w : Write) (window : Window) (order : Order) (disk : Disk)
     → Throughout m t cmd_sn v.bytes order disk → IsNear cmd_sn window → InHand m v w order
-    → is_whole w ≡ true → GoesOn most (write_exchange m t cmd_sn order disk) v w window
+    → is_whole_write w ≡ true → GoesOn most (write_exchange m t cmd_sn order disk) v w window
 all_came most le m t cmd_sn v w window order disk a near i whole =
-    let all : v.sent ≡ length v.bytes = sym (received_is m v w order i) ∙ sym (eqb-true w.total (received w) whole) ∙ i.total in
-    let bytes : data_of w.pieces ≡ v.bytes = i.came ∙ take_all v.sent v.bytes (omega (arith, all)) in
-    subst (λ (r : Stepped). Ends most m.held (writing m v window) r (local_command (effect false disk order v.bytes)))
+    let all : v.sent ≡ length v.bytes = sym (received_is m v w order i) ∙ sym (eqb-true w.total (bytes_received w) whole) ∙ i.total in
+    let bytes : piece_data w.pieces ≡ v.bytes = i.came ∙ take_all v.sent v.bytes (omega (arith, all)) in
+    subst (λ (r : TargetStep). Ends most m.held (writing m v window) r (local_command (effect false disk order v.bytes)))
     (sym (whole_is m t cmd_sn v w order disk i whole a.plain))
     (response_ends most le m t cmd_sn (opens.Out v) window v.bytes order disk w.initiator_task_tag w.pieces a near (λ h. refl) i.tag
     (ap (effect false disk order) bytes))
@@ -536,7 +540,7 @@ below n total part le = (let apart = eqb-false total n part in omega (arith, le,
 -- ---- one turn: an R2T goes out, and its sequence comes
 
 -- the write of the initiator once it has sent n bytes more
-abbrev more_sent : Writing → ℕ → Writing
+abbrev more_sent : WriteProgress → ℕ → WriteProgress
 more_sent v n = record v { sent = v.sent + n; next_r2t_sn = next_sn v.next_r2t_sn }
 
 -- the write of the target once they came
@@ -544,24 +548,26 @@ abbrev more_came : target.Machine → Write → Pieces → Write
 more_came t w came = record (with_r2t t.session.held w) { pieces = came; due = Nothing }
 
 -- where one turn leads
-record Turned (c : WriteExchange) (v : Writing) (w : Write) (window : Window) : Type 0 where
+record Turned (c : WriteExchange) (v : WriteProgress) (w : Write) (window : Window) : Type 0 where
   window_now : Window
   near : IsNear c.cmd_sn window → IsNear c.cmd_sn window_now
   came : Pieces
   n : ℕ
   some : 0 < n
   hand : InHand c.initiator (more_sent v n) (more_came c.target w came) c.order
-  leads : (low most : ℕ) → low + 1 ≤ most → (x : Exchange) → (let r = proceed (reliable false) (ready c.target c.cmd_sn) c.disk (more_came c.target w came) in
+  leads : (low most : ℕ) → low + 1 ≤ most → (x : DiskExchange) → (let r =
+      proceed (reliable false) (ready c.target c.cmd_sn) c.disk (more_came c.target w came) in
       LeadsWithin low c.initiator.held (between (writing c.initiator (more_sent v n) window_now) r.machine r.disk r.answers) x)
       → (let r = proceed (reliable false) (ready c.target c.cmd_sn) c.disk w in
       LeadsWithin most c.initiator.held (between (writing c.initiator v window) r.machine r.disk r.answers) x)
 
-turn : (m : initiator.Machine) (t : target.Machine) (cmd_sn : ℕ) (v : Writing) (w : Write) (window : Window) (order : Order) (disk : Disk)
+turn : (m : initiator.InitiatorSession) (t : target.Machine) (cmd_sn : ℕ) (v : WriteProgress) (w : Write) (window : Window) (order : Order) (disk : Disk)
     → Throughout m t cmd_sn v.bytes order disk → InHand m v w order
-    → is_whole w ≡ false → Turned (write_exchange m t cmd_sn order disk) v w window
+    → is_whole_write w ≡ false → Turned (write_exchange m t cmd_sn order disk) v w window
 turn m t cmd_sn v w window order disk a i part =
-    let at : received w ≡ v.sent = received_is m v w order i in
-    let left : v.sent < length v.bytes = (let lt = below (received w) w.total part (omega (arith, at, i.total, i.sent)) in omega (arith, lt, at, i.total)) in
+    let at : bytes_received w ≡ v.sent = received_is m v w order i in
+    let left : v.sent < length v.bytes = (let lt = below (bytes_received w) w.total part (omega (arith, at, i.total, i.sent))
+    in omega (arith, lt, at, i.total)) in
     let burst : 0 < max_burst t.session.held = subst (λ (h : Held). 0 < max_burst h) (sym a.held) (can_give m.held a.is_held).burst in
     let n : ℕ = desired t.session.held w in
     let some : 0 < n = omega (arith, burst, left, at, i.total) in
@@ -571,7 +577,8 @@ turn m t cmd_sn v w window order disk a i part =
     let batch : List ℕ = take n (drop v.sent v.bytes) in
     let size : length batch ≡ n = omega (arith, length-take n (drop v.sent v.bytes), length-drop v.sent v.bytes, room) in
     let out : List Message = asked_for m v w n in
-    let one : step (writing m v window) (message (r2t_head s.session (target.waiting s.tasks) w) []) ≡ sends (writing m (more_sent v n) (told_window window s))
+    let one : initiator_step (writing m v window) (answer_message (r2t_head s.session (target.waiting_tasks s.tasks) w) [])
+    ≡ step_sending (writing m (more_sent v n) (told_window window s))
     out = ready_received m s v w window i.tag i.r2t_count at some most room in
     let h : DataOut = record {
       is_final = false;
@@ -584,8 +591,8 @@ turn m t cmd_sn v w window order disk a i part =
     } in
     let lt : 0 < t.session.held.target_max_recv = subst (λ (x : Held). 0 < x.target_max_recv) (sym a.held) (omega (arith, a.is_held.target_max_recv.0)) in
     let r : SequenceTaken t cmd_sn (with_r2t t.session.held w) disk (data_outs h (chunks t.session.held.target_max_recv batch)) batch =
-    batch_taken t cmd_sn (with_r2t t.session.held w) disk h batch (received w + n) (λ data_sn. Solicited w.r2t_count data_sn (received w + n))
-    (solicited (first_burst t.session.held) w.total w.r2t_count (received w + n)) refl (sym at) (sym i.tag) lt a.segment
+    batch_taken t cmd_sn (with_r2t t.session.held w) disk h batch (bytes_received w + n) (λ data_sn. Solicited w.r2t_count data_sn (bytes_received w + n))
+    (solicited (first_burst t.session.held) w.total w.r2t_count (bytes_received w + n)) refl (sym at) (sym i.tag) lt a.segment
     (omega (arith, size, some)) (omega (arith, size)) (omega (arith, at, i.total, room)) in
     let sent_ : answers false (writer t cmd_sn (with_r2t t.session.held w)) disk out ≡ proceed (reliable false) (ready t cmd_sn) disk (more_came t w r.came) =
     ap (λ (k : Held). answers false (writer t cmd_sn (with_r2t t.session.held w)) disk (data_outs h (chunks k.target_max_recv batch))) (sym a.held) ∙ r.is in
@@ -605,8 +612,9 @@ turn m t cmd_sn v w window order disk a i part =
     sequence_written m (then_some (is_tag w.r2t_count) w.order.lun) w.r2t_count v.sent batch a.is_held a.tag_fits a.stat_sn_sends
     (some_then (is_tag w.r2t_count) w.order.lun)
     (lun_fits (is_tag w.r2t_count) w.order.lun on_) (omega (arith, i.few, i.sent, a.few)) (omega (arith, size, room, a.few)) in
-    let now : Stepped = proceed (reliable false) (ready t cmd_sn) disk (more_came t w r.came) in
-    let then_ : IsAnswered m.held now = proceed_written m t cmd_sn (more_sent v n) (more_came t w r.came) order disk a hand_ (is_whole (more_came t w r.came))
+    let now : TargetStep = proceed (reliable false) (ready t cmd_sn) disk (more_came t w r.came) in
+    let then_ : IsAnswered m.held now = proceed_written m t cmd_sn (more_sent v n) (more_came t w r.came) order disk a hand_
+    (is_whole_write (more_came t w r.came))
     refl in
     let are_received : AreReceived m.held (writer t cmd_sn (with_r2t t.session.held w)) disk out =
     received_by m.held (writer t cmd_sn (with_r2t t.session.held w)) disk out now sent_ written then_.live then_.rule then_.answered in
@@ -618,24 +626,24 @@ turn m t cmd_sn v w window order disk a i part =
       n = n;
       some = some;
       hand = hand_;
-      leads = λ low most le x l. subst (λ (y : Stepped). LeadsWithin most m.held (between (writing m v window) y.machine y.disk y.answers) x)
+      leads = λ low most le x l. subst (λ (y : TargetStep). LeadsWithin most m.held (between (writing m v window) y.machine y.disk y.answers) x)
           (sym (part_is m t cmd_sn v w order disk i part))
           (receives_sends low most le m.held (writing m v window) (writing m (more_sent v n) (told_window window s)) (writer t cmd_sn (with_r2t t.session.held w)) disk
-          (message (r2t_head s.session (target.waiting s.tasks) w) []) out now x one refl refl a.none_done are_received sent_ l);
+          (answer_message (r2t_head s.session (target.waiting_tasks s.tasks) w) []) out now x one refl refl a.none_done are_received sent_ l);
     }
 
 -- from turn to turn until all came
-goes_on : (fuel most : ℕ) → fuel + 1 ≤ most → (m : initiator.Machine) (t : target.Machine) (cmd_sn : ℕ) (v : Writing) (w : Write) (window : Window) (order : Order) (disk : Disk)
+goes_on : (fuel most : ℕ) → fuel + 1 ≤ most → (m : initiator.InitiatorSession) (t : target.Machine) (cmd_sn : ℕ) (v : WriteProgress) (w : Write) (window : Window) (order : Order) (disk : Disk)
     → Throughout m t cmd_sn v.bytes order disk → IsNear cmd_sn window → InHand m v w order
-    → length v.bytes ≤ v.sent + fuel → (whole : Bool) → is_whole w ≡ whole → GoesOn most (write_exchange m t cmd_sn order disk) v w window
+    → length v.bytes ≤ v.sent + fuel → (whole : Bool) → is_whole_write w ≡ whole → GoesOn most (write_exchange m t cmd_sn order disk) v w window
 goes_on fuel most few m t cmd_sn v w window order disk a near i le true whole = all_came most (omega (arith, few)) m t cmd_sn v w window order disk a near i whole
 goes_on zero most few m t cmd_sn v w window order disk a near i le false part =
-    absurd (eqb-false w.total (received w) part (omega (arith, i.total, received_is m v w order i, i.sent, le)))
+    absurd (eqb-false w.total (bytes_received w) part (omega (arith, i.total, received_is m v w order i, i.sent, le)))
 goes_on (suc fuel) most few m t cmd_sn v w window order disk a near i le false part =
     let x : Turned (write_exchange m t cmd_sn order disk) v w window = turn m t cmd_sn v w window order disk a i part in
     let w' : Write = more_came t w x.came in
     let e : GoesOn (fuel + 1) (write_exchange m t cmd_sn order disk) (more_sent v x.n) w' x.window_now =
-    goes_on fuel (fuel + 1) (omega arith) m t cmd_sn (more_sent v x.n) w' x.window_now order disk a (x.near near) x.hand (omega (arith, le, x.some)) (is_whole w') refl in
+    goes_on fuel (fuel + 1) (omega arith) m t cmd_sn (more_sent v x.n) w' x.window_now order disk a (x.near near) x.hand (omega (arith, le, x.some)) (is_whole_write w') refl in
     record {
       last = e.last;
       leads = x.leads (fuel + 1) most (omega (arith, few)) e.last e.leads;
@@ -666,19 +674,20 @@ announcement_by write false n unasked_ burst_ e =
     more_by write (nat_le unasked_ n) (nat_lt n burst_) (λ lt. lt-leb unasked_ n (omega (arith, ltb-true n burst_ lt, e)))
 
 -- the command that goes out for a write
-abbrev write_head : initiator.Machine → ℕ → List ℕ → List ℕ → ScsiCommand
+abbrev write_head : initiator.InitiatorSession → ℕ → List ℕ → List ℕ → ScsiCommand
 write_head m lun cdb bytes =
-    record (command m (not (has_more m bytes)) lun cdb) { write = not (length bytes == 0); expected_data_transfer_length = length bytes }
+    record (command_head m (not (has_more m bytes)) lun cdb) { write = not (length bytes == 0); expected_data_transfer_length = length bytes }
 
-burst_kept : (m : initiator.Machine) (lun : ℕ) (cdb bytes : List ℕ) → breaks_burst_rules m.held (write_head m lun cdb bytes) (length (immediate m bytes))
+burst_kept : (m : initiator.InitiatorSession) (lun : ℕ) (cdb bytes : List ℕ)
+    → breaks_burst_rules m.held (write_head m lun cdb bytes) (length (immediate_data m bytes))
     ≡ false
 burst_kept m lun cdb bytes =
     let h : ScsiCommand = write_head m lun cdb bytes in
     let size : ℕ = min (unasked m.held (length bytes)) m.held.target_max_recv in
-    let one : is_bad_segment m.held h (length (immediate m bytes)) ≡ false =
+    let one : is_bad_segment m.held h (length (immediate_data m bytes)) ≡ false =
     segment_by (is_on m.held keys.ImmediateData) bytes size (unasked m.held h.expected_data_transfer_length) (omega arith) in
-    let two : is_bad_announcement m.held h (length (immediate m bytes)) ≡ false =
-    announcement_by h.write (is_on m.held keys.InitialR2T) (length (immediate m bytes)) (unasked m.held h.expected_data_transfer_length)
+    let two : is_bad_announcement m.held h (length (immediate_data m bytes)) ≡ false =
+    announcement_by h.write (is_on m.held keys.InitialR2T) (length (immediate_data m bytes)) (unasked m.held h.expected_data_transfer_length)
     (unasked m.held (length bytes)) (omega arith) in
     rw (one, two) refl
 
@@ -723,66 +732,66 @@ outcome_none (Give n) disk order none = ap (λ (x : ℕ). take x (wanted_data di
 -- ---- data for which no write is open
 
 dropped : (t : target.Machine) (cmd_sn : ℕ) (disk : Disk) (h : DataOut) (ps : List (List ℕ))
-    → t.session.held.target_max_recv ≤ target_session.limit t.session.settings → ArePieces t.session.held.target_max_recv ps
+    → t.session.held.target_max_recv ≤ target_session.target_limit t.session.settings → ArePieces t.session.held.target_max_recv ps
     → answers false (ready t cmd_sn) disk (data_outs h ps) ≡ unchanged (ready t cmd_sn) disk
 unfolding answers segment_bytes
 dropped t cmd_sn disk h [] limit all = refl
 dropped t cmd_sn disk h (piece ∷ more) limit all =
-    let h' : DataOut = record h { is_final = is_last more } in
+    let h' : DataOut = record h { is_final = is_last_piece more } in
     let h2 : DataOut = record h { data_sn = next_sn h.data_sn; buffer_offset = h.buffer_offset + length piece } in
     let one : step_on (reliable false) (ready t cmd_sn) disk (data_message h' piece) ≡ unchanged (ready t cmd_sn) disk =
     rw (
-      le-ltb (target_session.limit t.session.settings) (length piece) (omega (arith, all.0.1, limit)),
+      le-ltb (target_session.target_limit t.session.settings) (length piece) (omega (arith, all.0.1, limit)),
       le-ltb t.session.held.target_max_recv (length piece) all.0.1,
     ) refl in
-    ap (λ (x : Stepped). then_stepped x (answers false x.machine x.disk (data_outs h2 more))) one ∙ dropped t cmd_sn disk h2 more limit all.1
+    ap (λ (x : TargetStep). then_stepped x (answers false x.machine x.disk (data_outs h2 more))) one ∙ dropped t cmd_sn disk h2 more limit all.1
 
 -- ---- the command, and the data that follow it unasked
 
 -- the initiator that has sent them
-abbrev begun_write : initiator.Machine → initiator.Machine
+abbrev begun_write : initiator.InitiatorSession → initiator.InitiatorSession
 begun_write m = record m { initiator_task_tag = next_tag m.initiator_task_tag; cmd_sn = next_sn m.cmd_sn }
 
-abbrev first_sent : initiator.Machine → List ℕ → Writing
-first_sent m bytes = record { bytes = bytes; sent = length (immediate m bytes) + length (initiator_writes.unsolicited m bytes); next_r2t_sn = 0 }
+abbrev first_sent : initiator.InitiatorSession → List ℕ → WriteProgress
+first_sent m bytes = record { bytes = bytes; sent = length (immediate_data m bytes) + length (initiator_writes.unsolicited m bytes); next_r2t_sn = 0 }
 
-abbrev write_message : initiator.Machine → ℕ → List ℕ → List ℕ → Message
-write_message m lun cdb bytes = record { head = heads.ScsiCommand (write_head m lun cdb bytes); segment = Bytes (immediate m bytes) }
+abbrev write_message : initiator.InitiatorSession → ℕ → List ℕ → List ℕ → Message
+write_message m lun cdb bytes = record { head = heads.ScsiCommand (write_head m lun cdb bytes); segment = Bytes (immediate_data m bytes) }
 
-abbrev unasked_data : initiator.Machine → List ℕ → List Message
-unasked_data m bytes = sequence (begun_write m) None reserved_tag (length (immediate m bytes)) (initiator_writes.unsolicited m bytes)
+abbrev unasked_data : initiator.InitiatorSession → List ℕ → List Message
+unasked_data m bytes = sequence (begun_write m) None reserved_tag (length (immediate_data m bytes)) (initiator_writes.unsolicited m bytes)
 
-command_taken : (m : initiator.Machine) (t : target.Machine) (disk : Disk) (lun : ℕ) (cdb bytes : List ℕ) → m.cmd_sn < 2 ^ 32 → t.session.held ≡ m.held
-    → t.session.held.target_max_recv ≤ target_session.limit t.session.settings
-    → length (immediate m bytes) ≤ t.session.held.target_max_recv → t.session.settings.extras.unit ≡ None
+command_taken : (m : initiator.InitiatorSession) (t : target.Machine) (disk : Disk) (lun : ℕ) (cdb bytes : List ℕ) → m.cmd_sn < 2 ^ 32 → t.session.held ≡ m.held
+    → t.session.held.target_max_recv ≤ target_session.target_limit t.session.settings
+    → length (immediate_data m bytes) ≤ t.session.held.target_max_recv → t.session.settings.extras.unit ≡ None
     → step_on (reliable false) (ready t m.cmd_sn) disk (write_message m lun cdb bytes)
-    ≡ having_accepted (write_message m lun cdb bytes ∷ []) (planned (reliable false) (ready t (next_sn m.cmd_sn)) disk
-    (write_head m lun cdb bytes) (writing_order lun cdb bytes) (immediate m bytes)
-    (plan_of (writing_order lun cdb bytes) disk.count))
+    ≡ having_accepted (write_message m lun cdb bytes ∷ []) (task_begun (reliable false) (ready t (next_sn m.cmd_sn)) disk
+    (task_planned (write_head m lun cdb bytes) (writing_order lun cdb bytes) (immediate_data m bytes)
+    (plan_of (writing_order lun cdb bytes) disk.count)))
 unfolding segment_bytes
 command_taken m t disk lun cdb bytes lt held limit short plain =
-    let kept : breaks_burst_rules t.session.held (write_head m lun cdb bytes) (length (immediate m bytes)) ≡ false =
-    ap (λ (k : Held). breaks_burst_rules k (write_head m lun cdb bytes) (length (immediate m bytes))) held ∙ burst_kept m lun cdb bytes in
-    request_alone (reliable false) (ready t m.cmd_sn).session disk (write_message m lun cdb bytes)
+    let kept : breaks_burst_rules t.session.held (write_head m lun cdb bytes) (length (immediate_data m bytes)) ≡ false =
+    ap (λ (k : Held). breaks_burst_rules k (write_head m lun cdb bytes) (length (immediate_data m bytes))) held ∙ burst_kept m lun cdb bytes in
+    request_alone (reliable false) (ready t m.cmd_sn).session disk (write_message m lun cdb bytes) _
     (record {
       phase = refl;
-      within = le-ltb (target_session.limit t.session.settings) (length (immediate m bytes)) (omega (arith, short, limit));
-      kind = refl;
-      short = le-ltb t.session.held.target_max_recv (length (immediate m bytes)) short;
-    }) refl (window_now m.cmd_sn lt) kept
-    ∙ rw kept refl
-    ∙ ap (λ (o : Order). having_accepted (write_message m lun cdb bytes ∷ []) (planned (reliable false) (ready t (next_sn m.cmd_sn)) disk
-    (write_head m lun cdb bytes) o (immediate m bytes) (plan_of o disk.count)))
+      within = le-ltb (target_session.target_limit t.session.settings) (length (immediate_data m bytes)) (omega (arith, short, limit));
+      came = refl;
+      may = refl;
+      short = le-ltb t.session.held.target_max_recv (length (immediate_data m bytes)) short;
+    }) refl refl (window_now m.cmd_sn lt) kept
+    ∙ ap (λ (o : Order). having_accepted (write_message m lun cdb bytes ∷ []) (task_begun (reliable false) (ready t (next_sn m.cmd_sn)) disk
+    (task_planned (write_head m lun cdb bytes) o (immediate_data m bytes) (plan_of o disk.count))))
     (plain_order t.session.settings.extras.unit (write_head m lun cdb bytes) plain)
 
 -- the answers to the command and the data behind it
-abbrev first_answers : initiator.Machine → target.Machine → Disk → ℕ → List ℕ → List ℕ → Plan → Stepped
+abbrev first_answers : initiator.InitiatorSession → target.Machine → Disk → ℕ → List ℕ → List ℕ → Plan → TargetStep
 first_answers m t disk lun cdb bytes p =
-    let r = planned (reliable false) (ready t (next_sn m.cmd_sn)) disk (write_head m lun cdb bytes) (writing_order lun cdb bytes) (immediate m bytes) p in
+    let r = task_begun (reliable false) (ready t (next_sn m.cmd_sn)) disk (task_planned (write_head m lun cdb bytes) (writing_order lun cdb bytes) (immediate_data m bytes) p) in
     then_stepped r (answers false r.machine r.disk (unasked_data m bytes))
 
 -- The target answers well, and it comes to the outcome of this order.
-abbrev Comes : initiator.Machine → initiator.Machine → Order → List ℕ → Disk → Stepped → Type 0
+abbrev Comes : initiator.InitiatorSession → initiator.InitiatorSession → Order → List ℕ → Disk → TargetStep → Type 0
 Comes m i order bytes disk r = IsAnswered m.held r × Ends (length bytes + 1) m.held i r (local_command (effect false disk order bytes))
 
 same_effect : (p : Plan) (disk : Disk) (order : Order) (bytes : List ℕ) → ((n : ℕ) → p ≡ Take n → ⊥) → disk_by p disk order [] ≡ disk_by p disk order bytes
@@ -791,7 +800,7 @@ same_effect (Give n) disk order bytes none = refl
 same_effect (Refuse sense) disk order bytes none = refl
 
 -- a command that takes no data: what follows it is dropped
-executed_alone : (m : initiator.Machine) (t : target.Machine) (disk : Disk) (lun : ℕ) (cdb bytes : List ℕ) (window : Window)
+executed_alone : (m : initiator.InitiatorSession) (t : target.Machine) (disk : Disk) (lun : ℕ) (cdb bytes : List ℕ) (window : Window)
     → Throughout (begun_write m) t (next_sn m.cmd_sn) bytes (writing_order lun cdb bytes) disk → IsNear (next_sn m.cmd_sn) window
     → ((n : ℕ) → plan_of (writing_order lun cdb bytes) disk.count ≡ Take n → ⊥)
     → Comes m (writing (begun_write m) (first_sent m bytes) window) (writing_order lun cdb bytes) bytes disk
@@ -800,9 +809,9 @@ executed_alone : (m : initiator.Machine) (t : target.Machine) (disk : Disk) (lun
 executed_alone m t disk lun cdb bytes window a near none =
     let order : Order = writing_order lun cdb bytes in
     let n : ℕ = next_sn m.cmd_sn in
-    let r : Stepped = plainly (reliable false) (ready t n) disk (next_tag m.initiator_task_tag) order [] in
+    let r : TargetStep = plainly (reliable false) (ready t n) disk (next_tag m.initiator_task_tag) order [] in
     let after : Effect = effect false disk order bytes in
-    let i : initiator.Machine = writing (begun_write m) (first_sent m bytes) window in
+    let i : initiator.InitiatorSession = writing (begun_write m) (first_sent m bytes) window in
     let uns : List ℕ = initiator_writes.unsolicited m bytes in
     let h : DataOut = record {
       is_final = false;
@@ -811,7 +820,7 @@ executed_alone m t disk lun cdb bytes window a near none =
       target_transfer_tag = reserved_tag;
       exp_stat_sn = sent_exp_stat_sn m;
       data_sn = 0;
-      buffer_offset = length (immediate m bytes);
+      buffer_offset = length (immediate_data m bytes);
     } in
     let lt : 0 < t.session.held.target_max_recv = subst (λ (x : Held). 0 < x.target_max_recv) (sym a.held) (omega (arith, a.is_held.target_max_recv.0)) in
     let gone : answers false r.machine r.disk (unasked_data m bytes) ≡ unchanged r.machine r.disk =
@@ -826,9 +835,9 @@ executed_alone m t disk lun cdb bytes window a near none =
     let ends_ : Ends (length bytes + 1) m.held i r (local_command after) =
     response_ends (length bytes + 1) (omega arith) (begun_write m) t n (opens.Out (first_sent m bytes)) window bytes order disk (next_tag m.initiator_task_tag) [] a near (λ h_. refl) refl
     same in
-    subst (λ (x : Stepped). Comes m i order bytes disk (then_stepped x (answers false x.machine x.disk (unasked_data m bytes))))
+    subst (λ (x : TargetStep). Comes m i order bytes disk (then_stepped x (answers false x.machine x.disk (unasked_data m bytes))))
     (sym (plain_executed (reliable false) (ready t n) disk (next_tag m.initiator_task_tag) order [] a.plain))
-    (subst (λ (x : Stepped). Comes m i order bytes disk (then_stepped r x)) (sym gone)
+    (subst (λ (x : TargetStep). Comes m i order bytes disk (then_stepped r x)) (sym gone)
     (subst (Comes m i order bytes disk) (sym (then_nothing r)) (well, ends_)))
 
 -- ---- a write whose bytes are taken
@@ -838,11 +847,11 @@ immediate_are true size bytes = sym (ap (λ (k : ℕ). take k bytes) (length-tak
 immediate_are false size bytes = refl
 
 -- what is open once the command came, and no data are due unasked
-abbrev first_write : initiator.Machine → ℕ → List ℕ → List ℕ → ℕ → Write
-first_write m lun cdb bytes total = opened (write_head m lun cdb bytes) (writing_order lun cdb bytes) total (immediate m bytes)
+abbrev first_write : initiator.InitiatorSession → ℕ → List ℕ → List ℕ → ℕ → Write
+first_write m lun cdb bytes total = write_opened (write_head m lun cdb bytes) (writing_order lun cdb bytes) total (immediate_data m bytes)
 
 -- all first data are in the command
-none_unasked : (m : initiator.Machine) (t : target.Machine) (disk : Disk) (lun : ℕ) (cdb bytes : List ℕ) (window : Window) (total : ℕ)
+none_unasked : (m : initiator.InitiatorSession) (t : target.Machine) (disk : Disk) (lun : ℕ) (cdb bytes : List ℕ) (window : Window) (total : ℕ)
     → Throughout (begun_write m) t (next_sn m.cmd_sn) bytes (writing_order lun cdb bytes) disk → IsNear (next_sn m.cmd_sn) window → total ≡ length bytes
     → has_more m bytes ≡ false
     → Comes m (writing (begun_write m) (first_sent m bytes) window) (writing_order lun cdb bytes) bytes disk
@@ -853,8 +862,8 @@ none_unasked m t disk lun cdb bytes window total a near all none =
     let order : Order = writing_order lun cdb bytes in
     let n : ℕ = next_sn m.cmd_sn in
     let w : Write = first_write m lun cdb bytes total in
-    let v : Writing = first_sent m bytes in
-    let imm : List ℕ = immediate m bytes in
+    let v : WriteProgress = first_sent m bytes in
+    let imm : List ℕ = immediate_data m bytes in
     let uns : initiator_writes.unsolicited m bytes ≡ [] = rw none refl in
     let zero_ : length (initiator_writes.unsolicited m bytes) ≡ 0 = ap (λ (x : List ℕ). length x) uns in
     let front : imm ≡ take (length imm) bytes = immediate_are (is_on m.held keys.ImmediateData) (min (unasked m.held (length bytes)) m.held.target_max_recv)
@@ -871,16 +880,16 @@ none_unasked m t disk lun cdb bytes window total a near all none =
       few = omega arith;
     } in
     let silent : unasked_data m bytes ≡ [] = ap (λ (x : List ℕ). sequence (begun_write m) None reserved_tag (length imm) x) uns in
-    let r : Stepped = proceed (reliable false) (ready t n) disk w in
+    let r : TargetStep = proceed (reliable false) (ready t n) disk w in
     subst (λ (ms : List Message). Comes m (writing (begun_write m) v window) order bytes disk (then_stepped r (answers false r.machine r.disk ms))) (sym silent)
     (subst (Comes m (writing (begun_write m) v window) order bytes disk) (sym (then_nothing r)) (
-      proceed_written (begun_write m) t n v w order disk a i (is_whole w) refl,
+      proceed_written (begun_write m) t n v w order disk a i (is_whole_write w) refl,
       goes_on (length bytes) (length bytes + 1) (omega arith) (begun_write m) t n v w window order disk a near i
-          (omega arith) (is_whole w) refl,
+          (omega arith) (is_whole_write w) refl,
     ))
 
 -- more first data follow the command
-some_unasked : (m : initiator.Machine) (t : target.Machine) (disk : Disk) (lun : ℕ) (cdb bytes : List ℕ) (window : Window) (total : ℕ)
+some_unasked : (m : initiator.InitiatorSession) (t : target.Machine) (disk : Disk) (lun : ℕ) (cdb bytes : List ℕ) (window : Window) (total : ℕ)
     → Throughout (begun_write m) t (next_sn m.cmd_sn) bytes (writing_order lun cdb bytes) disk → IsNear (next_sn m.cmd_sn) window → total ≡ length bytes
     → has_more m bytes ≡ true
     → Comes m (writing (begun_write m) (first_sent m bytes) window) (writing_order lun cdb bytes) bytes disk
@@ -890,8 +899,8 @@ some_unasked m t disk lun cdb bytes window total a near all more =
     let order : Order = writing_order lun cdb bytes in
     let n : ℕ = next_sn m.cmd_sn in
     let w : Write = first_write m lun cdb bytes total in
-    let v : Writing = first_sent m bytes in
-    let imm : List ℕ = immediate m bytes in
+    let v : WriteProgress = first_sent m bytes in
+    let imm : List ℕ = immediate_data m bytes in
     let uns : List ℕ = drop (length imm) (take (unasked m.held (length bytes)) bytes) in
     let uns_is : initiator_writes.unsolicited m bytes ≡ uns = rw more refl in
     let short : length imm < unasked m.held (length bytes) = ltb-true (length imm) (unasked m.held (length bytes))
@@ -905,8 +914,8 @@ some_unasked m t disk lun cdb bytes window total a near all more =
     ) in
     let sent_ : v.sent ≡ unasked m.held (length bytes) = omega (arith, ap (λ (x : List ℕ). length x) uns_is, size, short) in
     let due : w.due ≡ Unsolicited 0 = rw more refl in
-    let here : received w ≡ length imm = ap (λ (x : List ℕ). length x) (data_of_one imm) in
-    let part : is_whole w ≡ false = ne_eqb total (received w) (λ e. omega (arith, e, here, all, short)) in
+    let here : bytes_received w ≡ length imm = ap (λ (x : List ℕ). length x) (data_of_one imm) in
+    let part : is_whole_write w ≡ false = ne_eqb total (bytes_received w) (λ e. omega (arith, e, here, all, short)) in
     let first : proceed (reliable false) (ready t n) disk w ≡ unchanged (writer t n w) disk = rw (part, due) refl in
     let h : DataOut = record {
       is_final = false;
@@ -927,7 +936,7 @@ some_unasked m t disk lun cdb bytes window total a near all more =
     ap (λ (x : List ℕ). sequence (begun_write m) None reserved_tag (length imm) x) uns_is ∙ ap (λ (k : Held). data_outs h (chunks k.target_max_recv uns))
     (sym a.held) in
     let w' : Write = record w { pieces = r.came; due = Nothing } in
-    let all_came_ : data_of w'.pieces ≡ take v.sent bytes =
+    let all_came_ : piece_data w'.pieces ≡ take v.sent bytes =
     r.whole ∙ ap (λ (x : List ℕ). x ++ uns) (data_of_one imm ∙ front)
     ∙ (let e : take (length imm) bytes ≡ take (length imm) (take (unasked m.held (length bytes)) bytes) =
     sym (take-take (length imm) (unasked m.held (length bytes)) bytes (omega (arith, short))) in ap (λ (x : List ℕ). x ++ uns) e)
@@ -945,16 +954,17 @@ some_unasked m t disk lun cdb bytes window total a near all more =
     } in
     let is : (let x = proceed (reliable false) (ready t n) disk w in then_stepped x (answers false x.machine x.disk (unasked_data m bytes)))
     ≡ proceed (reliable false) (ready t n) disk w' =
-    ap (λ (x : Stepped). then_stepped x (answers false x.machine x.disk (unasked_data m bytes))) first ∙ ap (answers false (writer t n w) disk) data_ ∙ r.is in
+    ap (λ (x : TargetStep). then_stepped x (answers false x.machine x.disk (unasked_data m bytes))) first ∙ ap (answers false (writer t n w) disk) data_
+    ∙ r.is in
     subst (Comes m (writing (begun_write m) v window) order bytes disk) (sym is) (
-      proceed_written (begun_write m) t n v w' order disk a i (is_whole w') refl,
+      proceed_written (begun_write m) t n v w' order disk a i (is_whole_write w') refl,
       goes_on (length bytes) (length bytes + 1) (omega arith) (begun_write m) t n v w' window order disk a near i
-          (omega arith) (is_whole w') refl,
+          (omega arith) (is_whole_write w') refl,
     )
 
 -- ---- the whole of a write
 
-by_plan : (p : Plan) (m : initiator.Machine) (t : target.Machine) (disk : Disk) (lun : ℕ) (cdb bytes : List ℕ) (window : Window)
+by_plan : (p : Plan) (m : initiator.InitiatorSession) (t : target.Machine) (disk : Disk) (lun : ℕ) (cdb bytes : List ℕ) (window : Window)
     → plan_of (writing_order lun cdb bytes) disk.count ≡ p
     → Throughout (begun_write m) t (next_sn m.cmd_sn) bytes (writing_order lun cdb bytes) disk → IsNear (next_sn m.cmd_sn) window → (more : Bool)
     → has_more m bytes ≡ more
@@ -970,12 +980,12 @@ by_plan (Give n) m t disk lun cdb bytes window is a near more e =
 by_plan (Refuse sense) m t disk lun cdb bytes window is a near more e =
     executed_alone m t disk lun cdb bytes window a near (λ k f. (let bad : Refuse sense ≡ Take k = sym is ∙ f in absurd cc))
 
-few_bytes : (m : initiator.Machine) (lun : ℕ) (cdb bytes : List ℕ) → m.phase ≡ phases.Full → (submitted m (requests.Out lun cdb bytes)).refusal ≡ None
+few_bytes : (m : initiator.InitiatorSession) (lun : ℕ) (cdb bytes : List ℕ) → m.phase ≡ phases.Full → (submitted m (requests.Out lun cdb bytes)).refusal ≡ None
     → length bytes ≤ 4194304
 unfolding submitted
 few_bytes m lun cdb bytes full e =
     let request : Request = requests.Out lun cdb bytes in
-    let none : refusal_in m.phase m request ≡ None = unrefused (refusal m request) m request e in
+    let none : refusal_in m.phase m request ≡ None = unrefused (submit_refusal m request) m request e in
     let when : refusal_when_full m request ≡ None = subst (λ (p : Phase). refusal_in p m request ≡ None) full none in
     ltb-false 4194304 (length bytes)
     (not_long (is_some m.outstanding || is_some m.done) (not (is_within m.cmd_sn m.window.exp.0 m.window.max.0)) (nat_lt 4194304 (length bytes)) when)
@@ -990,13 +1000,14 @@ unasked_few : (more : Bool) (n size : ℕ) (bytes : List ℕ) → n ≤ length b
 unasked_few true n size bytes le = omega (arith, le, length-drop n (take size bytes), length-take size bytes)
 unasked_few false n size bytes le = omega (arith, le)
 
-first_few : (m : initiator.Machine) (bytes : List ℕ) → length (immediate m bytes) + length (initiator_writes.unsolicited m bytes) ≤ length bytes
+first_few : (m : initiator.InitiatorSession) (bytes : List ℕ) → length (immediate_data m bytes) + length (initiator_writes.unsolicited m bytes) ≤ length bytes
 first_few m bytes =
-    unasked_few (has_more m bytes) (length (immediate m bytes)) (unasked m.held (length bytes)) bytes
+    unasked_few (has_more m bytes) (length (immediate_data m bytes)) (unasked m.held (length bytes)) bytes
     (omega (arith, immediate_short (is_on m.held keys.ImmediateData) (min (unasked m.held (length bytes)) m.held.target_max_recv) bytes))
 
 -- A write between two ends that are in step is received, and comes to the outcome and the disk of its order.
-pub local_write : (m : initiator.Machine) (t : target.Machine) (disk : Disk) (lun : ℕ) (cdb bytes : List ℕ) → lun < 2 ^ 64 → length cdb ≡ 16 → AreBytes cdb
+pub local_write : (m : initiator.InitiatorSession) (t : target.Machine) (disk : Disk) (lun : ℕ) (cdb bytes : List ℕ) → lun < 2 ^ 64 → length cdb ≡ 16
+    → AreBytes cdb
     → AreInStep m t → (submitted m (requests.Out lun cdb bytes)).refusal ≡ None
     → (let after : Effect = effect false disk (writing_order lun cdb bytes) bytes in Begins m.held m t disk (requests.Out lun cdb bytes) (local_command after))
 unfolding answers
@@ -1007,7 +1018,7 @@ local_write m t disk lun cdb bytes on_ size are a e =
     let p : Plan = plan_of order disk.count in
     let few : length bytes ≤ 4194304 = few_bytes m lun cdb bytes a.initiator_phase e in
     let sent : submitted m request ≡ accepted m request = submitted_is m request e in
-    let i : initiator.Machine = writing (begun_write m) (first_sent m bytes) m.window in
+    let i : initiator.InitiatorSession = writing (begun_write m) (first_sent m bytes) m.window in
     let is_t : t ≡ ready t m.cmd_sn = λ k. record {
       session = record t.session {
         phase = a.target_phase k;
@@ -1022,10 +1033,10 @@ local_write m t disk lun cdb bytes on_ size are a e =
       outstanding =
           Some (opens.Out (first_sent m bytes));
     } in
-    let limit : t.session.held.target_max_recv ≤ target_session.limit t.session.settings =
-    subst (λ (h : Held). h.target_max_recv ≤ target_session.limit t.session.settings) (sym a.held) a.segment in
-    let short : length (immediate m bytes) ≤ t.session.held.target_max_recv =
-    subst (λ (h : Held). length (immediate m bytes) ≤ h.target_max_recv) (sym a.held)
+    let limit : t.session.held.target_max_recv ≤ target_session.target_limit t.session.settings =
+    subst (λ (h : Held). h.target_max_recv ≤ target_session.target_limit t.session.settings) (sym a.held) a.segment in
+    let short : length (immediate_data m bytes) ≤ t.session.held.target_max_recv =
+    subst (λ (h : Held). length (immediate_data m bytes) ≤ h.target_max_recv) (sym a.held)
     (omega (arith, immediate_short (is_on m.held keys.ImmediateData) (min (unasked m.held (length bytes)) m.held.target_max_recv) bytes)) in
     let all : Throughout (begun_write m) t (next_sn m.cmd_sn) bytes order disk = record {
       held = a.held;
@@ -1044,26 +1055,27 @@ local_write m t disk lun cdb bytes on_ size are a e =
       expected = few;
       none_done = a.none_done;
     } in
-    let first : Stepped = planned (reliable false) (ready t (next_sn m.cmd_sn)) disk (write_head m lun cdb bytes) (writing_order lun cdb bytes) (immediate m bytes) p in
+    let first : TargetStep = task_begun (reliable false) (ready t (next_sn m.cmd_sn)) disk
+    (task_planned (write_head m lun cdb bytes) (writing_order lun cdb bytes) (immediate_data m bytes) p) in
     let x : Comes m i order bytes disk (first_answers m t disk lun cdb bytes p) =
     by_plan p m t disk lun cdb bytes m.window refl all (near_next (next_sn m.cmd_sn) m.cmd_sn m.window a.cmd_sn_fits refl a.window) (has_more m bytes) refl in
-    let r : Stepped = then_stepped (having_accepted (write_message m lun cdb bytes ∷ []) first)
+    let r : TargetStep = then_stepped (having_accepted (write_message m lun cdb bytes ∷ []) first)
     (answers false first.machine first.disk (unasked_data m bytes)) in
     let is : answers false t disk (submitted m request).output ≡ r =
-    ap (λ (s : Submitted). answers false t disk s.output) sent
+    ap (λ (s : SubmitStep). answers false t disk s.output) sent
     ∙ ap (λ (y : target.Machine). answers false y disk (accepted m request).output) is_t
-    ∙ ap (λ (y : Stepped). then_stepped y (answers false y.machine y.disk (unasked_data m bytes)))
+    ∙ ap (λ (y : TargetStep). then_stepped y (answers false y.machine y.disk (unasked_data m bytes)))
     (command_taken m t disk lun cdb bytes a.cmd_sn_fits a.held limit
     short a.plain) in
     let most : ℕ = m.held.target_max_recv in
-    let short_ : length (immediate m bytes) ≤ most = subst (λ (h : Held). length (immediate m bytes) ≤ h.target_max_recv) a.held short in
+    let short_ : length (immediate_data m bytes) ≤ most = subst (λ (h : Held). length (immediate_data m bytes) ≤ h.target_max_recv) a.held short in
     let written : ArePlain most (write_message m lun cdb bytes ∷ unasked_data m bytes) =
     plain_more most (write_message m lun cdb bytes) (unasked_data m bytes)
-    (λ logins. command_readable logins m (not (has_more m bytes)) false (not (length bytes == 0)) lun cdb (immediate m bytes) (length bytes) on_ size are
+    (λ logins. command_readable logins m (not (has_more m bytes)) false (not (length bytes == 0)) lun cdb (immediate_data m bytes) (length bytes) on_ size are
     a.tag_fits (omega (arith, few)) a.cmd_sn_fits
     (stat_sn_sent m t a) (omega (arith, short_, a.is_held.target_max_recv.1)))
-    (short_message (write_message m lun cdb bytes).head (immediate m bytes) most short_)
-    (sequence_written (begun_write m) None reserved_tag (length (immediate m bytes)) (initiator_writes.unsolicited m bytes) a.is_held all.tag_fits
+    (short_message (write_message m lun cdb bytes).head (immediate_data m bytes) most short_)
+    (sequence_written (begun_write m) None reserved_tag (length (immediate_data m bytes)) (initiator_writes.unsolicited m bytes) a.is_held all.tag_fits
     all.stat_sn_sends refl tt (omega arith)
     (omega (arith, first_few m bytes, few))) in
     let ends_ : Ends most_answers m.held i r (local_command after) = record {
@@ -1072,10 +1084,11 @@ local_write m t disk lun cdb bytes on_ size are a e =
       ended = x.1.ended;
     } in
     record {
-      received = received_by m.held t disk (submitted m request).output r is (subst (λ (s : Submitted). ArePlain most s.output) (sym sent) written) x.0.live
+      received = received_by m.held t disk (submitted m request).output r is (subst (λ (s : SubmitStep). ArePlain most s.output) (sym sent) written) x.0.live
           x.0.rule
           x.0.answered;
-      ends = subst (λ (s : Submitted). Ends most_answers m.held s.machine (answers false t disk (submitted m request).output) (local_command after)) (sym sent)
-          (subst (λ (k : initiator.Machine). Ends most_answers m.held k (answers false t disk (submitted m request).output) (local_command after)) (sym is_m)
-          (subst (λ (y : Stepped). Ends most_answers m.held i y (local_command after)) (sym is) ends_));
+      ends = subst (λ (s : SubmitStep). Ends most_answers m.held s.machine (answers false t disk (submitted m request).output) (local_command after)) (sym sent)
+          (subst (λ (k : initiator.InitiatorSession). Ends most_answers m.held k (answers false t disk (submitted m request).output) (local_command after))
+          (sym is_m)
+          (subst (λ (y : TargetStep). Ends most_answers m.held i y (local_command after)) (sym is) ends_));
     }

@@ -1,7 +1,8 @@
 -- Where a pair has come: every event leads on, and an initiator that has completed its login holds what the target holds.
 use Rattle.std.proofs.Common.{◌≡◌, [], ◌∷◌, ◌++◌}
 use Rattle.iscsi_login.specs.declared.stage.Stage.TheVariants as stages
-use Rattle.iscsi_pair.specs.World.{World, Opening, IsOpening, Event, Happens, HasCome, new_pair}
+use Rattle.iscsi_pair.specs.World.{World, Opening, IsOpening, PairEvent, PairEventStep, new_pair}
+use Rattle.iscsi_pair.specs.inner.World.{HasCome}
 use Rattle.iscsi_pair.specs.Traffic.{first_traffic}
 use Rattle.iscsi_pair.proofs.Ends.BothRuns.{traced, reached_sides}
 use Rattle.iscsi_pair.proofs.Login.AgreementLaw.{world_agrees}
@@ -10,7 +11,7 @@ use Rattle.iscsi_pair.proofs.Run.MoveLemmas.{runs_none, runs_more}
 pub comes_first : (c : Opening) → IsOpening c → HasCome (new_pair c)
 comes_first c is = record { opening = c; events = []; is_opening = is; reached = runs_none (new_pair c) }
 
-pub comes_more : (old new : World) (event : Event) → HasCome old → Happens old event new → HasCome new
+pub comes_more : (old new : World) (event : PairEvent) → HasCome old → PairEventStep old event new → HasCome new
 comes_more old new event h e = record {
   opening = h.opening;
   events = h.events ++ event ∷ [];

@@ -5,8 +5,8 @@ use Rattle.std.specs.Prelude.{is_some}
 use Rattle.std.proofs.lemmas.List.{append-nil}
 use Rattle.scsi_disk.specs.Disk.{Disk, disk_of}
 use Rattle.iscsi_stream.specs.declared.logins.Logins.{Logins}
-use Rattle.iscsi_stream.specs.Segment.{after, no_login}
-use Rattle.iscsi_stream.specs.Stream.{Message, after_all}
+use Rattle.iscsi_stream.specs.Segment.{logins_after, no_login}
+use Rattle.iscsi_stream.specs.Stream.{Message, logins_after_all}
 use Rattle.iscsi_login.specs.declared.phase.Phase.TheVariants as phases
 use Rattle.iscsi_login.specs.Held.{Held}
 use Rattle.iscsi_target_session.specs.Configured as target_settings
@@ -14,22 +14,22 @@ use Rattle.iscsi_target_session.specs.Session as target_session
 use Rattle.iscsi_target.specs.State as target
 use Rattle.iscsi_target.specs.Machine as target_machine
 use Rattle.iscsi_target.specs.Machine.{answers}
-use Rattle.iscsi_target.proofs.ContinuationLemmas.{then_nothing}
+use Rattle.iscsi_target.proofs.Steps.TurnLemmas.{then_nothing}
 use Rattle.iscsi_initiator.specs.declared.request.Done.{Done}
 use Rattle.iscsi_initiator.specs.declared.request.Done.TheVariants as done
 use Rattle.iscsi_initiator.specs.declared.request.Request.{Request}
 use Rattle.iscsi_initiator.specs.declared.request.Request.TheVariants as requests
 use Rattle.iscsi_initiator.specs.State as initiator
 use Rattle.iscsi_login.specs.Stage.{is_closed_phase}
-use Rattle.iscsi_initiator.specs.Steps.{Stepped}
+use Rattle.iscsi_initiator.specs.Steps.{InitiatorStep}
 use Rattle.iscsi_initiator.specs.Calls as initiator_calls
 use Rattle.iscsi_initiator.specs.Laws.{listed}
 use Rattle.iscsi_initiator.specs.Login.{start_step}
-use Rattle.iscsi_initiator.specs.Machine.{step, taken}
+use Rattle.iscsi_initiator.specs.Machine.{initiator_step, outcome_taken}
 use Rattle.iscsi_initiator.specs.Submitted.{submitted}
 use Rattle.iscsi_pair.specs.World.{Opening}
-use Rattle.iscsi_pair.specs.LocalDisk.{AreAtRest, AreInStep, HasEnded, HaveParted, Local, Exchange, local, local_disk, local_outcomes}
-use Rattle.iscsi_pair.specs.Served.{EndsInLogout, IsNormal, IsServed, disk_after, disk_outcomes}
+use Rattle.iscsi_pair.specs.LocalDisk.{AreAtRest, AreInStep, RequestHasEnded, HaveParted, Local, DiskExchange, local, local_disk, local_outcomes}
+use Rattle.iscsi_pair.specs.Served.{EndsInLogout, IsNormal, IsServed, local_disk_after, disk_outcomes}
 use Rattle.iscsi_pair.proofs.Login.RoundAgrees.{Asking, Asks_on, Round, asking_readable, asking_short, first_asks, round}
 use Rattle.iscsi_pair.proofs.Login.RoundProgress.{Suited, Well, first_suited, goes_well}
 use Rattle.iscsi_pair.proofs.Login.LoginEndsInStep.{HasMet, Meets, Numbered, first_numbered, meets}
@@ -40,10 +40,10 @@ use Rattle.iscsi_pair.proofs.Request.OneRequestLaw.{begins, disk_more, is_free, 
 
 -- the most bytes of a segment that each end takes
 abbrev pub most_out : Opening → ℕ
-most_out c = target_session.limit c.target
+most_out c = target_session.target_limit c.target
 
 abbrev pub most_back : Opening → ℕ
-most_back c = initiator_calls.limit c.initiator
+most_back c = initiator_calls.initiator_limit c.initiator
 
 -- how many bytes of a ping come back
 abbrev pub pinged : Opening → ℕ
@@ -56,15 +56,15 @@ none_asked = record { requests = []; outcomes = [] }
 -- ---- the relation
 
 -- the answer to a login request is on its way
-pub record LogsOn (c : Opening) (x : Exchange) (s : SoFar) : Type 0 where
+pub record LogsOn (c : Opening) (x : DiskExchange) (s : SoFar) : Type 0 where
   pub before : target.Machine
   pub said : Logins
   pub request : Message
   pub asking : Asking c x.initiator before said request
   pub suited : Suited c x.initiator before
   pub numbered : Numbered c x.initiator before
-  pub turn : Round c x.initiator (target_machine.step false before (disk_of c.blocks) request) s.there
-  pub machine : x.target ≡ (target_machine.step false before (disk_of c.blocks) request).machine
+  pub turn : Round c x.initiator (target_machine.target_step false before (disk_of c.blocks) request) s.there
+  pub machine : x.target ≡ (target_machine.target_step false before (disk_of c.blocks) request).machine
   pub disk_is : x.disk ≡ disk_of c.blocks
   pub back_is : x.answers ≡ turn.answer ∷ []
   pub whole : s.here.response ≡ false
@@ -77,33 +77,33 @@ pub record HaveAgreed (c : Opening) (held : Held) : Type 0 where
   pub back_ : held.initiator_max_recv ≤ most_back c
 
 -- both ends are in step and hold this, or have parted after the last request, a logout
-abbrev pub AreSettled : Held → History → initiator.Machine → target.Machine → Type 0
+abbrev pub AreSettled : Held → History → initiator.InitiatorSession → target.Machine → Type 0
 AreSettled held h i t = (AreInStep i t × (i.held ≡ held)) ⊎ (HaveParted i t × EndsInLogout h.requests)
 
 -- nothing is open, and each request has had its outcome
-pub record Rests (c : Opening) (x : Exchange) (h : History) : Type 0 where
+pub record Rests (c : Opening) (x : DiskExchange) (h : History) : Type 0 where
   pub held : Held
   pub agreed : HaveAgreed c held
   pub at_rest : AreSettled held h x.initiator x.target
   pub none_back : x.answers ≡ []
   pub none_done : x.initiator.done ≡ None
-  pub disk_is : x.disk ≡ disk_after c h.requests
+  pub disk_is : x.disk ≡ local_disk_after c h.requests
   pub outcomes_are : h.outcomes ≡ disk_outcomes c h.requests
 
 -- the last request is on its way to its outcome on the disk that those before it left, or has it
-pub record IsServing (c : Opening) (x : Exchange) (h : History) : Type 0 where
+pub record IsServing (c : Opening) (x : DiskExchange) (h : History) : Type 0 where
   pub held : Held
   pub agreed : HaveAgreed c held
   pub past : List Request
   pub request : Request
   pub requests_are : h.requests ≡ past ++ request ∷ []
   pub outcomes_are : h.outcomes ≡ disk_outcomes c past
-  pub last : Exchange
+  pub last : DiskExchange
   pub leads : LeadsWithin most_answers held x last
-  pub ended : (let here = local (pinged c) (disk_after c past) request in HasEnded held here.outcome here.disk last)
+  pub ended : (let here = local (pinged c) (local_disk_after c past) request in RequestHasEnded held here.outcome here.disk last)
 
 -- what both ends keep
-pub data Serves (c : Opening) (x : Exchange) (s : SoFar) : Type 0 where
+pub data Serves (c : Opening) (x : DiskExchange) (s : SoFar) : Type 0 where
   Logs : LogsOn c x s → Serves c x s
   Rest : Rests c x s.history → Serves c x s
   Serve : IsServing c x s.history → Serves c x s
@@ -114,7 +114,7 @@ pub written_within : (most more : ℕ) (logins : Logins) (ms : List Message) →
 written_within most more logins [] le w = w
 written_within most more logins (m ∷ ms) le w = (
   record { readable = w.0.readable; short = (let short = w.0.short in omega (arith, short, le)) },
-  written_within most more (after logins m.head) ms le w.1,
+  written_within most more (logins_after logins m.head) ms le w.1,
 )
 
 pub receives_well : (c : Opening) (held : Held) (t : target.Machine) (disk : Disk) (here : Logins) (out : List Message) → HaveAgreed c held
@@ -134,19 +134,19 @@ same_more : (a b : Message) (x y : List Message) → a ∷ x ≡ b ∷ y → x �
 same_more a b x y e = cc e
 
 -- a login request goes out
-pub login_sends : (c : Opening) (i : initiator.Machine) (out : List Message) (t : target.Machine) (there here : Logins) (r : Message) → IsNormal c
+pub login_sends : (c : Opening) (i : initiator.InitiatorSession) (out : List Message) (t : target.Machine) (there here : Logins) (r : Message) → IsNormal c
     → out ≡ r ∷ [] → Asking c i t there r → Suited c i t → Numbered c i t
     → here.response ≡ false → Sends (limits_of c) (Serves c) (between i t (disk_of c.blocks) []) out (so_far there here none_asked)
 unfolding answers
 login_sends c i out t there here r o is a s n whole =
     let disk : Disk = disk_of c.blocks in
-    let turn : Round c i (target_machine.step false t disk r) (after there r.head) = round c i t there r disk o.opening a in
-    let w : Well c i (target_machine.step false t disk r) (step i turn.answer) (after there r.head) =
-    goes_well c i t there (after there r.head) r disk o.opening o.suits a s turn in
-    let meet : Meets c i (target_machine.step false t disk r) (step i turn.answer) disk (after there r.head) =
-    meets c i t there (after there r.head) r disk o.opening o.suits o.session a s n turn in
-    let all : answers false t disk (r ∷ []) ≡ target_machine.step false t disk r = then_nothing (target_machine.step false t disk r) in
-    let said : (answers false t disk (r ∷ [])).answers ≡ turn.answer ∷ [] = ap (λ (x : target.Stepped). x.answers) all ∙ turn.is in
+    let turn : Round c i (target_machine.target_step false t disk r) (logins_after there r.head) = round c i t there r disk o.opening a in
+    let w : Well c i (target_machine.target_step false t disk r) (initiator_step i turn.answer) (logins_after there r.head) =
+    goes_well c i t there (logins_after there r.head) r disk o.opening o.suits a s turn in
+    let meet : Meets c i (target_machine.target_step false t disk r) (initiator_step i turn.answer) disk (logins_after there r.head) =
+    meets c i t there (logins_after there r.head) r disk o.opening o.suits o.session a s n turn in
+    let all : answers false t disk (r ∷ []) ≡ target_machine.target_step false t disk r = then_nothing (target_machine.target_step false t disk r) in
+    let said : (answers false t disk (r ∷ [])).answers ≡ turn.answer ∷ [] = ap (λ (x : target.TargetStep). x.answers) all ∙ turn.is in
     subst (λ (ms : List Message). Sends (limits_of c) (Serves c) (between i t disk []) ms (so_far there here none_asked)) (sym is) (record {
       written = (
         record { readable = asking_readable c i t there r o.opening a; short = (let short = asking_short c i t there r a in omega (arith, short)) },
@@ -154,7 +154,7 @@ login_sends c i out t there here r o is a s n whole =
       );
       received = record {
         open_ = (ap is_closed_phase a.logs_in.phase, tt);
-        rule = ap (λ (x : target.Stepped). x.rule) all ∙ w.rule;
+        rule = ap (λ (x : target.TargetStep). x.rule) all ∙ w.rule;
         answered = subst (AreWritten (most_back c) here) (sym said) (
           record {
             readable = turn.readable here whole;
@@ -172,24 +172,27 @@ login_sends c i out t there here r o is a s n whole =
         suited = s;
         numbered = n;
         turn = turn;
-        machine = ap (λ (x : target.Stepped). x.machine) all;
-        disk_is = ap (λ (x : target.Stepped). x.disk) all ∙ meet.disk_is;
+        machine = ap (λ (x : target.TargetStep). x.machine) all;
+        disk_is = ap (λ (x : target.TargetStep). x.disk) all ∙ meet.disk_is;
         back_is = said;
-        whole = subst (λ (ms : List Message). (after_all here ms).response ≡ false) (sym said) (turn.last here whole);
+        whole = subst (λ (ms : List Message). (logins_after_all here ms).response ≡ false) (sym said) (turn.last here whole);
         none = refl;
       });
     })
 
 -- the first one
-pub first_sends : (c : Opening) → IsNormal c → Sends (limits_of c) (Serves c) (between (begun c) (target.opening c.target c.first_stat_sn) (disk_of c.blocks)
-    []) (start_step (initiator.opening c.initiator)).output (so_far no_login no_login none_asked)
+pub first_sends : (c : Opening) → IsNormal c → Sends (limits_of c) (Serves c)
+    (between (begun c) (target.opening_machine c.target c.first_stat_sn) (disk_of c.blocks)
+    []) (start_step (initiator.new_session c.initiator)).output (so_far no_login no_login none_asked)
 first_sends c o =
-    let a : Asks_on c (start_step (initiator.opening c.initiator)) (target.opening c.target c.first_stat_sn) no_login = first_asks c o.opening in
-    login_sends c (begun c) (start_step (initiator.opening c.initiator)).output (target.opening c.target c.first_stat_sn) no_login no_login a.request o a.is
+    let a : Asks_on c (start_step (initiator.new_session c.initiator)) (target.opening_machine c.target c.first_stat_sn) no_login = first_asks c o.opening in
+    login_sends c (begun c) (start_step (initiator.new_session c.initiator)).output (target.opening_machine c.target c.first_stat_sn) no_login no_login
+    a.request o a.is
     a.asking (first_suited c o.opening) (first_numbered c o.opening) refl
 
 -- the login is completed
-full_sends : (c : Opening) (i : initiator.Machine) (out : List Message) (t : target.Machine) (there here : Logins) → IsNormal c → out ≡ [] → HasMet c i t
+full_sends : (c : Opening) (i : initiator.InitiatorSession) (out : List Message) (t : target.Machine) (there here : Logins) → IsNormal c → out ≡ []
+    → HasMet c i t
     → Sends (limits_of c) (Serves c) (between i t (disk_of c.blocks) []) out (so_far there here none_asked)
 unfolding answers local_disk local_outcomes
 full_sends c i out t there here o is met =
@@ -200,7 +203,7 @@ full_sends c i out t there here o is met =
         held = i.held;
         agreed = record {
           most = met.most;
-          out = subst (λ (x : target_settings.Settings). i.held.target_max_recv ≤ target_session.limit x) met.target_settings met.in_step.segment;
+          out = subst (λ (x : target_settings.TargetSettings). i.held.target_max_recv ≤ target_session.target_limit x) met.target_settings met.in_step.segment;
           back_ = (let most = met.most in omega (arith, most));
         };
         at_rest = inl (met.in_step, refl);
@@ -212,13 +215,13 @@ full_sends c i out t there here o is met =
     })
 
 -- the answer to a login request comes
-pub login_goes : (c : Opening) (i : initiator.Machine) (t : target.Machine) (disk : Disk) (m : Message) (back : List Message) (there here : Logins) (h : History)
+pub login_goes : (c : Opening) (i : initiator.InitiatorSession) (t : target.Machine) (disk : Disk) (m : Message) (back : List Message) (there here : Logins) (h : History)
     → IsNormal c → LogsOn c (between i t disk (m ∷ back)) (so_far there here h)
     → Goes (limits_of c) (Serves c) (between i t disk back) m (so_far there here h)
 login_goes c i t disk m back there here h o l =
     let d : Disk = disk_of c.blocks in
-    let now : target.Stepped = target_machine.step false l.before d l.request in
-    let s : Stepped = step i l.turn.answer in
+    let now : target.TargetStep = target_machine.target_step false l.before d l.request in
+    let s : InitiatorStep = initiator_step i l.turn.answer in
     let w : Well c i now s there = goes_well c i l.before l.said there l.request d o.opening o.suits l.asking l.suited l.turn in
     let meet : Meets c i now s d there = meets c i l.before l.said there l.request d o.opening o.suits o.session l.asking l.suited l.numbered l.turn in
     let goes : Goes (limits_of c) (Serves c) (between i now.machine d []) l.turn.answer (so_far there here none_asked) = record {
@@ -240,12 +243,12 @@ login_goes c i t disk m back there here h o l =
 -- ---- requests
 
 -- an answer comes while a request is served
-serving_goes : (n : ℕ) → n ≤ most_answers → (c : Opening) (i : initiator.Machine) (t : target.Machine) (disk : Disk) (m : Message) (back : List Message) (there here : Logins)
+serving_goes : (n : ℕ) → n ≤ most_answers → (c : Opening) (i : initiator.InitiatorSession) (t : target.Machine) (disk : Disk) (m : Message) (back : List Message) (there here : Logins)
     (h : History) (v : IsServing c (between i t disk (m ∷ back)) h) → Leads v.held n (between i t disk (m ∷ back)) v.last
     → Goes (limits_of c) (Serves c) (between i t disk back) m (so_far there here h)
-serving_goes zero few c i t disk m back there here h v l = absurd (let bad : m ∷ back ≡ [] = ap (λ (x : Exchange). x.answers) l ∙ v.ended.silent in cc)
+serving_goes zero few c i t disk m back there here h v l = absurd (let bad : m ∷ back ≡ [] = ap (λ (x : DiskExchange). x.answers) l ∙ v.ended.silent in cc)
 serving_goes (suc n) few c i t disk m back there here h v l =
-    let s : Stepped = step i m in
+    let s : InitiatorStep = initiator_step i m in
     record {
       live = ap is_closed_phase l.0.full;
       fault = l.0.fault;
@@ -267,9 +270,10 @@ serving_goes (suc n) few c i t disk m back there here h v l =
     }
 
 -- a request is accepted
-rest_sends : (c : Opening) (i : initiator.Machine) (t : target.Machine) (disk : Disk) (there here : Logins) (h : History) (request : Request) (held : Held)
+rest_sends : (c : Opening) (i : initiator.InitiatorSession) (t : target.Machine) (disk : Disk) (there here : Logins) (h : History) (request : Request)
+    (held : Held)
     → HaveAgreed c held → AreInStep i t → i.held ≡ held
-    → disk ≡ disk_after c h.requests → h.outcomes ≡ disk_outcomes c h.requests → IsServed request → (submitted i request).refusal ≡ None
+    → disk ≡ local_disk_after c h.requests → h.outcomes ≡ disk_outcomes c h.requests → IsServed request → (submitted i request).refusal ≡ None
     → Sends (limits_of c) (Serves c) (between (submitted i request).machine t disk []) (submitted i request).output
     (so_far there here (record h { requests = h.requests ++ request ∷ [] }))
 rest_sends c i t disk there here h request held agreed a same disk_is outcomes_are served e =
@@ -289,19 +293,21 @@ rest_sends c i t disk there here h request held agreed a same disk_is outcomes_a
         outcomes_are = outcomes_are;
         last = b.ends.last;
         leads = b.ends.leads;
-        ended = subst (λ (d : Disk). HasEnded i.held (local (pinged c) d request).outcome (local (pinged c) d request).disk b.ends.last) disk_is b.ends.ended;
+        ended = subst (λ (d : Disk). RequestHasEnded i.held (local (pinged c) d request).outcome (local (pinged c) d request).disk b.ends.last) disk_is
+            b.ends.ended;
       });
     }
 
 -- a session that is closed accepts none
-parted_accepts : (i : initiator.Machine) (request : Request) → i.phase ≡ phases.Closed → (submitted i request).refusal ≡ None → ⊥
+parted_accepts : (i : initiator.InitiatorSession) (request : Request) → i.phase ≡ phases.Closed → (submitted i request).refusal ≡ None → ⊥
 parted_accepts i request shut e = (let bad : phases.Closed ≡ phases.Full = sym shut ∙ (is_free i request e).full in cc)
 
 -- where a request is served no other is accepted
-serving_accepts : (n : ℕ) (c : Opening) (i : initiator.Machine) (t : target.Machine) (disk : Disk) (back : List Message) (h : History) (request : Request)
+serving_accepts : (n : ℕ) (c : Opening) (i : initiator.InitiatorSession) (t : target.Machine) (disk : Disk) (back : List Message) (h : History)
+    (request : Request)
     (v : IsServing c (between i t disk back) h) → Leads v.held n (between i t disk back) v.last → (submitted i request).refusal ≡ None → ⊥
 serving_accepts zero c i t disk back h request v l e =
-    (let bad : true ≡ false = ap (λ (o : Option Done). is_some o) (sym v.ended.done_is) ∙ ap (λ (x : Exchange). is_some x.initiator.done) (sym l)
+    (let bad : true ≡ false = ap (λ (o : Option Done). is_some o) (sym v.ended.done_is) ∙ ap (λ (x : DiskExchange). is_some x.initiator.done) (sym l)
     ∙ (is_free i request e).none_done in cc)
 serving_accepts (suc n) c i t disk [] h request v l e = absurd l
 serving_accepts (suc n) c i t disk (m ∷ back) h request v l e = (let bad : true ≡ false = sym l.0.busy ∙ (is_free i request e).none_open in cc)
@@ -316,34 +322,34 @@ is_logout most disk (requests.Ping bytes) e = absurd (cc e)
 is_logout most disk (requests.Text bytes) e = absurd (cc e)
 is_logout most disk requests.Logout e = refl
 
-settles : (c : Opening) (held : Held) (h : History) (past : List Request) (request : Request) (i : initiator.Machine) (t : target.Machine)
+settles : (c : Opening) (held : Held) (h : History) (past : List Request) (request : Request) (i : initiator.InitiatorSession) (t : target.Machine)
     → h.requests ≡ past ++ request ∷ []
-    → AreAtRest held (local (pinged c) (disk_after c past) request).outcome i t → AreSettled held h i t
+    → AreAtRest held (local (pinged c) (local_disk_after c past) request).outcome i t → AreSettled held h i t
 settles c held h past request i t all rest =
     elim rest [
       | inl on_ ↦ inl on_
-      | inr over ↦ inr (over.0, (past, all ∙ ap (λ (r : Request). past ++ r ∷ []) (is_logout (pinged c) (disk_after c past) request over.1)))
+      | inr over ↦ inr (over.0, (past, all ∙ ap (λ (r : Request). past ++ r ∷ []) (is_logout (pinged c) (local_disk_after c past) request over.1)))
     ]
 
 -- the outcome that is there is the last request's, and no answer is on its way
-record IsDone (c : Opening) (held : Held) (x : Exchange) (h : History) (d : Done) : Type 0 where
+record IsDone (c : Opening) (held : Held) (x : DiskExchange) (h : History) (d : Done) : Type 0 where
   silent : x.answers ≡ []
-  settled : AreSettled held h (taken x.initiator) x.target
-  disk_is : x.disk ≡ disk_after c h.requests
+  settled : AreSettled held h (outcome_taken x.initiator) x.target
+  disk_is : x.disk ≡ local_disk_after c h.requests
   outcomes_are : h.outcomes ++ d ∷ [] ≡ disk_outcomes c h.requests
 
-serving_done : (n : ℕ) (c : Opening) (i : initiator.Machine) (t : target.Machine) (disk : Disk) (back : List Message) (h : History) (d : Done)
+serving_done : (n : ℕ) (c : Opening) (i : initiator.InitiatorSession) (t : target.Machine) (disk : Disk) (back : List Message) (h : History) (d : Done)
     (v : IsServing c (between i t disk back) h) → Leads v.held n (between i t disk back) v.last → i.done ≡ Some d
     → IsDone c v.held (between i t disk back) h d
 serving_done zero c i t disk back h d v l is =
-    let here : Local = local (pinged c) (disk_after c v.past) v.request in
-    let one : here.outcome ≡ d = (let e : Some here.outcome ≡ Some d = sym v.ended.done_is ∙ ap (λ (x : Exchange). x.initiator.done) (sym l) ∙ is in cc) in
+    let here : Local = local (pinged c) (local_disk_after c v.past) v.request in
+    let one : here.outcome ≡ d = (let e : Some here.outcome ≡ Some d = sym v.ended.done_is ∙ ap (λ (x : DiskExchange). x.initiator.done) (sym l) ∙ is in cc) in
     record {
-      silent = ap (λ (x : Exchange). x.answers) l ∙ v.ended.silent;
-      settled = settles c v.held h v.past v.request (taken i) t v.requests_are
-          (subst (λ (x : Exchange). AreAtRest v.held here.outcome (taken x.initiator) x.target) (sym l) v.ended.at_rest);
-      disk_is = ap (λ (x : Exchange). x.disk) l ∙ v.ended.disk_is ∙ sym (disk_more (pinged c) (disk_of c.blocks) v.past v.request)
-          ∙ ap (disk_after c) (sym v.requests_are);
+      silent = ap (λ (x : DiskExchange). x.answers) l ∙ v.ended.silent;
+      settled = settles c v.held h v.past v.request (outcome_taken i) t v.requests_are
+          (subst (λ (x : DiskExchange). AreAtRest v.held here.outcome (outcome_taken x.initiator) x.target) (sym l) v.ended.at_rest);
+      disk_is = ap (λ (x : DiskExchange). x.disk) l ∙ v.ended.disk_is ∙ sym (disk_more (pinged c) (disk_of c.blocks) v.past v.request)
+          ∙ ap (local_disk_after c) (sym v.requests_are);
       outcomes_are = ap (λ (x : List Done). x ++ d ∷ []) v.outcomes_are ∙ ap (λ (x : Done). disk_outcomes c v.past ++ x ∷ []) (sym one)
           ∙ sym (outcomes_more (pinged c) (disk_of c.blocks) v.past v.request) ∙ ap (disk_outcomes c) (sym v.requests_are);
     }
@@ -352,7 +358,8 @@ serving_done (suc n) c i t disk (m ∷ back) h d v l is = absurd (let bad : None
 
 -- ---- the relation is kept
 
-pub serves_receives : (c : Opening) (i : initiator.Machine) (t : target.Machine) (disk : Disk) (m : Message) (back : List Message) (there here : Logins) (h :
+pub serves_receives : (c : Opening) (i : initiator.InitiatorSession) (t : target.Machine) (disk : Disk) (m : Message) (back : List Message)
+    (there here : Logins) (h :
     History)
     → IsNormal c → Serves c (between i t disk (m ∷ back)) (so_far there here h)
     → Goes (limits_of c) (Serves c) (between i t disk back) m (so_far there here h)
@@ -360,7 +367,7 @@ serves_receives c i t disk m back there here h o (Logs l) = login_goes c i t dis
 serves_receives c i t disk m back there here h o (Rest r) = absurd (let bad : m ∷ back ≡ [] = r.none_back in cc)
 serves_receives c i t disk m back there here h o (Serve v) = serving_goes v.leads.0 v.leads.1 c i t disk m back there here h v v.leads.2
 
-pub serves_asks : (c : Opening) (i : initiator.Machine) (t : target.Machine) (disk : Disk) (back : List Message) (there here : Logins) (h : History)
+pub serves_asks : (c : Opening) (i : initiator.InitiatorSession) (t : target.Machine) (disk : Disk) (back : List Message) (there here : Logins) (h : History)
     (request : Request) → Serves c (between i t disk back) (so_far there here h) → IsServed request → (submitted i request).refusal ≡ None
     → Sends (limits_of c) (Serves c) (between (submitted i request).machine t disk back) (submitted i request).output
     (so_far there here (record h { requests = h.requests ++ request ∷ [] }))
@@ -375,9 +382,10 @@ serves_asks c i t disk back there here h request (Rest r) served e =
     ])
 serves_asks c i t disk back there here h request (Serve v) served e = absurd (serving_accepts v.leads.0 c i t disk back h request v v.leads.2 e)
 
-pub serves_takes : (c : Opening) (i : initiator.Machine) (t : target.Machine) (disk : Disk) (back : List Message) (there here : Logins) (h : History) (d : Done)
+pub serves_takes : (c : Opening) (i : initiator.InitiatorSession) (t : target.Machine) (disk : Disk) (back : List Message) (there here : Logins) (h : History)
+    (d : Done)
     → Serves c (between i t disk back) (so_far there here h) → i.done ≡ Some d
-    → Serves c (between (taken i) t disk back) (so_far there here (record h { outcomes = h.outcomes ++ d ∷ [] }))
+    → Serves c (between (outcome_taken i) t disk back) (so_far there here (record h { outcomes = h.outcomes ++ d ∷ [] }))
 serves_takes c i t disk back there here h d (Logs l) is = absurd (let bad : None ≡ Some d = sym l.asking.no_outcome ∙ is in cc)
 serves_takes c i t disk back there here h d (Rest r) is = absurd (let bad : None ≡ Some d = sym r.none_done ∙ is in cc)
 serves_takes c i t disk back there here h d (Serve v) is =
@@ -407,13 +415,13 @@ pub record AreFirst (c : Opening) (h : History) : Type 0 where
   pub one : length later ≤ 1
   pub is : h.outcomes ++ later ≡ disk_outcomes c h.requests
 
-pub first_outcomes : (c : Opening) (i : initiator.Machine) (t : target.Machine) (disk : Disk) (back : List Message) (there here : Logins) (h : History)
+pub first_outcomes : (c : Opening) (i : initiator.InitiatorSession) (t : target.Machine) (disk : Disk) (back : List Message) (there here : Logins) (h : History)
     → Serves c (between i t disk back) (so_far there here h) → AreFirst c h
 unfolding local_outcomes
 first_outcomes c i t disk back there here h (Logs l) = subst (AreFirst c) (sym l.none) (record { later = []; one = omega arith; is = refl })
 first_outcomes c i t disk back there here h (Rest r) = record { later = []; one = omega arith; is = append-nil h.outcomes ∙ r.outcomes_are }
 first_outcomes c i t disk back there here h (Serve v) =
-    let d : Done = (local (pinged c) (disk_after c v.past) v.request).outcome in
+    let d : Done = (local (pinged c) (local_disk_after c v.past) v.request).outcome in
     record {
       later = d ∷ [];
       one = omega arith;
@@ -422,29 +430,29 @@ first_outcomes c i t disk back there here h (Serve v) =
     }
 
 -- with nothing on its way every request has its outcome
-pub record IsIdle (c : Opening) (i : initiator.Machine) (t : target.Machine) (disk : Disk) (h : History) : Type 0 where
+pub record IsIdle (c : Opening) (i : initiator.InitiatorSession) (t : target.Machine) (disk : Disk) (h : History) : Type 0 where
   pub held : Held
-  pub at_rest : AreSettled held h (taken i) t
-  pub disk_is : disk ≡ disk_after c h.requests
+  pub at_rest : AreSettled held h (outcome_taken i) t
+  pub disk_is : disk ≡ local_disk_after c h.requests
   pub outcomes_are : h.outcomes ++ listed i.done ≡ disk_outcomes c h.requests
 
-idle_serving : (n : ℕ) (c : Opening) (i : initiator.Machine) (t : target.Machine) (disk : Disk) (h : History) (v : IsServing c (between i t disk []) h)
+idle_serving : (n : ℕ) (c : Opening) (i : initiator.InitiatorSession) (t : target.Machine) (disk : Disk) (h : History) (v : IsServing c (between i t disk []) h)
     → Leads v.held n (between i t disk []) v.last → IsIdle c i t disk h
 idle_serving zero c i t disk h v l =
-    let d : Done = (local (pinged c) (disk_after c v.past) v.request).outcome in
-    let is : i.done ≡ Some d = ap (λ (x : Exchange). x.initiator.done) l ∙ v.ended.done_is in
+    let d : Done = (local (pinged c) (local_disk_after c v.past) v.request).outcome in
+    let is : i.done ≡ Some d = ap (λ (x : DiskExchange). x.initiator.done) l ∙ v.ended.done_is in
     let e : IsDone c v.held (between i t disk []) h d = serving_done zero c i t disk [] h d v l is in
     record { held = v.held; at_rest = e.settled; disk_is = e.disk_is; outcomes_are = ap (λ (o : Option Done). h.outcomes ++ listed o) is ∙ e.outcomes_are }
 idle_serving (suc n) c i t disk h v l = absurd l
 
-pub idle_serves : (c : Opening) (i : initiator.Machine) (t : target.Machine) (disk : Disk) (there here : Logins) (h : History)
+pub idle_serves : (c : Opening) (i : initiator.InitiatorSession) (t : target.Machine) (disk : Disk) (there here : Logins) (h : History)
     → Serves c (between i t disk []) (so_far there here h) → IsIdle c i t disk h
 idle_serves c i t disk there here h (Logs l) = absurd (let bad : [] ≡ l.turn.answer ∷ [] = l.back_is in cc)
 idle_serves c i t disk there here h (Rest r) =
-    let none : taken i ≡ i = ap (λ (d : Option Done). record i { done = d }) (sym r.none_done) in
+    let none : outcome_taken i ≡ i = ap (λ (d : Option Done). record i { done = d }) (sym r.none_done) in
     record {
       held = r.held;
-      at_rest = subst (λ (x : initiator.Machine). AreSettled r.held h x t) (sym none) r.at_rest;
+      at_rest = subst (λ (x : initiator.InitiatorSession). AreSettled r.held h x t) (sym none) r.at_rest;
       disk_is = r.disk_is;
       outcomes_are = ap (λ (o : Option Done). h.outcomes ++ listed o) r.none_done ∙ append-nil h.outcomes ∙ r.outcomes_are;
     }

@@ -8,10 +8,10 @@ use Rattle.scsi_disk.specs.Disk.{Disk, disk_of}
 use Rattle.iscsi_stream.specs.declared.fault.StreamFault.{StreamFault}
 use Rattle.iscsi_stream.specs.declared.fault.StreamFault.TheVariants as stream
 use Rattle.iscsi_stream.specs.declared.logins.Logins.{Logins}
-use Rattle.iscsi_stream.specs.Segment.{no_login, after}
-use Rattle.iscsi_stream.specs.Stream.{Message, ReadsAs, after_all}
+use Rattle.iscsi_stream.specs.Segment.{no_login, logins_after}
+use Rattle.iscsi_stream.specs.Stream.{Message, ReadsAs, logins_after_all}
 use Rattle.iscsi_stream.specs.Canonical.{canon}
-use Rattle.iscsi_stream.specs.Framing.{Framing, HasTaken, FeedFails, is_ready}
+use Rattle.iscsi_stream.specs.Framing.{Framing, HasTaken, FramerFeedFails, is_ready}
 use Rattle.iscsi_stream.proofs.TakingLemmas.{at_opening}
 use Rattle.iscsi_stream.proofs.ReadyLemmas.{apart, not_whole-nil}
 use Rattle.iscsi_login.specs.declared.phase.Phase.{Phase}
@@ -29,19 +29,19 @@ use Rattle.iscsi_initiator.specs.declared.request.Refused.{Refused}
 use Rattle.iscsi_initiator.specs.declared.request.SubmitFault.{SubmitFault}
 use Rattle.iscsi_initiator.specs.declared.request.SubmitFault.TheVariants as refusals
 use Rattle.iscsi_initiator.specs.State as initiator
-use Rattle.iscsi_initiator.specs.State.{is_closed}
+use Rattle.iscsi_initiator.specs.State.{is_session_closed}
 use Rattle.iscsi_initiator.specs.Steps as initiator_steps
 use Rattle.iscsi_initiator.specs.Login.{start_step}
-use Rattle.iscsi_initiator.specs.Machine.{steps, taken}
-use Rattle.iscsi_initiator.specs.Submitted.{submitted, accepted, or_accepted, refusal}
+use Rattle.iscsi_initiator.specs.Machine.{steps, outcome_taken}
+use Rattle.iscsi_initiator.specs.Submitted.{submitted, accepted, or_accepted, submit_refusal}
 use Rattle.iscsi_initiator.specs.Laws.{listed}
 use Rattle.iscsi_initiator.specs.Calls as calls
 use Rattle.iscsi_initiator.specs.Calls.{received_steps}
 use Rattle.iscsi_pair.specs.declared.step.EndFault.{EndFault}
 use Rattle.iscsi_pair.specs.declared.step.EndFault.TheVariants as ends
-use Rattle.iscsi_pair.specs.World.{World, Opening, Event, ToTarget, ToInitiator, Submits, Takes, InitiatorReceives, MovesToInitiator, Asks, Happens, new_pair}
+use Rattle.iscsi_pair.specs.World.{World, Opening, PairEvent, ToTarget, ToInitiator, Submits, Takes, InitiatorReceives, MovesToInitiator, RequestHandedIn, PairEventStep, new_pair}
 use Rattle.iscsi_pair.specs.World.{feed_fault, submit_fault, target_ran_out, initiator_ran_out, keeps_no_memory}
-use Rattle.iscsi_pair.specs.Served.{IsServed, IsAccepted, RunsServed, requests_of, requests_in, given_in}
+use Rattle.iscsi_pair.specs.Served.{IsServed, IsAccepted, RunsServed, requests_of, requests_in, pair_outcome_in}
 use Rattle.iscsi_pair.proofs.Login.NoFailure.{both_none}
 use Rattle.iscsi_pair.proofs.Ends.InitiatorRun.{begun, begun_open}
 use Rattle.iscsi_pair.proofs.Request.Invariant.{AreWritten, History, Relation, Sends, IsKept, between, so_far, limits_of}
@@ -54,48 +54,54 @@ use Rattle.iscsi_pair.proofs.Run.CarriedBytes.{some_moves, to_target}
 
 -- what a call of the initiator read, and how the rest stands
 record InitiatorTurn {c : Opening} {P : Relation} {h : History} {old : World} (Q : Relation) (s : Stands c P h old) (v : Framing) (unreceived more : List ℕ)
-    (r : initiator_steps.Stepped) : Type 0 where
+    (r : initiator_steps.InitiatorStep) : Type 0 where
   fault : r.fault ≡ None
   left : List Message
-  talks : Talks (calls.limit c.initiator) Q (between r.machine s.session s.disk left) (s.out ++ r.output) (so_far (after_all s.there r.output) s.here h)
-  unread : is_ready v ≡ false → Unread (calls.limit c.initiator) v (unreceived ++ more) left s.here
-  none : is_closed r.machine ≡ true → (left ≡ []) × (unreceived ++ more ≡ [])
-  refuses : (f : StreamFault) → f ≢ stream.NoMemory → FeedFails v unreceived f → ⊥
-  to_target : Way (target_machine.is_closed s.session) (target_session.limit c.target) old.target.framing (old.to_target ++ canon r.output) (s.out ++ r.output)
-      (after_all s.there r.output)
+  talks : Talks (calls.initiator_limit c.initiator) Q (between r.machine s.session s.disk left) (s.out ++ r.output)
+      (so_far (logins_after_all s.there r.output) s.here h)
+  unread : is_ready v ≡ false → Unread (calls.initiator_limit c.initiator) v (unreceived ++ more) left s.here
+  none : is_session_closed r.machine ≡ true → (left ≡ []) × (unreceived ++ more ≡ [])
+  refuses : (f : StreamFault) → f ≢ stream.NoMemory → FramerFeedFails v unreceived f → ⊥
+  to_target : Way (target_machine.is_machine_closed s.session) (target_session.target_limit c.target) old.target.framing (old.to_target ++ canon r.output)
+      (s.out ++ r.output)
+      (logins_after_all s.there r.output)
 
 -- what the target's side has on its way where more is sent
-target_way : (c : Opening) (P Q : Relation) (h : History) (old : World) (s : Stands c P h old) (most : ℕ) (i : initiator.Machine) (more back : List Message)
+target_way : (c : Opening) (P Q : Relation) (h : History) (old : World) (s : Stands c P h old) (most : ℕ) (i : initiator.InitiatorSession)
+    (more back : List Message)
     (there here : Logins) (g : History)
-    → Talks most Q (between i s.session s.disk back) (s.out ++ more) (so_far there here g) → AreWritten (target_session.limit c.target) s.there more
-    → Way (target_machine.is_closed s.session) (target_session.limit c.target) old.target.framing (old.to_target ++ canon more) (s.out ++ more)
-    (after_all s.there more)
+    → Talks most Q (between i s.session s.disk back) (s.out ++ more) (so_far there here g) → AreWritten (target_session.target_limit c.target) s.there more
+    → Way (target_machine.is_machine_closed s.session) (target_session.target_limit c.target) old.target.framing (old.to_target ++ canon more) (s.out ++ more)
+    (logins_after_all s.there more)
 target_way c P Q h old s most i more back there here g talks written =
-    way_sends (target_machine.is_closed s.session) (target_session.limit c.target) old.target.framing old.to_target s.out s.there more s.to_target written
+    way_sends (target_machine.is_machine_closed s.session) (target_session.target_limit c.target) old.target.framing old.to_target s.out s.there more
+    s.to_target written
     (λ over. (both_none s.out more (open_none s.session s.disk (s.out ++ more) talks.received.open_ over)).1)
 
 -- these messages, and others behind them, are received so
 abbrev Receives : (c : Opening) (P Q : Relation) (h : History) (old : World) → Stands c P h old → List Message → Type 0
 Receives c P Q h old s ms = (left : List Message)
-    → Talks (calls.limit c.initiator) P (between old.initiator.machine s.session s.disk (ms ++ left)) s.out (so_far s.there s.here h)
+    → Talks (calls.initiator_limit c.initiator) P (between old.initiator.machine s.session s.disk (ms ++ left)) s.out (so_far s.there s.here h)
     → ReceivesOn (limits_of c) Q (between old.initiator.machine s.session s.disk left) (steps old.initiator.machine ms) s.out (so_far s.there s.here h)
 
 -- a call of the initiator is such a turn
 initiator_turn : (c : Opening) (P Q : Relation) (h : History) (old : World) (k : ℕ) (moved : List ℕ) → Keeps c Q → (s : Stands c P h old)
-    → Unread (calls.limit c.initiator) old.initiator.framing old.to_initiator s.back s.here → moved ≡ take k old.to_initiator
-    → (f : calls.Received old.initiator moved) → Receives c P Q h old s f.messages
+    → Unread (calls.initiator_limit c.initiator) old.initiator.framing old.to_initiator s.back s.here → moved ≡ take k old.to_initiator
+    → (f : calls.ReceivedPdus old.initiator moved) → Receives c P Q h old s f.messages
     → InitiatorTurn Q s f.framing (drop f.count moved) (drop (length moved) old.to_initiator) (received_steps old.initiator moved f)
 initiator_turn c P Q h old k moved kept s u m f receives =
-    let r : initiator_steps.Stepped = steps old.initiator.machine f.messages in
+    let r : initiator_steps.InitiatorStep = steps old.initiator.machine f.messages in
     let piece : List ℕ = take f.count moved in
     let more : List ℕ = drop f.count moved ++ drop (length moved) old.to_initiator in
     let q : old.to_initiator ≡ piece ++ more = front_moves k f.count old.to_initiator moved m in
     let t : HasTaken (u.stream ++ piece) (u.received ++ f.messages) f.framing = f.moves u.stream u.received u.taken in
-    let bound : f.framing.limit ≡ calls.limit c.initiator = f.limit ∙ u.limit_is in
-    let on : MovesOn (calls.limit c.initiator) u.received s.back f.messages t.rest more =
-    moves_on (calls.limit c.initiator) old.initiator.framing old.to_initiator s.back s.here piece more f.messages f.framing u q t bound in
-    let talks : Talks (calls.limit c.initiator) P (between old.initiator.machine s.session s.disk (f.messages ++ on.left)) s.out (so_far s.there s.here h) =
-    subst (λ (x : List Message). Talks (calls.limit c.initiator) P (between old.initiator.machine s.session s.disk x) s.out (so_far s.there s.here h)) on.whole
+    let bound : f.framing.limit ≡ calls.initiator_limit c.initiator = f.limit ∙ u.limit_is in
+    let on : MovesOn (calls.initiator_limit c.initiator) u.received s.back f.messages t.rest more =
+    moves_on (calls.initiator_limit c.initiator) old.initiator.framing old.to_initiator s.back s.here piece more f.messages f.framing u q t bound in
+    let talks : Talks (calls.initiator_limit c.initiator) P (between old.initiator.machine s.session s.disk (f.messages ++ on.left)) s.out
+    (so_far s.there s.here h) =
+    subst (λ (x : List Message). Talks (calls.initiator_limit c.initiator) P (between old.initiator.machine s.session s.disk x) s.out (so_far s.there s.here h))
+    on.whole
     (talks_of c P h old s) in
     let has : ReceivesOn (limits_of c) Q (between old.initiator.machine s.session s.disk on.left) r s.out (so_far s.there s.here h) =
     receives on.left talks in
@@ -103,21 +109,24 @@ initiator_turn c P Q h old k moved kept s u m f receives =
       fault = has.fault;
       left = on.left;
       talks = has.talks;
-      unread = λ ready. still_unread (calls.limit c.initiator) old.initiator.framing old.to_initiator s.back s.here piece more f.messages on.left f.framing u q
+      unread = λ ready. still_unread (calls.initiator_limit c.initiator) old.initiator.framing old.to_initiator s.back s.here piece more f.messages on.left
+          f.framing u q
           t bound ready on.whole;
       none = λ over.
-          let left = over_none (target_session.limit c.target) (calls.limit c.initiator) Q kept r.machine s.session s.disk (s.out ++ r.output) on.left
-          (after_all s.there r.output) s.here h has.talks over in
-          (left, none_more (calls.limit c.initiator) u.received s.back f.messages t.rest more on left);
+          let left = over_none (target_session.target_limit c.target) (calls.initiator_limit c.initiator) Q kept r.machine s.session s.disk (s.out ++ r.output)
+          on.left
+          (logins_after_all s.there r.output) s.here h has.talks over in
+          (left, none_more (calls.initiator_limit c.initiator) u.received s.back f.messages t.rest more on left);
       refuses = λ fault some fails. refuses_nothing fault f.framing (u.stream ++ piece) (u.received ++ f.messages) (drop f.count moved) (t.rest ++ more)
           (drop (length moved) old.to_initiator)
-          (after_all no_login (u.received ++ f.messages)) on.left t some fails refl
-          (subst (λ (n : ℕ). ReadsAs n (after_all no_login (u.received ++ f.messages)) (t.rest ++ more) on.left) (sym bound) on.reads);
-      to_target = target_way c P Q h old s (calls.limit c.initiator) r.machine r.output on.left (after_all s.there r.output) s.here h has.talks has.written;
+          (logins_after_all no_login (u.received ++ f.messages)) on.left t some fails refl
+          (subst (λ (n : ℕ). ReadsAs n (logins_after_all no_login (u.received ++ f.messages)) (t.rest ++ more) on.left) (sym bound) on.reads);
+      to_target = target_way c P Q h old s (calls.initiator_limit c.initiator) r.machine r.output on.left (logins_after_all s.there r.output) s.here h has.talks
+          has.written;
     }
 
 -- what a step of the initiator changes of a world
-record Changes (old new : World) (machine : initiator.Machine) (output : List Message) : Type 0 where
+record Changes (old new : World) (machine : initiator.InitiatorSession) (output : List Message) : Type 0 where
   target_well : new.target_fault ≡ None
   initiator_well : new.initiator_fault ≡ None
   target : new.target ≡ old.target
@@ -126,12 +135,14 @@ record Changes (old new : World) (machine : initiator.Machine) (output : List Me
   queue : new.to_target ≡ old.to_target ++ canon output
 
 -- the initiator is where a step has led that sent more
-initiator_stands : (c : Opening) (P Q : Relation) (h g : History) (old new : World) (s : Stands c P h old) (i : initiator.Machine) (output left : List Message)
+initiator_stands : (c : Opening) (P Q : Relation) (h g : History) (old new : World) (s : Stands c P h old) (i : initiator.InitiatorSession)
+    (output left : List Message)
     → Changes old new i output
-    → Talks (calls.limit c.initiator) Q (between i s.session s.disk left) (s.out ++ output) (so_far (after_all s.there output) s.here g)
-    → Way (target_machine.is_closed s.session) (target_session.limit c.target) old.target.framing (old.to_target ++ canon output) (s.out ++ output)
-    (after_all s.there output)
-    → Way (is_closed new.initiator.machine) (calls.limit c.initiator) new.initiator.framing new.to_initiator left s.here → Stands c Q g new
+    → Talks (calls.initiator_limit c.initiator) Q (between i s.session s.disk left) (s.out ++ output) (so_far (logins_after_all s.there output) s.here g)
+    → Way (target_machine.is_machine_closed s.session) (target_session.target_limit c.target) old.target.framing (old.to_target ++ canon output)
+    (s.out ++ output)
+    (logins_after_all s.there output)
+    → Way (is_session_closed new.initiator.machine) (calls.initiator_limit c.initiator) new.initiator.framing new.to_initiator left s.here → Stands c Q g new
 initiator_stands c P Q h g old new s i output left e talks there back = record {
   target_well = e.target_well;
   initiator_well = e.initiator_well;
@@ -139,77 +150,82 @@ initiator_stands c P Q h g old new s i output left e talks there back = record {
   disk = s.disk;
   out = s.out ++ output;
   back = left;
-  there = after_all s.there output;
+  there = logins_after_all s.there output;
   here = s.here;
-  machine = ap (λ (x : target_calls.Connection). x.machine) e.target ∙ s.machine;
+  machine = ap (λ (x : target_calls.TargetConnection). x.machine) e.target ∙ s.machine;
   disk_is = ap disk_of e.blocks ∙ s.disk_is;
-  to_target = subst (λ (x : target_calls.Connection). Way (target_machine.is_closed s.session) (target_session.limit c.target) x.framing new.to_target
-      (s.out ++ output) (after_all s.there output)) (sym e.target)
-      (subst (λ (x : List ℕ). Way (target_machine.is_closed s.session) (target_session.limit c.target) old.target.framing x (s.out ++ output)
-      (after_all s.there output)) (sym e.queue) there);
+  to_target = subst (λ (x : target_calls.TargetConnection). Way (target_machine.is_machine_closed s.session) (target_session.target_limit c.target) x.framing
+      new.to_target
+      (s.out ++ output) (logins_after_all s.there output)) (sym e.target)
+      (subst (λ (x : List ℕ). Way (target_machine.is_machine_closed s.session) (target_session.target_limit c.target) old.target.framing x (s.out ++ output)
+      (logins_after_all s.there output)) (sym e.queue) there);
   to_initiator = back;
   received = talks.received;
-  kept = subst (λ (x : initiator.Machine). Q (between x (answers false s.session s.disk (s.out ++ output)).machine
+  kept = subst (λ (x : initiator.InitiatorSession). Q (between x (answers false s.session s.disk (s.out ++ output)).machine
       (answers false s.session s.disk (s.out ++ output)).disk
       (left ++ (answers false s.session s.disk (s.out ++ output)).answers))
-      (so_far (after_all s.there output) (after_all s.here (answers false s.session s.disk (s.out ++ output)).answers) g)) (sym e.initiator) talks.kept;
+      (so_far (logins_after_all s.there output) (logins_after_all s.here (answers false s.session s.disk (s.out ++ output)).answers) g)) (sym e.initiator)
+      talks.kept;
 }
 
 -- a turn that goes on
 goes_on : (c : Opening) (P Q : Relation) (h : History) (old new : World) (moved : List ℕ) (phase : Phase) → (s : Stands c P h old)
-    → (f : calls.Received old.initiator moved)
+    → (f : calls.ReceivedPdus old.initiator moved)
     → InitiatorTurn Q s f.framing (drop f.count moved) (drop (length moved) old.to_initiator) (received_steps old.initiator moved f)
-    → calls.ReceivesAll f new.initiator old.to_target new.to_target phase → new.target_fault ≡ None → new.initiator_fault ≡ None
+    → calls.ReceivesWholePiece f new.initiator old.to_target new.to_target phase → new.target_fault ≡ None → new.initiator_fault ≡ None
     → new.target ≡ old.target → new.blocks ≡ old.blocks
     → new.to_initiator ≡ drop (length moved) old.to_initiator → Stands c Q h new
 goes_on c P Q h old new moved phase s f t e there well target_ blocks dropped =
-    let r : initiator_steps.Stepped = received_steps old.initiator moved f in
+    let r : initiator_steps.InitiatorStep = received_steps old.initiator moved f in
     initiator_stands c P Q h h old new s r.machine r.output t.left
     (record {
       target_well = there;
       initiator_well = well;
       target = target_;
       blocks = blocks;
-      initiator = ap (λ (x : calls.Connection). x.machine) e.connection;
+      initiator = ap (λ (x : calls.InitiatorConnection). x.machine) e.connection;
       queue = e.output;
     }) t.talks t.to_target
     (inl (
-      ap (λ (x : calls.Connection). is_closed x.machine) e.connection ∙ e.live,
-      subst (λ (x : calls.Connection). Unread (calls.limit c.initiator) x.framing new.to_initiator t.left s.here) (sym e.connection)
-          (subst (λ (x : List ℕ). Unread (calls.limit c.initiator) f.framing x t.left s.here) (no_bytes f.count moved (drop (length moved) old.to_initiator)
+      ap (λ (x : calls.InitiatorConnection). is_session_closed x.machine) e.connection ∙ e.live,
+      subst (λ (x : calls.InitiatorConnection). Unread (calls.initiator_limit c.initiator) x.framing new.to_initiator t.left s.here) (sym e.connection)
+          (subst (λ (x : List ℕ). Unread (calls.initiator_limit c.initiator) f.framing x t.left s.here)
+          (no_bytes f.count moved (drop (length moved) old.to_initiator)
           e.all ∙ sym dropped) (t.unread e.unready)),
     ))
 
 -- a turn that closes the session
 closes : (c : Opening) (P Q : Relation) (h : History) (old new : World) (moved : List ℕ) (fault : Option InitiatorFault) → (s : Stands c P h old)
-    → (f : calls.Received old.initiator moved)
+    → (f : calls.ReceivedPdus old.initiator moved)
     → InitiatorTurn Q s f.framing (drop f.count moved) (drop (length moved) old.to_initiator) (received_steps old.initiator moved f)
-    → calls.ClosesAt f new.initiator old.to_target new.to_target fault → new.target_fault ≡ None → new.initiator_fault ≡ None
+    → calls.PieceClosesSession f new.initiator old.to_target new.to_target fault → new.target_fault ≡ None → new.initiator_fault ≡ None
     → new.target ≡ old.target → new.blocks ≡ old.blocks
     → new.to_initiator ≡ drop (length moved) old.to_initiator → Stands c Q h new
 closes c P Q h old new moved fault s f t e there well target_ blocks dropped =
-    let r : initiator_steps.Stepped = received_steps old.initiator moved f in
+    let r : initiator_steps.InitiatorStep = received_steps old.initiator moved f in
     let none = t.none e.closes in
     initiator_stands c P Q h h old new s r.machine r.output t.left
     (record { target_well = there; initiator_well = well; target = target_; blocks = blocks; initiator = e.machine; queue = e.output }) t.talks t.to_target
-    (inr (ap is_closed e.machine ∙ e.closes, dropped ∙ (both_none (drop f.count moved) (drop (length moved) old.to_initiator) none.1).1, none.0))
+    (inr (ap is_session_closed e.machine ∙ e.closes, dropped ∙ (both_none (drop f.count moved) (drop (length moved) old.to_initiator) none.1).1, none.0))
 
 -- no message of a turn leads to a fault
-not_caused : (c : Opening) (P : Relation) (h : History) (old : World) (moved : List ℕ) (fault : InitiatorFault) (new : calls.Connection) (after : List ℕ)
-    → (s : Stands c P h old) → (f : calls.Received old.initiator moved)
+not_caused : (c : Opening) (P : Relation) (h : History) (old : World) (moved : List ℕ) (fault : InitiatorFault) (new : calls.InitiatorConnection)
+    (after : List ℕ)
+    → (s : Stands c P h old) → (f : calls.ReceivedPdus old.initiator moved)
     → InitiatorTurn P s f.framing (drop f.count moved) (drop (length moved) old.to_initiator) (received_steps old.initiator moved f)
-    → calls.ClosesAt f new old.to_target after (Some fault) → ⊥
+    → calls.PieceClosesSession f new old.to_target after (Some fault) → ⊥
 not_caused c P h old moved fault new after s f t e = (let bad : None ≡ Some fault = sym t.fault ∙ e.cause in absurd cc)
 
 -- what the calls of an initiator read
 abbrev Turns : (c : Opening) (P : Relation) (h : History) (old : World) → Stands c P h old → List ℕ → Type 0
-Turns c P h old s moved = (f : calls.Received old.initiator moved)
+Turns c P h old s moved = (f : calls.ReceivedPdus old.initiator moved)
     → InitiatorTurn P s f.framing (drop f.count moved) (drop (length moved) old.to_initiator) (received_steps old.initiator moved f)
 
 -- the framer refuses nothing
-stream_fails : (fault : StreamFault) (c : Opening) (P : Relation) (h : History) (old : World) (moved : List ℕ) (new : calls.Connection) (after : List ℕ)
+stream_fails : (fault : StreamFault) (c : Opening) (P : Relation) (h : History) (old : World) (moved : List ℕ) (new : calls.InitiatorConnection)
+    (after : List ℕ)
     → (s : Stands c P h old) → Turns c P h old s moved
-    → calls.Feeds (Err (faults.Stream fault)) old.initiator moved new old.to_target after → ⊥
+    → calls.InitiatorFeedPost (Err (faults.Stream fault)) old.initiator moved new old.to_target after → ⊥
 stream_fails stream.NoMemory c P h old moved new after s t e = e
 stream_fails (stream.Head f place) c P h old moved new after s t e = (t e.0).refuses (stream.Head f place) (λ bad. cc bad) e.1.refused
 stream_fails (stream.OverLimit place) c P h old moved new after s t e = (t e.0).refuses (stream.OverLimit place) (λ bad. cc bad) e.1.refused
@@ -218,8 +234,8 @@ stream_fails stream.Failed c P h old moved new after s t e = (t e.0).refuses str
 
 -- however the call ends
 initiator_ends : (result : Result Phase InitiatorFault) (c : Opening) (P : Relation) (h : History) (old new : World) (moved : List ℕ) → (s : Stands c P h old)
-    → Turns c P h old s moved → is_closed old.initiator.machine ≡ false
-    → calls.Feeds result old.initiator moved new.initiator old.to_target new.to_target → new.initiator_fault ≡ feed_fault (result_err result)
+    → Turns c P h old s moved → is_session_closed old.initiator.machine ≡ false
+    → calls.InitiatorFeedPost result old.initiator moved new.initiator old.to_target new.to_target → new.initiator_fault ≡ feed_fault (result_err result)
     → initiator_ran_out new.initiator_fault ≡ false
     → new.target_fault ≡ None → new.target ≡ old.target → new.blocks ≡ old.blocks → new.to_initiator ≡ drop (length moved) old.to_initiator → Stands c P h new
 initiator_ends (Ok phase) c P h old new moved s t live e fault memory there target_ blocks dropped =
@@ -247,7 +263,8 @@ initiator_receives c P h old new k byte bytes kept s m e memory =
     elim s.to_initiator [
       | inl on ↦
           initiator_ends e.result c P h old new (byte ∷ bytes) s (λ f. initiator_turn c P P h old k (byte ∷ bytes) kept s on.1 m f
-          (λ left talks. initiator_received (target_session.limit c.target) (calls.limit c.initiator) P kept old.initiator.machine s.session s.disk s.out
+          (λ left talks. initiator_received (target_session.target_limit c.target) (calls.initiator_limit c.initiator) P kept old.initiator.machine s.session
+          s.disk s.out
           f.messages left s.there s.here h talks)) on.0 e.fed e.fault memory
           (e.other_fault ∙ s.target_well) e.target e.blocks e.dropped
       | inr over ↦ absurd (let none : byte ∷ bytes ≡ [] = some_moves k old.to_initiator (byte ∷ bytes) m over.1 in cc)
@@ -260,41 +277,42 @@ receives_first : (ms : List Message) (c : Opening) (P Q : Relation) (h : History
     → (s : Stands c P h old) → (ms ≡ [] → ⊥) → Receives c P Q h old s ms
 receives_first [] c P Q h old kept better s some = λ left talks. absurd (some refl)
 receives_first (m ∷ ms) c P Q h old kept better s some = λ left talks.
-    initiator_received_first (target_session.limit c.target) (calls.limit c.initiator) P Q kept better old.initiator.machine s.session s.disk s.out m ms left
+    initiator_received_first (target_session.target_limit c.target) (calls.initiator_limit c.initiator) P Q kept better old.initiator.machine s.session s.disk
+    s.out m ms left
     s.there s.here h talks
 
 -- where no message was received nothing changed
-none_steps : (i : initiator.Machine) (ms : List Message) → ms ≡ [] → (steps i ms).machine ≡ i
+none_steps : (i : initiator.InitiatorSession) (ms : List Message) → ms ≡ [] → (steps i ms).machine ≡ i
 unfolding steps
 none_steps i [] e = refl
 none_steps i (m ∷ ms) e = absurd (cc e)
 
 -- where all bytes moved and none is left in the framer, no message waits but those that were received
 none_waits_more : (c : Opening) (P : Relation) (h : History) (old : World) (k : ℕ) (moved : List ℕ) → (s : Stands c P h old)
-    → Unread (calls.limit c.initiator) old.initiator.framing old.to_initiator s.back s.here → moved ≡ take k old.to_initiator
-    → drop (length moved) old.to_initiator ≡ [] → (f : calls.Received old.initiator moved) → f.count ≡ length moved → is_ready f.framing ≡ false
+    → Unread (calls.initiator_limit c.initiator) old.initiator.framing old.to_initiator s.back s.here → moved ≡ take k old.to_initiator
+    → drop (length moved) old.to_initiator ≡ [] → (f : calls.ReceivedPdus old.initiator moved) → f.count ≡ length moved → is_ready f.framing ≡ false
     → f.messages ≡ [] → s.back ≡ []
 none_waits_more c P h old k moved s u m none f all ready nil =
     let piece : List ℕ = take f.count moved in
     let more : List ℕ = drop f.count moved ++ drop (length moved) old.to_initiator in
     let q : old.to_initiator ≡ piece ++ more = front_moves k f.count old.to_initiator moved m in
     let t : HasTaken (u.stream ++ piece) (u.received ++ f.messages) f.framing = f.moves u.stream u.received u.taken in
-    let bound : f.framing.limit ≡ calls.limit c.initiator = f.limit ∙ u.limit_is in
-    let on : MovesOn (calls.limit c.initiator) u.received s.back f.messages t.rest more =
-    moves_on (calls.limit c.initiator) old.initiator.framing old.to_initiator s.back s.here piece more f.messages f.framing u q t bound in
-    let unread : Unread (calls.limit c.initiator) f.framing more on.left s.here =
-    still_unread (calls.limit c.initiator) old.initiator.framing old.to_initiator s.back s.here piece more f.messages on.left f.framing u q t bound ready on.whole in
-    let left : on.left ≡ [] = way_none false (calls.limit c.initiator) f.framing more on.left s.here (inl (refl, unread))
+    let bound : f.framing.limit ≡ calls.initiator_limit c.initiator = f.limit ∙ u.limit_is in
+    let on : MovesOn (calls.initiator_limit c.initiator) u.received s.back f.messages t.rest more =
+    moves_on (calls.initiator_limit c.initiator) old.initiator.framing old.to_initiator s.back s.here piece more f.messages f.framing u q t bound in
+    let unread : Unread (calls.initiator_limit c.initiator) f.framing more on.left s.here =
+    still_unread (calls.initiator_limit c.initiator) old.initiator.framing old.to_initiator s.back s.here piece more f.messages on.left f.framing u q t bound ready on.whole in
+    let left : on.left ≡ [] = way_none false (calls.initiator_limit c.initiator) f.framing more on.left s.here (inl (refl, unread))
     (no_bytes f.count moved (drop (length moved) old.to_initiator) all ∙ none) in
     on.whole ∙ ap (λ (x : List Message). x ++ on.left) nil ∙ left
 
 some_ends : (result : Result Phase InitiatorFault) (c : Opening) (P Q : Relation) (h : History) (old new : World) (k : ℕ) (moved : List ℕ) → Keeps c Q
     → Improves (limits_of c) P Q → (s : Stands c P h old)
-    → Unread (calls.limit c.initiator) old.initiator.framing old.to_initiator s.back s.here → moved ≡ take k old.to_initiator
+    → Unread (calls.initiator_limit c.initiator) old.initiator.framing old.to_initiator s.back s.here → moved ≡ take k old.to_initiator
     → drop (length moved) old.to_initiator ≡ [] → (s.back ≡ [] → ⊥)
-    → calls.Feeds result old.initiator moved new.initiator old.to_target new.to_target → new.initiator_fault ≡ feed_fault (result_err result)
+    → calls.InitiatorFeedPost result old.initiator moved new.initiator old.to_target new.to_target → new.initiator_fault ≡ feed_fault (result_err result)
     → new.initiator_fault ≡ None → new.target_fault ≡ None → new.target ≡ old.target → new.blocks ≡ old.blocks
-    → new.to_initiator ≡ drop (length moved) old.to_initiator → is_closed old.initiator.machine ≡ false → Stands c Q h new
+    → new.to_initiator ≡ drop (length moved) old.to_initiator → is_session_closed old.initiator.machine ≡ false → Stands c Q h new
 some_ends (Err fault_) c P Q h old new k moved kept better s u m none waits e fault well there target_ blocks dropped live =
     absurd (let bad : None ≡ Some (ends.Feed fault_) = sym well ∙ fault in cc)
 some_ends (Ok phase) c P Q h old new k moved kept better s u m none waits e fault well there target_ blocks dropped live =
@@ -305,7 +323,7 @@ some_ends (Ok phase) c P Q h old new k moved kept better s u m none waits e faul
           all there well target_ blocks dropped
       | inr over ↦ closes c P Q h old new moved None s e.1.0
           (initiator_turn c P Q h old k moved kept s u m e.1.0 (receives_first e.1.0.messages c P Q h old kept better s
-          (λ nil. apart (ap is_closed (sym (none_steps old.initiator.machine e.1.0.messages nil)) ∙ over.0.closes) live)))
+          (λ nil. apart (ap is_session_closed (sym (none_steps old.initiator.machine e.1.0.messages nil)) ∙ over.0.closes) live)))
           over.0 there well target_ blocks dropped
     ]
 
@@ -331,7 +349,7 @@ to_initiator (Some fault) (byte ∷ bytes) c P h old new k kept s none m e memor
 -- ---- requests and outcomes
 
 -- a request that is accepted closes no session
-accepted_open : (m : initiator.Machine) (request : Request) → is_closed (accepted m request).machine ≡ is_closed m
+accepted_open : (m : initiator.InitiatorSession) (request : Request) → is_session_closed (accepted m request).machine ≡ is_session_closed m
 accepted_open m (requests.In lun cdb expected) = refl
 accepted_open m (requests.Out lun cdb bytes) = refl
 accepted_open m (requests.Ping bytes) = refl
@@ -339,14 +357,15 @@ accepted_open m (requests.Text bytes) = refl
 accepted_open m requests.Logout = refl
 
 -- nor does one that is refused
-or_accepted_open : (r : Option SubmitFault) (m : initiator.Machine) (request : Request) → is_closed (or_accepted r m request).machine ≡ is_closed m
+or_accepted_open : (r : Option SubmitFault) (m : initiator.InitiatorSession) (request : Request) → is_session_closed (or_accepted r m request).machine
+    ≡ is_session_closed m
 or_accepted_open None m request = accepted_open m request
 or_accepted_open (Some fault) m request = refl
 
 -- a request closes no session
-submitted_open : (m : initiator.Machine) (request : Request) → is_closed (submitted m request).machine ≡ is_closed m
+submitted_open : (m : initiator.InitiatorSession) (request : Request) → is_session_closed (submitted m request).machine ≡ is_session_closed m
 unfolding submitted
-submitted_open m request = or_accepted_open (refusal m request) m request
+submitted_open m request = or_accepted_open (submit_refusal m request) m request
 
 -- the history behind a request
 abbrev requested : History → Request → History
@@ -354,19 +373,20 @@ requested h request = record h { requests = h.requests ++ request ∷ [] }
 
 -- a request was accepted
 accepts : (c : Opening) (P : Relation) (h : History) (old new : World) (request : Request) → Keeps c P → (s : Stands c P h old) → IsServed request
-    → calls.Accepts old.initiator request new.initiator old.to_target new.to_target → new.target_fault ≡ None → new.initiator_fault ≡ None
+    → calls.SubmitAccepted old.initiator request new.initiator old.to_target new.to_target → new.target_fault ≡ None → new.initiator_fault ≡ None
     → new.target ≡ old.target → new.blocks ≡ old.blocks
     → new.to_initiator ≡ old.to_initiator → Stands c P (requested h request) new
 accepts c P h old new request kept s served e there well target_ blocks queue =
-    let i : initiator.Machine = old.initiator.machine in
+    let i : initiator.InitiatorSession = old.initiator.machine in
     let out : List Message = (submitted i request).output in
-    let a : target.Stepped = answers false s.session s.disk s.out in
+    let a : target.TargetStep = answers false s.session s.disk s.out in
     let sends : Sends (limits_of c) P (between (submitted i request).machine a.machine a.disk (s.back ++ a.answers)) out
-    (so_far s.there (after_all s.here a.answers) (requested h request)) =
-    kept.asks i a.machine a.disk (s.back ++ a.answers) s.there (after_all s.here a.answers) h request s.kept served e.none in
-    let talks : Talks (calls.limit c.initiator) P (between (submitted i request).machine s.session s.disk s.back) (s.out ++ out)
-    (so_far (after_all s.there out) s.here (requested h request)) =
-    talk_on (target_session.limit c.target) (calls.limit c.initiator) P (submitted i request).machine s.session s.disk s.out out s.back s.there s.here
+    (so_far s.there (logins_after_all s.here a.answers) (requested h request)) =
+    kept.asks i a.machine a.disk (s.back ++ a.answers) s.there (logins_after_all s.here a.answers) h request s.kept served e.none in
+    let talks : Talks (calls.initiator_limit c.initiator) P (between (submitted i request).machine s.session s.disk s.back) (s.out ++ out)
+    (so_far (logins_after_all s.there out) s.here (requested h request)) =
+    talk_on (target_session.target_limit c.target) (calls.initiator_limit c.initiator) P (submitted i request).machine s.session s.disk s.out out s.back s.there
+    s.here
     (requested h request) s.received sends in
     initiator_stands c P P h (requested h request) old new s (submitted i request).machine out s.back
     (record {
@@ -374,14 +394,17 @@ accepts c P h old new request kept s served e there well target_ blocks queue =
       initiator_well = well;
       target = target_;
       blocks = blocks;
-      initiator = ap (λ (x : calls.Connection). x.machine) e.connection;
+      initiator = ap (λ (x : calls.InitiatorConnection). x.machine) e.connection;
       queue = e.output;
     }) talks
-    (target_way c P P h old s (calls.limit c.initiator) (submitted i request).machine out s.back (after_all s.there out) s.here (requested h request) talks
+    (target_way c P P h old s (calls.initiator_limit c.initiator) (submitted i request).machine out s.back (logins_after_all s.there out) s.here
+    (requested h request) talks
     sends.written)
-    (subst (λ (x : calls.Connection). Way (is_closed x.machine) (calls.limit c.initiator) x.framing new.to_initiator s.back s.here) (sym e.connection)
-    (subst (λ (x : List ℕ). Way (is_closed (submitted i request).machine) (calls.limit c.initiator) old.initiator.framing x s.back s.here) (sym queue)
-    (subst (λ (b : Bool). Way b (calls.limit c.initiator) old.initiator.framing old.to_initiator s.back s.here) (sym (submitted_open i request))
+    (subst (λ (x : calls.InitiatorConnection). Way (is_session_closed x.machine) (calls.initiator_limit c.initiator) x.framing new.to_initiator s.back s.here)
+    (sym e.connection)
+    (subst (λ (x : List ℕ). Way (is_session_closed (submitted i request).machine) (calls.initiator_limit c.initiator) old.initiator.framing x s.back s.here)
+    (sym queue)
+    (subst (λ (b : Bool). Way b (calls.initiator_limit c.initiator) old.initiator.framing old.to_initiator s.back s.here) (sym (submitted_open i request))
     s.to_initiator)))
 
 -- a request that the machine accepts is refused when out of memory alone
@@ -397,7 +420,8 @@ not_refused refusals.TooLong e r is memory cause none = (let bad : Some refusals
 -- however the call of submit ends
 asked_of : (result : Result (Unit {0}) Refused) (c : Opening) (P : Relation) (h : History) (old new : World) (request : Request) → Keeps c P
     → (s : Stands c P h old) → IsServed request
-    → (submitted old.initiator.machine request).refusal ≡ None → calls.Submits result old.initiator request new.initiator old.to_target new.to_target
+    → (submitted old.initiator.machine request).refusal ≡ None → calls.InitiatorSubmitPost result old.initiator request new.initiator old.to_target
+    new.to_target
     → new.initiator_fault ≡ submit_fault (result_err result)
     → initiator_ran_out new.initiator_fault ≡ false → new.target_fault ≡ None → new.target ≡ old.target → new.blocks ≡ old.blocks
     → new.to_initiator ≡ old.to_initiator → Stands c P (requested h request) new
@@ -409,7 +433,7 @@ asked_of (Err refused) c P h old new request kept s served none e fault memory t
 -- a request was handed in
 asks : (fault : Option EndFault) (request : Request) (c : Opening) (P : Relation) (h : History) (old new : World) → Keeps c P → (s : Stands c P h old)
     → fault ≡ None → IsServed request
-    → (submitted old.initiator.machine request).refusal ≡ None → Asks fault request old new → initiator_ran_out new.initiator_fault ≡ false
+    → (submitted old.initiator.machine request).refusal ≡ None → RequestHandedIn fault request old new → initiator_ran_out new.initiator_fault ≡ false
     → Stands c P (requested h request) new
 asks None request c P h old new kept s well served none e memory =
     asked_of e.result c P h old new request kept s served none e.submitted e.fault memory (e.other_fault ∙ s.target_well) e.target e.blocks e.queue
@@ -421,10 +445,11 @@ given_out h d = record h { outcomes = h.outcomes ++ listed d }
 
 -- the relation holds once the outcome is taken, if there is one
 takes_one : (d : Option Done) (c : Opening) (P : Relation) → Keeps c P
-    → (i : initiator.Machine) (t : target.Machine) (disk : Disk) (back : List Message) (there here : Logins) (h : History)
-    → i.done ≡ d → P (between i t disk back) (so_far there here h) → P (between (taken i) t disk back) (so_far there here (given_out h d))
+    → (i : initiator.InitiatorSession) (t : target.Machine) (disk : Disk) (back : List Message) (there here : Logins) (h : History)
+    → i.done ≡ d → P (between i t disk back) (so_far there here h) → P (between (outcome_taken i) t disk back) (so_far there here (given_out h d))
 takes_one None c P k i t disk back there here h is p =
-    subst (λ (m : initiator.Machine). P (between m t disk back) (so_far there here (given_out h None))) (ap (λ (d : Option Done). record i { done = d }) is)
+    subst (λ (m : initiator.InitiatorSession). P (between m t disk back) (so_far there here (given_out h None)))
+    (ap (λ (d : Option Done). record i { done = d }) is)
     (subst (λ (o : List Done). P (between i t disk back) (so_far there here (record h { outcomes = o }))) (sym (append-nil h.outcomes)) p)
 takes_one (Some d) c P k i t disk back there here h is p = k.takes i t disk back there here h d p is
 
@@ -432,7 +457,7 @@ takes_one (Some d) c P k i t disk back there here h is p = k.takes i t disk back
 takes : (c : Opening) (P : Relation) (h : History) (old : World) → Keeps c P → (s : Stands c P h old)
     → Stands c P (given_out h old.initiator.machine.done) (record old { initiator = calls.after_taking old.initiator })
 takes c P h old k s =
-    let a : target.Stepped = answers false s.session s.disk s.out in
+    let a : target.TargetStep = answers false s.session s.disk s.out in
     record {
       target_well = s.target_well;
       initiator_well = s.initiator_well;
@@ -447,7 +472,8 @@ takes c P h old k s =
       to_target = s.to_target;
       to_initiator = s.to_initiator;
       received = s.received;
-      kept = takes_one old.initiator.machine.done c P k old.initiator.machine a.machine a.disk (s.back ++ a.answers) s.there (after_all s.here a.answers) h refl
+      kept = takes_one old.initiator.machine.done c P k old.initiator.machine a.machine a.disk (s.back ++ a.answers) s.there (logins_after_all s.here a.answers)
+          h refl
           s.kept;
     }
 
@@ -470,9 +496,10 @@ nothing_later : (c : Opening) (P : Relation) (h : History) (w : World) → Stand
 nothing_later c P h w s = same_history c P h w (h.requests ++ []) (h.outcomes ++ []) (sym (append-nil h.requests)) (sym (append-nil h.outcomes)) s
 
 -- one event
-pub happens : (c : Opening) (P : Relation) (h : History) (old : World) (event : Event) (new : World) → Keeps c P → Stands c P h old → Happens old event new
+pub happens : (c : Opening) (P : Relation) (h : History) (old : World) (event : PairEvent) (new : World) → Keeps c P → Stands c P h old
+    → PairEventStep old event new
     → IsAccepted event old → keeps_no_memory new ≡ false
-    → Stands c P (later_history h (requests_in event) (given_in event old)) new
+    → Stands c P (later_history h (requests_in event) (pair_outcome_in event old)) new
 happens c P h old (ToTarget n) new k s e accepted_ memory =
     nothing_later c P h new (to_target old.target_fault (take n old.to_target) c P h old new n k s s.target_well refl e
     (or_parts (target_ran_out new.target_fault) (initiator_ran_out new.initiator_fault) memory).0)
@@ -490,7 +517,7 @@ happens c P h old Takes new k s e accepted_ memory =
     (subst (Stands c P (given_out h old.initiator.machine.done)) (sym e) (takes c P h old k s))
 
 -- and any number of them
-pub more : (c : Opening) (P : Relation) (h : History) (old : World) (events : List Event) (new : World) (later : List Done)
+pub more : (c : Opening) (P : Relation) (h : History) (old : World) (events : List PairEvent) (new : World) (later : List Done)
     → IsKept (limits_of c) P → Stands c P h old
     → RunsServed old events new later → Stands c P (record { requests = h.requests ++ requests_of events; outcomes = h.outcomes ++ later }) new
 unfolding RunsServed
@@ -498,27 +525,28 @@ more c P h old [] new later k s r =
     same_history c P h new (h.requests ++ []) (h.outcomes ++ later) (sym (append-nil h.requests)) (sym (append-nil h.outcomes)
     ∙ ap (λ (x : List Done). h.outcomes ++ x) (sym r.1)) (subst (Stands c P h) (sym r.0) s)
 more c P h old (event ∷ events) new later k s r =
-    let g : History = later_history h (requests_in event) (given_in event old) in
+    let g : History = later_history h (requests_in event) (pair_outcome_in event old) in
     same_history c P (later_history g (requests_of events) r.1) new (h.requests ++ (requests_in event ++ requests_of events)) (h.outcomes ++ later)
     (append_assoc h.requests (requests_in event) (requests_of events))
-    (append_assoc h.outcomes (given_in event old) r.1 ∙ ap (λ (x : List Done). h.outcomes ++ x) (sym r.5))
+    (append_assoc h.outcomes (pair_outcome_in event old) r.1 ∙ ap (λ (x : List Done). h.outcomes ++ x) (sym r.5))
     (more c P g r.0 events new r.1 k (happens c P h old event r.0 k s r.2 r.3 r.4) r.6)
 
 -- a new pair stands so
-opening_stands : (c : Opening) (P : Relation) → Sends (limits_of c) P (between (begun c) (target.opening c.target c.first_stat_sn) (disk_of c.blocks) [])
-    (start_step (initiator.opening c.initiator)).output (so_far no_login no_login (record { requests = []; outcomes = [] }))
+opening_stands : (c : Opening) (P : Relation) → Sends (limits_of c) P (between (begun c) (target.opening_machine c.target c.first_stat_sn) (disk_of c.blocks)
+    [])
+    (start_step (initiator.new_session c.initiator)).output (so_far no_login no_login (record { requests = []; outcomes = [] }))
     → Stands c P (record { requests = []; outcomes = [] }) (new_pair c)
 unfolding ReadsAs
 opening_stands c P s =
-    let out : List Message = (start_step (initiator.opening c.initiator)).output in
+    let out : List Message = (start_step (initiator.new_session c.initiator)).output in
     record {
       target_well = refl;
       initiator_well = refl;
-      session = target.opening c.target c.first_stat_sn;
+      session = target.opening_machine c.target c.first_stat_sn;
       disk = disk_of c.blocks;
       out = out;
       back = [];
-      there = after_all no_login out;
+      there = logins_after_all no_login out;
       here = no_login;
       machine = refl;
       disk_is = refl;
@@ -527,10 +555,10 @@ opening_stands c P s =
         record {
           stream = [];
           received = [];
-          taken = at_opening (target_session.limit c.target);
+          taken = at_opening (target_session.target_limit c.target);
           limit_is = refl;
           unready = not_whole-nil;
-          reads = written_reads (target_session.limit c.target) no_login out s.written;
+          reads = written_reads (target_session.target_limit c.target) no_login out s.written;
           logins_is = refl;
         },
       );
@@ -539,7 +567,7 @@ opening_stands c P s =
         record {
           stream = [];
           received = [];
-          taken = at_opening (calls.limit c.initiator);
+          taken = at_opening (calls.initiator_limit c.initiator);
           limit_is = refl;
           unready = not_whole-nil;
           reads = refl;
@@ -553,9 +581,9 @@ opening_stands c P s =
 
 -- where the relation is kept, and holds once the first text is sent, it holds in every world of a served run
 pub carried : (c : Opening) (P : Relation) → IsKept (limits_of c) P
-    → Sends (limits_of c) P (between (begun c) (target.opening c.target c.first_stat_sn) (disk_of c.blocks) [])
-    (start_step (initiator.opening c.initiator)).output (so_far no_login no_login (record { requests = []; outcomes = [] }))
-    → (events : List Event) (w : World) (outcomes : List Done) → RunsServed (new_pair c) events w outcomes
+    → Sends (limits_of c) P (between (begun c) (target.opening_machine c.target c.first_stat_sn) (disk_of c.blocks) [])
+    (start_step (initiator.new_session c.initiator)).output (so_far no_login no_login (record { requests = []; outcomes = [] }))
+    → (events : List PairEvent) (w : World) (outcomes : List Done) → RunsServed (new_pair c) events w outcomes
     → Stands c P (record { requests = requests_of events; outcomes = outcomes }) w
 carried c P k s events w outcomes r = more c P (record { requests = []; outcomes = [] }) (new_pair c) events w outcomes k (opening_stands c P s) r
 
@@ -563,6 +591,6 @@ carried c P k s events w outcomes r = more c P (record { requests = []; outcomes
 pub none_waits : (c : Opening) (P : Relation) (h : History) (w : World) (s : Stands c P h w) → w.to_target ≡ [] → w.to_initiator ≡ []
     → (s.out ≡ []) × (s.back ≡ [])
 none_waits c P h w s p q = (
-  way_none (target_machine.is_closed s.session) (target_session.limit c.target) w.target.framing w.to_target s.out s.there s.to_target p,
-  way_none (is_closed w.initiator.machine) (calls.limit c.initiator) w.initiator.framing w.to_initiator s.back s.here s.to_initiator q,
+  way_none (target_machine.is_machine_closed s.session) (target_session.target_limit c.target) w.target.framing w.to_target s.out s.there s.to_target p,
+  way_none (is_session_closed w.initiator.machine) (calls.initiator_limit c.initiator) w.initiator.framing w.to_initiator s.back s.here s.to_initiator q,
 )

@@ -4,7 +4,7 @@ use Rattle.std.proofs.lemmas.Bool.{or_from, or_parts}
 use Rattle.iscsi_target.specs.declared.fault.TargetFault.{TargetFault}
 use Rattle.iscsi_initiator.specs.declared.request.Request.{Request}
 use Rattle.iscsi_pair.specs.declared.step.EndFault.{EndFault}
-use Rattle.iscsi_pair.specs.World.{World, Event, ToTarget, ToInitiator, Submits, Takes, Happens, Runs, RunsCalmly, MovesToTarget, MovesToInitiator, Asks}
+use Rattle.iscsi_pair.specs.World.{World, PairEvent, ToTarget, ToInitiator, Submits, Takes, PairEventStep, PairRuns, RunsCalmly, MovesToTarget, MovesToInitiator, RequestHandedIn}
 use Rattle.iscsi_pair.specs.World.{target_ran_out, initiator_ran_out, keeps_no_memory}
 
 -- the first fault of an end stays
@@ -31,14 +31,14 @@ to_initiator None (byte ∷ bytes) old new f e = record {
 }
 to_initiator (Some fault) (byte ∷ bytes) old new f e = both_stay old new (ap (λ (w : World). w.target_fault) e) (ap (λ (w : World). w.initiator_fault) e)
 
-asks : (fault : Option EndFault) (request : Request) (old new : World) → old.initiator_fault ≡ fault → Asks fault request old new → Stay old new
+asks : (fault : Option EndFault) (request : Request) (old new : World) → old.initiator_fault ≡ fault → RequestHandedIn fault request old new → Stay old new
 asks None request old new f e = record {
   target = λ ran. ap target_ran_out e.other_fault ∙ ran;
   initiator = λ ran. absurd (let bad : false ≡ true = ap initiator_ran_out (sym f) ∙ ran in cc);
 }
 asks (Some fault) request old new f e = both_stay old new (ap (λ (w : World). w.target_fault) e) (ap (λ (w : World). w.initiator_fault) e)
 
-stays : (old : World) (event : Event) (new : World) → Happens old event new → Stay old new
+stays : (old : World) (event : PairEvent) (new : World) → PairEventStep old event new → Stay old new
 stays old (ToTarget k) new e = to_target old.target_fault (take k old.to_target) old new refl e
 stays old (ToInitiator k) new e = to_initiator old.initiator_fault (take k old.to_initiator) old new refl e
 stays old (Submits request) new e = asks old.initiator_fault request old new refl e
@@ -56,13 +56,13 @@ calm_before old new s e =
     (was_not (target_ran_out old.target_fault) (target_ran_out new.target_fault) s.target n.0)
     (was_not (initiator_ran_out old.initiator_fault) (initiator_ran_out new.initiator_fault) s.initiator n.1)
 
-pub calm_first : (old : World) (events : List Event) (new : World) → Runs old events new → keeps_no_memory new ≡ false → keeps_no_memory old ≡ false
-unfolding Runs
+pub calm_first : (old : World) (events : List PairEvent) (new : World) → PairRuns old events new → keeps_no_memory new ≡ false → keeps_no_memory old ≡ false
+unfolding PairRuns
 calm_first old [] new r e = ap keeps_no_memory (sym r) ∙ e
 calm_first old (event ∷ events) new r e = calm_before old r.0 (stays old event r.0 r.1) (calm_first r.0 events new r.2 e)
 
 -- where no end keeps that memory ran out, no growth was refused
-pub calm : (old : World) (events : List Event) (new : World) → Runs old events new → keeps_no_memory new ≡ false → RunsCalmly old events new
-unfolding Runs RunsCalmly
+pub calm : (old : World) (events : List PairEvent) (new : World) → PairRuns old events new → keeps_no_memory new ≡ false → RunsCalmly old events new
+unfolding PairRuns RunsCalmly
 calm old [] new r e = r
 calm old (event ∷ events) new r e = (r.0, r.1, calm_first r.0 events new r.2 e, calm r.0 events new r.2 e)

@@ -1,22 +1,22 @@
 -- Ends whose initiator starts its login are those of a new pair.
 use Rattle.std.proofs.Common.{◌≡◌, ℕ, List, [], None, ap, subst, ◌∙◌}
 use Rattle.iscsi_target.specs.Feed as target
-use Rattle.iscsi_initiator.specs.Calls.{Connection, StepDone, opening_connection}
+use Rattle.iscsi_initiator.specs.Calls.{InitiatorConnection, StepDone, opening_initiator}
 use Rattle.iscsi_initiator.specs.Login.{start_step}
 use Rattle.iscsi_pair.specs.World.{World, Opening, new_pair, started}
 
 abbrev pub unstarted : Opening → World
 unstarted c = record {
-  target = target.opening_connection c.target c.first_stat_sn;
+  target = target.opening_target c.target c.first_stat_sn;
   blocks = c.blocks;
-  initiator = opening_connection c.initiator;
+  initiator = opening_initiator c.initiator;
   to_target = [];
   to_initiator = [];
   target_fault = None;
   initiator_fault = None;
 }
 
-same_connection : (x y : Connection) → x.machine ≡ y.machine → x.framing ≡ y.framing → x ≡ y
+same_connection : (x y : InitiatorConnection) → x.machine ≡ y.machine → x.framing ≡ y.framing → x ≡ y
 same_connection x y m f = ap (λ k. record x { machine = k }) m ∙ ap (λ k. record y { framing = k }) f
 
 pub has_started : (c : Opening) (old new : World) → old ≡ unstarted c
@@ -27,5 +27,5 @@ has_started c old new o d others =
     let first : new ≡ record (unstarted c) { initiator = new.initiator; to_target = new.to_target } =
     subst (λ (w : World). new ≡ record w { initiator = new.initiator; to_target = new.to_target }) o others in
     let here : new.initiator ≡ started c = same_connection new.initiator (started c) e.machine e.framing in
-    first ∙ ap (λ (x : Connection). record (unstarted c) { initiator = x; to_target = new.to_target }) here
+    first ∙ ap (λ (x : InitiatorConnection). record (unstarted c) { initiator = x; to_target = new.to_target }) here
     ∙ ap (λ (q : List ℕ). record (unstarted c) { initiator = started c; to_target = q }) e.output

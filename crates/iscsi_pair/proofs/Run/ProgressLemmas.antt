@@ -5,7 +5,7 @@ use Rattle.std.proofs.Math.Seq.{drop-length}
 use Rattle.std.proofs.lemmas.List.{length-append, take_all}
 use Rattle.scsi_disk.specs.Disk.{Disk, disk_of}
 use Rattle.iscsi_stream.specs.declared.logins.Logins.{Logins}
-use Rattle.iscsi_stream.specs.Stream.{Message, after_all}
+use Rattle.iscsi_stream.specs.Stream.{Message, logins_after_all}
 use Rattle.iscsi_login.specs.declared.stage.Stage.{Stage}
 use Rattle.iscsi_login.specs.declared.stage.Stage.TheVariants as stages
 use Rattle.iscsi_login.specs.Stage.{is_closed_phase}
@@ -16,15 +16,15 @@ use Rattle.iscsi_initiator.specs.declared.request.Done.{Done}
 use Rattle.iscsi_initiator.specs.declared.request.Request.{Request}
 use Rattle.iscsi_initiator.specs.Configured.{IsStart}
 use Rattle.iscsi_initiator.specs.State as initiator
-use Rattle.iscsi_initiator.specs.State.{is_closed}
-use Rattle.iscsi_initiator.specs.Steps.{Stepped}
+use Rattle.iscsi_initiator.specs.State.{is_session_closed}
+use Rattle.iscsi_initiator.specs.Steps.{InitiatorStep}
 use Rattle.iscsi_initiator.specs.Calls as calls
-use Rattle.iscsi_initiator.specs.Machine.{step}
+use Rattle.iscsi_initiator.specs.Machine.{initiator_step}
 use Rattle.iscsi_initiator.specs.Submitted.{submitted}
 use Rattle.iscsi_pair.specs.declared.step.EndFault.{EndFault}
-use Rattle.iscsi_pair.specs.World.{World, Opening, IsOpening, Event, ToTarget, ToInitiator, Happens, InitiatorReceives, MovesToTarget, MovesToInitiator}
+use Rattle.iscsi_pair.specs.World.{World, Opening, IsOpening, PairEvent, ToTarget, ToInitiator, PairEventStep, InitiatorReceives, MovesToTarget, MovesToInitiator}
 use Rattle.iscsi_pair.specs.World.{keeps_no_memory, new_pair}
-use Rattle.iscsi_pair.specs.LocalDisk.{Exchange}
+use Rattle.iscsi_pair.specs.LocalDisk.{DiskExchange}
 use Rattle.iscsi_pair.specs.Served.{IsNormal, RunsServed, requests_of}
 use Rattle.iscsi_pair.proofs.Login.NearerLemmas.{IsNearer, nearer, unsent_few}
 use Rattle.iscsi_pair.proofs.Request.AnswersInOrder.{Leads, most_answers}
@@ -46,7 +46,7 @@ left_in stages.Security n = n + 8194
 left_in stages.Operational n = n + 1
 left_in stages.Full n = 0
 
-abbrev pub left_of : initiator.Machine → ℕ
+abbrev pub left_of : initiator.InitiatorSession → ℕ
 left_of i = left_in i.stage (length i.unsent_text)
 
 left_few : (stage : Stage) (n : ℕ) → n ≤ 8192 → left_in stage n ≤ most_answers
@@ -84,29 +84,29 @@ left_falls stages.Full u n k a b few near = absurd a
 left_falls s stages.Full n k a b few near = absurd b
 
 -- at most so many answers are still to come
-pub data Nears (c : Opening) (k : ℕ) (x : Exchange) (s : SoFar) : Type 0 where
+pub data Nears (c : Opening) (k : ℕ) (x : DiskExchange) (s : SoFar) : Type 0 where
   Logging : LogsOn c x s → left_of x.initiator ≤ k → Nears c k x s
   Resting : Rests c x s.history → Nears c k x s
   Serving : (v : IsServing c x s.history) → v.leads.0 ≤ k → Nears c k x s
 
-nears_more : (c : Opening) (k n : ℕ) (x : Exchange) (s : SoFar) → k ≤ n → Nears c k x s → Nears c n x s
+nears_more : (c : Opening) (k n : ℕ) (x : DiskExchange) (s : SoFar) → k ≤ n → Nears c k x s → Nears c n x s
 nears_more c k n x s le (Logging l few) = Logging l (omega (arith, le, few))
 nears_more c k n x s le (Resting r) = Resting r
 nears_more c k n x s le (Serving v few) = Serving v (omega (arith, le, few))
 
 -- never more than a command has
-serves_nears : (c : Opening) (x : Exchange) (s : SoFar) → IsOpening c → Serves c x s → Nears c most_answers x s
+serves_nears : (c : Opening) (x : DiskExchange) (s : SoFar) → IsOpening c → Serves c x s → Nears c most_answers x s
 serves_nears c x s o (Logs l) =
     Logging l (left_few x.initiator.stage (length x.initiator.unsent_text) (unsent_few c x.initiator l.before l.said l.request o l.asking))
 serves_nears c x s o (Rest r) = Resting r
 serves_nears c x s o (Serve v) = Serving v v.leads.1
 
 -- where none is to come none is there
-none_leads : (n : ℕ) (c : Opening) (x : Exchange) (h : History) (v : IsServing c x h) → Leads v.held n x v.last → n ≤ 0 → x.answers ≡ []
-none_leads zero c x h v l le = ap (λ (y : Exchange). y.answers) l ∙ v.ended.silent
+none_leads : (n : ℕ) (c : Opening) (x : DiskExchange) (h : History) (v : IsServing c x h) → Leads v.held n x v.last → n ≤ 0 → x.answers ≡ []
+none_leads zero c x h v l le = ap (λ (y : DiskExchange). y.answers) l ∙ v.ended.silent
 none_leads (suc n) c x h v l le = absurd (omega (arith, le))
 
-nears_none : (c : Opening) (x : Exchange) (s : SoFar) → Nears c 0 x s → x.answers ≡ []
+nears_none : (c : Opening) (x : DiskExchange) (s : SoFar) → Nears c 0 x s → x.answers ≡ []
 nears_none c x s (Logging l few) = absurd (left_some x.initiator.stage (length x.initiator.unsent_text) l.asking.stage few)
 nears_none c x s (Resting r) = r.none_back
 nears_none c x s (Serving v few) = none_leads v.leads.0 c x s.history v v.leads.2 few
@@ -114,14 +114,15 @@ nears_none c x s (Serving v few) = none_leads v.leads.0 c x s.history v v.leads.
 -- ---- an answer comes
 
 -- the login goes on
-no_request : (c : Opening) (x : Exchange) (h : History) → IsServing c x h → h ≡ none_asked → ⊥
+no_request : (c : Opening) (x : DiskExchange) (h : History) → IsServing c x h → h ≡ none_asked → ⊥
 no_request c x h v none = nothing v.past v.request (ap (λ (g : History). g.requests) (sym none) ∙ v.requests_are)
   where
     nothing : (past : List Request) (request : Request) → [] ≡ past ++ request ∷ [] → ⊥
     nothing [] request e = cc e
     nothing (r ∷ past) request e = cc e
 
-login_left : (c : Opening) (k : ℕ) (i j : initiator.Machine) (t : target.Machine) (disk : Disk) (back : List Message) (there here : Logins) (h : History)
+login_left : (c : Opening) (k : ℕ) (i j : initiator.InitiatorSession) (t : target.Machine) (disk : Disk) (back : List Message) (there here : Logins)
+    (h : History)
     → IsOpening c → IsStart i.stage → (IsStart j.stage → IsNearer i j) → left_of i ≤ suc k → h ≡ none_asked
     → Serves c (between j t disk back) (so_far there here h) → Nears c k (between j t disk back) (so_far there here h)
 login_left c k i j t disk back there here h o start near few none (Logs l) =
@@ -131,37 +132,39 @@ login_left c k i j t disk back there here h o start near few none (Logs l) =
 login_left c k i j t disk back there here h o start near few none (Rest r) = Resting r
 login_left c k i j t disk back there here h o start near few none (Serve v) = absurd (no_request c (between j t disk back) h v none)
 
-login_nears : (k : ℕ) (c : Opening) (i : initiator.Machine) (t : target.Machine) (disk : Disk) (m : Message) (back : List Message) (there here : Logins)
+login_nears : (k : ℕ) (c : Opening) (i : initiator.InitiatorSession) (t : target.Machine) (disk : Disk) (m : Message) (back : List Message)
+    (there here : Logins)
     (h : History) → IsNormal c → (l : LogsOn c (between i t disk (m ∷ back)) (so_far there here h)) → left_of i ≤ suc k
     → Goes (limits_of c) (Nears c k) (between i t disk back) m (so_far there here h)
 login_nears k c i t disk m back there here h o l few =
     let g : Goes (limits_of c) (Serves c) (between i t disk back) m (so_far there here h) = login_goes c i t disk m back there here h o l in
-    let s : Stepped = step i m in
-    let r : target.Stepped = answers false t disk s.output in
+    let s : InitiatorStep = initiator_step i m in
+    let r : target.TargetStep = answers false t disk s.output in
     let same : m ≡ l.turn.answer = same_first m l.turn.answer back [] l.back_is in
     let near : IsStart s.machine.stage → IsNearer i s.machine = λ on.
-    subst (λ (x : Message). IsNearer i (step i x).machine) (sym same)
+    subst (λ (x : Message). IsNearer i (initiator_step i x).machine) (sym same)
     (nearer c i l.before l.said there l.request (disk_of c.blocks) o.opening o.suits l.asking l.suited l.turn
-    (subst (λ (x : Message). IsStart (step i x).machine.stage) same on)) in
+    (subst (λ (x : Message). IsStart (initiator_step i x).machine.stage) same on)) in
     record {
       live = g.live;
       fault = g.fault;
       sends = record {
         written = g.sends.written;
         received = g.sends.received;
-        kept = login_left c k i s.machine r.machine r.disk (back ++ r.answers) (after_all there s.output) (after_all here r.answers) h o.opening
+        kept = login_left c k i s.machine r.machine r.disk (back ++ r.answers) (logins_after_all there s.output) (logins_after_all here r.answers) h o.opening
             l.asking.stage near few l.none g.sends.kept;
       };
     }
 
 -- a request is served
-serving_nears : (n : ℕ) → n ≤ most_answers → (k : ℕ) → n ≤ suc k → (c : Opening) (i : initiator.Machine) (t : target.Machine) (disk : Disk) (m : Message)
+serving_nears : (n : ℕ) → n ≤ most_answers → (k : ℕ) → n ≤ suc k → (c : Opening) (i : initiator.InitiatorSession) (t : target.Machine) (disk : Disk)
+    (m : Message)
     (back : List Message) (there here : Logins) (h : History) (v : IsServing c (between i t disk (m ∷ back)) h)
     → Leads v.held n (between i t disk (m ∷ back)) v.last → Goes (limits_of c) (Nears c k) (between i t disk back) m (so_far there here h)
 serving_nears zero most k few c i t disk m back there here h v l =
-    absurd (let bad : m ∷ back ≡ [] = ap (λ (x : Exchange). x.answers) l ∙ v.ended.silent in cc)
+    absurd (let bad : m ∷ back ≡ [] = ap (λ (x : DiskExchange). x.answers) l ∙ v.ended.silent in cc)
 serving_nears (suc n) most k few c i t disk m back there here h v l =
-    let s : Stepped = step i m in
+    let s : InitiatorStep = initiator_step i m in
     record {
       live = ap is_closed_phase l.0.full;
       fault = l.0.fault;
@@ -182,7 +185,7 @@ serving_nears (suc n) most k few c i t disk m back there here h v l =
       };
     }
 
-nears_goes : (k : ℕ) (c : Opening) (i : initiator.Machine) (t : target.Machine) (disk : Disk) (m : Message) (back : List Message) (there here : Logins)
+nears_goes : (k : ℕ) (c : Opening) (i : initiator.InitiatorSession) (t : target.Machine) (disk : Disk) (m : Message) (back : List Message) (there here : Logins)
     (h : History) → IsNormal c → Nears c (suc k) (between i t disk (m ∷ back)) (so_far there here h)
     → Goes (limits_of c) (Nears c k) (between i t disk back) m (so_far there here h)
 nears_goes k c i t disk m back there here h o (Logging l few) = login_nears k c i t disk m back there here h o l few
@@ -196,7 +199,7 @@ abbrev pub total : History → ℕ
 total h = length h.requests + length h.outcomes
 
 -- both ends keep what they keep, and until something more is asked or taken this relation holds
-abbrev pub While : Opening → ℕ → ℕ → Exchange → SoFar → Type 0
+abbrev pub While : Opening → ℕ → ℕ → DiskExchange → SoFar → Type 0
 While c n k x s = (n ≤ total s.history) × Serves c x s × (total s.history ≡ n → Nears c k x s)
 
 while_goes : (c : Opening) (n k j : ℕ) → IsNormal c → k ≤ suc j → Improves (limits_of c) (While c n k) (While c n j)
@@ -217,7 +220,7 @@ while_goes c n k j o le = λ i t disk m back there here h w.
       };
     }
 
-while_asks : (c : Opening) (n k : ℕ) (i : initiator.Machine) (out : List Message) (t : target.Machine) (disk : Disk) (back : List Message)
+while_asks : (c : Opening) (n k : ℕ) (i : initiator.InitiatorSession) (out : List Message) (t : target.Machine) (disk : Disk) (back : List Message)
     (there here : Logins) (h : History) (request : Request) → n ≤ total h
     → Sends (limits_of c) (Serves c) (between i t disk back) out (so_far there here (record h { requests = h.requests ++ request ∷ [] }))
     → Sends (limits_of c) (While c n k) (between i t disk back) out (so_far there here (record h { requests = h.requests ++ request ∷ [] }))
@@ -248,7 +251,7 @@ while_kept c n k o = record {
 -- another relation holds of the same world
 stands_by : (c : Opening) (P Q : Relation) (h : History) (w : World) → (s : Stands c P h w)
     → Q (between w.initiator.machine (answers false s.session s.disk s.out).machine (answers false s.session s.disk s.out).disk
-    (s.back ++ (answers false s.session s.disk s.out).answers)) (so_far s.there (after_all s.here (answers false s.session s.disk s.out).answers) h)
+    (s.back ++ (answers false s.session s.disk s.out).answers)) (so_far s.there (logins_after_all s.here (answers false s.session s.disk s.out).answers) h)
     → Stands c Q h w
 stands_by c P Q h w s q = record {
   target_well = s.target_well;
@@ -308,16 +311,16 @@ same_later h = record { requests = h.requests ++ []; outcomes = h.outcomes ++ []
 same_total : (h : History) (n : ℕ) → total h ≡ n → total (same_later h) ≡ n
 same_total h n e = (let a = length-append h.requests [] in let b = length-append h.outcomes [] in omega (arith, e, a, b))
 
-calm_mid : (mid new : World) (event : Event) → Happens mid event new → keeps_no_memory new ≡ false → keeps_no_memory mid ≡ false
+calm_mid : (mid new : World) (event : PairEvent) → PairEventStep mid event new → keeps_no_memory new ≡ false → keeps_no_memory mid ≡ false
 calm_mid mid new event e calm = calm_first mid ([] ++ event ∷ []) new (runs_more mid mid new [] event (runs_none mid) e) calm
 
 -- the second half of a turn, where answers wait
 half_on : (k : ℕ) (c : Opening) (n : ℕ) (h : History) (m : Message) (more : List Message) (mid new : World) → IsNormal c → (s : Stands c (While c n k) h mid)
-    → total h ≡ n → s.back ≡ m ∷ more → Happens mid (ToInitiator (length mid.to_initiator)) new → keeps_no_memory new ≡ false → TurnsOn c k new
+    → total h ≡ n → s.back ≡ m ∷ more → PairEventStep mid (ToInitiator (length mid.to_initiator)) new → keeps_no_memory new ≡ false → TurnsOn c k new
 half_on zero c n h m more mid new o s is waits e calm =
-    absurd (let a : target.Stepped = answers false s.session s.disk s.out in
-    let x : Exchange = between mid.initiator.machine a.machine a.disk (s.back ++ a.answers) in
-    let none : s.back ++ a.answers ≡ [] = nears_none c x (so_far s.there (after_all s.here a.answers) h) (s.kept.2 is) in
+    absurd (let a : target.TargetStep = answers false s.session s.disk s.out in
+    let x : DiskExchange = between mid.initiator.machine a.machine a.disk (s.back ++ a.answers) in
+    let none : s.back ++ a.answers ≡ [] = nears_none c x (so_far s.there (logins_after_all s.here a.answers) h) (s.kept.2 is) in
     let bad : m ∷ (more ++ a.answers) ≡ [] = ap (λ (ms : List Message). ms ++ a.answers) (sym waits) ∙ none in cc)
 half_on (suc k) c n h m more mid new o s is waits e calm =
     let queue : List ℕ = mid.to_initiator in
@@ -325,7 +328,8 @@ half_on (suc k) c n h m more mid new o s is waits e calm =
     let after = happens c (While c n (suc k)) h mid (ToInitiator (length queue)) new (while_kept c n (suc k) o) s e tt calm in
     let some : s.back ≡ [] → ⊥ = λ none. (let bad : m ∷ more ≡ [] = sym waits ∙ none in cc) in
     let moves : take (length queue) queue ≡ [] → ⊥ = λ none.
-    some (way_none (is_closed mid.initiator.machine) (calls.limit c.initiator) mid.initiator.framing queue s.back s.here s.to_initiator (sym all ∙ none)) in
+    some (way_none (is_session_closed mid.initiator.machine) (calls.initiator_limit c.initiator) mid.initiator.framing queue s.back s.here s.to_initiator
+    (sym all ∙ none)) in
     record {
       left = k;
       turned = record {
@@ -341,10 +345,11 @@ half_on (suc k) c n h m more mid new o s is waits e calm =
 
 -- where none waits nothing more happens
 half_still : (k : ℕ) (c : Opening) (n : ℕ) (h : History) (mid new : World) → (s : Stands c (While c n k) h mid) → total h ≡ n → mid.to_target ≡ []
-    → s.back ≡ [] → Happens mid (ToInitiator (length mid.to_initiator)) new → TurnsOn c k new
+    → s.back ≡ [] → PairEventStep mid (ToInitiator (length mid.to_initiator)) new → TurnsOn c k new
 half_still k c n h mid new s is none waits e =
     let queue : List ℕ = mid.to_initiator in
-    let empty : queue ≡ [] = way_empty (is_closed mid.initiator.machine) (calls.limit c.initiator) mid.initiator.framing queue s.back s.here s.to_initiator
+    let empty : queue ≡ [] = way_empty (is_session_closed mid.initiator.machine) (calls.initiator_limit c.initiator) mid.initiator.framing queue s.back s.here
+    s.to_initiator
     waits in
     let all : take (length queue) queue ≡ [] = take_all (length queue) queue (omega arith) ∙ empty in
     let same : new ≡ mid = none_moved mid.initiator_fault (take (length queue) queue) mid new all e in
@@ -355,13 +360,13 @@ half_still k c n h mid new s is none waits e =
     }
 
 half : (back : List Message) (k : ℕ) (c : Opening) (n : ℕ) (h : History) (mid new : World) → IsNormal c → (s : Stands c (While c n k) h mid) → total h ≡ n
-    → mid.to_target ≡ [] → s.back ≡ back → Happens mid (ToInitiator (length mid.to_initiator)) new → keeps_no_memory new ≡ false → TurnsOn c k new
+    → mid.to_target ≡ [] → s.back ≡ back → PairEventStep mid (ToInitiator (length mid.to_initiator)) new → keeps_no_memory new ≡ false → TurnsOn c k new
 half [] k c n h mid new o s is none waits e calm = half_still k c n h mid new s is none waits e
 half (m ∷ more) k c n h mid new o s is none waits e calm = half_on k c n h m more mid new o s is waits e calm
 
 -- all that is on its way to the target reaches it, and then all that is on its way back the initiator
-pub turns_on : (c : Opening) (k : ℕ) (old mid new : World) → IsNormal c → Turned c k old → Happens old (ToTarget (length old.to_target)) mid
-    → Happens mid (ToInitiator (length mid.to_initiator)) new → keeps_no_memory new ≡ false → TurnsOn c k new
+pub turns_on : (c : Opening) (k : ℕ) (old mid new : World) → IsNormal c → Turned c k old → PairEventStep old (ToTarget (length old.to_target)) mid
+    → PairEventStep mid (ToInitiator (length mid.to_initiator)) new → keeps_no_memory new ≡ false → TurnsOn c k new
 turns_on c k old mid new o t e f calm =
     let queue : List ℕ = old.to_target in
     let s : Stands c (While c t.n k) (same_later t.h) mid =
@@ -372,7 +377,7 @@ turns_on c k old mid new o t e f calm =
     half s.back k c t.n (same_later t.h) mid new o s (same_total t.h t.n t.is) none refl f calm
 
 -- every world of a served run is such a one
-pub turned_first : (c : Opening) (events : List Event) (w : World) (outcomes : List Done) → IsNormal c → RunsServed (new_pair c) events w outcomes
+pub turned_first : (c : Opening) (events : List PairEvent) (w : World) (outcomes : List Done) → IsNormal c → RunsServed (new_pair c) events w outcomes
     → Turned c most_answers w
 turned_first c events w outcomes o r =
     let h : History = record { requests = requests_of events; outcomes = outcomes } in

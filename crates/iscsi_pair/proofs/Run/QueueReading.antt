@@ -4,15 +4,15 @@ use Rattle.std.proofs.Common.{arith}
 use Rattle.std.proofs.lemmas.List.{append-nil, append_cancel_left, length-append}
 use Rattle.std.proofs.lemmas.List.Concat.{flat_map-cons}
 use Rattle.iscsi_pdu.specs.declared.head.Head.{Head}
-use Rattle.iscsi_pdu.specs.Meaning.{IsHeader, fault_of}
+use Rattle.iscsi_pdu.specs.Meaning.{IsHeader, head_fault}
 use Rattle.iscsi_pdu.proofs.HeaderLemmas.{IsHeader-unique}
 use Rattle.iscsi_stream.specs.declared.fault.StreamFault.{StreamFault}
 use Rattle.iscsi_stream.specs.declared.fault.StreamFault.TheVariants as stream
 use Rattle.iscsi_stream.specs.declared.logins.Logins.{Logins}
-use Rattle.iscsi_stream.specs.Segment.{no_login, continues, after, segment_of, segment_bytes}
-use Rattle.iscsi_stream.specs.Stream.{Message, ReadsAs, after_all, NoPdu}
+use Rattle.iscsi_stream.specs.Segment.{no_login, continues, logins_after, segment_of, segment_bytes}
+use Rattle.iscsi_stream.specs.Stream.{Message, ReadsAs, logins_after_all, NoPdu}
 use Rattle.iscsi_stream.specs.Canonical.{canon, canonical_bytes}
-use Rattle.iscsi_stream.specs.Framing.{Framing, HasTaken, FeedFails, is_ready}
+use Rattle.iscsi_stream.specs.Framing.{Framing, HasTaken, FramerFeedFails, is_ready}
 use Rattle.iscsi_stream.proofs.OneMeaningLaw.{same_begin, same_message, starts}
 use Rattle.iscsi_stream.proofs.HeadLemmas.{bad_header}
 use Rattle.iscsi_stream.proofs.TakingLemmas.{splits_taken, taken_at}
@@ -24,18 +24,19 @@ use Rattle.iscsi_pair.proofs.Request.Invariant.{AreWritten}
 -- ---- streams in two parts
 
 -- what the login PDUs say of two parts
-pub after_all_append : (logins : Logins) (a b : List Message) → after_all logins (a ++ b) ≡ after_all (after_all logins a) b
+pub after_all_append : (logins : Logins) (a b : List Message) → logins_after_all logins (a ++ b) ≡ logins_after_all (logins_after_all logins a) b
 after_all_append logins [] b = refl
-after_all_append logins (m ∷ a) b = after_all_append (after logins m.head) a b
+after_all_append logins (m ∷ a) b = after_all_append (logins_after logins m.head) a b
 
 -- what is left of the messages of a stream, behind those of its front
 record ReadsBehind (limit : ℕ) (logins : Logins) (ms ns : List Message) (rest : List ℕ) : Type 0 where
   more : List Message
   whole : ns ≡ ms ++ more
-  reads : ReadsAs limit (after_all logins ms) rest more
+  reads : ReadsAs limit (logins_after_all logins ms) rest more
 
 -- one message more in front
-behind_on : (limit : ℕ) (logins : Logins) (m n : Message) (ms ns : List Message) (rest : List ℕ) → m ≡ n → ReadsBehind limit (after logins m.head) ms ns rest
+behind_on : (limit : ℕ) (logins : Logins) (m n : Message) (ms ns : List Message) (rest : List ℕ) → m ≡ n
+    → ReadsBehind limit (logins_after logins m.head) ms ns rest
     → ReadsBehind limit logins (m ∷ ms) (n ∷ ns) rest
 behind_on limit logins m n ms ns rest one r =
     record { more = r.more; whole = ap (λ (x : Message). x ∷ ns) (sym one) ∙ ap (λ (xs : List Message). m ∷ xs) r.whole; reads = r.reads }
@@ -58,12 +59,13 @@ reads_behind limit logins given (m ∷ ms) rest whole (n ∷ ns) p q e =
     b.meaning ∙ ap (λ (h : Head). segment_of (continues logins h) h b.segment) same.head ∙ ap (segment_of (continues logins n.head) n.head) same.segment
     ∙ sym c.meaning in
     behind_on limit logins m n ms ns rest (same_message m n same.head segment)
-    (reads_behind limit (after logins m.head) b.rest ms rest c.rest ns p.1 (subst (λ (h : Head). ReadsAs limit (after logins h) c.rest ns) (sym same.head) q.1)
+    (reads_behind limit (logins_after logins m.head) b.rest ms rest c.rest ns p.1
+    (subst (λ (h : Head). ReadsAs limit (logins_after logins h) c.rest ns) (sym same.head) q.1)
     (sym same.rest))
 
 -- two streams, one behind the other
 pub reads_joined : (limit : ℕ) (logins : Logins) (a : List ℕ) (ms : List Message) (b : List ℕ) (ns : List Message) → ReadsAs limit logins a ms
-    → ReadsAs limit (after_all logins ms) b ns → ReadsAs limit logins (a ++ b) (ms ++ ns)
+    → ReadsAs limit (logins_after_all logins ms) b ns → ReadsAs limit logins (a ++ b) (ms ++ ns)
 unfolding ReadsAs
 reads_joined limit logins a [] b ns p q = subst (λ (x : List ℕ). ReadsAs limit logins (x ++ b) ns) (sym p) q
 reads_joined limit logins a (m ∷ ms) b ns p q =
@@ -77,7 +79,7 @@ reads_joined limit logins a (m ∷ ms) b ns p q =
         within = begins.within;
         meaning = begins.meaning;
       },
-      reads_joined limit (after logins m.head) begins.rest ms b ns p.1 q,
+      reads_joined limit (logins_after logins m.head) begins.rest ms b ns p.1 q,
     )
 
 -- what was written so is read
@@ -94,14 +96,14 @@ written_reads limit logins (m ∷ ms) w = (
     within = w.0.short;
     meaning = w.0.readable.meaning;
   },
-  written_reads limit (after logins m.head) ms w.1,
+  written_reads limit (logins_after logins m.head) ms w.1,
 )
 
 -- each of two parts is written so where both are
 pub written_parts : (most : ℕ) (logins : Logins) (a b : List Message) → AreWritten most logins (a ++ b)
-    → AreWritten most logins a × AreWritten most (after_all logins a) b
+    → AreWritten most logins a × AreWritten most (logins_after_all logins a) b
 written_parts most logins [] b p = (tt, p)
-written_parts most logins (m ∷ a) b p = (let q = written_parts most (after logins m.head) a b p.1 in ((p.0, q.0), q.1))
+written_parts most logins (m ∷ a) b p = (let q = written_parts most (logins_after logins m.head) a b p.1 in ((p.0, q.0), q.1))
 
 -- where a header stands that is whole, it is that of a PDU within the limit
 record HasHeader (limit : ℕ) (bytes : List ℕ) : Type 0 where
@@ -120,12 +122,12 @@ has_header limit logins bytes (m ∷ ms) p long =
 -- a framer refuses nothing of what reads as messages
 pub refuses_nothing : (fault : StreamFault) (v : Framing) (front : List ℕ) (received : List Message) (piece bytes behind : List ℕ) (logins : Logins)
     (ms : List Message) → (h : HasTaken front received v) → fault ≢ stream.NoMemory
-    → FeedFails v piece fault → bytes ≡ h.rest ++ (piece ++ behind) → ReadsAs v.limit logins bytes ms → ⊥
+    → FramerFeedFails v piece fault → bytes ≡ h.rest ++ (piece ++ behind) → ReadsAs v.limit logins bytes ms → ⊥
 refuses_nothing stream.NoMemory v front received piece bytes behind logins ms h some f b p = some refl
 refuses_nothing (stream.Head fault place) v front received piece bytes behind logins ms h some f b p =
     let e = front_of v.held h.rest piece bytes behind h.held f.1.before f.1.reached b in
     let g : HasHeader v.limit bytes = has_header v.limit logins bytes ms p e.1 in
-    bad_header (take 48 bytes) g.head g.len fault g.header (ap fault_of e.0 ∙ f.2)
+    bad_header (take 48 bytes) g.head g.len fault g.header (ap head_fault e.0 ∙ f.2)
 refuses_nothing (stream.OverLimit place) v front received piece bytes behind logins ms h some f b p =
     let head : Head = f.1.0 in
     let len : ℕ = f.1.1 in
@@ -149,7 +151,7 @@ pub record Unread (limit : ℕ) (framing : Framing) (queue : List ℕ) (waits : 
   pub limit_is : framing.limit ≡ limit
   pub unready : is_ready framing ≡ false
   pub reads : ReadsAs limit no_login (stream ++ queue) (received ++ waits)
-  pub logins_is : logins ≡ after_all no_login (received ++ waits)
+  pub logins_is : logins ≡ logins_after_all no_login (received ++ waits)
 
 -- an end whose session is over has nothing on its way to it
 abbrev pub Way : Bool → ℕ → Framing → List ℕ → List Message → Logins → Type 0
@@ -159,7 +161,7 @@ Way over limit framing queue waits logins = ((over ≡ false) × Unread limit fr
 pub record MovesOn (limit : ℕ) (received waits new : List Message) (rest more : List ℕ) : Type 0 where
   pub left : List Message
   pub whole : waits ≡ new ++ left
-  pub reads : ReadsAs limit (after_all no_login (received ++ new)) (rest ++ more) left
+  pub reads : ReadsAs limit (logins_after_all no_login (received ++ new)) (rest ++ more) left
 
 -- a call that read some messages leaves the others
 pub moves_on : (limit : ℕ) (v : Framing) (queue : List ℕ) (waits : List Message) (logins : Logins) (piece more : List ℕ) (new : List Message) (w : Framing)
@@ -192,7 +194,7 @@ still_unread limit v queue waits logins piece more new left w u q t bound ready 
       unready = ready;
       reads = subst (λ (x : List ℕ). ReadsAs limit no_login x ((u.received ++ new) ++ left)) bytes
           (subst (λ (x : List Message). ReadsAs limit no_login (u.stream ++ queue) x) messages u.reads);
-      logins_is = u.logins_is ∙ ap (after_all no_login) messages;
+      logins_is = u.logins_is ∙ ap (logins_after_all no_login) messages;
     }
 
 -- where no message is left there are no bytes
@@ -200,19 +202,19 @@ pub none_more : (limit : ℕ) (received waits new : List Message) (rest more : L
     []
 unfolding ReadsAs
 none_more limit received waits new rest more m e =
-    let none : ReadsAs limit (after_all no_login (received ++ new)) (rest ++ more) [] =
-    subst (λ (x : List Message). ReadsAs limit (after_all no_login (received ++ new)) (rest ++ more) x) e m.reads in
+    let none : ReadsAs limit (logins_after_all no_login (received ++ new)) (rest ++ more) [] =
+    subst (λ (x : List Message). ReadsAs limit (logins_after_all no_login (received ++ new)) (rest ++ more) x) e m.reads in
     (both_none rest more none).1
 
 -- more is sent behind what is on its way
 pub way_sends : (over : Bool) (limit : ℕ) (v : Framing) (queue : List ℕ) (waits : List Message) (logins : Logins) (ms : List Message)
     → Way over limit v queue waits logins → AreWritten limit logins ms → (over ≡ true → ms ≡ [])
-    → Way over limit v (queue ++ canon ms) (waits ++ ms) (after_all logins ms)
+    → Way over limit v (queue ++ canon ms) (waits ++ ms) (logins_after_all logins ms)
 way_sends over limit v queue waits logins ms way w none =
     elim way [
       | inl on ↦
           (let u : Unread limit v queue waits logins = on.1 in
-          let here : AreWritten limit (after_all no_login (u.received ++ waits)) ms = subst (λ (l : Logins). AreWritten limit l ms) u.logins_is w in
+          let here : AreWritten limit (logins_after_all no_login (u.received ++ waits)) ms = subst (λ (l : Logins). AreWritten limit l ms) u.logins_is w in
           inl (
             on.0,
             record {
@@ -224,9 +226,9 @@ way_sends over limit v queue waits logins ms way w none =
               reads = subst (λ (x : List ℕ). ReadsAs limit no_login x (u.received ++ (waits ++ ms))) (append_assoc u.stream queue (canon ms))
                   (subst (λ (x : List Message). ReadsAs limit no_login ((u.stream ++ queue) ++ canon ms) x) (append_assoc u.received waits ms)
                   (reads_joined limit no_login (u.stream ++ queue) (u.received ++ waits) (canon ms) ms u.reads
-                  (written_reads limit (after_all no_login (u.received ++ waits)) ms here)));
-              logins_is = ap (λ (l : Logins). after_all l ms) u.logins_is ∙ sym (after_all_append no_login (u.received ++ waits) ms)
-                  ∙ ap (after_all no_login) (append_assoc u.received waits ms);
+                  (written_reads limit (logins_after_all no_login (u.received ++ waits)) ms here)));
+              logins_is = ap (λ (l : Logins). logins_after_all l ms) u.logins_is ∙ sym (after_all_append no_login (u.received ++ waits) ms)
+                  ∙ ap (logins_after_all no_login) (append_assoc u.received waits ms);
             },
           ))
       | inr ended ↦
@@ -249,7 +251,7 @@ unread_none limit v queue waits logins u none =
     let messages : u.received ≡ u.received ++ [] = sym (append-nil u.received) in
     let t : HasTaken (u.stream ++ []) (u.received ++ []) v = taken_at u.stream (u.stream ++ []) u.received (u.received ++ []) v bytes messages u.taken in
     let m : MovesOn limit u.received waits [] t.rest queue = moves_on limit v queue waits logins [] queue [] v u refl t u.limit_is in
-    m.whole ∙ nothing_behind limit t.rest queue (after_all no_login (u.received ++ [])) m.left
+    m.whole ∙ nothing_behind limit t.rest queue (logins_after_all no_login (u.received ++ [])) m.left
     (subst (λ (n : ℕ). NoPdu n t.rest) u.limit_is (splits_taken (u.stream ++ []) (u.received ++ []) v t (unready_of v.failed v.held t.live u.unready)).no_more)
     none m.reads
 

@@ -9,18 +9,18 @@ use Rattle.iscsi_login.specs.declared.stage.Stage.TheVariants.{Security, Operati
 use Rattle.iscsi_text.specs.declared.negotiated.Session.{Session}
 use Rattle.iscsi_text.specs.declared.negotiated.Session.TheVariants.{Normal, Discovery}
 use Rattle.iscsi_login.specs.Name.{IsName}
-use Rattle.iscsi_login.specs.Negotiation.{IsInRange}
+use Rattle.iscsi_login.specs.Negotiation.{ArePreferencesInRange}
 use Rattle.iscsi_login.specs.Answer.{declared_max_recv}
 use Rattle.iscsi_login.specs.Offers.{Proposal, offers_at, single_offers}
 use Rattle.iscsi_login.proofs.OfferTextLemmas.{security_text_is, operational_text_is, single_text_is}
-use Rattle.iscsi_initiator.specs.State.{Settings}
+use Rattle.iscsi_initiator.specs.State.{InitiatorSettings}
 use Rattle.iscsi_initiator.specs.Configured.{AreValid, IsStart}
 
 no_zero : (name : List ℕ) → IsName name → HasNo 0 name
 no_zero name is k d lt zero = omega (arith, (is.each k d lt).0, zero)
 
 -- what is offered at a stage is what a text means
-pub offers_mean : (start stage : Stage) (o : Proposal) → IsName o.initiator → IsName o.target → IsInRange o.prefs → IsStart stage
+pub offers_mean : (start stage : Stage) (o : Proposal) → IsName o.initiator → IsName o.target → ArePreferencesInRange o.prefs → IsStart stage
     → IsMeaning (in_order (offers_at o start stage))
 offers_mean start Security o initiator target range is = security_text_is o (no_zero o.initiator initiator) (no_zero o.target target)
 offers_mean Security Operational o initiator target range is = operational_text_is o range
@@ -29,7 +29,7 @@ offers_mean Full Operational o initiator target range is = operational_text_is o
 offers_mean start Full o initiator target range is = absurd is
 
 -- the text of what is offered is read as it was written
-pub offers_read : (settings : Settings) (stage : Stage) → AreValid settings → IsStart stage
+pub offers_read : (settings : InitiatorSettings) (stage : Stage) → AreValid settings → IsStart stage
     → let pairs : Pairs = in_order (offers_at settings.proposal settings.start stage) in text_in (canonical_text pairs) ≡ Some pairs
 offers_read settings stage valid is =
     let pairs : Pairs = in_order (offers_at settings.proposal settings.start stage) in

@@ -4,10 +4,9 @@ use Rattle.std.specs.Option.{option_map}
 use Rattle.std.proofs.Common.{ℕ, Bool, true, false, List, [], length, take, Option, Some, None, refl, arith}
 use Rattle.std.proofs.lemmas.Bool.{cond_both}
 use Rattle.std.proofs.lemmas.List.{length-take}
-use Rattle.scsi_cdb.specs.ParameterData.{inquiry, vpd, capacity16_of, luns}
+use Rattle.scsi_cdb.specs.ParameterData.{plain_inquiry_data, vpd, capacity16_of, luns}
 use Rattle.scsi_cdb.specs.declared.cdb.Cdb.{Cdb}
-use Rattle.scsi_cdb.specs.declared.cdb.Cdb.TheVariants.{TestUnitReady, Inquiry, Capacity10, Read10, Write10, SyncCache10, Read16, Write16, Capacity16}
-use Rattle.scsi_cdb.specs.declared.cdb.Cdb.TheVariants.{ReportLuns, Unknown}
+use Rattle.scsi_cdb.specs.declared.cdb.Cdb.TheVariants.{Inquiry, Capacity16, ReportLuns}
 use Rattle.scsi_cdb.specs.declared.residual.Residual.{Residual}
 use Rattle.scsi_cdb.specs.declared.residual.Residual.TheVariants.{Exact, Under, Over}
 use Rattle.scsi_disk.specs.declared.order.Order.{Order}
@@ -16,7 +15,7 @@ use Rattle.scsi_disk.specs.declared.order.Plan.{Plan}
 use Rattle.scsi_disk.specs.declared.order.Plan.TheVariants.{Refuse, Take, Give}
 use Rattle.scsi_disk.specs.Disk.{Disk}
 use Rattle.scsi_disk.specs.Effect.{effect, outcome_by, residual_of}
-use Rattle.scsi_disk.specs.Plan.{data_of, expected_length, is_read, is_unknown, is_write, parameter_data, plan_of, transfer, wanted_length}
+use Rattle.scsi_disk.specs.Plan.{cut_parameter_data, expected_length, is_read, is_unknown, is_write, parameter_data, plan_of, named_transfer, wanted_length}
 use Rattle.scsi_disk.proofs.PlanLemmas.{given, taken}
 use Rattle.scsi_disk.proofs.RepeatLemmas.{takes_few}
 use Rattle.iscsi_target.specs.Execution.{residual_count}
@@ -47,36 +46,29 @@ few_luns select =
     cond_both (select == 0x00 || select == 0x02) _ _ IsFew (λ e. omega arith) (λ e.
     cond_both (select == 0x01) _ _ IsFew (λ e. omega arith) (λ e. tt))
 
-few_inquiry : (present : Bool) → length (inquiry present) ≤ 36
+few_inquiry : (present : Bool) → length (plain_inquiry_data present) ≤ 36
 few_inquiry true = omega arith
 few_inquiry false = omega arith
 
 -- a command other than a READ gives few bytes
-few_data : (present : Bool) (last : ℕ) (cdb : Cdb) → IsFew (data_of present last cdb)
-few_data present last (TestUnitReady control) = omega arith
+few_data : (present : Bool) (last : ℕ) (cdb : Cdb) → IsFew (cut_parameter_data present last cdb)
 few_data present last (Inquiry true page n control) = few_of n (vpd page) (few_vpd page)
-few_data present last (Inquiry false page n control) = cond_both (page == 0) (Some (take n (inquiry present))) None IsFew
-    (λ e. omega (arith, few_inquiry present, length-take n (inquiry present))) (λ e. tt)
-few_data present last (Capacity10 control) = omega arith
-few_data present last (Read10 t) = omega arith
-few_data present last (Write10 t) = omega arith
-few_data present last (SyncCache10 s) = omega arith
-few_data present last (Read16 t) = omega arith
-few_data present last (Write16 t) = omega arith
+few_data present last (Inquiry false page n control) = cond_both (page == 0) (Some (take n (plain_inquiry_data present))) None IsFew
+    (λ e. omega (arith, few_inquiry present, length-take n (plain_inquiry_data present))) (λ e. tt)
 few_data present last (Capacity16 n control) = (let all : length (capacity16_of last) ≡ 32 = refl in omega (arith, all, length-take n (capacity16_of last)))
 few_data present last (ReportLuns select n control) = few_of n (luns select) (few_luns select)
-few_data present last (Unknown block) = omega arith
+few_data present last _ = omega arith
 
 few_bytes : (found : Option (List ℕ)) → IsFew found → length (unwrap_or found []) ≤ 36
 few_bytes None f = omega arith
 few_bytes (Some bytes) f = f
 
 -- an order for at most 8,192 blocks wants at most their bytes
-wanted_most : (order : Order) (blocks : ℕ) → (transfer order.cdb).count ≤ 8192 → wanted_length order blocks ≤ 4194304
+wanted_most : (order : Order) (blocks : ℕ) → (named_transfer order.cdb).count ≤ 8192 → wanted_length order blocks ≤ 4194304
 wanted_most order blocks few =
     let other : length (unwrap_or (parameter_data order blocks) []) ≤ 36 =
     few_bytes (parameter_data order blocks) (few_data (order.lun == 0) (blocks - 1) order.cdb) in
-    cond_both (is_read order.cdb) (512 * (transfer order.cdb).count) (length (unwrap_or (parameter_data order blocks) [])) (λ n. n ≤ 4194304)
+    cond_both (is_read order.cdb) (512 * (named_transfer order.cdb).count) (length (unwrap_or (parameter_data order blocks) [])) (λ n. n ≤ 4194304)
     (λ e. omega (arith, few)) (λ e. omega (arith, other))
 
 expected_most : (order : Order) → order.expected ≤ 4194304 → expected_length order ≤ 4194304

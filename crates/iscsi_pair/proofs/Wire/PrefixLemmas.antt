@@ -11,7 +11,7 @@ use Rattle.iscsi_pdu.specs.declared.head.login_response.LoginResponse.{LoginResp
 use Rattle.iscsi_pdu.specs.Meaning.{Means, IsWritable}
 use Rattle.iscsi_pdu.proofs.HeaderLemmas.{writable-means}
 use Rattle.iscsi_stream.specs.declared.logins.Logins.{Logins}
-use Rattle.iscsi_stream.specs.Segment.{Text, Bytes, continues, after, segment_of, segment_bytes}
+use Rattle.iscsi_stream.specs.Segment.{Text, Bytes, continues, logins_after, segment_of, segment_bytes}
 use Rattle.iscsi_stream.specs.Stream.{Message, ReadsAs}
 use Rattle.iscsi_stream.specs.Canonical.{canonical_bytes}
 use Rattle.iscsi_stream.proofs.OneMeaningLaw.{same_begin, same_message}
@@ -27,7 +27,7 @@ pub record Readable (logins : Logins) (m : Message) : Type 0 where
 -- the message stands at the front of what was read: of that, these are read behind it
 pub record IsFirst (limit : ℕ) (logins : Logins) (x y : List ℕ) (r : Message) (ts : List Message) : Type 0 where
   pub given : List ℕ
-  pub reads : ReadsAs limit (after logins r.head) given ts
+  pub reads : ReadsAs limit (logins_after logins r.head) given ts
   pub rest : given ++ x ≡ y
 
 pub first_is : (limit : ℕ) (logins : Logins) (given x y : List ℕ) (t r : Message) (ts : List Message) → Readable logins r → ReadsAs limit logins given (t ∷ ts)
@@ -44,7 +44,7 @@ first_is limit logins given x y t r ts m p e =
       same_message t r same.head segment,
       record {
         given = b.rest;
-        reads = subst (λ (h : Head). ReadsAs limit (after logins h) b.rest ts) same.head p.1;
+        reads = subst (λ (h : Head). ReadsAs limit (logins_after logins h) b.rest ts) same.head p.1;
         rest = same.rest;
       },
     )

@@ -25,8 +25,8 @@ use Rattle.iscsi_text.specs.Negotiated.{name_of, rule_of, key_named, is_irreleva
 use Rattle.iscsi_text.specs.declared.negotiated.Range.{Range}
 use Rattle.iscsi_text.specs.declared.negotiated.Rule.{Rule}
 use Rattle.iscsi_text.specs.declared.negotiated.Rule.TheVariants as rules
-use Rattle.iscsi_login.specs.Negotiation.{IsInRange, has_none, preference, in_range, value_of, chosen, result_of, word, answered_value}
-use Rattle.iscsi_login.specs.Answer.{answer_to, answer_value, answers_to, other_answer, answered_no, rejected, pairs_with, declarations, answer, max_recv_key}
+use Rattle.iscsi_login.specs.Negotiation.{ArePreferencesInRange, has_none, preference, in_range, value_of, chosen, result_of, word, answered_value}
+use Rattle.iscsi_login.specs.Answer.{answer_to, answer_value, answers_to, other_answer, answered_no, rejected_keys, pairs_with, declarations, answer, max_recv_key}
 use Rattle.iscsi_login.specs.Answer.{tag_key}
 use Rattle.iscsi_text.specs.Reading.{placed, in_order}
 use Rattle.iscsi_login.specs.Offers.{Proposal, auth_items, session_name, target_pair, names, security_offers, operational_offers, single_offers, preferred_pair}
@@ -108,7 +108,7 @@ answered_short rule (answers.Flag b) s = tt
 answered_short rule answers.NoneItem s = omega arith
 answered_short rule answers.Reject s = word_short rule (codes "Reject") (omega arith)
 
-preference_small : (p : Preferences) (key : NegKey) → IsInRange p → IsSmall (preference p key)
+preference_small : (p : Preferences) (key : NegKey) → ArePreferencesInRange p → IsSmall (preference p key)
 preference_small p keys.MaxConnections r = omega arith
 preference_small p keys.InitialR2T r = tt
 preference_small p keys.ImmediateData r = tt
@@ -140,11 +140,11 @@ name_short keys.HeaderDigest = omega arith
 name_short keys.DataDigest = omega arith
 name_short keys.AuthMethod = omega arith
 
-preferred_short : (p : Preferences) → IsInRange p → (ks : List NegKey) → AllByRecursion IsShort (map (preferred_pair p) ks)
+preferred_short : (p : Preferences) → ArePreferencesInRange p → (ks : List NegKey) → AllByRecursion IsShort (map (preferred_pair p) ks)
 preferred_short p r [] = tt
 preferred_short p r (key ∷ ks) = ((name_short key, answered_short (rule_of key) (preference p key) (preference_small p key r)), preferred_short p r ks)
 
-pub operational_short : (o : Proposal) → IsInRange o.prefs → AllByRecursion IsShort (operational_offers o)
+pub operational_short : (o : Proposal) → ArePreferencesInRange o.prefs → AllByRecursion IsShort (operational_offers o)
 operational_short o r = ((omega arith, omega (arith, r.max_recv.1)), preferred_short o.prefs r operational_keys)
 
 auth_short : (auth : Auth) → length (auth_items auth) ≤ 223
@@ -166,7 +166,7 @@ names_short o a b = ((omega arith, a), ((omega arith, session_short o.session), 
 pub security_short : (o : Proposal) → length o.initiator ≤ 223 → length o.target ≤ 223 → AllByRecursion IsShort (security_offers o)
 security_short o a b = ((omega arith, auth_short o.auth), names_short o a b)
 
-pub single_short : (o : Proposal) → length o.initiator ≤ 223 → length o.target ≤ 223 → IsInRange o.prefs → AllByRecursion IsShort (single_offers o)
+pub single_short : (o : Proposal) → length o.initiator ≤ 223 → length o.target ≤ 223 → ArePreferencesInRange o.prefs → AllByRecursion IsShort (single_offers o)
 single_short o a b r = all_append IsShort (names o) (operational_offers o) (names_short o a b) (operational_short o r)
 
 -- ---- what answers it
@@ -202,7 +202,8 @@ short_if : (b : Bool) (x y : Typed) → IsShortValue x → IsShortValue y → Is
 short_if true x y s t = s
 short_if false x y s t = t
 
-answer_short : (session : Session) (p : Preferences) (key : NegKey) (v : Typed) → IsInRange p → IsShortValue v → IsShortValue (answer_to session p key v)
+answer_short : (session : Session) (p : Preferences) (key : NegKey) (v : Typed) → ArePreferencesInRange p → IsShortValue v
+    → IsShortValue (answer_to session p key v)
 answer_short session p key v r s =
     short_if (is_irrelevant session key) (word (rule_of key) (codes "Irrelevant")) (answered_value (rule_of key) (result_of key v p))
     (word_short (rule_of key) (codes "Irrelevant") (omega arith))
@@ -220,10 +221,10 @@ option_if false x y s t = t
 other_short : (key : List ℕ) → IsShortOption (other_answer key)
 other_short key =
     option_if (is_among answered_no key) (Some (Boolean false)) _ tt
-    (option_if (is_among rejected key) (Some (Plain (codes "Reject"))) _ (omega arith)
+    (option_if (is_among rejected_keys key) (Some (Plain (codes "Reject"))) _ (omega arith)
     (option_if (is_some (kind_of key)) None (Some (Plain (codes "NotUnderstood"))) tt (omega arith)))
 
-value_by : (o : Option NegKey) (session : Session) (p : Preferences) (key : List ℕ) (v : Typed) → IsInRange p → IsShortValue v
+value_by : (o : Option NegKey) (session : Session) (p : Preferences) (key : List ℕ) (v : Typed) → ArePreferencesInRange p → IsShortValue v
     → IsShortOption (option_map_or (λ k. Some (answer_to session p k v)) o (other_answer key))
 value_by None session p key v r s = other_short key
 value_by (Some k) session p key v r s = answer_short session p k v r s
@@ -236,7 +237,7 @@ pair_count : (key : List ℕ) (o : Option Typed) → length (pairs_with key o) �
 pair_count key None = omega arith
 pair_count key (Some v) = omega arith
 
-given_short : (session : Session) (p : Preferences) (given : Pairs) → IsInRange p → AllByRecursion IsShort given
+given_short : (session : Session) (p : Preferences) (given : Pairs) → ArePreferencesInRange p → AllByRecursion IsShort given
     → AllByRecursion IsShort (flat_map (answers_to session p) given)
 given_short session p [] r a = tt
 given_short session p (pair ∷ given) r a =
@@ -257,7 +258,7 @@ number_option None s = tt
 number_option (Some n) s = s
 
 -- the answer to a short text is short
-pub answer_is_short : (session : Session) (p : Preferences) (tag most : Option ℕ) (given : Pairs) → IsInRange p → IfSome tag (λ n. n < 2 ^ 64)
+pub answer_is_short : (session : Session) (p : Preferences) (tag most : Option ℕ) (given : Pairs) → ArePreferencesInRange p → IfSome tag (λ n. n < 2 ^ 64)
     → IfSome most (λ n. n < 2 ^ 64)
     → AllByRecursion IsShort given → length given ≤ 20 → length (canonical_text (answer session p tag most given)) ≤ 8192
 answer_is_short session p tag most given r tag_fits most_fits a few =

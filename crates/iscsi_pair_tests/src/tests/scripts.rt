@@ -3,9 +3,9 @@
 use super::{Schedule, Setup, deliver, logins, pair_of, submit};
 use crate::asserts::same;
 use hex::{FromHex, encode};
-use iscsi_examples::segment_of;
 use iscsi_initiator::{Done, Request};
 use iscsi_pair::Pair;
+use iscsi_test_support::segment_of;
 use scsi_cdb::{Bytes, Residual};
 use std::alloc::Global;
 use std::process::Abort;

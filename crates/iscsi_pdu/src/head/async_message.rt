@@ -1,7 +1,7 @@
 //! The header of an Asynchronous Message (RFC 7143, section 11.9).
 
 ghost use Rattle.std.specs.Prelude.{◌≡◌};
-ghost use Rattle.scsi_cdb.specs.Layout.{Hold, AreFilled, HaveRoom, put_all};
+ghost use Rattle.scsi_cdb.specs.Layout.{RowsHold, AreFilled, HaveRoom, put_all};
 ghost use Rattle.iscsi_pdu.specs.Fields.{async_message};
 
 use scsi_cdb::layout::{put_u8, put_u16, put_u32, put_u64_if, u8_at, u16_at, u32_at, u64_at};
@@ -31,7 +31,7 @@ pub struct AsyncMessage {
 
 impl AsyncMessage {
     pub(crate) fn read(bytes: &[u8; 48]) -> AsyncMessage
-        ensures { Hold bytes.now (async_message result) }
+        ensures { RowsHold bytes.now (async_message result) }
     {
         let async_event = u8_at(bytes, 36);
         AsyncMessage {

@@ -1,7 +1,7 @@
 //! The header of a SCSI Data-In (RFC 7143, section 11.7).
 
 ghost use Rattle.std.specs.Prelude.{◌≡◌};
-ghost use Rattle.scsi_cdb.specs.Layout.{Hold, AreFilled, HaveRoom, put_all};
+ghost use Rattle.scsi_cdb.specs.Layout.{RowsHold, AreFilled, HaveRoom, put_all};
 ghost use Rattle.iscsi_pdu.specs.Fields.{data_in};
 
 use crate::RESERVED_TAG;
@@ -46,7 +46,7 @@ pub struct DataIn {
 
 impl DataIn {
     pub(crate) fn read(bytes: &[u8; 48]) -> DataIn
-        ensures { Hold bytes.now (data_in result) }
+        ensures { RowsHold bytes.now (data_in result) }
     {
         let has_status = bit(bytes, 1, 0x01);
         let target_transfer_tag = u32_at(bytes, 20);

@@ -1,7 +1,7 @@
 //! The header of a SCSI Data-Out (RFC 7143, section 11.7).
 
 ghost use Rattle.std.specs.Prelude.{◌≡◌};
-ghost use Rattle.scsi_cdb.specs.Layout.{Hold, AreFilled, HaveRoom, put_all};
+ghost use Rattle.scsi_cdb.specs.Layout.{RowsHold, AreFilled, HaveRoom, put_all};
 ghost use Rattle.iscsi_pdu.specs.Fields.{data_out};
 
 use crate::RESERVED_TAG;
@@ -28,7 +28,7 @@ pub struct DataOut {
 
 impl DataOut {
     pub(crate) fn read(bytes: &[u8; 48]) -> DataOut
-        ensures { Hold bytes.now (data_out result) }
+        ensures { RowsHold bytes.now (data_out result) }
     {
         let target_transfer_tag = u32_at(bytes, 20);
         DataOut {

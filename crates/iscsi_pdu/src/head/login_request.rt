@@ -1,7 +1,7 @@
 //! The header of a Login Request (RFC 7143, section 11.12).
 
 ghost use Rattle.std.specs.Prelude.{◌≡◌};
-ghost use Rattle.scsi_cdb.specs.Layout.{Hold, AreFilled, HaveRoom, put_all};
+ghost use Rattle.scsi_cdb.specs.Layout.{RowsHold, AreFilled, HaveRoom, put_all};
 ghost use Rattle.iscsi_pdu.specs.Fields.{login_request};
 
 use scsi_cdb::layout::{
@@ -40,7 +40,7 @@ pub struct LoginRequest {
 
 impl LoginRequest {
     pub(crate) fn read(bytes: &[u8; 48]) -> LoginRequest
-        ensures { Hold bytes.now (login_request result) }
+        ensures { RowsHold bytes.now (login_request result) }
     {
         let transits = bit(bytes, 1, 0x80);
         LoginRequest {

@@ -1,7 +1,7 @@
 //! The header of a Login Response (RFC 7143, section 11.13).
 
 ghost use Rattle.std.specs.Prelude.{◌≡◌};
-ghost use Rattle.scsi_cdb.specs.Layout.{Hold, AreFilled, HaveRoom, put_all};
+ghost use Rattle.scsi_cdb.specs.Layout.{RowsHold, AreFilled, HaveRoom, put_all};
 ghost use Rattle.iscsi_pdu.specs.Fields.{login_response};
 
 use scsi_cdb::layout::{
@@ -44,7 +44,7 @@ pub struct LoginResponse {
 
 impl LoginResponse {
     pub(crate) fn read(bytes: &[u8; 48]) -> LoginResponse
-        ensures { Hold bytes.now (login_response result) }
+        ensures { RowsHold bytes.now (login_response result) }
     {
         let transits = bit(bytes, 1, 0x80);
         let status_class = u8_at(bytes, 36);

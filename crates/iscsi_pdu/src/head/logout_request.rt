@@ -1,7 +1,7 @@
 //! The header of a Logout Request (RFC 7143, section 11.14).
 
 ghost use Rattle.std.specs.Prelude.{◌≡◌};
-ghost use Rattle.scsi_cdb.specs.Layout.{Hold, AreFilled, HaveRoom, put_all};
+ghost use Rattle.scsi_cdb.specs.Layout.{RowsHold, AreFilled, HaveRoom, put_all};
 ghost use Rattle.iscsi_pdu.specs.Fields.{logout_request};
 
 use scsi_cdb::layout::{bit, bits, put_bit, put_number, put_u16_if, put_u32, u16_at, u32_at};
@@ -25,7 +25,7 @@ pub struct LogoutRequest {
 
 impl LogoutRequest {
     pub(crate) fn read(bytes: &[u8; 48]) -> LogoutRequest
-        ensures { Hold bytes.now (logout_request result) }
+        ensures { RowsHold bytes.now (logout_request result) }
     {
         let reason = bits(bytes, 1, 0x7f);
         LogoutRequest {

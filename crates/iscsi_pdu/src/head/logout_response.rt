@@ -1,7 +1,7 @@
 //! The header of a Logout Response (RFC 7143, section 11.15).
 
 ghost use Rattle.std.specs.Prelude.{◌≡◌};
-ghost use Rattle.scsi_cdb.specs.Layout.{Hold, AreFilled, HaveRoom, put_all};
+ghost use Rattle.scsi_cdb.specs.Layout.{RowsHold, AreFilled, HaveRoom, put_all};
 ghost use Rattle.iscsi_pdu.specs.Fields.{logout_response};
 
 use scsi_cdb::layout::{put_u8, put_u16, put_u32, u8_at, u16_at, u32_at};
@@ -27,7 +27,7 @@ pub struct LogoutResponse {
 
 impl LogoutResponse {
     pub(crate) fn read(bytes: &[u8; 48]) -> LogoutResponse
-        ensures { Hold bytes.now (logout_response result) }
+        ensures { RowsHold bytes.now (logout_response result) }
     {
         LogoutResponse {
             response: u8_at(bytes, 2),

@@ -1,7 +1,7 @@
 //! The header of a NOP-In (RFC 7143, section 11.19).
 
 ghost use Rattle.std.specs.Prelude.{◌≡◌};
-ghost use Rattle.scsi_cdb.specs.Layout.{Hold, AreFilled, HaveRoom, put_all};
+ghost use Rattle.scsi_cdb.specs.Layout.{RowsHold, AreFilled, HaveRoom, put_all};
 ghost use Rattle.iscsi_pdu.specs.Fields.{nop_in};
 
 use crate::RESERVED_TAG;
@@ -26,7 +26,7 @@ pub struct NopIn {
 
 impl NopIn {
     pub(crate) fn read(bytes: &[u8; 48]) -> NopIn
-        ensures { Hold bytes.now (nop_in result) }
+        ensures { RowsHold bytes.now (nop_in result) }
     {
         let target_transfer_tag = u32_at(bytes, 20);
         NopIn {

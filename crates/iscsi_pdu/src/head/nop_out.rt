@@ -1,7 +1,7 @@
 //! The header of a NOP-Out (RFC 7143, section 11.18).
 
 ghost use Rattle.std.specs.Prelude.{◌≡◌};
-ghost use Rattle.scsi_cdb.specs.Layout.{Hold, AreFilled, HaveRoom, put_all};
+ghost use Rattle.scsi_cdb.specs.Layout.{RowsHold, AreFilled, HaveRoom, put_all};
 ghost use Rattle.iscsi_pdu.specs.Fields.{nop_out};
 
 use crate::RESERVED_TAG;
@@ -26,7 +26,7 @@ pub struct NopOut {
 
 impl NopOut {
     pub(crate) fn read(bytes: &[u8; 48]) -> NopOut
-        ensures { Hold bytes.now (nop_out result) }
+        ensures { RowsHold bytes.now (nop_out result) }
     {
         let target_transfer_tag = u32_at(bytes, 20);
         NopOut {

@@ -1,7 +1,7 @@
 //! The header of a Ready To Transfer (R2T) (RFC 7143, section 11.8).
 
 ghost use Rattle.std.specs.Prelude.{◌≡◌};
-ghost use Rattle.scsi_cdb.specs.Layout.{Hold, AreFilled, HaveRoom, put_all};
+ghost use Rattle.scsi_cdb.specs.Layout.{RowsHold, AreFilled, HaveRoom, put_all};
 ghost use Rattle.iscsi_pdu.specs.Fields.{ready_to_transfer};
 
 use scsi_cdb::layout::{put_u32, put_u64, u32_at, u64_at};
@@ -32,7 +32,7 @@ pub struct ReadyToTransfer {
 
 impl ReadyToTransfer {
     pub(crate) fn read(bytes: &[u8; 48]) -> ReadyToTransfer
-        ensures { Hold bytes.now (ready_to_transfer result) }
+        ensures { RowsHold bytes.now (ready_to_transfer result) }
     {
         ReadyToTransfer {
             lun: u64_at(bytes, 8),

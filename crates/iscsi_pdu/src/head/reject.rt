@@ -1,7 +1,7 @@
 //! The header of a Reject (RFC 7143, section 11.17).
 
 ghost use Rattle.std.specs.Prelude.{◌≡◌};
-ghost use Rattle.scsi_cdb.specs.Layout.{Hold, AreFilled, HaveRoom, put_all};
+ghost use Rattle.scsi_cdb.specs.Layout.{RowsHold, AreFilled, HaveRoom, put_all};
 ghost use Rattle.iscsi_pdu.specs.Fields.{reject};
 
 use scsi_cdb::layout::{put_u8, put_u32, u8_at, u32_at};
@@ -23,7 +23,7 @@ pub struct Reject {
 
 impl Reject {
     pub(crate) fn read(bytes: &[u8; 48]) -> Reject
-        ensures { Hold bytes.now (reject result) }
+        ensures { RowsHold bytes.now (reject result) }
     {
         Reject {
             reason: u8_at(bytes, 2),

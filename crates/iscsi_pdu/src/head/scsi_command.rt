@@ -1,8 +1,8 @@
 //! The header of a SCSI Command (RFC 7143, section 11.3).
 
 ghost use Rattle.std.specs.Prelude.{◌≡◌, ◌++◌};
-ghost use Rattle.scsi_cdb.specs.Blocks.{Fits, IsRecord, canonical};
-ghost use Rattle.scsi_cdb.specs.Layout.{Hold, AreFilled, HaveRoom, put_all, part};
+ghost use Rattle.scsi_cdb.specs.Blocks.{CdbFits, IsRecord, canonical};
+ghost use Rattle.scsi_cdb.specs.Layout.{RowsHold, AreFilled, HaveRoom, put_all, part};
 ghost use Rattle.iscsi_pdu.specs.Fields.{scsi_command, block_rows};
 
 use scsi_cdb::Cdb;
@@ -39,7 +39,7 @@ pub struct ScsiCommand {
 
 impl ScsiCommand {
     pub(crate) fn read(bytes: &[u8; 48]) -> ScsiCommand
-        ensures rows { Hold bytes.now (scsi_command result) }
+        ensures rows { RowsHold bytes.now (scsi_command result) }
         ensures block { IsRecord (part 32 47 bytes.now) result.cdb }
     {
         ScsiCommand {
@@ -59,7 +59,7 @@ impl ScsiCommand {
 
     pub(crate) fn write(&self, out: &mut [u8; 48])
         requires rows { AreFilled (scsi_command self.now) }
-        requires block { Fits self.now.cdb }
+        requires block { CdbFits self.now.cdb }
         ensures written { out.new ≡
             put_all (scsi_command self.now ++ block_rows self.now.cdb) out.old }
         ensures room { HaveRoom (scsi_command self.now) }

@@ -1,7 +1,7 @@
 //! The header of a SCSI Response (RFC 7143, section 11.4).
 
 ghost use Rattle.std.specs.Prelude.{◌≡◌};
-ghost use Rattle.scsi_cdb.specs.Layout.{Hold, AreFilled, HaveRoom, put_all};
+ghost use Rattle.scsi_cdb.specs.Layout.{RowsHold, AreFilled, HaveRoom, put_all};
 ghost use Rattle.iscsi_pdu.specs.Fields.{scsi_response};
 
 use scsi_cdb::layout::{bit, put_bit, put_u8, put_u8_if, put_u32, put_u32_if, u8_at, u32_at};
@@ -42,7 +42,7 @@ pub struct ScsiResponse {
 
 impl ScsiResponse {
     pub(crate) fn read(bytes: &[u8; 48]) -> ScsiResponse
-        ensures { Hold bytes.now (scsi_response result) }
+        ensures { RowsHold bytes.now (scsi_response result) }
     {
         let bidirectional_overflow = bit(bytes, 1, 0x10);
         let bidirectional_underflow = bit(bytes, 1, 0x08);

@@ -1,7 +1,7 @@
 //! The header of a Task Management Function Request (RFC 7143, section 11.5).
 
 ghost use Rattle.std.specs.Prelude.{◌≡◌};
-ghost use Rattle.scsi_cdb.specs.Layout.{Hold, AreFilled, HaveRoom, put_all};
+ghost use Rattle.scsi_cdb.specs.Layout.{RowsHold, AreFilled, HaveRoom, put_all};
 ghost use Rattle.iscsi_pdu.specs.Fields.{task_request};
 
 use scsi_cdb::layout::{bit, bits, put_bit, put_number, put_u32, put_u64, u32_at, u64_at};
@@ -33,7 +33,7 @@ pub struct TaskRequest {
 
 impl TaskRequest {
     pub(crate) fn read(bytes: &[u8; 48]) -> TaskRequest
-        ensures { Hold bytes.now (task_request result) }
+        ensures { RowsHold bytes.now (task_request result) }
     {
         TaskRequest {
             immediate: bit(bytes, 0, 0x40),

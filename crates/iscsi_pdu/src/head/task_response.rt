@@ -1,7 +1,7 @@
 //! The header of a Task Management Function Response (RFC 7143, section 11.6).
 
 ghost use Rattle.std.specs.Prelude.{◌≡◌};
-ghost use Rattle.scsi_cdb.specs.Layout.{Hold, AreFilled, HaveRoom, put_all};
+ghost use Rattle.scsi_cdb.specs.Layout.{RowsHold, AreFilled, HaveRoom, put_all};
 ghost use Rattle.iscsi_pdu.specs.Fields.{task_response};
 
 use scsi_cdb::layout::{put_u8, put_u32, u8_at, u32_at};
@@ -23,7 +23,7 @@ pub struct TaskResponse {
 
 impl TaskResponse {
     pub(crate) fn read(bytes: &[u8; 48]) -> TaskResponse
-        ensures { Hold bytes.now (task_response result) }
+        ensures { RowsHold bytes.now (task_response result) }
     {
         TaskResponse {
             response: u8_at(bytes, 2),

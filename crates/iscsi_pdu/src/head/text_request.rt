@@ -1,7 +1,7 @@
 //! The header of a Text Request (RFC 7143, section 11.10).
 
 ghost use Rattle.std.specs.Prelude.{◌≡◌};
-ghost use Rattle.scsi_cdb.specs.Layout.{Hold, AreFilled, HaveRoom, put_all};
+ghost use Rattle.scsi_cdb.specs.Layout.{RowsHold, AreFilled, HaveRoom, put_all};
 ghost use Rattle.iscsi_pdu.specs.Fields.{text_request};
 
 use crate::RESERVED_TAG;
@@ -30,7 +30,7 @@ pub struct TextRequest {
 
 impl TextRequest {
     pub(crate) fn read(bytes: &[u8; 48]) -> TextRequest
-        ensures { Hold bytes.now (text_request result) }
+        ensures { RowsHold bytes.now (text_request result) }
     {
         let target_transfer_tag = u32_at(bytes, 20);
         TextRequest {

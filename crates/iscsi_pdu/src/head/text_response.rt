@@ -1,7 +1,7 @@
 //! The header of a Text Response (RFC 7143, section 11.11).
 
 ghost use Rattle.std.specs.Prelude.{◌≡◌};
-ghost use Rattle.scsi_cdb.specs.Layout.{Hold, AreFilled, HaveRoom, put_all};
+ghost use Rattle.scsi_cdb.specs.Layout.{RowsHold, AreFilled, HaveRoom, put_all};
 ghost use Rattle.iscsi_pdu.specs.Fields.{text_response};
 
 use crate::RESERVED_TAG;
@@ -30,7 +30,7 @@ pub struct TextResponse {
 
 impl TextResponse {
     pub(crate) fn read(bytes: &[u8; 48]) -> TextResponse
-        ensures { Hold bytes.now (text_response result) }
+        ensures { RowsHold bytes.now (text_response result) }
     {
         let target_transfer_tag = u32_at(bytes, 20);
         TextResponse {

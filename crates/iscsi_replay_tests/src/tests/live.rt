@@ -1,13 +1,13 @@
 //! Jobs that are done again at a target whose bytes are known.
 
 use crate::asserts::{same, same_bytes};
-use iscsi_examples::{SESSION, marked};
 use iscsi_job::{Ended, Item, Outcome};
 use iscsi_job_text::read_job;
 use iscsi_replay::{
     Account, Ignored, Live, Lost, Peer, Plan, ReplayFault, Tally, first_write, is_unit_attention,
     replay,
 };
+use iscsi_test_support::{SESSION, marked};
 use scsi_cdb::Residual;
 use std::alloc::Global;
 use std::process::Abort;

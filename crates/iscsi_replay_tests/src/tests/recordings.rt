@@ -2,8 +2,8 @@
 //! RFC 7143, section 11.
 
 use crate::asserts::same;
-use iscsi_examples::{SESSION, marked};
 use iscsi_job::{Asked, Ended, JobFault, Moves, Recording};
+use iscsi_test_support::{SESSION, marked};
 use scsi_cdb::Residual;
 use std::alloc::Global;
 use std::process::Abort;

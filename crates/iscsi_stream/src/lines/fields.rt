@@ -1,7 +1,7 @@
 //! The fields of a head as text: a blank, the name, `=` and the value in lower hex, for each field
 //! that has a value. One file, since it is one table: a function for each kind of head.
 
-ghost use Rattle.iscsi_pdu.specs.Meaning.{Fits};
+ghost use Rattle.iscsi_pdu.specs.Meaning.{HeadFits};
 ghost use Rattle.iscsi_pdu.specs.Fields as table;
 ghost use Rattle.scsi_cdb.specs.Blocks as blocks;
 ghost use Rattle.scsi_cdb.specs.Layout.{AreFilled};
@@ -42,7 +42,7 @@ pub(crate) fn kind(head: &Head) -> &'static str
 
 /// Appends the fields of a head to the line, in the order of the field table.
 pub(crate) fn fields(line: &mut Line, head: &Head)
-    requires { Fits head.now }
+    requires { HeadFits head.now }
 {
     match head {
         Head::NopOut(h) => nop_out(line, h),
@@ -76,7 +76,7 @@ fn nop_out(line: &mut Line, h: &NopOut) {
 
 fn scsi_command(line: &mut Line, h: &ScsiCommand)
     requires filled { AreFilled (table.scsi_command h.now) }
-    requires block { blocks.Fits h.now.cdb }
+    requires block { blocks.CdbFits h.now.cdb }
 {
     line.flag(" i=", h.immediate);
     line.flag(" f=", h.is_final);

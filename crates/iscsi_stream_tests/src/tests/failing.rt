@@ -4,8 +4,8 @@ use super::rows::{COUNT, NOP_OUT, Row, lines_of, row_at, row_of};
 use super::runs::run_with;
 use super::{came_of, written_of};
 use crate::asserts::{same, same_bytes};
-use iscsi_examples::{SURE, Sink, Steps};
 use iscsi_stream::{ToolFault, write_fully};
+use iscsi_test_support::{SURE, Sink, Steps};
 use std::alloc::Global;
 use std::process::Abort;
 

@@ -3,8 +3,8 @@
 use super::rows::{NOP_OUT, lines_of, parts_of};
 use super::{came_of, check_count, nth_row, written_of};
 use crate::asserts::{same, same_bytes};
-use iscsi_examples::bytes_of;
 use iscsi_stream::{Counts, Framer, StreamFault, ToolFault, canonical_head, show, show_line};
+use iscsi_test_support::bytes_of;
 use std::alloc::Global;
 use std::process::Abort;
 

@@ -2,8 +2,8 @@
 
 use super::rows::{NOP_OUT, lines_of};
 use crate::asserts::{same, same_bytes};
-use iscsi_examples::marked;
 use iscsi_stream::{Counts, Framer, StreamFault, ToolFault, canonical, show, show_line};
+use iscsi_test_support::marked;
 use std::alloc::Global;
 use std::process::Abort;
 

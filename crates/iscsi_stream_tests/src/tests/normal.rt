@@ -6,8 +6,8 @@ use super::rows::{
 use super::runs::{Outcome, run_with};
 use super::{came_of, check_count, feed_piece, normal_of, nth_row, split_at_mark, written_of};
 use crate::asserts::{same, same_bytes, same_text};
-use iscsi_examples::{SURE, Steps};
 use iscsi_stream::{Counts, Framer, StreamFault, ToolFault};
+use iscsi_test_support::{SURE, Steps};
 use std::alloc::Global;
 use std::fmt::Debug;
 use std::process::Abort;

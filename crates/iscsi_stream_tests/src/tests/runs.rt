@@ -1,7 +1,7 @@
 //! Runs over readers and writers of which a call may fail.
 
-use iscsi_examples::{Sink, Source, Steps};
 use iscsi_stream::{Counts, ToolFault, normalise, show};
+use iscsi_test_support::{Sink, Source, Steps};
 use std::alloc::Global;
 
 /// How a run ended, what was written, and how many calls failed.

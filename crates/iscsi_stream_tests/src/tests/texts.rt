@@ -2,8 +2,8 @@
 
 use super::split_at_mark;
 use crate::asserts::{same, same_debug, same_text};
-use iscsi_examples::segment_of;
 use iscsi_stream::{ToolFault, normalise_text};
+use iscsi_test_support::segment_of;
 use std::alloc::Global;
 use std::process::Abort;
 

@@ -3,15 +3,15 @@
 ghost use Rattle.std.specs.Prelude.{◌≡◌, ◌<◌, ◌≤◌, ℕ, [], length, insert, IfNone, IfSome, OnSome, IsTrue};
 ghost use Rattle.iscsi_login.specs.Held.{first_burst};
 ghost use Rattle.iscsi_target.specs.declared.tasks.Task.TheVariants.{Data};
-ghost use Rattle.iscsi_target.specs.State.{unit_of};
-ghost use Rattle.iscsi_target.specs.Arrival.{IsDue, IsTaken, TakesData};
-ghost use Rattle.iscsi_target.specs.Crash.{Crashes, commands_of};
-ghost use Rattle.iscsi_target.specs.Inside.{AreInPlace, Works, moment, store_of};
+ghost use Rattle.iscsi_target.specs.inner.Arrival.{IsDataOutDue, IsTaken, TakesData};
+ghost use Rattle.iscsi_target.specs.Crash.{CrashLeavesBlocks, commands_of};
+ghost use Rattle.iscsi_target.specs.Advances.{store_of};
+ghost use Rattle.iscsi_target.specs.inner.Inside.{AreInPlace, TasksPost, moment};
 
 use super::Machine;
 use crate::incoming::Incoming;
 use crate::open_write::OpenWrite;
-use iscsi_login::{Phase, Session as SessionType};
+use iscsi_login::Phase;
 use iscsi_pdu::DataOut;
 use scsi_disk::BlockStore;
 use std::alloc::AllocError;
@@ -22,7 +22,7 @@ impl Machine {
         ensures none { IfNone result (self.new ≡ self.old) }
         ensures session { self.new.session ≡ self.old.session }
         ensures takes { OnSome result (TakesData self.old.session len) }
-        ensures due { IfSome result (IsDue (first_burst self.old.session.held)) }
+        ensures due { IfSome result (IsDataOutDue (first_burst self.old.session.held)) }
         ensures taken { IfSome result (IsTaken self.old.tasks self.new.tasks) }
         ensures head { IfSome result (λ a. a.head ≡ head.now) }
         ensures len { IfSome result (λ a. a.len ≡ len) }
@@ -45,7 +45,7 @@ impl Machine {
         ensures { IsTrue result → TakesData self.now.session len }
     {
         matches!(self.session.phase(), Phase::Full)
-            && matches!(self.session.session_type(), SessionType::Normal)
+            && self.is_normal()
             && !self.is_too_long(len as usize)
     }
 
@@ -61,15 +61,15 @@ impl Machine {
         requires place { place ≤ length self.old.tasks }
         requires room { length self.old.tasks < 9 }
         requires in_place { AreInPlace (insert self.old.tasks place (Data write)) }
-        ensures works { Works S.protected result
+        ensures works { TasksPost S.protected result
             (moment (record self.old { tasks = insert self.old.tasks place (Data write) })
             (store_of (S.disk store.old) (S.failures store.old)) out.old.items)
             (moment self.new (store_of (S.disk store.new) (S.failures store.new)) out.new.items) }
-        ensures crash { Crashes S.protected (commands_of (unit_of self.old.session)
-            (insert self.old.tasks place (Data write)))
+        ensures crash { CrashLeavesBlocks S.protected
+            (commands_of (insert self.old.tasks place (Data write)))
             (S.disk store.old) (S.disk store.new) (S.kept store.old) (S.kept store.new) }
     {
         self.tasks.put_write(place, write);
-        self.work_off(store, out)
+        self.run_queue(store, out)
     }
 }

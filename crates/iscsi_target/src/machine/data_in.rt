@@ -1,12 +1,12 @@
 //! The data that commands return (RFC 7143, section 11.7).
 
 ghost use Rattle.std.specs.Prelude.{◌≡◌, ◌<◌, ◌≤◌, ◌-◌, ◌^◌, IfOk};
-ghost use Rattle.iscsi_pdu.specs.Meaning.{Fits};
+ghost use Rattle.iscsi_pdu.specs.Meaning.{HeadFits};
 ghost use Rattle.iscsi_login.specs.Held.{max_burst};
-ghost use Rattle.iscsi_target.specs.State.{waiting};
+ghost use Rattle.iscsi_target.specs.State.{waiting_tasks};
 ghost use Rattle.iscsi_target.specs.Execution.{data_in_head};
-ghost use Rattle.iscsi_target.specs.Inside.{store_of};
-ghost use Rattle.iscsi_target.specs.Reads.{CanBeCut, HasPart, ReadsOnto, SendsData, SendsSequence, given, reply, source_len};
+ghost use Rattle.iscsi_target.specs.Advances.{store_of};
+ghost use Rattle.iscsi_target.specs.inner.Reads.{CanBeCut, HasPart, ReadsOnto, SendsData, SendsSequence, given_by_source, reply, source_len};
 
 use super::Machine;
 use super::source::Source;
@@ -30,7 +30,8 @@ impl Machine {
         requires has { HasPart source.now (S.disk store.old).count 0 (source_len source.now) }
         requires short { source_len source.now < 2 ^ 32 }
         ensures ok { IfOk result (SendsData (reply self.now tag out.old.items out.new.items)
-            (given source.now (S.disk store.old) (S.failures store.old) (S.failures store.new))) }
+            (given_by_source source.now (S.disk store.old) (S.failures store.old)
+            (S.failures store.new))) }
         ensures reads { ReadsOnto (store_of (S.disk store.old) (S.failures store.old))
             (store_of (S.disk store.new) (S.failures store.new))
             (S.kept store.old) (S.kept store.new) out.old.items out.new.items result }
@@ -65,7 +66,8 @@ impl Machine {
         ensures most { 0 < self.now.session.held.initiator_max_recv }
         ensures ok { IfOk result (λ sent. SendsSequence
             (reply self.now tag out.old.items out.new.items)
-            (given source.now (S.disk store.old) (S.failures store.old) (S.failures store.new))
+            (given_by_source source.now (S.disk store.old) (S.failures store.old)
+            (S.failures store.new))
             before sent end) }
         ensures reads { ReadsOnto (store_of (S.disk store.old) (S.failures store.old))
             (store_of (S.disk store.new) (S.failures store.new))
@@ -94,8 +96,8 @@ impl Machine {
 
     // The head of a Data-In behind others.
     pub(super) fn data_in(&self, tag: u32, sent: Sent, is_final: bool) -> Head
-        ensures head { result ≡ data_in_head self.now.session (waiting self.now.tasks) tag sent.count sent.bytes is_final }
-        ensures fits { Fits result }
+        ensures head { result ≡ data_in_head self.now.session (waiting_tasks self.now.tasks) tag sent.count sent.bytes is_final }
+        ensures fits { HeadFits result }
     {
         let numbers = self.numbers();
         Head::DataIn(DataIn {

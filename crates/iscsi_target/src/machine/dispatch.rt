@@ -1,24 +1,26 @@
 //! Dispatch of a PDU by phase, by what is judged of it and by kind (RFC 7143, sections 4.2 and 11).
 
-ghost use Rattle.std.specs.Prelude.{◌≡◌, ◌≢◌, ◌⊎◌, ◌<◌, ◌≤◌, [], None, length, false};
+ghost use Rattle.std.specs.Prelude.{◌≡◌, ◌⊎◌, ◌<◌, ◌≤◌, [], length, false};
 ghost use Rattle.scsi_disk.specs.Disk.{Disk};
-ghost use Rattle.iscsi_stream.specs.Segment.{segment_bytes};
-ghost use Rattle.iscsi_target.specs.State.{on, unit_of, waiting};
-ghost use Rattle.iscsi_target_session.specs.Login.{login_step};
-ghost use Rattle.iscsi_target.specs.Machine.{admitted, advanced, beside, has_room, handled, begun, full_met, is_closed, is_meant, is_over_limit};
-ghost use Rattle.iscsi_target_session.specs.Requests.{request_answered, task_request};
-ghost use Rattle.iscsi_target.specs.Laws.{cmd_sn_of};
-ghost use Rattle.iscsi_target.specs.Crash.{Crashes, command_in, command_of, commands_at, commands_by, commands_of};
-ghost use Rattle.iscsi_target.specs.Inside.{Leaves, Handles, Works, Follows, Answers, moment, store_of};
+ghost use Rattle.iscsi_stream.specs.Segment.{is_last_login_pdu, segment_bytes};
+ghost use Rattle.iscsi_target_session.specs.Inbound.{IsRequest};
+ghost use Rattle.iscsi_target.specs.State.{on, unit_of, waiting_tasks};
+ghost use Rattle.iscsi_target.specs.Command.{breaks_rules, task_of, presented};
+ghost use Rattle.iscsi_target_session.specs.Login.{target_login_step};
+ghost use Rattle.iscsi_target.specs.Machine.{admitted, advanced, beside, has_task_room, task_begun, full_met, is_machine_closed, is_meant, is_over_limit};
+ghost use Rattle.iscsi_target_session.specs.Requests.{request_answered, on_task_request};
+ghost use Rattle.iscsi_target.specs.Crash.{CrashLeavesBlocks, command_of_task, commands_at, commands_by, commands_of};
+ghost use Rattle.iscsi_target.specs.Advances.{store_of};
+ghost use Rattle.iscsi_target.specs.inner.Inside.{DisklessPost, TaskPost, TasksPost, NextPost, MessagePost, moment};
 ghost use Rattle.iscsi_target.specs.Queue.{TakePlaces};
 
 use super::Machine;
+use crate::admission::Admission;
 use crate::tasks::Task;
-use crate::verdict::Verdict;
 use iscsi_login::Phase;
+use iscsi_pdu::TaskRequest;
 use iscsi_pdu::rule::TOO_MANY_IMMEDIATE;
-use iscsi_pdu::{Head, TaskRequest};
-use iscsi_target_session::Received;
+use iscsi_target_session::{Asks, InboundRequest, Received, SessionRequest};
 use scsi_disk::BlockStore;
 use std::alloc::AllocError;
 
@@ -33,17 +35,17 @@ impl Machine {
         out: &mut Vec<u8>,
     ) -> Result<Option<u8>, AllocError>
         requires within { is_over_limit self.old received.now.segment ≡ false }
-        requires live { is_closed self.old ≡ false }
-        ensures answers { Answers S.protected received.now result
+        requires live { is_machine_closed self.old ≡ false }
+        ensures answers { MessagePost S.protected received.now result
             (moment self.old (store_of (S.disk store.old) (S.failures store.old)) out.old.items)
             (moment self.new (store_of (S.disk store.new) (S.failures store.new)) out.new.items) }
-        ensures crash { Crashes S.protected (commands_at self.old
+        ensures crash { CrashLeavesBlocks S.protected (commands_at self.old
             (S.disk store.old).count received.now)
             (S.disk store.old) (S.disk store.new) (S.kept store.old) (S.kept store.new) }
     {
         match self.phase() {
             Phase::Login => self.log_in(received, out),
-            Phase::Full => self.serve(received, store, out),
+            Phase::Full => self.answer_full_phase(received, store, out),
             Phase::Closed => Ok(None),
         }
     }
@@ -54,39 +56,39 @@ impl Machine {
         received: &Received<'_>,
         out: &mut Vec<u8>,
     ) -> Result<Option<u8>, AllocError>
-        ensures { (disk : Disk) → Leaves (on disk self.old.tasks
-            (login_step self.old.session received.now)) result
+        ensures { (disk : Disk) → DisklessPost (on disk self.old.tasks
+            (target_login_step self.old.session received.now)) result
             self.old self.new out.old.items out.new.items }
     {
         let result = self.session.log_in(received, out);
-        self.settle();
+        self.drop_tasks_if_closed();
         result
     }
 
     // A PDU in full feature phase, by what is judged of it.
-    fn serve<S: BlockStore>(
+    fn answer_full_phase<S: BlockStore>(
         &mut self,
         received: &Received<'_>,
         store: &mut S,
         out: &mut Vec<u8>,
     ) -> Result<Option<u8>, AllocError>
-        ensures follows { Follows S.protected
+        ensures follows { NextPost S.protected
             (full_met self.old (S.disk store.old).count received.now).next result
             (moment self.old (store_of (S.disk store.old) (S.failures store.old)) out.old.items)
             (moment self.new (store_of (S.disk store.new) (S.failures store.new)) out.new.items) }
-        ensures crash { Crashes S.protected
+        ensures crash { CrashLeavesBlocks S.protected
             (commands_by (full_met self.old (S.disk store.old).count received.now).next)
             (S.disk store.old) (S.disk store.new) (S.kept store.old) (S.kept store.new) }
     {
-        match self.judge(received) {
-            Verdict::Outside => Ok(None),
-            Verdict::Breaks(rule) => self.reject_and_close(rule, received, out),
-            Verdict::Beside => self.answer_beside(received, out),
-            Verdict::Data(head) => self.data_out(&head, received.pdu.bytes, received, store, out),
-            Verdict::AtOnce => self.admit(received, store, out),
-            Verdict::InTurn => {
-                self.advance();
-                self.admit(received, store, out)
+        match self.check(received) {
+            Admission::Outside => Ok(None),
+            Admission::Breaks(rule) => self.reject_and_close(rule, received, out),
+            Admission::Beside(request) => self.answer_beside(&request, received, out),
+            Admission::Data(head) => self.data_out(&head, received.pdu.bytes, received, store, out),
+            Admission::AtOnce(request) => self.enqueue(&request, received, store, out),
+            Admission::InTurn(request) => {
+                self.take_cmd_sn();
+                self.enqueue(&request, received, store, out)
             }
         }
     }
@@ -95,27 +97,35 @@ impl Machine {
     // for a ping and for task management.
     fn answer_beside(
         &mut self,
+        request: &InboundRequest,
         received: &Received<'_>,
         out: &mut Vec<u8>,
     ) -> Result<Option<u8>, AllocError>
-        ensures { (disk : Disk) → Leaves (on disk self.old.tasks (beside self.old received.now))
-            result self.old self.new out.old.items out.new.items }
+        requires { IsRequest request.now received.now.head }
+        ensures { (disk : Disk) → DisklessPost (on disk self.old.tasks
+            (beside self.old received.now request.now)) result
+            self.old self.new out.old.items out.new.items }
     {
-        if !self.has_room(&received.pdu.head) {
+        if !self.has_room(request.initiator_task_tag) {
             return self.reject(TOO_MANY_IMMEDIATE, received, out);
         }
-        match &received.pdu.head {
-            Head::NopOut(_) => self.answer_request(received, out),
-            Head::TaskRequest(head) => self.manage_tasks(head, out),
-            _ => self.reject(TOO_MANY_IMMEDIATE, received, out),
+        let Asks::Session(asked) = &request.asks else {
+            return self.reject(TOO_MANY_IMMEDIATE, received, out);
+        };
+        match asked {
+            SessionRequest::Ping(_) => self.answer_request(asked, received, out),
+            SessionRequest::Task(head) => self.manage_tasks(head, out),
+            SessionRequest::Text(_) | SessionRequest::Logout(_) => {
+                self.reject(TOO_MANY_IMMEDIATE, received, out)
+            }
         }
     }
 
-    // Whether there is room for a request beside the tasks.
-    fn has_room(&self, head: &Head) -> bool
-        ensures { result ≡ has_room self.now head.now }
+    // Whether there is room beside the tasks for a request with this tag.
+    fn has_room(&self, initiator_task_tag: Option<u32>) -> bool
+        ensures { result ≡ has_task_room self.now initiator_task_tag }
     {
-        self.session.has_unit() && !self.has_tag(head)
+        self.session.has_unit() && !self.has_tag(initiator_task_tag)
     }
 
     // A task management request beside tasks.
@@ -124,14 +134,16 @@ impl Machine {
         request: &TaskRequest,
         out: &mut Vec<u8>,
     ) -> Result<Option<u8>, AllocError>
-        ensures { (disk : Disk) → Leaves (on disk self.old.tasks (task_request self.old.session
-            (waiting self.old.tasks) (is_meant self.old.tasks request.now) request.now)) result
+        ensures { (disk : Disk) → DisklessPost
+            (on disk self.old.tasks (on_task_request self.old.session
+            (waiting_tasks self.old.tasks) (is_meant self.old.tasks request.now) request.now))
+            result
             self.old self.new out.old.items out.new.items }
     {
         let is_open = self.is_meant(request);
         let waiting = self.waiting();
         let result = self.session.task_request(waiting, is_open, request, out);
-        self.settle();
+        self.drop_tasks_if_closed();
         result
     }
 
@@ -147,58 +159,59 @@ impl Machine {
     }
 
     // Takes the CmdSN that is due.
-    fn advance(&mut self)
+    fn take_cmd_sn(&mut self)
         ensures { self.new ≡ advanced self.old }
     {
         let due = self.numbers().exp_cmd_sn;
-        self.session.expect(due.wrapping_add(1));
+        self.session.set_exp_cmd_sn(due.wrapping_add(1));
     }
 
     // A request that is accepted: it becomes the last task, unless it breaks a rule, and is handled
     // where it lies if it is the first.
-    fn admit<S: BlockStore>(
+    fn enqueue<S: BlockStore>(
         &mut self,
+        request: &InboundRequest,
         received: &Received<'_>,
         store: &mut S,
         out: &mut Vec<u8>,
     ) -> Result<Option<u8>, AllocError>
-        requires room { waiting self.old.tasks ≤ 7 }
-        requires turn { self.old.tasks ≡ [] ⊎ (cmd_sn_of received.now.head ≢ None) }
-        ensures follows { Follows S.protected
-            (admitted self.old (S.disk store.old).count received.now) result
+        requires is { IsRequest request.now received.now.head }
+        requires room { waiting_tasks self.old.tasks ≤ 7 }
+        requires turn { self.old.tasks ≡ [] ⊎ (request.now.immediate ≡ false) }
+        ensures follows { NextPost S.protected
+            (admitted self.old (presented (S.disk store.old).count received.now request.now)) result
             (moment self.old (store_of (S.disk store.old) (S.failures store.old)) out.old.items)
             (moment self.new (store_of (S.disk store.new) (S.failures store.new)) out.new.items) }
-        ensures crash { Crashes S.protected
-            (commands_by (admitted self.old (S.disk store.old).count received.now))
+        ensures crash { CrashLeavesBlocks S.protected
+            (commands_by (admitted self.old (presented (S.disk store.old).count received.now request.now)))
             (S.disk store.old) (S.disk store.new) (S.kept store.old) (S.kept store.new) }
     {
-        if let Some(rule) = self.refusal(received) {
+        if let Some(rule) = self.refusal(request, received) {
             return self.reject_and_close(rule, received, out);
         }
         if self.tasks.len() == 0 {
-            return self.handle(received, store, out);
+            return self.run_request(request, received, store, out);
         }
-        let task = self.task(received, store.blocks(), out)?;
+        let task = self.task(request, received, store.blocks(), out)?;
         self.tasks.push(task);
-        self.work_off(store, out)
+        self.run_queue(store, out)
     }
 
     // Tasks in their turn, up to a write whose data are not all there, or to the end of the session.
-    pub(super) fn work_off<S: BlockStore>(
+    pub(super) fn run_queue<S: BlockStore>(
         &mut self,
         store: &mut S,
         out: &mut Vec<u8>,
     ) -> Result<Option<u8>, AllocError>
-        ensures works { Works S.protected result
+        ensures works { TasksPost S.protected result
             (moment self.old (store_of (S.disk store.old) (S.failures store.old)) out.old.items)
             (moment self.new (store_of (S.disk store.new) (S.failures store.new)) out.new.items) }
-        ensures crash { Crashes S.protected
-            (commands_of (unit_of self.old.session) self.old.tasks)
+        ensures crash { CrashLeavesBlocks S.protected (commands_of self.old.tasks)
             (S.disk store.old) (S.disk store.new) (S.kept store.old) (S.kept store.new) }
     {
         while let Some(task) = self.tasks.take_first() {
             let behind = self.tasks.len();
-            let broken = self.begin(task, store, out)?;
+            let broken = self.run_task(task, store, out)?;
             if self.is_closed() || self.tasks.len() > behind {
                 return Ok(broken);
             }
@@ -207,7 +220,7 @@ impl Machine {
     }
 
     // The first task, which was taken from before the others.
-    fn begin<S: BlockStore>(
+    fn run_task<S: BlockStore>(
         &mut self,
         task: Task,
         store: &mut S,
@@ -215,77 +228,69 @@ impl Machine {
     ) -> Result<Option<u8>, AllocError>
         requires places { TakePlaces self.old.tasks }
         requires room { length self.old.tasks < 9 }
-        ensures handles { Handles S.protected
-            (λ device. begun device self.old (S.disk store.old) task) result
+        ensures handles { TaskPost S.protected
+            (λ device. task_begun device self.old (S.disk store.old) task) result
             (moment self.old (store_of (S.disk store.old) (S.failures store.old)) out.old.items)
             (moment self.new (store_of (S.disk store.new) (S.failures store.new)) out.new.items) }
-        ensures crash { Crashes S.protected (command_of (unit_of self.old.session) task)
+        ensures crash { CrashLeavesBlocks S.protected (command_of_task task)
             (S.disk store.old) (S.disk store.new) (S.kept store.old) (S.kept store.new) }
     {
         match task {
-            Task::Request(kept) => self.handle(&kept.received(), store, out),
-            Task::Data(write) => self.proceed(write, store, out),
+            Task::Command {
+                initiator_task_tag,
+                order,
+            } => self.execute_waiting(initiator_task_tag, order, store, out),
+            Task::Data(write) => self.continue_write(write, store, out),
+            Task::Request(kept) => self.answer_request(kept.request(), &kept.received(), out),
         }
     }
 
-    // A request that is the first task.
-    fn handle<S: BlockStore>(
+    // A request that is the first task, where it lies.
+    fn run_request<S: BlockStore>(
         &mut self,
+        request: &InboundRequest,
         received: &Received<'_>,
         store: &mut S,
         out: &mut Vec<u8>,
     ) -> Result<Option<u8>, AllocError>
+        requires is { IsRequest request.now received.now.head }
+        requires keeps { breaks_rules self.old.session.held
+            (length (segment_bytes received.now.segment)) request.now.asks ≡ false }
         requires places { TakePlaces self.old.tasks }
         requires room { length self.old.tasks < 9 }
-        ensures handles { Handles S.protected (λ device. handled device self.old (S.disk store.old)
-            received.now received.now.head) result
+        ensures handles { TaskPost S.protected
+            (λ device. task_begun device self.old (S.disk store.old)
+            (task_of (unit_of self.old.session) (presented (S.disk store.old).count received.now request.now)))
+            result
             (moment self.old (store_of (S.disk store.old) (S.failures store.old)) out.old.items)
             (moment self.new (store_of (S.disk store.new) (S.failures store.new)) out.new.items) }
-        ensures crash { Crashes S.protected (command_in (unit_of self.old.session)
-            received.now.head (segment_bytes received.now.segment))
+        ensures crash { CrashLeavesBlocks S.protected
+            (command_of_task (task_of (unit_of self.old.session)
+            (presented (S.disk store.old).count received.now request.now)))
             (S.disk store.old) (S.disk store.new) (S.kept store.old) (S.kept store.new) }
     {
-        match &received.pdu.head {
-            Head::ScsiCommand(head) => self.scsi_command(
-                head,
-                received.pdu.bytes,
-                received,
-                store,
-                out,
-            ),
-            Head::NopOut(_)
-            | Head::TaskRequest(_)
-            | Head::TextRequest(_)
-            | Head::LogoutRequest(_)
-            | Head::LoginRequest(_)
-            | Head::DataOut(_)
-            | Head::NopIn(_)
-            | Head::ScsiResponse(_)
-            | Head::TaskResponse(_)
-            | Head::LoginResponse(_)
-            | Head::TextResponse(_)
-            | Head::DataIn(_)
-            | Head::LogoutResponse(_)
-            | Head::ReadyToTransfer(_)
-            | Head::AsyncMessage(_)
-            | Head::Reject(_) => self.answer_request(received, out),
+        match &request.asks {
+            Asks::Command(command) => self.scsi_command(command, received.pdu.bytes, store, out),
+            Asks::Session(asked) => self.answer_request(asked, received, out),
         }
     }
 
     // A request that is no command.
     fn answer_request(
         &mut self,
+        request: &SessionRequest,
         received: &Received<'_>,
         out: &mut Vec<u8>,
     ) -> Result<Option<u8>, AllocError>
-        ensures { (disk : Disk) → Leaves (on disk self.old.tasks
-            (request_answered self.old.session (waiting self.old.tasks) received.now
-            received.now.head)) result
-            self.old self.new out.old.items out.new.items }
+        requires plain { is_last_login_pdu received.now.head ≡ false }
+        ensures { (disk : Disk) → DisklessPost (on disk self.old.tasks
+            (request_answered self.old.session (waiting_tasks self.old.tasks) received.now
+            request.now))
+            result self.old self.new out.old.items out.new.items }
     {
         let waiting = self.waiting();
-        let result = self.session.answer_request(waiting, received, out);
-        self.settle();
+        let result = self.session.answer_request(waiting, request, received, out);
+        self.drop_tasks_if_closed();
         result
     }
 }

@@ -7,9 +7,10 @@ ghost use Rattle.scsi_disk.specs.Plan.{plan_of};
 ghost use Rattle.scsi_disk.specs.Found.{IsFound};
 ghost use Rattle.scsi_disk.specs.Reading.{whole_blocks};
 ghost use Rattle.iscsi_target.specs.Execution.{execute};
-ghost use Rattle.iscsi_target.specs.Crash.{Crashes};
-ghost use Rattle.iscsi_target.specs.Inside.{Handles, moment, store_of};
-ghost use Rattle.iscsi_target.specs.Reads.{AnswersRead, IsRead, TakesBlocks, reply};
+ghost use Rattle.iscsi_target.specs.Crash.{CrashLeavesBlocks};
+ghost use Rattle.iscsi_target.specs.Advances.{store_of};
+ghost use Rattle.iscsi_target.specs.inner.Inside.{TaskPost, moment};
+ghost use Rattle.iscsi_target.specs.inner.Reads.{AnswersRead, IsStoreRead, TakesBlocks, reply};
 
 use super::Machine;
 use super::source::Source;
@@ -49,15 +50,15 @@ impl Machine {
         requires blocks { found.now.blocks ≡ (S.disk store.old).count }
         requires whole { whole_blocks order.now (plan_of order.now (S.disk store.old).count)
             ≡ Some range }
-        ensures handles { Handles S.protected
+        ensures handles { TaskPost S.protected
             (λ device. execute device self.old (S.disk store.old) tag order.now []) result
             (moment self.old (store_of (S.disk store.old) (S.failures store.old)) out.old.items)
             (moment self.new (store_of (S.disk store.new) (S.failures store.new)) out.new.items) }
-        ensures crash { Crashes S.protected []
+        ensures crash { CrashLeavesBlocks S.protected []
             (S.disk store.old) (S.disk store.new) (S.kept store.old) (S.kept store.new) }
     {
         self.send_read(tag, order, found, range, store, out)?;
-        self.count();
+        self.advance_stat_sn();
         Ok(None)
     }
 
@@ -83,7 +84,7 @@ impl Machine {
             (store_of (S.disk store.old) (S.failures store.old))
             (store_of (S.disk store.new) (S.failures store.new))) }
         ensures err { OnErr result (out.new.items ≡ out.old.items) }
-        ensures read { IsRead (store_of (S.disk store.old) (S.failures store.old))
+        ensures read { IsStoreRead (store_of (S.disk store.old) (S.failures store.old))
             (store_of (S.disk store.new) (S.failures store.new))
             (S.kept store.old) (S.kept store.new) }
     {

@@ -1,17 +1,19 @@
 //! SCSI commands, and what they answer (RFC 7143, sections 11.3 and 11.4).
 
-ghost use Rattle.std.specs.Prelude.{◌≡◌, ◌∷◌, ◌≢◌, ◌<◌, ◌≤◌, ◌^◌, ◌++◌, ℕ, [], length, OnOk, OnErr, IfOk};
+ghost use Rattle.std.specs.Prelude.{◌≡◌, ◌∷◌, ◌≢◌, ◌<◌, ◌≤◌, ◌^◌, ◌++◌, ℕ, [], false, length, OnOk, OnErr, IfOk};
 ghost use Rattle.scsi_disk.specs.Disk.{IsDisk};
 ghost use Rattle.scsi_disk.specs.Plan.{plan_of};
 ghost use Rattle.scsi_disk.specs.Found.{IsFound};
 ghost use Rattle.iscsi_login.specs.Held.{first_burst, is_on, max_burst};
 ghost use Rattle.iscsi_stream.specs.Canonical.{canon};
-ghost use Rattle.iscsi_target.specs.State.{unit_of, waiting};
+ghost use Rattle.iscsi_target.specs.State.{unit_of, waiting_tasks};
 ghost use Rattle.iscsi_target.specs.Execution.{data_in_parts, command_answers, execute};
-ghost use Rattle.iscsi_target.specs.Command.{order_of, order_said, breaks_burst_rules, scsi_command};
-ghost use Rattle.iscsi_target.specs.Crash.{Crashes};
-ghost use Rattle.iscsi_target.specs.Reads.{CanBeCut, HasPart, IsRead, ReadsOnto, SendsAnswers, given, reply, source_len};
-ghost use Rattle.iscsi_target.specs.Inside.{Handles, LedTo, moment, store_of};
+ghost use Rattle.iscsi_target.specs.Command.{order_of, order_said, breaks_burst_rules, task_for};
+ghost use Rattle.iscsi_target.specs.Machine.{task_begun};
+ghost use Rattle.iscsi_target.specs.Crash.{CrashLeavesBlocks, command_of_task};
+ghost use Rattle.iscsi_target.specs.inner.Reads.{CanBeCut, HasPart, IsStoreRead, ReadsOnto, SendsAnswers, given_by_source, reply, source_len};
+ghost use Rattle.iscsi_target.specs.Advances.{store_of};
+ghost use Rattle.iscsi_target.specs.inner.Inside.{TaskPost, OrderLedTo, moment};
 ghost use Rattle.iscsi_target.specs.Queue.{TakePlaces};
 
 use super::Machine;
@@ -19,41 +21,63 @@ use super::source::Source;
 use crate::scsi_response::{append_response, response_head};
 use iscsi_login::{Answered, NegKey};
 use iscsi_pdu::ScsiCommand;
-use iscsi_pdu::rule::DATA_OUT_OF_ORDER;
-use iscsi_target_session::Received;
 use scsi_disk::{BlockStore, Found, Order, Outcome, Plan, StoreFault, execute_found};
 use std::alloc::{AllocError, Global};
 
 impl Machine {
-    // A SCSI Command that is the first task. Returns the rule that is broken, if one is.
+    // A SCSI Command that is the first task, with its immediate data.
     pub(super) fn scsi_command<S: BlockStore>(
         &mut self,
         command: &ScsiCommand,
         bytes: &[u8],
-        received: &Received<'_>,
         store: &mut S,
         out: &mut Vec<u8>,
     ) -> Result<Option<u8>, AllocError>
+        requires keeps { breaks_burst_rules self.old.session.held command.now (length bytes.now)
+            ≡ false }
         requires places { TakePlaces self.old.tasks }
         requires room { length self.old.tasks < 9 }
-        ensures handles { Handles S.protected
-            (λ device. scsi_command device self.old (S.disk store.old)
-            received.now command.now bytes.now) result
+        ensures handles { TaskPost S.protected
+            (λ device. task_begun device self.old (S.disk store.old)
+            (task_for (unit_of self.old.session) (S.disk store.old).count command.now bytes.now))
+            result
             (moment self.old (store_of (S.disk store.old) (S.failures store.old)) out.old.items)
             (moment self.new (store_of (S.disk store.new) (S.failures store.new)) out.new.items) }
-        ensures crash { Crashes S.protected
-            ((order_of (unit_of self.old.session) command.now, bytes.now) ∷ [])
+        ensures crash { CrashLeavesBlocks S.protected (command_of_task
+            (task_for (unit_of self.old.session) (S.disk store.old).count command.now bytes.now))
             (S.disk store.old) (S.disk store.new) (S.kept store.old) (S.kept store.new) }
     {
-        if self.breaks_burst_rules(command, bytes.len()) {
-            return self.reject_and_close(DATA_OUT_OF_ORDER, received, out);
-        }
         let order = self.order_of(command);
         let found = Found::of(&order, store.blocks());
         match found.plan(&order) {
             Plan::Take(total) => self.open(command, found, total, bytes, store, out),
             Plan::Refuse(_) | Plan::Give(_) => {
                 self.execute_order(command.initiator_task_tag, order, &found, store, out)
+            }
+        }
+    }
+
+    // A command that takes no data, whose turn has come. A disk that has grown could take data for a
+    // WRITE that was refused when it came: then the session is closed, since none were asked for.
+    pub(super) fn execute_waiting<S: BlockStore>(
+        &mut self,
+        tag: u32,
+        order: Order,
+        store: &mut S,
+        out: &mut Vec<u8>,
+    ) -> Result<Option<u8>, AllocError>
+        ensures handles { TaskPost S.protected
+            (λ device. execute device self.old (S.disk store.old) tag order []) result
+            (moment self.old (store_of (S.disk store.old) (S.failures store.old)) out.old.items)
+            (moment self.new (store_of (S.disk store.new) (S.failures store.new)) out.new.items) }
+        ensures crash { CrashLeavesBlocks S.protected []
+            (S.disk store.old) (S.disk store.new) (S.kept store.old) (S.kept store.new) }
+    {
+        let found = Found::of(&order, store.blocks());
+        match found.plan(&order) {
+            Plan::Take(_) => Err(AllocError),
+            Plan::Refuse(_) | Plan::Give(_) => {
+                self.execute_order(tag, order, &found, store, out)
             }
         }
     }
@@ -133,11 +157,11 @@ impl Machine {
         requires found { IsFound order found.now }
         requires blocks { found.now.blocks ≡ (S.disk store.old).count }
         requires gives { (n : ℕ) → plan_of order (S.disk store.old).count ≢ Plan.Take n }
-        ensures handles { Handles S.protected
+        ensures handles { TaskPost S.protected
             (λ device. execute device self.old (S.disk store.old) tag order []) result
             (moment self.old (store_of (S.disk store.old) (S.failures store.old)) out.old.items)
             (moment self.new (store_of (S.disk store.new) (S.failures store.new)) out.new.items) }
-        ensures crash { Crashes S.protected []
+        ensures crash { CrashLeavesBlocks S.protected []
             (S.disk store.old) (S.disk store.new) (S.kept store.old) (S.kept store.new) }
     {
         if let Some(range) = self.blocks_to_send(&order, found) {
@@ -145,7 +169,7 @@ impl Machine {
         }
         let outcome = self.outcome_of(*out.allocator(), order, found, store)?;
         self.send_outcome(tag, &outcome, store, out)?;
-        self.count();
+        self.advance_stat_sn();
         Ok(None)
     }
 
@@ -161,12 +185,12 @@ impl Machine {
         requires found { IsFound order found.now }
         requires blocks { found.now.blocks ≡ (S.disk store.old).count }
         requires gives { (n : ℕ) → plan_of order (S.disk store.old).count ≢ Plan.Take n }
-        ensures ok { IfOk result (LedTo S.protected (unit_of self.now.session) order
+        ensures ok { IfOk result (OrderLedTo S.protected (unit_of self.now.session) order
             (store_of (S.disk store.old) (S.failures store.old))
             (store_of (S.disk store.new) (S.failures store.new))) }
         ensures disk { S.disk store.new ≡ S.disk store.old }
         ensures err_failures { OnErr result (S.failures store.new ≡ S.failures store.old) }
-        ensures crash { Crashes S.protected []
+        ensures crash { CrashLeavesBlocks S.protected []
             (S.disk store.old) (S.disk store.new) (S.kept store.old) (S.kept store.new) }
     {
         if let Some(unit) = self.session.unit() {
@@ -187,10 +211,10 @@ impl Machine {
     ) -> Result<(), AllocError>
         requires { length outcome.now.bytes < 2 ^ 32 }
         ensures ok { OnOk result (out.new.items ≡ out.old.items ++ canon
-            (command_answers self.now.session (waiting self.now.tasks) tag outcome.now (data_in_parts self.now.session.held outcome.now.bytes))) }
+            (command_answers self.now.session (waiting_tasks self.now.tasks) tag outcome.now (data_in_parts self.now.session.held outcome.now.bytes))) }
         ensures failures { OnOk result (S.failures store.new ≡ S.failures store.old) }
         ensures err { OnErr result (out.new.items ≡ out.old.items) }
-        ensures read { IsRead (store_of (S.disk store.old) (S.failures store.old))
+        ensures read { IsStoreRead (store_of (S.disk store.old) (S.failures store.old))
             (store_of (S.disk store.new) (S.failures store.new))
             (S.kept store.old) (S.kept store.new) }
     {
@@ -218,7 +242,7 @@ impl Machine {
         requires has { HasPart source.now (S.disk store.old).count 0 (source_len source.now) }
         requires short { source_len source.now < 2 ^ 32 }
         ensures ok { OnOk result (SendsAnswers (reply self.now tag out.old.items out.new.items)
-            outcome.now (given source.now (S.disk store.old) (S.failures store.old)
+            outcome.now (given_by_source source.now (S.disk store.old) (S.failures store.old)
             (S.failures store.new))) }
         ensures reads { ReadsOnto (store_of (S.disk store.old) (S.failures store.old))
             (store_of (S.disk store.new) (S.failures store.new))

@@ -1,9 +1,9 @@
 //! Where the data of a command come from (RFC 7143, section 11.7).
 
 ghost use Rattle.std.specs.Prelude.{◌≡◌, ◌<◌, ◌^◌, length, OnOk};
-ghost use Rattle.iscsi_pdu.specs.Meaning.{Fits};
-ghost use Rattle.iscsi_target.specs.Inside.{store_of};
-ghost use Rattle.iscsi_target.specs.Reads.{HasPart, ReadsOnto, SendsPart, given, source_len};
+ghost use Rattle.iscsi_pdu.specs.Meaning.{HeadFits};
+ghost use Rattle.iscsi_target.specs.Advances.{store_of};
+ghost use Rattle.iscsi_target.specs.inner.Reads.{HasPart, ReadsOnto, SendsPart, given_by_source, source_len};
 
 use iscsi_pdu::{Head, write_head};
 use iscsi_stream::write_pdu;
@@ -40,10 +40,10 @@ impl Source<'_> {
         store: &mut S,
         out: &mut Vec<u8>,
     ) -> Result<(), StoreFault>
-        requires fits { Fits head.now }
+        requires fits { HeadFits head.now }
         requires short { len < 2 ^ 24 }
         requires has { HasPart self.now (S.disk store.old).count offset len }
-        ensures ok { OnOk result (SendsPart head.now (given self.now (S.disk store.old)
+        ensures ok { OnOk result (SendsPart head.now (given_by_source self.now (S.disk store.old)
             (S.failures store.old) (S.failures store.new)) offset len out.old.items out.new.items) }
         ensures reads { ReadsOnto (store_of (S.disk store.old) (S.failures store.old))
             (store_of (S.disk store.new) (S.failures store.new))

@@ -4,28 +4,30 @@ ghost use Rattle.std.specs.Prelude.{◌≡◌, [], ◌∷◌, ◌<◌, ◌≤◌
 ghost use Rattle.scsi_disk.specs.Disk.{Disk};
 ghost use Rattle.scsi_disk.specs.Plan.{plan_of, is_write, taken_length};
 ghost use Rattle.scsi_disk.specs.Found.{IsFound};
-ghost use Rattle.iscsi_pdu.specs.Meaning.{Fits};
-ghost use Rattle.iscsi_stream.specs.Pieces.{data_of};
+ghost use Rattle.iscsi_pdu.specs.Meaning.{HeadFits};
+ghost use Rattle.iscsi_stream.specs.Pieces.{piece_data};
 ghost use Rattle.iscsi_stream.specs.Segment.{segment_bytes};
-ghost use Rattle.iscsi_target.specs.State.{unit_of, waiting};
+ghost use Rattle.iscsi_target_session.specs.Inbound.{IsRequest};
+ghost use Rattle.iscsi_target.specs.State.{unit_of, waiting_tasks};
 ghost use Rattle.iscsi_target.specs.Execution.{execute};
-ghost use Rattle.iscsi_target.specs.Transfer.{is_whole, is_idle, desired, with_piece};
-ghost use Rattle.iscsi_target.specs.Command.{order_of, r2t_head, led_by, send_r2t, proceed, opened, breaks_rules, task_of};
-ghost use Rattle.iscsi_target.specs.Machine.{data_out};
-ghost use Rattle.iscsi_target.specs.Crash.{Crashes, commands_by};
-ghost use Rattle.iscsi_target.specs.Inside.{Leaves, Handles, Follows, moment, store_of};
+ghost use Rattle.iscsi_target.specs.Transfer.{is_whole_write, is_nothing_due, desired, with_piece};
+ghost use Rattle.iscsi_target.specs.Command.{order_of, r2t_head, led_by, send_r2t, proceed, write_opened, breaks_burst_rules, breaks_rules, task_for, task_of, presented};
+ghost use Rattle.iscsi_target.specs.Machine.{on_data_out};
+ghost use Rattle.iscsi_target.specs.Crash.{CrashLeavesBlocks, commands_by};
+ghost use Rattle.iscsi_target.specs.Advances.{store_of};
+ghost use Rattle.iscsi_target.specs.inner.Inside.{DisklessPost, TaskPost, NextPost, moment};
 ghost use Rattle.iscsi_target.specs.Queue.{TakePlaces};
 
 use super::Machine;
 use crate::due::Due;
-use crate::kept::Kept;
 use crate::open_write::OpenWrite;
+use crate::queued_request::QueuedRequest;
 use crate::scsi_response::{append_response, response_head};
 use crate::tasks::Task;
 use iscsi_pdu::rule::DATA_OUT_OF_ORDER;
 use iscsi_pdu::{DataOut, Head, ReadyToTransfer, ScsiCommand};
 use iscsi_stream::write_pdu;
-use iscsi_target_session::Received;
+use iscsi_target_session::{Asks, InboundRequest, Received};
 use scsi_disk::{BlockStore, Found, Order, Plan, execute_found};
 use std::alloc::{AllocError, Global};
 
@@ -49,12 +51,12 @@ impl Machine {
         requires fits { length bytes.now ≤ total }
         requires places { TakePlaces self.old.tasks }
         requires room { length self.old.tasks < 9 }
-        ensures handles { Handles S.protected (λ device. proceed device self.old (S.disk store.old)
-            (opened command.now (order_of (unit_of self.old.session) command.now) total
+        ensures handles { TaskPost S.protected (λ device. proceed device self.old (S.disk store.old)
+            (write_opened command.now (order_of (unit_of self.old.session) command.now) total
             bytes.now)) result
             (moment self.old (store_of (S.disk store.old) (S.failures store.old)) out.old.items)
             (moment self.new (store_of (S.disk store.new) (S.failures store.new)) out.new.items) }
-        ensures crash { Crashes S.protected
+        ensures crash { CrashLeavesBlocks S.protected
             ((order_of (unit_of self.old.session) command.now, bytes.now) ∷ [])
             (S.disk store.old) (S.disk store.new) (S.kept store.old) (S.kept store.new) }
     {
@@ -66,12 +68,12 @@ impl Machine {
             return self.execute_write(tag, &order, &mut found, bytes, store, out);
         }
         let write = opened(*out.allocator(), command, order, found, total, bytes)?;
-        self.proceed(write, store, out)
+        self.continue_write(write, store, out)
     }
 
     // A write that is the first task, before the others: it is executed when all its bytes are
     // there, else an R2T is sent where no sequence is due.
-    pub(super) fn proceed<S: BlockStore>(
+    pub(super) fn continue_write<S: BlockStore>(
         &mut self,
         write: OpenWrite,
         store: &mut S,
@@ -79,11 +81,11 @@ impl Machine {
     ) -> Result<Option<u8>, AllocError>
         requires places { TakePlaces self.old.tasks }
         requires room { length self.old.tasks < 9 }
-        ensures handles { Handles S.protected
+        ensures handles { TaskPost S.protected
             (λ device. proceed device self.old (S.disk store.old) write) result
             (moment self.old (store_of (S.disk store.old) (S.failures store.old)) out.old.items)
             (moment self.new (store_of (S.disk store.new) (S.failures store.new)) out.new.items) }
-        ensures crash { Crashes S.protected ((write.order, data_of write.pieces) ∷ [])
+        ensures crash { CrashLeavesBlocks S.protected ((write.order, piece_data write.pieces) ∷ [])
             (S.disk store.old) (S.disk store.new) (S.kept store.old) (S.kept store.new) }
     {
         let mut write = write;
@@ -119,11 +121,11 @@ impl Machine {
         requires write { is_write order.now.cdb ≡ true }
         requires whole { length bytes.now ≡ taken_length order.now }
         requires found { IsFound order.now found.old }
-        ensures handles { Handles S.protected (λ device. execute device self.old (S.disk store.old)
+        ensures handles { TaskPost S.protected (λ device. execute device self.old (S.disk store.old)
             tag order.now (with_piece [] 0 bytes.now)) result
             (moment self.old (store_of (S.disk store.old) (S.failures store.old)) out.old.items)
             (moment self.new (store_of (S.disk store.new) (S.failures store.new)) out.new.items) }
-        ensures crash { Crashes S.protected ((order.now, bytes.now) ∷ [])
+        ensures crash { CrashLeavesBlocks S.protected ((order.now, bytes.now) ∷ [])
             (S.disk store.old) (S.disk store.new) (S.kept store.old) (S.kept store.new) }
     {
         out.reserve(RESPONSE_LEN)?;
@@ -133,17 +135,17 @@ impl Machine {
         let Ok(()) = append_response(&head, outcome.sense, out) else {
             unreachable!()
         };
-        self.count();
+        self.advance_stat_sn();
         Ok(None)
     }
 
     // Sends an R2T for the next bytes of a write (RFC 7143, section 11.8).
     fn send_r2t(&mut self, write: OpenWrite, out: &mut Vec<u8>) -> Result<Option<u8>, AllocError>
-        requires whole { is_whole write ≡ false }
-        requires idle { is_idle write.due ≡ true }
+        requires whole { is_whole_write write ≡ false }
+        requires idle { is_nothing_due write.due ≡ true }
         requires places { TakePlaces self.old.tasks }
         requires room { length self.old.tasks < 9 }
-        ensures { (disk : Disk) → Leaves (send_r2t self.old disk write)
+        ensures { (disk : Disk) → DisklessPost (send_r2t self.old disk write)
             result self.old self.new out.old.items out.new.items }
     {
         let mut write = write;
@@ -160,8 +162,8 @@ impl Machine {
     // The head of the next R2T of a write, for `len` bytes.
     fn r2t_head(&self, write: &OpenWrite, len: u32) -> Head
         requires { len ≡ desired self.now.session.held write.now }
-        ensures head { result ≡ r2t_head self.now.session (waiting (led_by write.now self.now).tasks) write.now }
-        ensures fits { Fits result }
+        ensures head { result ≡ r2t_head self.now.session (waiting_tasks (led_by write.now self.now).tasks) write.now }
+        ensures fits { HeadFits result }
     {
         let numbers = self
             .session
@@ -190,12 +192,12 @@ impl Machine {
         out: &mut Vec<u8>,
     ) -> Result<Option<u8>, AllocError>
         requires { length bytes.now < 2 ^ 24 }
-        ensures follows { Follows S.protected
-            (data_out self.old received.now head.now bytes.now) result
+        ensures follows { NextPost S.protected
+            (on_data_out self.old received.now head.now bytes.now) result
             (moment self.old (store_of (S.disk store.old) (S.failures store.old)) out.old.items)
             (moment self.new (store_of (S.disk store.new) (S.failures store.new)) out.new.items) }
-        ensures crash { Crashes S.protected (commands_by
-            (data_out self.old received.now head.now bytes.now))
+        ensures crash { CrashLeavesBlocks S.protected (commands_by
+            (on_data_out self.old received.now head.now bytes.now))
             (S.disk store.old) (S.disk store.new) (S.kept store.old) (S.kept store.new) }
     {
         let Some((place, write)) = self.tasks.take_write(head.initiator_task_tag) else {
@@ -207,34 +209,59 @@ impl Machine {
         if !is_due {
             return self.reject_and_close(DATA_OUT_OF_ORDER, received, out);
         }
-        self.work_off(store, out)
+        self.run_queue(store, out)
     }
 
-    // The task of a request that has to wait, on a disk of `n` blocks. A WRITE is planned here, and
-    // any other command when its turn comes.
+    // The task of a request that has to wait, on a disk of `n` blocks.
     pub(super) fn task(
         &self,
+        request: &InboundRequest,
         received: &Received<'_>,
         blocks: u64,
         out: &Vec<u8>,
     ) -> Result<Task, AllocError>
-        requires keeps { breaks_rules self.now.session.held (length (segment_bytes received.now.segment))
-            received.now.head ≡ false }
-        ensures { IfOk result (λ task. task ≡ task_of (unit_of self.now.session) blocks received.now) }
+        requires is { IsRequest request.now received.now.head }
+        requires keeps { breaks_rules self.now.session.held
+            (length (segment_bytes received.now.segment)) request.now.asks ≡ false }
+        ensures { IfOk result (λ task. task
+            ≡ task_of (unit_of self.now.session) (presented blocks received.now request.now)) }
     {
         let alloc = *out.allocator();
-        if let Head::ScsiCommand(command) = &received.pdu.head {
-            let order = self.order_of(command);
-            if order.is_write() {
-                let found = Found::of(&order, blocks);
-                if let Plan::Take(total) = found.plan(&order) {
-                    let bytes = received.pdu.bytes;
-                    let write = opened(alloc, command, order, found, total, bytes)?;
-                    return Ok(Task::Data(write));
-                }
+        match &request.asks {
+            Asks::Command(command) => self.command_task(command, received.pdu.bytes, blocks, alloc),
+            Asks::Session(asked) => {
+                let tag = request.initiator_task_tag;
+                Ok(Task::Request(QueuedRequest::copy(alloc, tag, asked, received)?))
             }
         }
-        Ok(Task::Request(Kept::copy(alloc, received)?))
+    }
+
+    // The task of a command with its immediate data, on a disk of `n` blocks. A WRITE is planned
+    // here, and any other command when its turn comes.
+    fn command_task(
+        &self,
+        command: &ScsiCommand,
+        bytes: &[u8],
+        blocks: u64,
+        alloc: Global,
+    ) -> Result<Task, AllocError>
+        requires keeps { breaks_burst_rules self.now.session.held command.now (length bytes.now)
+            ≡ false }
+        ensures { IfOk result (λ task. task
+            ≡ task_for (unit_of self.now.session) blocks command.now bytes.now) }
+    {
+        let order = self.order_of(command);
+        if order.is_write() {
+            let found = Found::of(&order, blocks);
+            if let Plan::Take(total) = found.plan(&order) {
+                let write = opened(alloc, command, order, found, total, bytes)?;
+                return Ok(Task::Data(write));
+            }
+        }
+        Ok(Task::Command {
+            initiator_task_tag: command.initiator_task_tag,
+            order,
+        })
     }
 }
 
@@ -251,7 +278,7 @@ fn opened(
     requires plan { (count : ℕ) × (plan_of order count ≡ Plan.Take total) }
     requires found { IsFound order found }
     requires fits { length bytes.now ≤ total }
-    ensures { IfOk result (λ write. write ≡ opened command.now order total bytes.now) }
+    ensures { IfOk result (λ write. write ≡ write_opened command.now order total bytes.now) }
 {
     let mut data = Vec::with_capacity(alloc, total as usize)?;
     data.extend_from_slice(bytes)?;

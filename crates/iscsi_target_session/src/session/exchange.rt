@@ -3,14 +3,14 @@
 
 ghost use Rattle.std.specs.Prelude.{◌≡◌, IfOk, Some};
 ghost use Rattle.iscsi_text.specs.Canonical.{canonical_text};
-ghost use Rattle.iscsi_pdu.specs.Meaning.{Fits};
+ghost use Rattle.iscsi_pdu.specs.Meaning.{HeadFits};
 ghost use Rattle.iscsi_pdu.specs.declared.head.Head.TheVariants as heads;
 ghost use Rattle.iscsi_login.specs.Answer.{DeclaresWell};
 ghost use Rattle.iscsi_access.specs.Chap.{Chap};
 ghost use Rattle.iscsi_access.specs.declared.verdict.Said.{Said};
 ghost use Rattle.iscsi_access.specs.declared.verdict.Verdict.TheVariants.{Goes};
 ghost use Rattle.iscsi_target_session.specs.Login.{has_passed, verdict_for, allowed_move, exchange_pairs, by_verdict, rest_of, exchange_text};
-ghost use Rattle.iscsi_target_session.specs.Replies.{Attempts};
+ghost use Rattle.iscsi_target_session.specs.Replies.{ReplyAttemptPost};
 
 use super::Session;
 use crate::status::Status;
@@ -39,9 +39,9 @@ impl Session {
         text: &Text<'_>,
         out: &mut Vec<u8>,
     ) -> Result<Option<u8>, AllocError>
-        requires fits { Fits (heads.LoginRequest request.now) }
+        requires fits { HeadFits (heads.LoginRequest request.now) }
         ensures { (c : Chap) → self.old.settings.extras.chap ≡ Some c
-            → Attempts (exchange_text c self.old request.now text.now) result
+            → ReplyAttemptPost (exchange_text c self.old request.now text.now) result
             self.old self.new out.old.items out.new.items }
     {
         let alloc = *out.allocator();
@@ -90,11 +90,12 @@ impl Session {
         progress: Progress,
         out: &mut Vec<u8>,
     ) -> Result<Option<u8>, AllocError>
-        requires fits { Fits (heads.LoginRequest request.now) }
+        requires fits { HeadFits (heads.LoginRequest request.now) }
         requires declares { DeclaresWell rest.now }
         ensures { (c : Chap) (said : Said)
             → answer.now ≡ canonical_text (exchange_pairs c said self.old rest.now)
-            → Attempts (by_verdict c (Goes progress said) self.old request.now rest.now) result
+            → ReplyAttemptPost (by_verdict c (Goes progress said) self.old request.now rest.now)
+            result
             self.old self.new out.old.items out.new.items }
     {
         // The answer has to fit into one segment (own rule).
@@ -154,9 +155,9 @@ fn has_passed(progress: Progress) -> bool
 
 // The request as far as it is followed: it moves to no other stage before a response was right.
 fn allowed_move(progress: Progress, request: &LoginRequest) -> LoginRequest
-    requires fits { Fits (heads.LoginRequest request.now) }
+    requires fits { HeadFits (heads.LoginRequest request.now) }
     ensures moves { result ≡ allowed_move progress request.now }
-    ensures fits { Fits (heads.LoginRequest result) }
+    ensures fits { HeadFits (heads.LoginRequest result) }
 {
     if has_passed(progress) {
         *request

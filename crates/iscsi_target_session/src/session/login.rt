@@ -4,17 +4,17 @@
 ghost use Rattle.std.specs.Prelude.{◌≡◌, ◌↔◌, ◌<◌, ◌≤◌, ◌+◌, ◌^◌, ◌++◌, [], length, IsTrue, OnErr, OnOk, IfOk, IfSome, Some, false};
 ghost use Rattle.iscsi_text.specs.Text.{Pairs};
 ghost use Rattle.iscsi_text.specs.Canonical.{canonical_text};
-ghost use Rattle.iscsi_pdu.specs.Meaning.{Fits};
+ghost use Rattle.iscsi_pdu.specs.Meaning.{HeadFits};
 ghost use Rattle.iscsi_pdu.specs.declared.head.login_request.LoginRequest.{LoginRequest};
 ghost use Rattle.iscsi_pdu.specs.declared.head.Head.TheVariants as heads;
 ghost use Rattle.iscsi_login.specs.Answer.{DeclaresWell};
 ghost use Rattle.iscsi_stream.specs.Segment.{Bytes, Text as Whole, segment_of, text_or_bytes};
-ghost use Rattle.iscsi_target_session.specs.Session.{counted, ended};
-ghost use Rattle.scsi_disk.specs.Plan.{first_of};
-ghost use Rattle.iscsi_target_session.specs.Login.{stage_named, is_due_stage, is_move, stage_asked, stage_after, tsih_at, phase_at, response, refuse, after_text, answered_by, plain_text, whole_text, segment_taken, request_refusals, login_request, login_step};
+ghost use Rattle.iscsi_target_session.specs.Session.{stat_sn_advanced, ended_session};
+ghost use Rattle.scsi_disk.specs.Plan.{first_reason};
+ghost use Rattle.iscsi_target_session.specs.Login.{stage_named, is_due_stage, is_move, stage_asked, stage_after, tsih_at, phase_at, login_response_to, refuse, after_text, text_answered_by, plain_text, whole_text, segment_taken, request_refusals, on_login_request, target_login_step};
 ghost use Rattle.iscsi_target_session.specs.LoginText.{initiator_for, answer_pairs};
-ghost use Rattle.iscsi_target_session.specs.Replies.{Replied, Does, Attempts};
-ghost use Rattle.iscsi_target_session.specs.Inside.{rolled_back, login_answer};
+ghost use Rattle.iscsi_target_session.specs.Replies.{Replied, ReplyPost, ReplyAttemptPost};
+ghost use Rattle.iscsi_target_session.specs.inner.Inside.{session_rolled_back, login_answer};
 
 use super::Session;
 use super::login_text::seen_with;
@@ -35,27 +35,12 @@ impl Session {
         received: &Received<'_>,
         out: &mut Vec<u8>,
     ) -> Result<Option<u8>, AllocError>
-        ensures { Attempts (login_step self.old received.now) result
+        ensures { ReplyAttemptPost (target_login_step self.old received.now) result
             self.old self.new out.old.items out.new.items }
     {
         match &received.pdu.head {
             Head::LoginRequest(request) => self.login_request(request, received, out),
-            Head::NopOut(_)
-            | Head::ScsiCommand(_)
-            | Head::TaskRequest(_)
-            | Head::TextRequest(_)
-            | Head::DataOut(_)
-            | Head::LogoutRequest(_)
-            | Head::NopIn(_)
-            | Head::ScsiResponse(_)
-            | Head::TaskResponse(_)
-            | Head::LoginResponse(_)
-            | Head::TextResponse(_)
-            | Head::DataIn(_)
-            | Head::LogoutResponse(_)
-            | Head::ReadyToTransfer(_)
-            | Head::AsyncMessage(_)
-            | Head::Reject(_) => {
+            _ => {
                 self.close();
                 Ok(Some(KIND_NOT_DUE))
             }
@@ -70,7 +55,8 @@ impl Session {
         out: &mut Vec<u8>,
     ) -> Result<Option<u8>, AllocError>
         requires { received.now.head ≡ heads.LoginRequest request.now }
-        ensures { Attempts (login_request self.old request.now received.now.segment) result
+        ensures { ReplyAttemptPost (on_login_request self.old request.now received.now.segment)
+            result
             self.old self.new out.old.items out.new.items }
     {
         let (isid, stage) = (self.isid, self.stage);
@@ -90,9 +76,10 @@ impl Session {
         out: &mut Vec<u8>,
     ) -> Result<Option<u8>, AllocError>
         requires { received.now.head ≡ heads.LoginRequest request.now }
-        ensures ok { IfOk result (λ rule. Replied (login_request self.old request.now
+        ensures ok { IfOk result (λ rule. Replied (on_login_request self.old request.now
             received.now.segment) rule self.new out.old.items out.new.items) }
-        ensures err { OnErr result (ended (rolled_back self.old self.new) ≡ ended self.old) }
+        ensures err { OnErr result (ended_session (session_rolled_back self.old self.new)
+            ≡ ended_session self.old) }
         ensures unwritten { OnErr result (out.new.items ≡ out.old.items) }
     {
         // Opens the invariant.
@@ -114,7 +101,7 @@ impl Session {
 
     // Why a request is refused by its head, if it is.
     fn request_refusal(&self, request: &LoginRequest) -> Option<Status>
-        ensures { result ≡ first_of (request_refusals self.now request.now) }
+        ensures { result ≡ first_reason (request_refusals self.now request.now) }
     {
         if request.version_min > 0 {
             return Some(Status::UNSUPPORTED_VERSION);
@@ -153,7 +140,7 @@ impl Session {
         out: &mut Vec<u8>,
     ) -> Result<Option<u8>, AllocError>
         requires { received.now.head ≡ heads.LoginRequest request.now }
-        ensures { Attempts (segment_taken self.old request.now received.now.segment) result
+        ensures { ReplyAttemptPost (segment_taken self.old request.now received.now.segment) result
             self.old self.new out.old.items out.new.items }
     {
         match text_of(*out.allocator(), &received.pdu, received.continued)? {
@@ -169,15 +156,15 @@ impl Session {
         text: &Text<'_>,
         out: &mut Vec<u8>,
     ) -> Result<Option<u8>, AllocError>
-        requires fits { Fits (heads.LoginRequest request.now) }
+        requires fits { HeadFits (heads.LoginRequest request.now) }
         requires whole { request.now.continues ≡ false }
-        ensures { Attempts (segment_taken self.old request.now (Whole text.now)) result
+        ensures { ReplyAttemptPost (segment_taken self.old request.now (Whole text.now)) result
             self.old self.new out.old.items out.new.items }
     {
         if self.is_past_limit(text.canonical_len()) {
             return self.refuse(request, Status::OUT_OF_RESOURCES, out);
         }
-        self.forget();
+        self.clear_gathered();
         self.answer_text(request, text, out)
     }
 
@@ -188,8 +175,8 @@ impl Session {
         bytes: &[u8],
         out: &mut Vec<u8>,
     ) -> Result<Option<u8>, AllocError>
-        requires fits { Fits (heads.LoginRequest request.now) }
-        ensures { Attempts (segment_taken self.old request.now (Bytes bytes.now)) result
+        requires fits { HeadFits (heads.LoginRequest request.now) }
+        ensures { ReplyAttemptPost (segment_taken self.old request.now (Bytes bytes.now)) result
             self.old self.new out.old.items out.new.items }
     {
         if self.is_past_limit(bytes.len()) {
@@ -219,13 +206,13 @@ impl Session {
     fn gather(&mut self, bytes: &[u8]) -> Result<(), AllocError>
         ensures ok { OnOk result
             (self.new ≡ record self.old { gathered = self.old.gathered ++ bytes.now }) }
-        ensures err { OnErr result (ended self.new ≡ ended self.old) }
+        ensures err { OnErr result (ended_session self.new ≡ ended_session self.old) }
     {
         self.gathered.extend_from_slice(bytes)
     }
 
     // Drops the bytes of a text.
-    fn forget(&mut self)
+    fn clear_gathered(&mut self)
         ensures { self.new ≡ record self.old { gathered = [] } }
     {
         self.gathered.clear();
@@ -246,8 +233,8 @@ impl Session {
         text: &Text<'_>,
         out: &mut Vec<u8>,
     ) -> Result<Option<u8>, AllocError>
-        requires fits { Fits (heads.LoginRequest request.now) }
-        ensures { Attempts (whole_text self.old request.now (Some text.now)) result
+        requires fits { HeadFits (heads.LoginRequest request.now) }
+        ensures { ReplyAttemptPost (whole_text self.old request.now (Some text.now)) result
             self.old self.new out.old.items out.new.items }
     {
         if self.config.demands_chap() {
@@ -264,8 +251,8 @@ impl Session {
         text: &Text<'_>,
         out: &mut Vec<u8>,
     ) -> Result<Option<u8>, AllocError>
-        requires fits { Fits (heads.LoginRequest request.now) }
-        ensures { Attempts (plain_text self.old request.now text.now) result
+        requires fits { HeadFits (heads.LoginRequest request.now) }
+        ensures { ReplyAttemptPost (plain_text self.old request.now text.now) result
             self.old self.new out.old.items out.new.items }
     {
         let answer = self.answer_to(*out.allocator(), text)?;
@@ -298,11 +285,11 @@ impl Session {
         answer: &[u8],
         out: &mut Vec<u8>,
     ) -> Result<Option<u8>, AllocError>
-        requires fits { Fits (heads.LoginRequest request.now) }
+        requires fits { HeadFits (heads.LoginRequest request.now) }
         requires declares { DeclaresWell text.now }
         requires short { length answer.now ≤ 8192 }
         ensures ok { IfOk result (λ rule. (pairs : Pairs) → answer.now ≡ canonical_text pairs
-            → Replied (answered_by self.old request.now text.now pairs) rule
+            → Replied (text_answered_by self.old request.now text.now pairs) rule
             self.new out.old.items out.new.items) }
         ensures err { OnErr result (self.new ≡ self.old) }
         ensures unwritten { OnErr result (out.new.items ≡ out.old.items) }
@@ -316,12 +303,12 @@ impl Session {
             ..self.response(request)
         };
         self.answer(response, answer, out)?;
-        self.hold(stage, text, initiator_name);
+        self.apply_negotiated(stage, text, initiator_name);
         Ok(None)
     }
 
     // Applies what a text that was answered negotiates, in the stage that follows.
-    fn hold(&mut self, stage: Stage, text: &Text<'_>, initiator_name: Vec<u8>)
+    fn apply_negotiated(&mut self, stage: Stage, text: &Text<'_>, initiator_name: Vec<u8>)
         requires declares { DeclaresWell text.now }
         requires name { initiator_name.items ≡ initiator_for self.old text.now }
         ensures { (request : LoginRequest) → stage_after self.old request ≡ stage
@@ -364,7 +351,7 @@ impl Session {
 
     // What each answer has of its request.
     fn response(&self, request: &LoginRequest) -> LoginResponse
-        ensures { result ≡ response self.now request.now }
+        ensures { result ≡ login_response_to self.now request.now }
     {
         let numbers = self.numbers(0);
         LoginResponse {
@@ -392,9 +379,9 @@ impl Session {
         why: Status,
         out: &mut Vec<u8>,
     ) -> Result<Option<u8>, AllocError>
-        requires fits { Fits (heads.LoginRequest request.now) }
+        requires fits { HeadFits (heads.LoginRequest request.now) }
         requires class { 0 < why.class }
-        ensures { Does (refuse self.old request.now why) result
+        ensures { ReplyPost (refuse self.old request.now why) result
             self.old self.new out.old.items out.new.items }
     {
         let head = Head::LoginResponse(LoginResponse {
@@ -414,13 +401,13 @@ impl Session {
         text: &[u8],
         out: &mut Vec<u8>,
     ) -> Result<Option<u8>, AllocError>
-        requires fits { Fits (heads.LoginResponse
+        requires fits { HeadFits (heads.LoginResponse
             (record response { stat_sn = Some self.old.stat_sn })) }
         requires short { length text.now < 2 ^ 24 }
         ensures ok { IfOk result (λ rule. (pairs : Pairs) → text.now ≡ canonical_text pairs
             → Replied (login_answer self.old response pairs) rule
             self.new out.old.items out.new.items) }
-        ensures counts { OnOk result (self.new ≡ counted self.old) }
+        ensures counts { OnOk result (self.new ≡ stat_sn_advanced self.old) }
         ensures err { OnErr result (self.new ≡ self.old) }
         ensures unwritten { OnErr result (out.new.items ≡ out.old.items) }
     {

@@ -9,9 +9,9 @@ ghost use Rattle.iscsi_text.specs.Value.{Plain, typed};
 ghost use Rattle.iscsi_text.specs.Canonical.{canonical_text};
 ghost use Rattle.iscsi_text.specs.Reading.{has_key};
 ghost use Rattle.iscsi_login.specs.Answer.{DeclaresWell, max_recv_key};
-ghost use Rattle.scsi_disk.specs.Plan.{first_of};
+ghost use Rattle.scsi_disk.specs.Plan.{first_reason};
 ghost use Rattle.iscsi_target_session.specs.Configured.{is_allowed};
-ghost use Rattle.iscsi_target_session.specs.LoginText.{repeats_key, seen_with, is_name, name_in, initiator_for, value_for, is_bad_length, session_named, session_in, session_for, negotiated_as, is_normal, names_target, demands_authentication, declared_tag, declared_length, answer_pairs, text_refusals};
+ghost use Rattle.iscsi_target_session.specs.LoginText.{repeats_key, seen_with, is_given_name, name_in, initiator_for, login_value, is_bad_length, session_named, session_in, session_for, negotiated_as, is_normal, names_target, demands_authentication, declared_tag, declared_length, answer_pairs, text_refusals};
 
 use super::Session;
 use crate::status::Status;
@@ -24,7 +24,7 @@ impl Session {
     // Why a text is refused that has this answer, if it is.
     pub(super) fn text_refusal(&self, text: &Text<'_>, answer: &[u8]) -> Option<Status>
         requires { answer.now ≡ canonical_text (answer_pairs self.now text.now) }
-        ensures refusal { result ≡ first_of (text_refusals self.now text.now) }
+        ensures refusal { result ≡ first_reason (text_refusals self.now text.now) }
         ensures class { IfSome result (λ why. 0 < why.class) }
         ensures declares { result ≡ None → DeclaresWell text.now }
         ensures short { result ≡ None → length answer.now ≤ 8192 }
@@ -63,7 +63,7 @@ impl Session {
     // Whether the first text has no initiator's name.
     fn lacks_initiator(&self, text: &Text<'_>) -> bool
         ensures { result ≡ (not self.now.has_text
-            && not (is_name (value_for (codes "InitiatorName") text.now))) }
+            && not (is_given_name (login_value (codes "InitiatorName") text.now))) }
     {
         !self.has_text && !has_initiator_name(text)
     }
@@ -71,7 +71,7 @@ impl Session {
     // Whether the first text has the name of an initiator that may not log in.
     fn has_unlisted_initiator(&self, text: &Text<'_>) -> bool
         ensures { result ≡ (not self.now.has_text && not (is_allowed self.now.settings.extras
-            (name_in (value_for (codes "InitiatorName") text.now)))) }
+            (name_in (login_value (codes "InitiatorName") text.now)))) }
     {
         !self.has_text && !self.config.is_allowed(name_of(text))
     }
@@ -93,7 +93,7 @@ impl Session {
     // Whether the first text of a normal session has no target's name.
     fn lacks_target(&self, text: &Text<'_>) -> bool
         ensures { result ≡ ((not self.now.has_text && is_normal (session_for self.now text.now))
-            && is_none (value_for (codes "TargetName") text.now)) }
+            && is_none (login_value (codes "TargetName") text.now)) }
     {
         self.wants_target(text) && value_of(text, b"TargetName").is_none()
     }
@@ -102,7 +102,7 @@ impl Session {
     fn names_other_target(&self, text: &Text<'_>) -> bool
         ensures { result ≡ ((not self.now.has_text && is_normal (session_for self.now text.now))
             && not (names_target self.now.settings.name
-            (value_for (codes "TargetName") text.now))) }
+            (login_value (codes "TargetName") text.now))) }
     {
         self.wants_target(text) && !names_target(self.config.name(), text)
     }
@@ -173,7 +173,7 @@ impl Session {
     // Whether AuthMethod is offered, and without `None`.
     fn demands_authentication(&self, text: &Text<'_>) -> bool
         ensures { result ≡ demands_authentication self.now.settings.preferences
-            (value_for (codes "AuthMethod") text.now) }
+            (login_value (codes "AuthMethod") text.now) }
     {
         match value_of(text, b"AuthMethod") {
             Some(offer) => matches!(
@@ -188,7 +188,7 @@ impl Session {
 // The value that a text has of a key, if it has one.
 #[tactic(auto, using(crate::proofs::LoginTextLemmas::first_is))]
 fn value_of<'a>(text: &Text<'a>, key: &[u8]) -> Option<Value<'a>>
-    ensures { option_map typed result ≡ value_for key.now text.now }
+    ensures { option_map typed result ≡ login_value key.now text.now }
 {
     text.get(key, 0)
 }
@@ -203,7 +203,7 @@ fn has_key(text: &Text<'_>, key: &[u8]) -> bool
 
 // Whether a length is declared that may not be.
 fn has_bad_length(text: &Text<'_>) -> bool
-    ensures value { result ≡ is_bad_length (value_for max_recv_key text.now) }
+    ensures value { result ≡ is_bad_length (login_value max_recv_key text.now) }
     ensures declares { result ≡ false → DeclaresWell text.now }
 {
     !declares_well(text)
@@ -249,7 +249,7 @@ fn is_seen(was: bool, text: &Text<'_>, key: &[u8]) -> bool
 
 // Whether there is an initiator's name that isn't empty.
 fn has_initiator_name(text: &Text<'_>) -> bool
-    ensures { result ≡ is_name (value_for (codes "InitiatorName") text.now) }
+    ensures { result ≡ is_given_name (login_value (codes "InitiatorName") text.now) }
 {
     match value_of(text, b"InitiatorName") {
         Some(Value::Plain(name)) => !name.is_empty(),
@@ -259,7 +259,7 @@ fn has_initiator_name(text: &Text<'_>) -> bool
 
 // The initiator's name, if there is one; else it's empty.
 fn name_of<'a>(text: &Text<'a>) -> &'a [u8]
-    ensures { result.now ≡ name_in (value_for (codes "InitiatorName") text.now) }
+    ensures { result.now ≡ name_in (login_value (codes "InitiatorName") text.now) }
 {
     match value_of(text, b"InitiatorName") {
         Some(Value::Plain(name)) => name,
@@ -293,7 +293,7 @@ fn session_named(name: &[u8]) -> Option<SessionType>
 
 // Whether the text names the target of this name.
 fn names_target(name: &[u8], text: &Text<'_>) -> bool
-    ensures { result ≡ names_target name.now (value_for (codes "TargetName") text.now) }
+    ensures { result ≡ names_target name.now (login_value (codes "TargetName") text.now) }
 {
     match value_of(text, b"TargetName") {
         Some(Value::Plain(other)) => name == other,

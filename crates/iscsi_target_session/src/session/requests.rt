@@ -1,13 +1,15 @@
 //! Requests with one answer: pings, task management, logouts.
 
 ghost use Rattle.std.specs.Prelude.{◌≡◌, ◌<◌, ◌^◌, length, false};
-ghost use Rattle.iscsi_target_session.specs.Requests.{nop_out, task_request, task_response, logout_request};
+ghost use Rattle.iscsi_stream.specs.Segment.{is_last_login_pdu};
+ghost use Rattle.iscsi_target_session.specs.Requests.{on_nop_out, on_task_request, task_response_code, on_logout_request};
 ghost use Rattle.iscsi_target_session.specs.Requests.{request_answered};
-ghost use Rattle.iscsi_target_session.specs.Replies.{Does};
+ghost use Rattle.iscsi_target_session.specs.Replies.{ReplyPost};
 
 use super::Session;
+use crate::inbound::SessionRequest;
 use crate::received::Received;
-use iscsi_pdu::rule::{KIND_NOT_DUE, LOGOUT_REASON};
+use iscsi_pdu::rule::LOGOUT_REASON;
 use iscsi_pdu::{
     Head, LogoutRequest, LogoutResponse, NopIn, NopOut, RESERVED_TAG, TaskRequest, TaskResponse,
 };
@@ -19,31 +21,20 @@ impl Session {
     pub fn answer_request(
         &mut self,
         waiting: u32,
+        request: &SessionRequest,
         received: &Received<'_>,
         out: &mut Vec<u8>,
     ) -> Result<Option<u8>, AllocError>
-        ensures { Does (request_answered self.old waiting received.now received.now.head) result
+        requires plain { is_last_login_pdu received.now.head ≡ false }
+        ensures { ReplyPost (request_answered self.old waiting received.now request.now) result
             self.old self.new out.old.items out.new.items }
     {
         let bytes = received.pdu.bytes;
-        match &received.pdu.head {
-            Head::NopOut(head) => self.nop_out(waiting, head, bytes, out),
-            Head::TaskRequest(head) => self.task_request(waiting, false, head, out),
-            Head::TextRequest(head) => self.text_request(waiting, head, bytes, received, out),
-            Head::LogoutRequest(head) => self.logout_request(waiting, head, received, out),
-            Head::LoginRequest(_)
-            | Head::ScsiCommand(_)
-            | Head::DataOut(_)
-            | Head::NopIn(_)
-            | Head::ScsiResponse(_)
-            | Head::TaskResponse(_)
-            | Head::LoginResponse(_)
-            | Head::TextResponse(_)
-            | Head::DataIn(_)
-            | Head::LogoutResponse(_)
-            | Head::ReadyToTransfer(_)
-            | Head::AsyncMessage(_)
-            | Head::Reject(_) => self.reject_and_close(waiting, KIND_NOT_DUE, received, out),
+        match request {
+            SessionRequest::Ping(head) => self.nop_out(waiting, head, bytes, out),
+            SessionRequest::Task(head) => self.task_request(waiting, false, head, out),
+            SessionRequest::Text(head) => self.text_request(waiting, head, bytes, received, out),
+            SessionRequest::Logout(head) => self.logout_request(waiting, head, received, out),
         }
     }
 
@@ -57,7 +48,7 @@ impl Session {
         out: &mut Vec<u8>,
     ) -> Result<Option<u8>, AllocError>
         requires { length bytes.now < 2 ^ 24 }
-        ensures { Does (nop_out self.old waiting request.now bytes.now) result
+        ensures { ReplyPost (on_nop_out self.old waiting request.now bytes.now) result
             self.old self.new out.old.items out.new.items }
     {
         if request.initiator_task_tag == RESERVED_TAG {
@@ -85,7 +76,7 @@ impl Session {
         request: &TaskRequest,
         out: &mut Vec<u8>,
     ) -> Result<Option<u8>, AllocError>
-        ensures { Does (task_request self.old waiting is_open request.now) result
+        ensures { ReplyPost (on_task_request self.old waiting is_open request.now) result
             self.old self.new out.old.items out.new.items }
     {
         let numbers = self.numbers(waiting);
@@ -108,7 +99,7 @@ impl Session {
         received: &Received<'_>,
         out: &mut Vec<u8>,
     ) -> Result<Option<u8>, AllocError>
-        ensures { Does (logout_request self.old waiting received.now request.now) result
+        ensures { ReplyPost (on_logout_request self.old waiting received.now request.now) result
             self.old self.new out.old.items out.new.items }
     {
         if request.reason > 1 {
@@ -133,7 +124,7 @@ impl Session {
 // The response to a task management function. Where the disk tells what the profile has, none is
 // supported. Else one is done where nothing is left to end: no task is ever taken away.
 fn task_response(has_unit: bool, is_open: bool, request: &TaskRequest) -> u8
-    ensures { result ≡ task_response has_unit is_open request.now }
+    ensures { result ≡ task_response_code has_unit is_open request.now }
 {
     if !has_unit {
         return 5;

@@ -5,11 +5,11 @@ ghost use Rattle.iscsi_text.specs.Numeral.{canonical_number};
 ghost use Rattle.iscsi_text.specs.Canonical.{canonical_text};
 ghost use Rattle.iscsi_text.specs.Value.{Plain};
 ghost use Rattle.iscsi_text.specs.Text.{IsInOrder};
-ghost use Rattle.iscsi_text.specs.Inside.{all_shown};
+ghost use Rattle.iscsi_text.specs.Shown.{all_shown};
 ghost use Rattle.iscsi_text.specs.Reading.{placed};
-ghost use Rattle.iscsi_target_session.specs.TextRequests.{text_request, is_asked, word_for, replies, name_if, reply_pairs, reply_text};
-ghost use Rattle.iscsi_target_session.specs.Replies.{Does};
-ghost use Rattle.iscsi_target_session.specs.Inside.{has_first, has_reply, shown_option, announced_text, told_text};
+ghost use Rattle.iscsi_target_session.specs.TextRequests.{on_text_request, is_asked, word_for, replies, name_if, reply_pairs, reply_text};
+ghost use Rattle.iscsi_target_session.specs.Replies.{ReplyPost};
+ghost use Rattle.iscsi_target_session.specs.inner.Inside.{has_first, has_reply, shown_option, announced_text, told_text};
 
 use super::Session;
 use crate::config::Config;
@@ -32,7 +32,8 @@ impl Session {
         received: &Received<'_>,
         out: &mut Vec<u8>,
     ) -> Result<Option<u8>, AllocError>
-        ensures { Does (text_request self.old waiting received.now request.now bytes.now) result
+        ensures { ReplyPost (on_text_request self.old waiting received.now request.now bytes.now)
+            result
             self.old self.new out.old.items out.new.items }
     {
         if !request.is_final || request.continues || request.target_transfer_tag != RESERVED_TAG {

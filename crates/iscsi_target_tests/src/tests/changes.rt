@@ -3,10 +3,10 @@
 use super::rows::LOGIN;
 use super::target_of;
 use crate::asserts::same;
-use iscsi_examples::{marked, pdus_of};
 use iscsi_login::Phase;
 use iscsi_stream::normalise;
 use iscsi_target::TargetFault;
+use iscsi_test_support::{marked, pdus_of};
 use scsi_disk::{BlockStore, SparseStore};
 use std::alloc::Global;
 use std::process::Abort;

@@ -9,10 +9,10 @@ use super::rows::{
 };
 use super::{BY_PDU, feed_pieces, target_of, target_that_lists, target_with};
 use crate::asserts::same;
-use iscsi_examples::{SESSION, Turn, append_pdu};
 use iscsi_login::{Phase, Preferences, Session, Stage};
 use iscsi_stream::StreamFault;
 use iscsi_target::{Target, TargetFault};
+use iscsi_test_support::{SESSION, Turn, append_pdu};
 use scsi_disk::{BlockStore, FailAt, MemoryStore, SparseStore};
 use std::alloc::Global;
 use std::fmt::Debug;

@@ -3,7 +3,7 @@
 ghost use Rattle.std.specs.Prelude.{◌≡◌, IfOk, map};
 ghost use Rattle.iscsi_text.specs.Key.{is_among};
 ghost use Rattle.iscsi_text.specs.Text.{without};
-ghost use Rattle.iscsi_text.specs.Inside.{all_shown};
+ghost use Rattle.iscsi_text.specs.Shown.{all_shown};
 
 use crate::pair::Pair;
 use std::alloc::{AllocError, Global};

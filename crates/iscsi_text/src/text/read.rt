@@ -1,10 +1,11 @@
 //! Reading a text into its pairs, in the order of their keys (RFC 7143, section 6.1).
 
 ghost use Rattle.std.specs.Prelude.{◌≡◌, ◌≢◌, ◌↔◌, IsTrue, [], IfSome, IfNone, IfOk, IfErr, OnOk, OnErr, option_map};
-ghost use Rattle.iscsi_text.specs.Text.{Pairs, IsInOrder, IsSingle, Arranges, HasNo, TextMeans};
+ghost use Rattle.iscsi_text.specs.Text.{Pairs, IsInOrder, IsSingle, ArrangesPairs, HasNo, TextMeans};
 ghost use Rattle.iscsi_text.specs.Fault.{IsFirstFault};
 ghost use Rattle.iscsi_text.specs.Reading.{in_order};
-ghost use Rattle.iscsi_text.specs.Inside.{shown, all_shown, follows, ReadsEntry, IsWrong, Gathers, SplitsAt};
+ghost use Rattle.iscsi_text.specs.Shown.{shown, all_shown, SplitsAtByte};
+ghost use Rattle.iscsi_text.specs.inner.Inside.{follows, ReadsEntry, IsWrong, GathersRow};
 
 use crate::fault::TextFault;
 use crate::key::{is_key, key_kind};
@@ -38,7 +39,7 @@ pub fn read_pairs<'a>(alloc: Global, bytes: &'a [u8]) -> Result<Vec<Pair<'a>>, T
 // another kind, which is the answer.
 fn gather<'a>(bytes: &'a [u8], pairs: &mut Vec<Pair<'a>>) -> Result<Option<TextFault>, AllocError>
     requires { pairs.old.items ≡ [] }
-    ensures { IfOk result (Gathers bytes.now (all_shown pairs.new.items)) }
+    ensures { IfOk result (GathersRow bytes.now (all_shown pairs.new.items)) }
 {
     let mut rest = bytes;
     while !rest.is_empty() {
@@ -57,7 +58,8 @@ fn gather<'a>(bytes: &'a [u8], pairs: &mut Vec<Pair<'a>>) -> Result<Option<TextF
 
 // Puts pairs in the order of their keys. Those of one key stay in their order.
 fn sort(pairs: &mut Vec<Pair>) -> Result<(), AllocError>
-    ensures ok { OnOk result (Arranges (all_shown pairs.old.items) (all_shown pairs.new.items)) }
+    ensures ok { OnOk result (ArrangesPairs (all_shown pairs.old.items)
+        (all_shown pairs.new.items)) }
     ensures err { OnErr result (pairs.new.items ≡ pairs.old.items) }
 {
     pairs.sort_by_key(|pair| pair.key)?;
@@ -144,7 +146,7 @@ fn read_entry<'a>(rest: &'a [u8], at: usize) -> Result<(Option<Pair<'a>>, &'a [u
 
 /// What stands before the first such byte, and what stands behind it.
 pub fn split_at_byte(bytes: &[u8], byte: u8) -> Option<(&[u8], &[u8])>
-    ensures found { IfSome result (λ parts. SplitsAt bytes.now byte parts.0.now parts.1.now) }
+    ensures found { IfSome result (λ parts. SplitsAtByte bytes.now byte parts.0.now parts.1.now) }
     ensures none { IfNone result (HasNo byte bytes.now) }
 {
     let at = bytes.iter().position(|b| *b == byte)?;

@@ -2,7 +2,8 @@
 
 ghost use Rattle.std.specs.Prelude.{◌≡◌, ◌<◌, ◌^◌, ◌++◌, length, OnOk, OnErr};
 ghost use Rattle.iscsi_text.specs.Canonical.{canonical_text};
-ghost use Rattle.iscsi_text.specs.Inside.{all_shown, Extends};
+ghost use Rattle.iscsi_text.specs.Shown.{all_shown};
+ghost use Rattle.iscsi_text.specs.inner.Inside.{ExtendsBytes};
 
 use crate::pair::Pair;
 use std::alloc::AllocError;
@@ -42,7 +43,7 @@ pub fn write_pairs(pairs: &[Pair], out: &mut Vec<u8>) -> Result<(), AllocError>
 fn append_pairs(pairs: &[Pair], out: &mut Vec<u8>) -> Result<(), AllocError>
     ensures ok { OnOk result (out.new.items ≡
         out.old.items ++ canonical_text (all_shown pairs.now)) }
-    ensures err { OnErr result (Extends out.old.items out.new.items) }
+    ensures err { OnErr result (ExtendsBytes out.old.items out.new.items) }
 {
     for pair in pairs {
         pair.write(out)?;

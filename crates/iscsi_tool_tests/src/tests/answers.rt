@@ -3,8 +3,8 @@
 //! the text `|` stands for a byte 00, and `5a*512` are 512 bytes of 5a. The padding is left out.
 
 use crate::asserts::same;
-use iscsi_examples::{Broken, CUT, FIRST_ANSWER, Full, NAMELESS, PING, REFUSAL, pdus_of};
 use iscsi_stream::{StreamFault, ToolFault};
+use iscsi_test_support::{Broken, CUT, FIRST_ANSWER, Full, NAMELESS, PING, REFUSAL, pdus_of};
 use iscsi_tool::{Filter, Work, run_filter};
 use std::alloc::Global;
 use std::process::Abort;

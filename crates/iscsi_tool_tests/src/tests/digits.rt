@@ -2,8 +2,8 @@
 
 use super::answers::{LOGGED_IN, LOGIN, PONG, bytes_of, line_of};
 use crate::asserts::same;
-use iscsi_examples::PING;
 use iscsi_stream::ToolFault;
+use iscsi_test_support::PING;
 use iscsi_tool::{Filter, Work, run_filter};
 use std::alloc::Global;
 use std::io;

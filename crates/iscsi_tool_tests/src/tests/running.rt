@@ -3,7 +3,7 @@
 
 use super::{CANONICAL_PING, CANONICAL_PING_BYTES, PING, PING_BYTES, PING_LINE};
 use crate::asserts::same;
-use iscsi_examples::{Broken, Full};
+use iscsi_test_support::{Broken, Full};
 use iscsi_tool::{LineFault, run_read, run_words};
 use std::alloc::Global;
 use std::fs;

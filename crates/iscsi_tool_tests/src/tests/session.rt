@@ -3,7 +3,7 @@
 
 use super::{NORMALISE_HEX, SHOW_HEX, run};
 use crate::asserts::same;
-use iscsi_examples::segment_of;
+use iscsi_test_support::segment_of;
 use std::alloc::Global;
 use std::process::Abort;
 

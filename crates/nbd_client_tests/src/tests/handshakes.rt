@@ -2,7 +2,7 @@
 
 use super::bytes_of;
 use crate::asserts::same;
-use iscsi_examples::{SURE, Sink, Source, Steps};
+use iscsi_test_support::{SURE, Sink, Source, Steps};
 use nbd_client::{ExportFault, HandshakeFault, Lost, negotiate};
 use nbd_wire::{GreetingFault, InfoFault, OptionMagic};
 use std::alloc::Global;

@@ -4,7 +4,7 @@
 ghost use Rattle.std.specs.Prelude.{◌≡◌, ◌≤◌, ◌<◌, true, false, refl};
 ghost use Rattle.std.proofs.Common.{inl};
 ghost use Rattle.scsi_disk.specs.Disk.{disk_of};
-ghost use Rattle.scsi_file.specs.CrashMemory.{bytes_of, past_of};
+ghost use Rattle.scsi_file.specs.CrashMemory.{memory_bytes, past_of};
 ghost use Rattle.scsi_file.specs.Hiding.{hiding};
 ghost use Rattle.scsi_file.specs.Past.{MayBe};
 
@@ -48,9 +48,9 @@ impl LiesOnce {
 }
 
 impl Medium for LiesOnce {
-    ghost seen = { λ s. hiding (disk_of (bytes_of s.medium)) };
+    ghost seen = { λ s. hiding (disk_of (memory_bytes s.medium)) };
 
-    ghost kept = { λ s n c. MayBe (bytes_of s.medium) (past_of s.medium) n c };
+    ghost kept = { λ s n c. MayBe (memory_bytes s.medium) (past_of s.medium) n c };
 
     ghost usable = { λ _. true };
 

@@ -3,7 +3,7 @@ use Rattle.std.proofs.Common.{ℕ, ◌≤◌, ◌<◌, List, length, refl, subst
 use Rattle.std.specs.Prelude.{slice_get}
 use Rattle.std.proofs.lemmas.Option.{slice_get_read}
 use Rattle.capture_connections.specs.declared.connections.Connection.{Connection}
-use Rattle.capture_connections.specs.Waiting.{larger_at}
+use Rattle.capture_connections.specs.inner.Waiting.{larger_at}
 use Rattle.capture_connections.proofs.Counting.{less_one, none_more}
 use Rattle.capture_connections.proofs.connections.give_up_most.Goals as goal
 

@@ -1,6 +1,6 @@
 use Rattle.std.proofs.Common.{below_more, arith}
 use Rattle.std.specs.Prelude.{slice_get}
-use Rattle.capture_connections.specs.Waiting.{larger_at}
+use Rattle.capture_connections.specs.inner.Waiting.{larger_at}
 use Rattle.capture_connections.proofs.Counting.{at_most}
 use Rattle.capture_connections.proofs.connections.most_waiting.Goals as goal
 

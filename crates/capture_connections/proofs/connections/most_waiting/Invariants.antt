@@ -1,6 +1,6 @@
 use Rattle.std.proofs.Common.{ℕ, ◌<◌, ◌≤◌}
 use Rattle.std.specs.Prelude.{slice_get}
-use Rattle.capture_connections.specs.Waiting.{larger_at}
+use Rattle.capture_connections.specs.inner.Waiting.{larger_at}
 use Rattle.capture_connections.proofs.connections.most_waiting.Given as goal
 
 -- in none before is there more

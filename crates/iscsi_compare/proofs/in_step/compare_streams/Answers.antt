@@ -1,8 +1,8 @@
 use Rattle.std.proofs.Common.{◌++◌, ◌∙◌, List, ℕ, ap, sym}
 use Rattle.std.proofs.lemmas.Result.{err_from_is_err_and}
 use Rattle.iscsi_compare.specs.declared.fault.CompareFault.TheVariants as fault
-use Rattle.iscsi_compare.specs.Comparing.{Agree, Fails, Part}
-use Rattle.iscsi_compare.specs.Inside.{fuel}
+use Rattle.iscsi_compare.specs.Comparing.{AgreeAtEnds, ComparisonFails, Part}
+use Rattle.iscsi_compare.specs.inner.Inside.{fuel}
 use Rattle.iscsi_compare.proofs.SideLemmas.{less}
 use Rattle.iscsi_compare.proofs.InStepLemmas.{first_stops, second_stops, onwards, memory_stops, they_part, they_agree, one_more}
 use Rattle.iscsi_compare.proofs.in_step.compare_streams.Goals as goal
@@ -30,7 +30,7 @@ returns-in_err-write_lines-clause-compares g c =
     let l = c.loop-other_form in
     let s = c.next.new.self in
     let t = c.next-in-loop-other_form.new.self in
-    rw (p.1, p.2) (onwards (Fails fault.NoMemory) (g.R.Read.remaining c.args.mine.now) (g.R.Read.remaining l.mine) (g.R.Read.remaining c.next.new.r)
+    rw (p.1, p.2) (onwards (ComparisonFails fault.NoMemory) (g.R.Read.remaining c.args.mine.now) (g.R.Read.remaining l.mine) (g.R.Read.remaining c.next.new.r)
     (g.Q.Read.remaining c.args.other.now) (g.Q.Read.remaining l.other)
     (g.Q.Read.remaining c.next-in-loop-other_form.new.r) l.first l.second s t c.args.out.now.items l.out.items c.in_ok-some.some c.in_ok-other_some.other_some
     l.invariant c.in_ok-some.ensures.ok c.in_ok-other_some.ensures.ok
@@ -63,7 +63,7 @@ returns-then-not-some-clause-compares g c =
     let p = c.in_ok-some.some in
     let q = c.in_ok-other_some.other_some in
     let same = c.is_same.ensures.same c.if-not-is_same.false in
-    onwards Agree (g.R.Read.remaining c.args.mine.now) (g.R.Read.remaining l.mine) (g.R.Read.remaining c.next.new.r) (g.Q.Read.remaining c.args.other.now)
+    onwards AgreeAtEnds (g.R.Read.remaining c.args.mine.now) (g.R.Read.remaining l.mine) (g.R.Read.remaining c.next.new.r) (g.Q.Read.remaining c.args.other.now)
     (g.Q.Read.remaining l.other) (g.Q.Read.remaining c.next-in-loop-other_form.new.r) l.first l.second s t
     c.args.out.now.items l.out.items p q l.invariant c.in_ok-some.ensures.ok c.in_ok-other_some.ensures.ok
     (they_agree p q s t c.if-not-some.true (sym same.0 ∙ c.if-not-some.true))

@@ -1,4 +1,4 @@
-use Rattle.iscsi_compare.specs.Inside.{fuel}
+use Rattle.iscsi_compare.specs.inner.Inside.{fuel}
 use Rattle.iscsi_compare.proofs.InStepLemmas.{streams, InStep}
 use Rattle.iscsi_compare.proofs.in_step.compare_streams.Given as goal
 

@@ -1,7 +1,7 @@
 use Rattle.std.proofs.Common.{◌++◌, ◌∙◌, List, ℕ, ap, sym, subst}
 use Rattle.std.proofs.lemmas.Result.{err_from_is_err_and}
 use Rattle.iscsi_compare.specs.declared.fault.CompareFault.TheVariants as fault
-use Rattle.iscsi_compare.specs.SameJobJudge.{LearnsNext}
+use Rattle.iscsi_compare.specs.inner.SameJobJudge.{LearnsNext}
 use Rattle.iscsi_compare.specs.SameJobVerdict.{AgreeOnJob, PartFromJob, FailsInJob}
 use Rattle.iscsi_compare.proofs.RunsInStepLemmas.{
   job_at_start,

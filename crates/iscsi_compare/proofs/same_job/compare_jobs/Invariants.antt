@@ -1,4 +1,4 @@
-use Rattle.iscsi_compare.specs.Inside.{fuel}
+use Rattle.iscsi_compare.specs.inner.Inside.{fuel}
 use Rattle.iscsi_compare.proofs.InStepLemmas.{streams}
 use Rattle.iscsi_compare.proofs.RunsInStepLemmas.{JobInStep}
 use Rattle.iscsi_compare.proofs.same_job.compare_jobs.Given as goal

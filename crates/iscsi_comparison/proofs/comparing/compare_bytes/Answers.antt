@@ -3,7 +3,7 @@ use Rattle.std.proofs.KnownBytes.{Appends-nil}
 use Rattle.iscsi_stream.specs.declared.fault.ToolFault.{ToolFault}
 use Rattle.iscsi_compare.specs.declared.fault.CompareFault.{CompareFault}
 use Rattle.iscsi_compare.specs.declared.verdict.Verdict.{Verdict}
-use Rattle.iscsi_compare.specs.Comparing.{Tells}
+use Rattle.iscsi_compare.specs.Comparing.{AppendsDifference}
 use Rattle.iscsi_comparison.specs.declared.comparing.ComparisonFault.{ComparisonFault}
 use Rattle.iscsi_comparison.specs.declared.comparing.ComparisonFault.TheVariants as fault
 use Rattle.iscsi_comparison.proofs.comparing.compare_bytes.Goals as goal
@@ -18,8 +18,9 @@ pub returns-in-Ok-write_fully : goal.returns-in-Ok-write_fully
 returns-in-Ok-write_fully g c =
     let j = c.in-Ok.ensures.compares in
     let said : Result Verdict CompareFault = Ok c.in-Ok.verdict in
-    let told : Tells said [] c.deref.result.now =
-    subst (Tells said []) (sym c.deref.ensures.value) (subst (λ (x : List ℕ). Tells said x c.judged.new.lines.items) c.new-lines.ensures.items
+    let told : AppendsDifference said [] c.deref.result.now =
+    subst (AppendsDifference said []) (sym c.deref.ensures.value) (subst (λ (x : List ℕ). AppendsDifference said x c.judged.new.lines.items)
+    c.new-lines.ensures.items
     c.in-Ok.ensures.tells) in
     record { compares = (j.0, j.1, c.deref.result.now, j.2, j.3, c.in-Ok-write_fully.ensures.ok, (said, j.4, (refl, told))) }
 
@@ -27,8 +28,9 @@ pub returns : goal.returns
 returns g c =
     let j = c.in-Ok.ensures.compares in
     let said : Result Verdict CompareFault = Ok c.in-Ok.verdict in
-    let told : Tells said [] c.deref.result.now =
-    subst (Tells said []) (sym c.deref.ensures.value) (subst (λ (x : List ℕ). Tells said x c.judged.new.lines.items) c.new-lines.ensures.items
+    let told : AppendsDifference said [] c.deref.result.now =
+    subst (AppendsDifference said []) (sym c.deref.ensures.value) (subst (λ (x : List ℕ). AppendsDifference said x c.judged.new.lines.items)
+    c.new-lines.ensures.items
     c.in-Ok.ensures.tells) in
     let front = c.in-Err-write_fully.ensures.err.1 in
     let own : ToolFault → ComparisonFault = λ f. fault.Own f in

@@ -1,13 +1,15 @@
 use Rattle.std.proofs.Common.{◌≡◌, List, ℕ, [], Option, Some, Err, refl, ap, subst, inl, inr}
 use Rattle.std.proofs.KnownBytes.{Consumes-nil, Appends-nil}
-use Rattle.iscsi_compare.specs.Comparing.{Input, input_of, Gave}
+use Rattle.iscsi_compare.specs.Comparing.{ReadInput, GaveInput}
+use Rattle.iscsi_compare.specs.inner.Comparing.{input_of}
 use Rattle.iscsi_comparison.specs.declared.comparing.ComparisonFault.{ComparisonFault}
 use Rattle.iscsi_comparison.specs.declared.comparing.Sameness.{Sameness}
-use Rattle.iscsi_comparison.specs.Comparisons.{Outcome, ComparesBytes, ComparesWhole}
+use Rattle.iscsi_comparison.specs.Comparisons.{ComparisonOutcome, ComparesBytes, ComparesWhole}
 use Rattle.iscsi_comparison.proofs.comparing.compare_hex.Goals as goal
 
-whole : (sameness : Sameness) (outcome : Outcome) (bytes other_bytes source other_source written : List ℕ) {left other_left : Option (List ℕ)}
-    (first second : Input) → source ≡ bytes → other_source ≡ other_bytes → Gave (Some source) left first → Gave (Some other_source) other_left second
+whole : (sameness : Sameness) (outcome : ComparisonOutcome) (bytes other_bytes source other_source written : List ℕ) {left other_left : Option (List ℕ)}
+    (first second : ReadInput) → source ≡ bytes → other_source ≡ other_bytes → GaveInput (Some source) left first
+    → GaveInput (Some other_source) other_left second
     → ComparesBytes sameness outcome first second written → ComparesWhole sameness outcome bytes other_bytes written
 whole sameness outcome bytes other_bytes source other_source written {left = left} {other_left = other_left} first second e f gave other_gave compares =
     record {
@@ -15,16 +17,16 @@ whole sameness outcome bytes other_bytes source other_source written {left = lef
       second = second;
       left = left;
       other_left = other_left;
-      gave = subst (λ (s : List ℕ). Gave (Some s) left first) e gave;
-      other_gave = subst (λ (s : List ℕ). Gave (Some s) other_left second) f other_gave;
+      gave = subst (λ (s : List ℕ). GaveInput (Some s) left first) e gave;
+      other_gave = subst (λ (s : List ℕ). GaveInput (Some s) other_left second) f other_gave;
       compares = compares;
     }
 
 pub returns-in-Err : goal.returns-in-Err
 returns-in-Err g c =
     let e = c.in-Err.ensures.err in
-    let x : Input = input_of e.0 (g.R.Read.remaining c.read_bytes.new.r) in
-    let y : Input = input_of [] (g.Q.Read.remaining c.args.other.now) in
+    let x : ReadInput = input_of e.0 (g.R.Read.remaining c.read_bytes.new.r) in
+    let y : ReadInput = input_of [] (g.Q.Read.remaining c.args.other.now) in
     record {
       compares = (
         x,
@@ -37,7 +39,7 @@ returns-in-Err g c =
           reason = c.in-Err.fault;
           fails = e.2;
           is_read = e.3;
-          outcome_is = ap (λ (f : ComparisonFault). let r : Outcome = Err f in r) c.input_fault.ensures;
+          outcome_is = ap (λ (f : ComparisonFault). let r : ComparisonOutcome = Err f in r) c.input_fault.ensures;
           none = refl;
         }),
       );
@@ -47,8 +49,8 @@ pub returns-in-Err-read_bytes : goal.returns-in-Err-read_bytes
 returns-in-Err-read_bytes g c =
     let o = c.in-Ok.ensures.ok in
     let e = c.in-Err-read_bytes.ensures.err in
-    let x : Input = input_of o.0 (g.R.Read.remaining c.read_bytes.new.r) in
-    let y : Input = input_of e.0 (g.Q.Read.remaining c.read_bytes-2.new.r) in
+    let x : ReadInput = input_of o.0 (g.R.Read.remaining c.read_bytes.new.r) in
+    let y : ReadInput = input_of e.0 (g.Q.Read.remaining c.read_bytes-2.new.r) in
     record {
       compares = (
         x,
@@ -62,7 +64,7 @@ returns-in-Err-read_bytes g c =
           fails = e.2;
           is_read = e.3;
           outcome_is =
-              ap (λ (f : ComparisonFault). let r : Outcome = Err f in r) c.input_fault-in-Err-read_bytes.ensures;
+              ap (λ (f : ComparisonFault). let r : ComparisonOutcome = Err f in r) c.input_fault-in-Err-read_bytes.ensures;
           none = refl;
         })),
       );
@@ -73,8 +75,8 @@ returns g c =
     let o = c.in-Ok.ensures.ok in
     let p = c.in-Ok-read_bytes.ensures.ok in
     let j = c.compare_bytes.ensures.compares in
-    let x : Input = input_of o.0 (g.R.Read.remaining c.read_bytes.new.r) in
-    let y : Input = input_of p.0 (g.Q.Read.remaining c.read_bytes-2.new.r) in
+    let x : ReadInput = input_of o.0 (g.R.Read.remaining c.read_bytes.new.r) in
+    let y : ReadInput = input_of p.0 (g.Q.Read.remaining c.read_bytes-2.new.r) in
     let bytes = c.in-Ok.bytes.items in
     let other_bytes = c.in-Ok-read_bytes.bytes.items in
     record {

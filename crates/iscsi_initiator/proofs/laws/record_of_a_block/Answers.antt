@@ -1,4 +1,4 @@
-use Rattle.iscsi_initiator.proofs.BlockLaws.{record_is}
+use Rattle.scsi_cdb.proofs.RecordLemmas.{record_is}
 use Rattle.iscsi_initiator.proofs.laws.record_of_a_block.Goals as goal
 
 pub returns : goal.returns

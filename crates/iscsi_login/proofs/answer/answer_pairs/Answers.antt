@@ -1,8 +1,8 @@
 use Rattle.std.proofs.Common.{◌≡◌, ◌++◌, length, take, sym, subst, ap, ◌∙◌, arith}
 use Rattle.std.specs.List.{flat_map}
 use Rattle.std.proofs.lemmas.List.{take_all, length-map}
-use Rattle.iscsi_text.specs.Text.{Arranges}
-use Rattle.iscsi_text.specs.Inside.{shown, all_shown}
+use Rattle.iscsi_text.specs.Text.{ArrangesPairs}
+use Rattle.iscsi_text.specs.Shown.{shown, all_shown}
 use Rattle.iscsi_login.specs.Answer.{answers_to, declarations}
 use Rattle.iscsi_login.proofs.AnswerLoopLemmas.{stands_in, no_answer_before, answered_more}
 use Rattle.iscsi_text.proofs.OrderLemmas.{arranged_is}
@@ -31,6 +31,6 @@ returns c =
     record {
       answer = arranged_is (declarations c.args.tag c.args.max_recv ++ flat_map (answers_to c.args.session c.args.preferences.now) c.args.text.now)
           (all_shown c.loop-offered.pairs.items)
-          (subst (λ given. Arranges (declarations c.args.tag c.args.max_recv ++ flat_map (answers_to c.args.session c.args.preferences.now) given)
+          (subst (λ given. ArrangesPairs (declarations c.args.tag c.args.max_recv ++ flat_map (answers_to c.args.session c.args.preferences.now) given)
           (all_shown c.loop-offered.pairs.items)) all c.loop-offered.invariant);
     }

@@ -1,6 +1,6 @@
 use Rattle.std.proofs.Common.{◌≡◌, ◌≤◌, length, find, Some, None, sym, ap, subst, ◌∙◌}
 use Rattle.std.specs.Option.{option_map, IfSome}
-use Rattle.iscsi_text.specs.Inside.{all_shown}
+use Rattle.iscsi_text.specs.Shown.{all_shown}
 use Rattle.iscsi_login.specs.Check.{bad_key, is_bad, is_unanswered, key_or}
 use Rattle.iscsi_login.proofs.KeyValueLemmas.{first_of_two, second_of_two, some_shown}
 use Rattle.iscsi_login.proofs.JudgementLemmas.{key_is_short, taken_declares}

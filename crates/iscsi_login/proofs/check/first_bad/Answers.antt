@@ -4,7 +4,7 @@ use Rattle.std.specs.Option.{option_map}
 use Rattle.std.proofs.lemmas.Iterator.{YieldsList-from_slice}
 use Rattle.std.proofs.lemmas.Iterator.Search.{find_from_yields_List}
 use Rattle.iscsi_text.specs.declared.pair.Pair.{Pair}
-use Rattle.iscsi_text.specs.Inside.{shown, all_shown}
+use Rattle.iscsi_text.specs.Shown.{shown, all_shown}
 use Rattle.iscsi_login.specs.Check.{is_bad}
 use Rattle.iscsi_login.proofs.KeyValueLemmas.{find_shown}
 use Rattle.iscsi_login.proofs.check.first_bad.Goals as goal

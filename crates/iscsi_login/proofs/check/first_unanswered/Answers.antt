@@ -4,7 +4,7 @@ use Rattle.std.specs.Option.{option_map, IfSome}
 use Rattle.std.proofs.lemmas.Iterator.{YieldsList-from_slice}
 use Rattle.std.proofs.lemmas.Iterator.Search.{find_from_yields_List}
 use Rattle.iscsi_text.specs.declared.pair.Pair.{Pair}
-use Rattle.iscsi_text.specs.Inside.{shown}
+use Rattle.iscsi_text.specs.Shown.{shown}
 use Rattle.iscsi_text.specs.Negotiated.{key_named}
 use Rattle.iscsi_login.specs.Check.{is_unanswered}
 use Rattle.iscsi_login.proofs.KeyValueLemmas.{find_shown, found_passes}

@@ -2,13 +2,13 @@ use Rattle.std.proofs.Common.{◌≡◌, [], ◌∷◌, ◌++◌, List, length, 
 use Rattle.std.proofs.lemmas.Result.{err_from_is_err_and}
 use Rattle.std.specs.Vec.Iter.{into_iter_items}
 use Rattle.iscsi_loop.specs.declared.command.Command.{Command}
-use Rattle.iscsi_loop.specs.Commands.{is_logout, request_of}
+use Rattle.iscsi_loop.specs.Commands.{is_logout, command_request}
 use Rattle.iscsi_loop.specs.Looping.{up_to_logout}
-use Rattle.iscsi_loop.specs.Script.{AreInRange}
+use Rattle.iscsi_loop.specs.inner.Script.{AreCommandsInRange}
 use Rattle.iscsi_loop.proofs.BlameLemmas.{open_front}
 use Rattle.iscsi_loop.proofs.HistoryLemmas.{DoneSoFar, done_none, done_more, done_all, done_stops, goes_on, ends_at, left_at, left_by}
-use Rattle.scsi_disk.specs.Sparse.{disk_in}
-use Rattle.iscsi_loop.specs.LoopPairs.{ends_of}
+use Rattle.scsi_disk.specs.Sparse.{extents_disk}
+use Rattle.iscsi_loop.specs.inner.LoopPairs.{ends_of}
 use Rattle.iscsi_loop.proofs.OnDiskLaw.{OnDiskSoFar, on_none, on_more, on_stops, on_all}
 use Rattle.iscsi_loop.proofs.loop_script.run_commands.Goals as goal
 
@@ -25,11 +25,11 @@ loop-command-init g c =
       omega (arith, gives.1, ap length gives.0, c.args.commands.ok.0),
       λ faithful blocks one. subst
           (λ (cs : List Command). OnDiskSoFar blocks c.args.commands.items cs (ends_of c.args.ends.now.initiator c.args.ends.now.target
-          (disk_in c.args.ends.now.store) [] [])
+          (extents_disk c.args.ends.now.store) [] [])
           (g.W.Write.contents c.args.w.now) (g.W.Write.contents c.args.w.now)) (sym gives.0)
-          (on_none blocks c.args.commands.items (ends_of c.args.ends.now.initiator c.args.ends.now.target (disk_in c.args.ends.now.store) [] [])
+          (on_none blocks c.args.commands.items (ends_of c.args.ends.now.initiator c.args.ends.now.target (extents_disk c.args.ends.now.store) [] [])
           (g.W.Write.contents c.args.w.now) one),
-      λ ranges. subst AreInRange (sym gives.0) ranges,
+      λ ranges. subst AreCommandsInRange (sym gives.0) ranges,
     )
 
 pub returns-in_err-run_command-clause-err : goal.returns-in_err-run_command-clause-err
@@ -46,7 +46,7 @@ returns-in_err-run_command-clause-served g c = λ faithful blocks one.
     let at = c.loop-command in
     let after = c.run_command.new.ends in
     rw p.1 (on_stops p.0 blocks c.args.commands.items (into_iter_items at.command-iterator) (into_iter_items c.next.new.self) c.in-Some.command
-    (ends_of at.ends.initiator at.ends.target (disk_in at.ends.store) [] []) (ends_of after.initiator after.target (disk_in after.store) [] [])
+    (ends_of at.ends.initiator at.ends.target (extents_disk at.ends.store) [] []) (ends_of after.initiator after.target (extents_disk after.store) [] [])
     (g.W.Write.contents c.args.w.now) (g.W.Write.contents at.w) (g.W.Write.contents c.run_command.new.w)
     (at.invariant.2 faithful blocks one) c.in-Some.ensures.steps.0
     (λ past before. c.in_err-run_command.ensures.served faithful blocks past before))
@@ -57,9 +57,10 @@ returns-then-is_logout-clause-served g c = λ faithful blocks one.
     let x = c.in-Some.command in
     let more = into_iter_items c.next.new.self in
     let after = c.run_command.new.ends in
-    let here = ends_of after.initiator after.target (disk_in after.store) [] [] in
+    let here = ends_of after.initiator after.target (extents_disk after.store) [] [] in
     on_all blocks c.args.commands.items [] here (g.W.Write.contents c.args.w.now) (g.W.Write.contents c.run_command.new.w)
-    (on_more blocks c.args.commands.items (into_iter_items at.command-iterator) more x (ends_of at.ends.initiator at.ends.target (disk_in at.ends.store) [] [])
+    (on_more blocks c.args.commands.items (into_iter_items at.command-iterator) more x
+    (ends_of at.ends.initiator at.ends.target (extents_disk at.ends.store) [] [])
     here
     (g.W.Write.contents c.args.w.now) (g.W.Write.contents at.w) (g.W.Write.contents c.run_command.new.w)
     (at.invariant.2 faithful blocks one) c.in-Some.ensures.steps.0
@@ -94,12 +95,12 @@ loop-command-preserved g c =
       λ faithful blocks one.
           let after = c.run_command.new.ends in
           on_more blocks c.args.commands.items (into_iter_items at.command-iterator) more x
-          (ends_of at.ends.initiator at.ends.target (disk_in at.ends.store) [] [])
-          (ends_of after.initiator after.target (disk_in after.store) [] []) (g.W.Write.contents c.args.w.now) (g.W.Write.contents at.w)
+          (ends_of at.ends.initiator at.ends.target (extents_disk at.ends.store) [] [])
+          (ends_of after.initiator after.target (extents_disk after.store) [] []) (g.W.Write.contents c.args.w.now) (g.W.Write.contents at.w)
           (g.W.Write.contents c.run_command.new.w)
           (at.invariant.2 faithful blocks one) steps (λ past before. c.in_ok-run_command.ensures.served faithful blocks past before) more
           (goes_on x more (sym c.is_logout-is_logout.ensures ∙ c.if-is_logout.false)),
-      λ ranges. (subst AreInRange steps (at.invariant.3 ranges)).1,
+      λ ranges. (subst AreCommandsInRange steps (at.invariant.3 ranges)).1,
     )
 
 pub returns-clause-runs : goal.returns-clause-runs
@@ -113,7 +114,7 @@ pub returns-clause-served : goal.returns-clause-served
 returns-clause-served g c = λ faithful blocks one.
     let at = c.loop-command in
     let none = c.in-None.ensures.steps in
-    on_all blocks c.args.commands.items (into_iter_items at.command-iterator) (ends_of at.ends.initiator at.ends.target (disk_in at.ends.store) [] [])
+    on_all blocks c.args.commands.items (into_iter_items at.command-iterator) (ends_of at.ends.initiator at.ends.target (extents_disk at.ends.store) [] [])
     (g.W.Write.contents c.args.w.now) (g.W.Write.contents at.w) (at.invariant.2 faithful blocks one)
     (nothing_left (into_iter_items at.command-iterator) (sym at.invariant.1 ∙ none.0))
 
@@ -129,8 +130,8 @@ returns-in_err-run_command-clause-blameless g c = λ faithful blocks one ranges.
     let runs : up_to_logout c.args.commands.items ≡ d.front ++ x ∷ left =
     d.runs ∙ ap (λ (cs : List Command). d.front ++ up_to_logout cs) steps
     ∙ ap (λ (cs : List Command). d.front ++ cs) (left_at (is_logout x) x more refl) in
-    rw (p.1, p.2) (c.in_err-run_command.ensures.blameless faithful blocks (map request_of d.front)
-    (d.one, open_front c.args.commands.items d.front left x runs) (subst AreInRange steps (at.invariant.3 ranges)).0)
+    rw (p.1, p.2) (c.in_err-run_command.ensures.blameless faithful blocks (map command_request d.front)
+    (d.one, open_front c.args.commands.items d.front left x runs) (subst AreCommandsInRange steps (at.invariant.3 ranges)).0)
 
 pub returns-then-is_logout-clause-stands : goal.returns-then-is_logout-clause-stands
 returns-then-is_logout-clause-stands g c = λ faithful blocks one.
@@ -139,15 +140,15 @@ returns-then-is_logout-clause-stands g c = λ faithful blocks one.
     let more = into_iter_items c.next.new.self in
     let after = c.run_command.new.ends in
     let next = on_more blocks c.args.commands.items (into_iter_items at.command-iterator) more x
-    (ends_of at.ends.initiator at.ends.target (disk_in at.ends.store) [] [])
-    (ends_of after.initiator after.target (disk_in after.store) [] [])
+    (ends_of at.ends.initiator at.ends.target (extents_disk at.ends.store) [] [])
+    (ends_of after.initiator after.target (extents_disk after.store) [] [])
     (g.W.Write.contents c.args.w.now) (g.W.Write.contents at.w) (g.W.Write.contents c.run_command.new.w)
     (at.invariant.2 faithful blocks one) c.in-Some.ensures.steps.0
     (λ past before. c.in_ok-run_command.ensures.served faithful blocks past before) []
     (ends_at x more (sym c.is_logout-is_logout.ensures ∙ c.if-is_logout.true)) in
-    (map request_of next.front, next.one)
+    (map command_request next.front, next.one)
 
 pub returns-clause-stands : goal.returns-clause-stands
 returns-clause-stands g c = λ faithful blocks one.
     let d = c.loop-command.invariant.2 faithful blocks one in
-    (map request_of d.front, d.one)
+    (map command_request d.front, d.one)

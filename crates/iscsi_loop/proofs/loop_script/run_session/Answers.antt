@@ -2,9 +2,10 @@ use Rattle.std.proofs.Common.{[], inl, refl, sym, subst}
 use Rattle.std.specs.Prelude.{Err}
 use Rattle.std.proofs.KnownBytes.{Appends-nil}
 use Rattle.std.proofs.lemmas.Result.{err_from_is_err_and}
-use Rattle.scsi_disk.specs.Sparse.{disk_in}
-use Rattle.iscsi_loop.specs.LoopPairs.{ends_of}
-use Rattle.iscsi_loop.specs.LoopSteps.{BlamesNoEnd, IsOfSession}
+use Rattle.scsi_disk.specs.Sparse.{extents_disk}
+use Rattle.iscsi_loop.specs.inner.LoopPairs.{ends_of}
+use Rattle.iscsi_loop.specs.LoopSteps.{BlamesNoEnd}
+use Rattle.iscsi_loop.specs.inner.LoopSteps.{IsSessionFault}
 use Rattle.iscsi_loop.proofs.BlameLemmas.{blameless_at}
 use Rattle.iscsi_loop.proofs.HistoryLemmas.{session_ends, login_stops, commands_stop, commands_end}
 use Rattle.iscsi_loop.proofs.OnDiskLaw.{login_stops_on, commands_stop_on, commands_end_on}
@@ -15,7 +16,7 @@ returns-in_err-carrier g c =
     let p = err_from_is_err_and c.from_residual.result c.from_residual.ensures.1 in
     record {
       loops = λ script left is end. rw (p.1, p.2) (
-          let s = session_ends _ script left (subst IsOfSession (sym c.in_err-carrier.ensures.err) tt) end in
+          let s = session_ends _ script left (subst IsSessionFault (sym c.in_err-carrier.ensures.err) tt) end in
           ([], Appends-nil (g.W.Write.contents c.args.w.now), s.0, s.1));
       on_disk = λ faithful blocks script new is. rw p.1 ([], Appends-nil (g.W.Write.contents c.args.w.now), inl refl);
       blameless = λ faithful blocks new ranges. rw (p.1, p.2) (subst BlamesNoEnd (sym c.in_err-carrier.ensures.err) tt);
@@ -72,7 +73,7 @@ returns-in_err-close g c =
     let line = c.in_ok-write_line.ensures.ok in
     record {
       loops = λ script left is end. rw (p.1, p.2) (commands_end (Err c.in_err-close.field-0.0) script commands before between after left
-          (subst IsOfSession (sym c.in_err-close.ensures.err) tt) is end line
+          (subst IsSessionFault (sym c.in_err-close.ensures.err) tt) is end line
           c.in_ok-run_commands.ensures.runs);
       on_disk = λ faithful blocks script new is.
           let one = c.in_ok-log_in.ensures.served faithful blocks new in
@@ -96,6 +97,6 @@ returns g c =
       blameless = λ faithful blocks new ranges.
           let one = c.in_ok-log_in.ensures.served faithful blocks new in
           let last = c.run_commands.new.ends in
-          blameless_at c.finish.result (ends_of last.initiator last.target (disk_in last.store) [] []) blocks c.finish.ensures.blameless
+          blameless_at c.finish.result (ends_of last.initiator last.target (extents_disk last.store) [] []) blocks c.finish.ensures.blameless
           (c.in_ok-run_commands.ensures.stands faithful blocks one);
     }

@@ -2,7 +2,7 @@ use Rattle.std.proofs.Common.{◌∙◌, List, ap, subst}
 use Rattle.scsi_disk.specs.Disk.{disk_of}
 use Rattle.iscsi_initiator.specs.declared.request.Done.{Done}
 use Rattle.iscsi_pair.specs.World.{World, Opening, new_pair}
-use Rattle.iscsi_pair.specs.Outcomes.{Gives, opening_of}
+use Rattle.iscsi_pair.specs.Outcomes.{GivesOutcomes, opening_of}
 use Rattle.iscsi_pair.specs.Served.{IsNormal}
 use Rattle.iscsi_pair.proofs.Lists.ServingLemmas.{AreServed, HasServed, served_on_disk}
 use Rattle.iscsi_pair.proofs.serving.serve_requests.Goals as goal
@@ -19,8 +19,8 @@ returns-in-Ok-served c =
     let last : World = c.serve_all-served.new.pair in
     let outcomes : List Done = c.in-Ok-served.outcomes.items in
     let given = c.in-Ok-served.ensures.gives in
-    let gives : Gives (new_pair o) given.0 last outcomes =
-    subst (λ (w : World). Gives w given.0 last outcomes) c.in-Ok.ensures.opening given.2 in
+    let gives : GivesOutcomes (new_pair o) given.0 last outcomes =
+    subst (λ (w : World). GivesOutcomes w given.0 last outcomes) c.in-Ok.ensures.opening given.2 in
     let idle = c.in-Ok-served.ensures.idle in
     let h : HasServed (new_pair o) c.args.requests.items last outcomes =
     record { events = given.0; gives = gives; requests = given.1; idle = idle; none_left = c.in-Ok-served.ensures.none_left } in

@@ -4,5 +4,5 @@ use Rattle.iscsi_pdu.proofs.HeaderLemmas.{header-means}
 use Rattle.iscsi_pdu.proofs.head.write_head.Goals as goal
 
 pub returns-clause-back : goal.returns-clause-back
-returns-clause-back c = λ login. subst (λ (b : List ℕ). IsHeader b c.args.head.now c.args.len) (sym c.canonical.ensures.written)
-    (header-means c.args.head.now c.args.len c.canonical.ensures.room c.canonical.ensures.block c.requires.short login)
+returns-clause-back c = λ login. subst (λ (b : List ℕ). IsHeader b c.args.head.now c.args.len) (sym c.put_head.ensures.canonical)
+    (header-means c.args.head.now c.args.len c.put_head.ensures.room c.put_head.ensures.block c.requires.short login)

@@ -3,13 +3,13 @@ use Rattle.std.proofs.Common.{rules, ◌∙◌}
 use borrow.Author.Tests.{tests}
 use Rattle.std.proofs.lemmas.Iterator.Consumers.{map_from_collect, YieldsList-at, YieldsList-from_filter}
 use Rattle.std.proofs.lemmas.Iterator.Splits.{YieldsList-from_slice_split}
-use Rattle.iscsi_secrets.specs.Secrets.{is_blank, is_word, uncommented}
+use Rattle.iscsi_secrets.specs.Secrets.{is_blank, has_byte, uncommented}
 use Rattle.iscsi_secrets.proofs.line.words_of.Goals as goal
 
 pub returns : goal.returns
 returns c = record {
   words = map_from_collect _ c.collect.ensures.ran
-      (YieldsList-from_filter _ is_word
+      (YieldsList-from_filter _ has_byte
       (YieldsList-at c.filter.ensures.source
       (YieldsList-from_slice_split _ is_blank (uncommented c.args.line.now) (c.split.ensures.rest ∙ c.uncommented.ensures) c.split.ensures.done
       c.split.ensures.closure

@@ -2,7 +2,7 @@ use Rattle.std.proofs.Common.{◌≡◌, ◌+◌, ◌∙◌, [], ◌∷◌, Bool
 use Rattle.std.proofs.lemmas.List.{length-append}
 use Rattle.iscsi_stream.specs.Stream.{message}
 use Rattle.iscsi_stream.specs.Framing.{message_of}
-use Rattle.iscsi_stream.specs.Passing.{IsDue}
+use Rattle.iscsi_stream.specs.inner.Passing.{IsDueOutput}
 use Rattle.iscsi_stream.proofs.ReadyLemmas.{unready_if}
 use Rattle.iscsi_stream.proofs.PassingLemmas.{pass_none, pass_one}
 use Rattle.iscsi_stream.proofs.normalising.append_ready.Goals as goal
@@ -29,6 +29,6 @@ returns-clause-ok c =
       message_of c.args.framer.now h d ∷ [],
       pass_one c.args.form c.args.framer.now c.take.new.self h d c.args.out.now.items c.append_pdu.new.out.items bytes c.args.counts.now _ means
           (c.take.ensures.taken h d ready means) done.2
-          (subst (λ (b : Bool). IsDue c.args.form (message b h d ∷ []) bytes) flag done.1) c.saturating_add-counts.ensures refl
+          (subst (λ (b : Bool). IsDueOutput c.args.form (message b h d ∷ []) bytes) flag done.1) c.saturating_add-counts.ensures refl
           (omega (arith, c.len.ensures, c.len-before.ensures, n, m, sum, c.saturating_add-counts-2.ensures)),
     )

@@ -14,12 +14,12 @@ returns-in_err-append_bare-clause-appended c = passed_part c.args.form c.args.pi
     c.args.out.now.items c.loop-rest.out.items c.append_bare.new.out.items c.args.counts.now c.loop-rest.counts c.loop-rest.invariant c.requires.limit
     c.in_err-append_bare.ensures.err
 
-pub loop-rest-preserved-in-Ok : goal.loop-rest-preserved-in-Ok
-loop-rest-preserved-in-Ok c =
+pub loop-rest-preserved-in-Some-bare : goal.loop-rest-preserved-in-Some-bare
+loop-rest-preserved-in-Some-bare c =
     let rest = c.loop-rest.rest.now in
-    let bare = c.in-Some.ensures in
-    let taken = bare_taken c.loop-rest.framer rest c.in-Ok.head _ (bare.live refl) (bare.empty refl) (bare.whole refl)
-    (rw (bare.header, c.in-Ok.is) at c.read_head-read.ensures.means) (rw bare.header at bare.none) in
+    let next = c.in-Some.ensures in
+    let taken = bare_taken c.loop-rest.framer rest c.in-Some-bare.head (next.live refl) (next.empty refl) (next.whole refl)
+    (rw (next.header, c.in-Some-bare.is) at c.read_bare_head-bare.ensures.means) in
     passed_more c.args.form c.args.piece.now rest c.args.framer.now c.loop-rest.framer (holding c.loop-rest.framer (take 48 rest)) c.append_bare.new.framer
     c.args.out.now.items c.loop-rest.out.items c.append_bare.new.out.items
     c.args.counts.now c.loop-rest.counts c.append_bare.new.counts 48 _ c.loop-rest.invariant

@@ -1,6 +1,6 @@
 use Rattle.std.proofs.Common.{◌≡◌, ◌≤◌, [], map, take}
-use Rattle.iscsi_target.specs.Feed.{FedAll, opening_connection, scene}
-use Rattle.iscsi_target.specs.Inside.{store_of}
+use Rattle.iscsi_target.specs.Feed.{FeedsAllPieces, opening_target, scene}
+use Rattle.iscsi_target.specs.Advances.{store_of}
 use Rattle.iscsi_target.proofs.alike.answer_pieces.Given as goal
 
 -- The pieces so far were fed, if no failure was counted.
@@ -11,7 +11,7 @@ invariant-loop-piece g l =
     record {
       rises : failures l.fn.store ≤ failures l.store;
       fed : failures l.store ≡ failures l.fn.store
-          → FedAll g.S.BlockStore.protected (scene (opening_connection l.fn.config l.first_statsn) (store_of (disk l.fn.store) (failures l.fn.store)) [])
+          → FeedsAllPieces g.S.BlockStore.protected (scene (opening_target l.fn.config l.first_statsn) (store_of (disk l.fn.store) (failures l.fn.store)) [])
           (map (λ piece. piece.items) (take l.piece-index l.pieces))
           (scene l.target (store_of (disk l.store) (failures l.store)) l.output.items);
     }

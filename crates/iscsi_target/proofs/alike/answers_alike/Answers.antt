@@ -1,8 +1,8 @@
 use Rattle.std.proofs.Common.{◌≡◌, [], List, ℕ, map, subst, Vec, Global}
-use Rattle.iscsi_target_session.specs.Configured.{Settings}
-use Rattle.iscsi_target.specs.Feed.{FedAll, Store, opening_connection, scene}
-use Rattle.iscsi_target.specs.Inside.{store_of}
-use Rattle.iscsi_target.proofs.AlikeLemmas.{done_alike, wrote_alike}
+use Rattle.iscsi_target_session.specs.Configured.{TargetSettings}
+use Rattle.iscsi_target.specs.Feed.{FeedsAllPieces, Store, opening_target, scene}
+use Rattle.iscsi_target.specs.Advances.{store_of}
+use Rattle.iscsi_target.proofs.Feed.AlikeLemmas.{done_alike, wrote_alike}
 use Rattle.iscsi_target.proofs.alike.answers_alike.Goals as goal
 
 pub returns : goal.returns
@@ -10,7 +10,7 @@ returns g c =
     let disk = g.S.BlockStore.disk in
     let failures = g.S.BlockStore.failures in
     let items : Vec ℕ Global → List ℕ = λ piece. piece.items in
-    let settings : Settings = c.args.configs.0 in
+    let settings : TargetSettings = c.args.configs.0 in
     let n : ℕ = c.args.first_statsn in
     let store : Store = store_of (disk c.args.store.now) (failures c.args.store.now) in
     let other : Store = store_of (disk c.args.other.now) (failures c.args.other.now) in
@@ -21,9 +21,9 @@ returns g c =
     let a = c.in_ok-first.first in
     let b = c.in_ok-second.second in
     let fed_second : failures c.answer_pieces-2.new.store ≡ failures c.args.other.now
-    → FedAll g.S.BlockStore.protected (scene (opening_connection settings n) other []) others (scene b.target second b.output.items) =
-    subst (λ (x : Settings). failures c.answer_pieces-2.new.store ≡ failures c.args.other.now
-    → FedAll g.S.BlockStore.protected (scene (opening_connection x n) other []) others (scene b.target second b.output.items)) c.requires.config
+    → FeedsAllPieces g.S.BlockStore.protected (scene (opening_target settings n) other []) others (scene b.target second b.output.items) =
+    subst (λ (x : TargetSettings). failures c.answer_pieces-2.new.store ≡ failures c.args.other.now
+    → FeedsAllPieces g.S.BlockStore.protected (scene (opening_target x n) other []) others (scene b.target second b.output.items)) c.requires.config
     c.in_ok-second.ensures.fed in
     record {
       first = c.in_ok-first.ensures.fed;

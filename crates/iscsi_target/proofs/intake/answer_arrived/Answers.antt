@@ -5,8 +5,9 @@ use Rattle.iscsi_target.specs.Transfer.{joined_write, with_data}
 use Rattle.iscsi_target.specs.Write.{Write}
 use Rattle.iscsi_target.specs.declared.tasks.Task.TheVariants.{Data}
 use Rattle.iscsi_target.specs.Feed.{Store}
-use Rattle.iscsi_target.specs.Inside.{AreInPlace, store_of}
-use Rattle.iscsi_target.proofs.ArrivalLemmas.{arrived_done, arrived_short, arrived_crash, back_in_place}
+use Rattle.iscsi_target.specs.Advances.{store_of}
+use Rattle.iscsi_target.specs.inner.Inside.{AreInPlace}
+use Rattle.iscsi_target.proofs.Feed.ArrivalLemmas.{arrived_done, arrived_short, arrived_crash, back_in_place}
 use Rattle.iscsi_target.proofs.intake.answer_arrived.Goals as goal
 
 pub resume-requires-clause-in_place : goal.resume-requires-clause-in_place

@@ -1,4 +1,4 @@
-use Rattle.iscsi_target.proofs.AllowedLaw.{full_allowed, executed_allowed, others_touch_nothing}
+use Rattle.iscsi_target.proofs.Access.AllowedLaw.{full_allowed, executed_allowed, others_touch_nothing}
 use Rattle.iscsi_target.proofs.laws.allowed_only.Goals as goal
 
 pub returns : goal.returns

@@ -1,6 +1,6 @@
 use Rattle.std.proofs.Common.{List, ℕ, sym, subst, ◌∙◌, arith}
-use Rattle.iscsi_stream.specs.Stream.{Splits, longest_segment}
-use Rattle.iscsi_target.proofs.FeedingLemmas.{fed_stream, fed_any, fed_holds, same_session}
+use Rattle.iscsi_stream.specs.Stream.{SplitsStream, longest_segment}
+use Rattle.iscsi_target.proofs.Feed.FeedingLemmas.{fed_stream, fed_any, fed_holds, same_session}
 use Rattle.iscsi_target.proofs.laws.any_pieces.Goals as goal
 
 pub returns : goal.returns
@@ -13,7 +13,7 @@ returns c = record {
       after written ms given rest
       (omega (arith, p.max_recv.1));
   alike = λ protected settings n store first second pieces others a b written rewritten ms given rest p s e f g.
-      let t = subst (λ (x : List ℕ). Splits longest_segment x ms given rest) (sym e) s in
+      let t = subst (λ (x : List ℕ). SplitsStream longest_segment x ms given rest) (sym e) s in
       let one = fed_any protected settings n store pieces a first written ms given rest (omega (arith, p.max_recv.1)) f s in
       let two = fed_any protected settings n store others b second rewritten ms given rest (omega (arith, p.max_recv.1)) g t in (
         two.output_is ∙ sym one.output_is,

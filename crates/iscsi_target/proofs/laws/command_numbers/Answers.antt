@@ -3,8 +3,8 @@ use Rattle.iscsi_pdu.specs.declared.head.Head.{Head}
 use Rattle.iscsi_target.specs.Laws.{FitsNumber, login_cmd_sn}
 use Rattle.iscsi_stream.specs.Segment.{no_login}
 use Rattle.iscsi_stream.specs.Stream.{longest_segment}
-use Rattle.iscsi_target.proofs.NumberLaws.{first_numbers}
-use Rattle.iscsi_target.proofs.StreamNumberLemmas.{stream_numbers}
+use Rattle.iscsi_target.proofs.Steps.NumberLaws.{first_numbers}
+use Rattle.iscsi_target.proofs.Answers.StreamNumberLemmas.{stream_numbers}
 use Rattle.iscsi_target.proofs.laws.command_numbers.Goals as goal
 
 pub returns : goal.returns

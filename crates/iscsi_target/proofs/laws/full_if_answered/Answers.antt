@@ -1,4 +1,4 @@
-use Rattle.iscsi_target.proofs.AccessLaws.{full_if_answered, executed_if_answered}
+use Rattle.iscsi_target.proofs.Access.AccessLaws.{full_if_answered, executed_if_answered}
 use Rattle.iscsi_target.proofs.laws.full_if_answered.Goals as goal
 
 pub returns : goal.returns

@@ -1,4 +1,4 @@
-use Rattle.iscsi_target.proofs.ReachableLemmas.{reached_held, reached_limit}
+use Rattle.iscsi_target.proofs.Steps.ReachableLemmas.{reached_held, reached_limit}
 use Rattle.iscsi_target.proofs.laws.held_in_range.Goals as goal
 
 pub returns : goal.returns

@@ -1,5 +1,5 @@
 use Rattle.std.proofs.Common.{refl}
-use Rattle.iscsi_target.proofs.HeldStaysLaw.{held_stays}
+use Rattle.iscsi_target.proofs.Feed.HeldStaysLaw.{held_stays}
 use Rattle.iscsi_target.proofs.laws.held_stays.Goals as goal
 
 pub returns : goal.returns

@@ -1,10 +1,10 @@
 use Rattle.std.proofs.Common.{◌∙◌, sym}
 use Rattle.iscsi_target.specs.Machine.{answers}
-use Rattle.iscsi_target.proofs.DiskFoldLemmas.{answers_fold}
-use Rattle.iscsi_target.proofs.NumberLaws.{answers_tags}
-use Rattle.iscsi_target.proofs.FailingDiskLemmas.{may_leads}
-use Rattle.iscsi_target.proofs.AcceptedOrderLaw.{opening_in_order, tags_of_tasks}
-use Rattle.iscsi_target.proofs.ResponseLaw.{answers_tell}
+use Rattle.iscsi_target.proofs.Steps.DiskFoldLemmas.{answers_fold}
+use Rattle.iscsi_target.proofs.Steps.NumberLaws.{answers_tags}
+use Rattle.iscsi_target.proofs.Steps.FailingDiskLemmas.{may_leads}
+use Rattle.iscsi_target.proofs.Queue.AcceptedOrderLaw.{opening_in_order, tags_of_tasks}
+use Rattle.iscsi_target.proofs.Writes.ResponseLaw.{answers_tell}
 use Rattle.iscsi_target.proofs.laws.one_disk.Goals as goal
 
 pub returns : goal.returns

@@ -1,4 +1,4 @@
-use Rattle.iscsi_target.proofs.OneOutcomeLaw.{one_outcome}
+use Rattle.iscsi_target.proofs.Feed.OneOutcomeLaw.{one_outcome}
 use Rattle.iscsi_target.proofs.laws.one_outcome.Goals as goal
 
 pub returns : goal.returns

@@ -1,6 +1,6 @@
 use Rattle.iscsi_target.specs.Machine.{step_on}
-use Rattle.iscsi_target.proofs.JoiningLemmas.{step_joined}
-use Rattle.iscsi_target.proofs.ContinuationLemmas.{may_apart, may_same}
+use Rattle.iscsi_target.proofs.Writes.JoiningLemmas.{step_joined}
+use Rattle.iscsi_target.proofs.Turns.ContinuationLemmas.{may_apart, may_same}
 use Rattle.iscsi_target.proofs.laws.pieces_joined.Goals as goal
 
 pub returns : goal.returns

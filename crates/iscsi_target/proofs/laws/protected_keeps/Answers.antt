@@ -1,6 +1,6 @@
 use Rattle.std.specs.Prelude.{true}
-use Rattle.iscsi_target.proofs.FailingDiskLemmas.{may_leads}
-use Rattle.iscsi_target.proofs.ProtectedLaw.{leads_keep}
+use Rattle.iscsi_target.proofs.Steps.FailingDiskLemmas.{may_leads}
+use Rattle.iscsi_target.proofs.Answers.ProtectedLaw.{leads_keep}
 use Rattle.iscsi_target.proofs.laws.protected_keeps.Goals as goal
 
 pub returns-clause-answered : goal.returns-clause-answered

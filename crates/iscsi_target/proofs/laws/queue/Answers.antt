@@ -1,4 +1,4 @@
-use Rattle.iscsi_target.proofs.QueueLemmas.{opening_queue, step_rises}
+use Rattle.iscsi_target.proofs.Queue.QueueLemmas.{opening_queue, step_rises}
 use Rattle.iscsi_target.proofs.laws.queue.Goals as goal
 
 pub returns : goal.returns

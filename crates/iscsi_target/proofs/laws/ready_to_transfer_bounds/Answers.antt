@@ -1,5 +1,5 @@
-use Rattle.iscsi_target.proofs.WriteTilingLaws.{reached_keeps}
-use Rattle.iscsi_target.proofs.UnansweredR2tLaw.{opening_asks}
+use Rattle.iscsi_target.proofs.Writes.WriteTilingLaws.{reached_keeps}
+use Rattle.iscsi_target.proofs.Writes.UnansweredR2tLaw.{opening_asks}
 use Rattle.iscsi_target.proofs.laws.ready_to_transfer_bounds.Goals as goal
 
 pub returns : goal.returns

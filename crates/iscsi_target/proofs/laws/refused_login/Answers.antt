@@ -1,4 +1,4 @@
-use Rattle.iscsi_target.proofs.RefusedLaw.{refused_login}
+use Rattle.iscsi_target.proofs.Answers.RefusedLaw.{refused_login}
 use Rattle.iscsi_target.proofs.laws.refused_login.Goals as goal
 
 pub returns : goal.returns

@@ -1,6 +1,6 @@
 use Rattle.iscsi_target.specs.Machine.{answers}
 use Rattle.iscsi_target.specs.Laws.{stat_sns}
-use Rattle.iscsi_target.proofs.NumberLaws.{count_on, count_after, answers_stat_sns}
+use Rattle.iscsi_target.proofs.Steps.NumberLaws.{count_on, count_after, answers_stat_sns}
 use Rattle.iscsi_target.proofs.laws.status_numbers.Goals as goal
 
 pub returns : goal.returns

@@ -1,5 +1,5 @@
-use Rattle.iscsi_target.proofs.TurnFrontLaw.{whole, front}
+use Rattle.iscsi_target.proofs.Turns.TurnFrontLaw.{front}
 use Rattle.iscsi_target.proofs.laws.tasks_in_turn.Goals as goal
 
 pub returns : goal.returns
-returns c = record { whole = whole; front = front }
+returns c = record { front = front }

@@ -1,5 +1,5 @@
-use Rattle.iscsi_target.proofs.WriteTilingLaws.{reached_keeps}
-use Rattle.iscsi_target.proofs.ReachableLemmas.{reached_data_in}
+use Rattle.iscsi_target.proofs.Writes.WriteTilingLaws.{reached_keeps}
+use Rattle.iscsi_target.proofs.Steps.ReachableLemmas.{reached_data_in}
 use Rattle.iscsi_target.proofs.laws.tiling.Goals as goal
 
 pub returns : goal.returns

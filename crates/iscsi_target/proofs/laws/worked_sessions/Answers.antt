@@ -1,6 +1,6 @@
-use Rattle.iscsi_target.proofs.LoginRows.{login_in_two_requests, login_leads}
-use Rattle.iscsi_target.proofs.SessionRows.{write_in_bursts}
-use Rattle.iscsi_target.proofs.ManyKeysRow.{too_many_keys}
+use Rattle.iscsi_target.proofs.Rows.LoginRows.{login_in_two_requests, login_leads}
+use Rattle.iscsi_target.proofs.Rows.SessionRows.{write_in_bursts}
+use Rattle.iscsi_target.proofs.Rows.ManyKeysRow.{too_many_keys}
 use Rattle.iscsi_target.proofs.laws.worked_sessions.Goals as goal
 
 pub returns : goal.returns

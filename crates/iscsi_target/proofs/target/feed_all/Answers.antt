@@ -4,15 +4,15 @@ use Rattle.std.proofs.lemmas.Bool.{eqb-true, eqb-false}
 use Rattle.std.proofs.lemmas.List.{length-drop, take_rest}
 use Rattle.std.proofs.lemmas.Result.{err_from_is_err_and}
 use Rattle.iscsi_stream.proofs.PassingLemmas.{takes_some}
-use Rattle.iscsi_target.specs.Feed.{scene, Connection, Store}
-use Rattle.iscsi_target.specs.Inside.{store_of}
-use Rattle.iscsi_target.proofs.PassedLemmas.{crashes_none, crashes_on, crashes_failed}
-use Rattle.iscsi_target.proofs.FeedInvariant.{GoesUpTo, fed_none, fed_one, ends_failed, ends_broken, ends_closed, ends_live}
+use Rattle.iscsi_target.specs.Feed.{scene, TargetConnection, Store}
+use Rattle.iscsi_target.specs.Advances.{store_of}
+use Rattle.iscsi_target.proofs.Feed.PassedLemmas.{crashes_none, crashes_on, crashes_failed}
+use Rattle.iscsi_target.proofs.Feed.FeedInvariant.{GoesUpTo, fed_none, fed_one, ends_failed, ends_broken, ends_closed, ends_live}
 use Rattle.iscsi_target.proofs.target.feed_all.Goals as goal
 
 pub loop-rest-init : goal.loop-rest-init
 loop-rest-init g c =
-    let old : Connection = c.args.intake.now in
+    let old : TargetConnection = c.args.intake.now in
     let before : Store = store_of (g.S.BlockStore.disk c.args.store.now) (g.S.BlockStore.failures c.args.store.now) in (
       fed_none g.S.BlockStore.protected old before c.args.out.now.items c.args.piece.now c.requires.unready c.requires.live,
       crashes_none g.S.BlockStore.protected old before c.args.piece.now (g.S.BlockStore.kept c.args.store.now),
@@ -20,11 +20,11 @@ loop-rest-init g c =
 
 pub returns-in_err-taken-clause-fed : goal.returns-in_err-taken-clause-fed
 returns-in_err-taken-clause-fed g c =
-    let old : Connection = c.args.intake.now in
+    let old : TargetConnection = c.args.intake.now in
     let before : Store = store_of (g.S.BlockStore.disk c.args.store.now) (g.S.BlockStore.failures c.args.store.now) in
-    let now : Connection = c.loop-rest.intake in
+    let now : TargetConnection = c.loop-rest.intake in
     let mid : Store = store_of (g.S.BlockStore.disk c.loop-rest.store) (g.S.BlockStore.failures c.loop-rest.store) in
-    let new : Connection = c.feed_one.new.intake in
+    let new : TargetConnection = c.feed_one.new.intake in
     let after : Store = store_of (g.S.BlockStore.disk c.feed_one.new.store) (g.S.BlockStore.failures c.feed_one.new.store) in
     let out : List ℕ = c.args.out.now.items in
     let piece : List ℕ = c.args.piece.now in
@@ -35,11 +35,11 @@ returns-in_err-taken-clause-fed g c =
 
 pub returns-in-Some-clause-fed : goal.returns-in-Some-clause-fed
 returns-in-Some-clause-fed g c =
-    let old : Connection = c.args.intake.now in
+    let old : TargetConnection = c.args.intake.now in
     let before : Store = store_of (g.S.BlockStore.disk c.args.store.now) (g.S.BlockStore.failures c.args.store.now) in
-    let now : Connection = c.loop-rest.intake in
+    let now : TargetConnection = c.loop-rest.intake in
     let mid : Store = store_of (g.S.BlockStore.disk c.loop-rest.store) (g.S.BlockStore.failures c.loop-rest.store) in
-    let new : Connection = c.feed_one.new.intake in
+    let new : TargetConnection = c.feed_one.new.intake in
     let after : Store = store_of (g.S.BlockStore.disk c.feed_one.new.store) (g.S.BlockStore.failures c.feed_one.new.store) in
     let out : List ℕ = c.args.out.now.items in
     let piece : List ℕ = c.args.piece.now in
@@ -52,11 +52,11 @@ returns-in-Some-clause-fed g c =
 
 pub returns-then-is_closed-clause-fed : goal.returns-then-is_closed-clause-fed
 returns-then-is_closed-clause-fed g c =
-    let old : Connection = c.args.intake.now in
+    let old : TargetConnection = c.args.intake.now in
     let before : Store = store_of (g.S.BlockStore.disk c.args.store.now) (g.S.BlockStore.failures c.args.store.now) in
-    let now : Connection = c.loop-rest.intake in
+    let now : TargetConnection = c.loop-rest.intake in
     let mid : Store = store_of (g.S.BlockStore.disk c.loop-rest.store) (g.S.BlockStore.failures c.loop-rest.store) in
-    let new : Connection = c.feed_one.new.intake in
+    let new : TargetConnection = c.feed_one.new.intake in
     let after : Store = store_of (g.S.BlockStore.disk c.feed_one.new.store) (g.S.BlockStore.failures c.feed_one.new.store) in
     let out : List ℕ = c.args.out.now.items in
     let piece : List ℕ = c.args.piece.now in
@@ -78,11 +78,11 @@ loop-rest-smaller g c =
 
 pub loop-rest-preserved : goal.loop-rest-preserved
 loop-rest-preserved g c =
-    let old : Connection = c.args.intake.now in
+    let old : TargetConnection = c.args.intake.now in
     let before : Store = store_of (g.S.BlockStore.disk c.args.store.now) (g.S.BlockStore.failures c.args.store.now) in
-    let now : Connection = c.loop-rest.intake in
+    let now : TargetConnection = c.loop-rest.intake in
     let mid : Store = store_of (g.S.BlockStore.disk c.loop-rest.store) (g.S.BlockStore.failures c.loop-rest.store) in
-    let new : Connection = c.feed_one.new.intake in
+    let new : TargetConnection = c.feed_one.new.intake in
     let after : Store = store_of (g.S.BlockStore.disk c.feed_one.new.store) (g.S.BlockStore.failures c.feed_one.new.store) in
     let out : List ℕ = c.args.out.now.items in
     let piece : List ℕ = c.args.piece.now in
@@ -102,9 +102,9 @@ loop-rest-preserved g c =
 
 pub returns-clause-fed : goal.returns-clause-fed
 returns-clause-fed g c =
-    let old : Connection = c.args.intake.now in
+    let old : TargetConnection = c.args.intake.now in
     let before : Store = store_of (g.S.BlockStore.disk c.args.store.now) (g.S.BlockStore.failures c.args.store.now) in
-    let now : Connection = c.loop-rest.intake in
+    let now : TargetConnection = c.loop-rest.intake in
     let mid : Store = store_of (g.S.BlockStore.disk c.loop-rest.store) (g.S.BlockStore.failures c.loop-rest.store) in
     let out : List ℕ = c.args.out.now.items in
     let piece : List ℕ = c.args.piece.now in
@@ -114,11 +114,11 @@ returns-clause-fed g c =
 
 pub returns-in_err-taken-clause-crash : goal.returns-in_err-taken-clause-crash
 returns-in_err-taken-clause-crash g c =
-    let old : Connection = c.args.intake.now in
+    let old : TargetConnection = c.args.intake.now in
     let before : Store = store_of (g.S.BlockStore.disk c.args.store.now) (g.S.BlockStore.failures c.args.store.now) in
-    let now : Connection = c.loop-rest.intake in
+    let now : TargetConnection = c.loop-rest.intake in
     let mid : Store = store_of (g.S.BlockStore.disk c.loop-rest.store) (g.S.BlockStore.failures c.loop-rest.store) in
-    let new : Connection = c.feed_one.new.intake in
+    let new : TargetConnection = c.feed_one.new.intake in
     let after : Store = store_of (g.S.BlockStore.disk c.feed_one.new.store) (g.S.BlockStore.failures c.feed_one.new.store) in
     crashes_failed g.S.BlockStore.protected old before c.args.out.now.items c.args.piece.now c.loop-rest.rest.now now mid c.loop-rest.out.items
     c.in_err-taken.field-0.0 new after
@@ -127,11 +127,11 @@ returns-in_err-taken-clause-crash g c =
 
 pub returns-in-Some-clause-crash : goal.returns-in-Some-clause-crash
 returns-in-Some-clause-crash g c =
-    let old : Connection = c.args.intake.now in
+    let old : TargetConnection = c.args.intake.now in
     let before : Store = store_of (g.S.BlockStore.disk c.args.store.now) (g.S.BlockStore.failures c.args.store.now) in
-    let now : Connection = c.loop-rest.intake in
+    let now : TargetConnection = c.loop-rest.intake in
     let mid : Store = store_of (g.S.BlockStore.disk c.loop-rest.store) (g.S.BlockStore.failures c.loop-rest.store) in
-    let new : Connection = c.feed_one.new.intake in
+    let new : TargetConnection = c.feed_one.new.intake in
     let after : Store = store_of (g.S.BlockStore.disk c.feed_one.new.store) (g.S.BlockStore.failures c.feed_one.new.store) in
     crashes_on g.S.BlockStore.protected old before c.args.out.now.items c.args.piece.now c.loop-rest.rest.now now mid c.loop-rest.out.items c.in_ok-taken.taken
     c.in_ok-taken.broken new after c.feed_one.new.out.items (g.S.BlockStore.kept c.args.store.now) (g.S.BlockStore.kept c.loop-rest.store)
@@ -139,11 +139,11 @@ returns-in-Some-clause-crash g c =
 
 pub returns-then-is_closed-clause-crash : goal.returns-then-is_closed-clause-crash
 returns-then-is_closed-clause-crash g c =
-    let old : Connection = c.args.intake.now in
+    let old : TargetConnection = c.args.intake.now in
     let before : Store = store_of (g.S.BlockStore.disk c.args.store.now) (g.S.BlockStore.failures c.args.store.now) in
-    let now : Connection = c.loop-rest.intake in
+    let now : TargetConnection = c.loop-rest.intake in
     let mid : Store = store_of (g.S.BlockStore.disk c.loop-rest.store) (g.S.BlockStore.failures c.loop-rest.store) in
-    let new : Connection = c.feed_one.new.intake in
+    let new : TargetConnection = c.feed_one.new.intake in
     let after : Store = store_of (g.S.BlockStore.disk c.feed_one.new.store) (g.S.BlockStore.failures c.feed_one.new.store) in
     crashes_on g.S.BlockStore.protected old before c.args.out.now.items c.args.piece.now c.loop-rest.rest.now now mid c.loop-rest.out.items c.in_ok-taken.taken
     c.in_ok-taken.broken new after c.feed_one.new.out.items (g.S.BlockStore.kept c.args.store.now) (g.S.BlockStore.kept c.loop-rest.store)

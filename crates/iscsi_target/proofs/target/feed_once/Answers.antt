@@ -1,16 +1,16 @@
 use Rattle.std.proofs.Common.{List, ℕ, drop, refl, ◌∙◌}
 use Rattle.std.proofs.lemmas.Result.{err_from_is_err_and}
-use Rattle.iscsi_target.specs.Feed.{Connection, Store}
-use Rattle.iscsi_target.specs.Inside.{store_of}
-use Rattle.iscsi_target.proofs.FeedInvariant.{fed_none, fed_one, ends_failed, ends_broken, next_fed}
-use Rattle.iscsi_target.proofs.NotingLemmas.{notes_next}
+use Rattle.iscsi_target.specs.Feed.{TargetConnection, Store}
+use Rattle.iscsi_target.specs.Advances.{store_of}
+use Rattle.iscsi_target.proofs.Feed.FeedInvariant.{fed_none, fed_one, ends_failed, ends_broken, next_fed}
+use Rattle.iscsi_target.proofs.Feed.NotingLemmas.{notes_next}
 use Rattle.iscsi_target.proofs.target.feed_once.Goals as goal
 
 pub returns-in_err-taken-clause-fed : goal.returns-in_err-taken-clause-fed
 returns-in_err-taken-clause-fed g c =
-    let old : Connection = c.args.intake.now in
+    let old : TargetConnection = c.args.intake.now in
     let before : Store = store_of (g.S.BlockStore.disk c.args.store.now) (g.S.BlockStore.failures c.args.store.now) in
-    let new : Connection = c.feed_one.new.intake in
+    let new : TargetConnection = c.feed_one.new.intake in
     let after : Store = store_of (g.S.BlockStore.disk c.feed_one.new.store) (g.S.BlockStore.failures c.feed_one.new.store) in
     let out : List ℕ = c.args.out.now.items in
     let piece : List ℕ = c.args.piece.now in
@@ -20,9 +20,9 @@ returns-in_err-taken-clause-fed g c =
 
 pub returns-in-Some-clause-fed : goal.returns-in-Some-clause-fed
 returns-in-Some-clause-fed g c =
-    let old : Connection = c.args.intake.now in
+    let old : TargetConnection = c.args.intake.now in
     let before : Store = store_of (g.S.BlockStore.disk c.args.store.now) (g.S.BlockStore.failures c.args.store.now) in
-    let new : Connection = c.feed_one.new.intake in
+    let new : TargetConnection = c.feed_one.new.intake in
     let after : Store = store_of (g.S.BlockStore.disk c.feed_one.new.store) (g.S.BlockStore.failures c.feed_one.new.store) in
     let out : List ℕ = c.args.out.now.items in
     let piece : List ℕ = c.args.piece.now in
@@ -36,9 +36,9 @@ returns-in-Some-clause-fed g c =
 
 pub returns-in-None-clause-fed : goal.returns-in-None-clause-fed
 returns-in-None-clause-fed g c =
-    let old : Connection = c.args.intake.now in
+    let old : TargetConnection = c.args.intake.now in
     let before : Store = store_of (g.S.BlockStore.disk c.args.store.now) (g.S.BlockStore.failures c.args.store.now) in
-    let new : Connection = c.feed_one.new.intake in
+    let new : TargetConnection = c.feed_one.new.intake in
     let after : Store = store_of (g.S.BlockStore.disk c.feed_one.new.store) (g.S.BlockStore.failures c.feed_one.new.store) in
     let out : List ℕ = c.args.out.now.items in
     let piece : List ℕ = c.args.piece.now in
@@ -48,9 +48,9 @@ returns-in-None-clause-fed g c =
 
 pub returns-in-None-clause-asks : goal.returns-in-None-clause-asks
 returns-in-None-clause-asks g c =
-    let old : Connection = c.args.intake.now in
+    let old : TargetConnection = c.args.intake.now in
     let before : Store = store_of (g.S.BlockStore.disk c.args.store.now) (g.S.BlockStore.failures c.args.store.now) in
-    let new : Connection = c.feed_one.new.intake in
+    let new : TargetConnection = c.feed_one.new.intake in
     let after : Store = store_of (g.S.BlockStore.disk c.feed_one.new.store) (g.S.BlockStore.failures c.feed_one.new.store) in
     let out : List ℕ = c.args.out.now.items in
     let piece : List ℕ = c.args.piece.now in

@@ -1,7 +1,7 @@
 use Rattle.std.proofs.Common.{false, [], Ok, Err, refl}
 use Rattle.std.proofs.KnownBytes.{Appends-nil, Consumes-nil}
 use Rattle.std.proofs.lemmas.Result.{err_from_is_err_and}
-use Rattle.iscsi_service.proofs.SessionReadInvariant.{told_here, ends_here}
+use Rattle.iscsi_serve.proofs.SessionReadInvariant.{told_here, ends_here}
 use Rattle.iscsi_tool.proofs.AnsweredLemmas.{no_bytes, none_answered, done_answered, fault_answered}
 use Rattle.iscsi_tool.proofs.answering.answer.Goals as goal
 

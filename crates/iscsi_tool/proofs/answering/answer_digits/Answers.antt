@@ -1,5 +1,5 @@
 use Rattle.std.proofs.Common.{rules, ap, subst}
-use Rattle.iscsi_tool.specs.Spelling.{Finishes}
+use Rattle.iscsi_tool.specs.inner.Spelling.{LineEndWritten}
 use Rattle.iscsi_tool.specs.declared.hex_writer.LentWriter.{LentWriter}
 use Rattle.iscsi_tool.proofs.AnsweredLemmas.{spells}
 use Rattle.iscsi_tool.proofs.SpellingLemmas.{through_lent}
@@ -14,7 +14,7 @@ returns g c =
     let after = c.answer-outcome.new.w in
     let begin = ap (λ (l : LentWriter g.row.W.Denot). held l.writer.now) c.new-digits.ensures.inner in
     let more = subst (λ (l : LentWriter g.row.W.Denot). Appends (held l.writer.now) (held c.finish.new.w) f.0) c.into_inner-writer.ensures f.1 in
-    let cut = subst (λ b. Finishes c.answer-outcome.result b c.finish.result f.0) c.is_cut-is_cut.ensures f.2 in
+    let cut = subst (λ b. LineEndWritten c.answer-outcome.result b c.finish.result f.0) c.is_cut-is_cut.ensures f.2 in
     record {
       spells = (
         _,

@@ -3,9 +3,9 @@ use Rattle.std.proofs.Common.{rules, ◌≡◌, ℕ, Option, Some, if◌then◌e
 use Rattle.std.specs.Prelude.{slice_get}
 use Rattle.std.specs.HashMap.{get}
 use Rattle.capture_connections.specs.Belonging.{owner_at}
-use Rattle.capture_connections.specs.Following.{Hears, Table}
+use Rattle.capture_connections.specs.Following.{TableStep, Table}
 use Rattle.capture_connections.specs.SameEnds.{same_ends}
-use Rattle.capture_connections.specs.Waiting.{IsCounted, waiting_at}
+use Rattle.capture_connections.specs.inner.Waiting.{IsCounted, connection_waiting}
 use Rattle.capture_connections.specs.declared.connections.Connection.{Connection}
 use Rattle.capture_connections.specs.declared.ends.Ends.{Ends}
 use Rattle.capture_connections.proofs.Counting.{counted}
@@ -14,7 +14,7 @@ use Rattle.capture_connections.proofs.connections.Connections.take.Goals as goal
 pub invariant_of-self-2 : goal.invariant_of-self-2
 invariant_of-self-2 c =
     let n : ℕ = c.in_ok-number.number in
-    let at : List Connection → ℕ = λ xs. waiting_at (slice_get xs n) in
+    let at : List Connection → ℕ = λ xs. connection_waiting (slice_get xs n) in
     let P : Option ℕ → Type 0 = λ w. IsCounted w c.self.inside.list.items in
     counted c.waiting_after-self-inside.result c.take-waiting.result c.waiting_of-before.result
     c.waiting_of-after.result c.self.inside.list.items c.hear.new.list.items n
@@ -32,7 +32,7 @@ returns-clause-hears c =
       last = c.place.new.last.entries;
       connections = c.hear.new.list.items;
     } in
-    let P : Table → Type 0 = λ t. Hears t c.args.heard c.in_ok-number.number new
+    let P : Table → Type 0 = λ t. TableStep t c.args.heard c.in_ok-number.number new
     c.args.out.now.items c.hear.new.out.items in
     let count : c.len-count.result ≡ length c.self.inside.list.items = search rules in
     let F : ℕ → Type 0 = λ k. c.in_ok-number.number

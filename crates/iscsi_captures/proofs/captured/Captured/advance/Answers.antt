@@ -2,7 +2,7 @@
 use Rattle.std.proofs.Common.{rules, ◌≡◌, ◌≤◌, ℕ, List, [], length, drop, false, refl, sym, ◌∙◌, subst, arith}
 use Rattle.std.specs.Prelude.{Option, Some, None, not, vec_len}
 use Rattle.std.proofs.lemmas.List.{drop_all}
-use Rattle.iscsi_captures.specs.Giving.{Listening, ReadsOn}
+use Rattle.iscsi_captures.specs.Giving.{Listening, DirectionReadsOn}
 use Rattle.iscsi_captures.specs.declared.captured.Captured.TheInside.{Inside}
 use Rattle.iscsi_captures.proofs.Reading.{none_known, reads_none, reads_then, reads_step, reads_fault}
 use Rattle.iscsi_captures.proofs.captured.Captured.advance.Goals as goal
@@ -25,8 +25,8 @@ loop-turn-init g c =
     let all : length s.out.items ≤ s.given = search rules in
     let e : drop s.given s.out.items ≡ c.clear.new.self.items =
     drop_all s.given s.out.items all ∙ sym c.clear.ensures.items in
-    let P : Listening → Type 0 = λ old. ReadsOn old (now (drop s.given s.out.items)) [] in
-    let Q : List ℕ → Type 0 = λ known. ReadsOn c.args.self.now (now known) [] in
+    let P : Listening → Type 0 = λ old. DirectionReadsOn old (now (drop s.given s.out.items)) [] in
+    let Q : List ℕ → Type 0 = λ known. DirectionReadsOn c.args.self.now (now known) [] in
     (refl, subst Q e (subst P c.self.view_is (reads_none (now (drop s.given s.out.items)))))
 
 pub loop-turn-preserved : goal.loop-turn-preserved
@@ -39,7 +39,7 @@ loop-turn-preserved g c =
       fault = s.fault;
       left = g.R.Read.remaining s.source.now;
     } in
-    let P : Inside g.row.R.Denot → Type 0 = λ s. (s.given ≡ 0) × ReadsOn c.args.self.now (now s) [] in
+    let P : Inside g.row.R.Denot → Type 0 = λ s. (s.given ≡ 0) × DirectionReadsOn c.args.self.now (now s) [] in
     let s : Inside g.row.R.Denot = c.loop-turn.self-inside in
     let count : vec_len s.out ≡ length s.out.items = omega (arith, s.out.ok.0) in
     let none : s.out.items ≡ [] =

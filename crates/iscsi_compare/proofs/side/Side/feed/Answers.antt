@@ -1,4 +1,4 @@
-use Rattle.iscsi_compare.specs.Inside.{pending}
+use Rattle.iscsi_compare.specs.inner.Inside.{pending}
 use Rattle.iscsi_compare.proofs.SideLemmas.{feed_fails, fed_side, fed_fuel}
 use Rattle.iscsi_compare.proofs.side.Side.feed.Goals as goal
 

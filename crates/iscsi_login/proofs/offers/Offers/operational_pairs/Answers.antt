@@ -1,9 +1,9 @@
 use Rattle.std.proofs.Common.{refl, ap, ◌∙◌, rules}
 use Rattle.iscsi_text.specs.Negotiated.{all_keys}
-use Rattle.iscsi_text.specs.Inside.{shown}
+use Rattle.iscsi_text.specs.Shown.{shown}
 use Rattle.iscsi_text.specs.Reading.{in_order}
 use Rattle.iscsi_login.specs.Offers.{proposed, preferred_pair}
-use Rattle.iscsi_login.specs.Inside.{all_new}
+use Rattle.iscsi_login.specs.inner.Inside.{all_new}
 use Rattle.iscsi_login.proofs.ArrayMapLemmas.{maps_seen}
 use Rattle.iscsi_login.proofs.OfferPairsLemmas.{offered_are, offered_new, offered_in_order}
 use Rattle.iscsi_login.proofs.offers.Offers.operational_pairs.Goals as goal

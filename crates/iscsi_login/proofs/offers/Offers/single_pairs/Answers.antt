@@ -1,5 +1,5 @@
 use Rattle.std.proofs.Common.{ap, ◌∙◌}
-use Rattle.iscsi_text.specs.Inside.{all_shown}
+use Rattle.iscsi_text.specs.Shown.{all_shown}
 use Rattle.iscsi_login.specs.Offers.{proposed}
 use Rattle.iscsi_login.proofs.OfferPairsLemmas.{all_are_new, front_is_new, said_in_Normal, said_in_Discovery}
 use Rattle.iscsi_login.proofs.offers.Offers.single_pairs.Goals as goal

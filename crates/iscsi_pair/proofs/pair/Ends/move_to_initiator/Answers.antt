@@ -1,6 +1,6 @@
 use Rattle.std.proofs.Common.{false, ◌≡◌, ℕ, min, length, drop, sym, ap, ◌∙◌, subst, refl, arith}
 use Rattle.std.proofs.lemmas.List.{length-take-le}
-use Rattle.iscsi_pair.specs.World.{World, Happens, ToInitiator}
+use Rattle.iscsi_pair.specs.World.{World, PairEventStep, ToInitiator}
 use Rattle.iscsi_pair.specs.contracts.pair.Ends.{the_view}
 use Rattle.iscsi_pair.proofs.Run.MoveLemmas.{initiator_took, is_none}
 use Rattle.iscsi_pair.proofs.pair.Ends.move_to_initiator.Goals as goal
@@ -17,7 +17,7 @@ returns c =
       target_fault = c.self.inside.target_fault;
       initiator_fault = c.feed_fault-self-inside.result;
     } in
-    subst (λ (w : World). Happens w (ToInitiator c.args.k) new) c.self.view_is
+    subst (λ (w : World). PairEventStep w (ToInitiator c.args.k) new) c.self.view_is
     (initiator_took (the_view c.self.inside) new c.args.k c.min-n.result (is_none _ (sym c.is_some.ensures ∙ c.if-is_some.false)) n (omega arith)
     (record {
       result = c.feed-fed.result;

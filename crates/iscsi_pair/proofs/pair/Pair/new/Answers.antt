@@ -1,5 +1,6 @@
 use Rattle.std.proofs.Common.{◌≡◌, ◌∙◌, subst, sym}
-use Rattle.iscsi_pair.specs.World.{World, Opening, HasCome, new_pair}
+use Rattle.iscsi_pair.specs.World.{World, Opening, new_pair}
+use Rattle.iscsi_pair.specs.inner.World.{HasCome}
 use Rattle.iscsi_pair.specs.Outcomes.{opening_of}
 use Rattle.iscsi_pair.proofs.Run.ComesLemmas.{comes_first}
 use Rattle.iscsi_pair.proofs.Run.OpeningLemmas.{has_started}

@@ -1,5 +1,6 @@
 use Rattle.std.proofs.Common.{◌∙◌, ap, sym, subst}
-use Rattle.iscsi_pair.specs.World.{World, HasCome, Takes}
+use Rattle.iscsi_pair.specs.World.{World, Takes}
+use Rattle.iscsi_pair.specs.inner.World.{HasCome}
 use Rattle.iscsi_pair.proofs.Run.ComesLemmas.{comes_more}
 use Rattle.iscsi_pair.proofs.pair.Pair.outcome.Goals as goal
 

@@ -1,6 +1,7 @@
 use Rattle.std.proofs.Common.{◌≡◌, sym, subst, ◌∙◌}
 use Rattle.iscsi_login.specs.declared.stage.Stage.TheVariants as stages
-use Rattle.iscsi_pair.specs.World.{World, HasCome}
+use Rattle.iscsi_pair.specs.World.{World}
+use Rattle.iscsi_pair.specs.inner.World.{HasCome}
 use Rattle.iscsi_pair.specs.contracts.pair.Ends.{the_view}
 use Rattle.iscsi_pair.proofs.Run.ComesLemmas.{agreed, both_full}
 use Rattle.iscsi_pair.proofs.pair.Pair.params.Goals as goal

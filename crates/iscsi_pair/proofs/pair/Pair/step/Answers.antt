@@ -1,5 +1,6 @@
 use Rattle.std.proofs.Common.{sym, subst}
-use Rattle.iscsi_pair.specs.World.{World, HasCome, event_of}
+use Rattle.iscsi_pair.specs.World.{World, event_of}
+use Rattle.iscsi_pair.specs.inner.World.{HasCome}
 use Rattle.iscsi_pair.proofs.Run.ComesLemmas.{comes_more}
 use Rattle.iscsi_pair.proofs.pair.Pair.step.Goals as goal
 

@@ -1,12 +1,12 @@
 use Rattle.std.proofs.Common.{ℕ, ◌≡◌, ◌++◌, ◌∙◌, [], refl, subst, sym, rules, arith}
 use Rattle.iscsi_stream.specs.Canonical.{canon}
 use Rattle.scsi_disk.specs.Disk.{Disk}
-use Rattle.scsi_disk.specs.Effect.{Effect, Executes}
+use Rattle.scsi_disk.specs.Effect.{Effect, OrderExecuted}
 use Rattle.scsi_disk.specs.declared.order.Outcome.{Outcome}
-use Rattle.iscsi_target.specs.State.{waiting}
+use Rattle.iscsi_target.specs.State.{waiting_tasks}
 use Rattle.iscsi_target.specs.Execution.{command_answers, data_in_parts}
-use Rattle.iscsi_target.proofs.CrashLemmas.{read_behind}
-use Rattle.iscsi_target.proofs.ServingLemmas.{order_serves, on_err}
+use Rattle.iscsi_target.proofs.Feed.CrashLemmas.{read_behind}
+use Rattle.iscsi_target.proofs.Turns.ServingLemmas.{order_serves, on_err}
 use Rattle.iscsi_target.proofs.machine.Machine.execute_order.Goals as goal
 
 pub send_outcome-requires : goal.send_outcome-requires
@@ -39,13 +39,13 @@ returns-clause-handles g c = record {
       let led = c.in_ok-outcome.ensures.ok in
       let s = c.args.self.now in
       let e : Effect = record { disk = now; outcome = led.given } in
-      let executes : Executes protected fb fa disk c.args.order [] e =
-      subst (λ (d : Disk). Executes protected fb fa disk c.args.order [] (record { disk = d; outcome = led.given })) (sym c.send_outcome.ensures.read.disk)
-      (subst (λ (n : ℕ). Executes protected fb n disk c.args.order [] (record { disk = g.S.BlockStore.disk c.outcome_of.new.store; outcome = led.given }))
+      let executes : OrderExecuted protected fb fa disk c.args.order [] e =
+      subst (λ (d : Disk). OrderExecuted protected fb fa disk c.args.order [] (record { disk = d; outcome = led.given })) (sym c.send_outcome.ensures.read.disk)
+      (subst (λ (n : ℕ). OrderExecuted protected fb n disk c.args.order [] (record { disk = g.S.BlockStore.disk c.outcome_of.new.store; outcome = led.given }))
       (sym c.in_ok-send_outcome.ensures.failures) led.executes) in
       order_serves protected fb fa c.args.tag s disk c.args.order [] e
-      c.count.new.self now c.args.out.now.items c.send_outcome.new.out.items executes c.count.ensures refl
-      (subst (λ (o : Outcome). c.send_outcome.new.out.items ≡ c.args.out.now.items ++ canon (command_answers s.session (waiting s.tasks) c.args.tag o
+      c.advance_stat_sn.new.self now c.args.out.now.items c.send_outcome.new.out.items executes c.advance_stat_sn.ensures refl
+      (subst (λ (o : Outcome). c.send_outcome.new.out.items ≡ c.args.out.now.items ++ canon (command_answers s.session (waiting_tasks s.tasks) c.args.tag o
       (data_in_parts s.session.held o.bytes))) led.is c.in_ok-send_outcome.ensures.ok);
   err = search rules;
 }

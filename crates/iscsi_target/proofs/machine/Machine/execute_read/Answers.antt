@@ -2,8 +2,8 @@ use Rattle.std.proofs.Common.{ℕ, [], refl, rules}
 use Rattle.scsi_disk.specs.Effect.{Effect}
 use Rattle.scsi_disk.specs.Plan.{plan_of}
 use Rattle.scsi_disk.proofs.ReadingLemmas.{whole}
-use Rattle.iscsi_target.proofs.CommandLemmas.{told_read}
-use Rattle.iscsi_target.proofs.ServingLemmas.{order_serves}
+use Rattle.iscsi_target.proofs.Answers.CommandLemmas.{told_read}
+use Rattle.iscsi_target.proofs.Turns.ServingLemmas.{order_serves}
 use Rattle.iscsi_target.proofs.machine.Machine.execute_read.Goals as goal
 
 pub returns-clause-handles : goal.returns-clause-handles
@@ -16,7 +16,7 @@ returns-clause-handles g c = record {
       let reads = (whole disk c.args.order.now (plan_of c.args.order.now disk.count) c.args.range refl c.requires.whole).reads in
       order_serves g.S.BlockStore.protected (g.S.BlockStore.failures c.args.store.now) fa c.args.tag c.args.self.now
       disk c.args.order.now [] e
-      c.count.new.self now c.args.out.now.items c.send_read.new.out.items answers.executes c.count.ensures refl
+      c.advance_stat_sn.new.self now c.args.out.now.items c.send_read.new.out.items answers.executes c.advance_stat_sn.ensures refl
       (told_read c.args.self.now c.args.tag disk.count c.args.order.now answers.outcome c.args.out.now.items c.send_read.new.out.items reads answers.output);
   err = search rules;
 }

@@ -1,12 +1,12 @@
 use Rattle.std.proofs.Common.{◌≡◌, ℕ, List, [], refl, sym, subst, rules}
-use Rattle.scsi_disk.specs.Effect.{Effect, Executes, IsSupplied}
-use Rattle.iscsi_target.specs.State.{waiting}
+use Rattle.scsi_disk.specs.Effect.{Effect, OrderExecuted, IsSupplied}
+use Rattle.iscsi_target.specs.State.{waiting_tasks}
 use Rattle.iscsi_target.specs.Transfer.{with_piece}
-use Rattle.iscsi_target.proofs.OpenWriteLemmas.{data_of_one}
-use Rattle.iscsi_target.proofs.OrderLemmas.{write_gives_none}
-use Rattle.iscsi_target.proofs.ServingLemmas.{order_serves}
-use Rattle.iscsi_target.proofs.CommandLemmas.{told_write, write_told}
-use Rattle.iscsi_target.proofs.CrashLemmas.{one_done}
+use Rattle.iscsi_target.proofs.Writes.OpenWriteLemmas.{data_of_one}
+use Rattle.iscsi_target.proofs.Answers.OrderLemmas.{write_gives_none}
+use Rattle.iscsi_target.proofs.Turns.ServingLemmas.{order_serves}
+use Rattle.iscsi_target.proofs.Answers.CommandLemmas.{told_write, write_told}
+use Rattle.iscsi_target.proofs.Feed.CrashLemmas.{one_done}
 use Rattle.iscsi_target.proofs.machine.Machine.execute_write.Goals as goal
 
 pub returns-clause-handles : goal.returns-clause-handles
@@ -19,16 +19,16 @@ returns-clause-handles g c = record {
       c.args.bytes.now e c.in_ok-outcome.ensures.ok c.requires.write in
       order_serves g.S.BlockStore.protected (g.S.BlockStore.failures c.args.store.now) fa c.args.tag c.args.self.now
       (g.S.BlockStore.disk c.args.store.now) c.args.order.now
-      (with_piece [] 0 c.args.bytes.now) e c.count.new.self now c.args.out.now.items c.append_response.new.out.items
-      (subst (λ (bytes : List ℕ). Executes g.S.BlockStore.protected (g.S.BlockStore.failures c.args.store.now) fa
+      (with_piece [] 0 c.args.bytes.now) e c.advance_stat_sn.new.self now c.args.out.now.items c.append_response.new.out.items
+      (subst (λ (bytes : List ℕ). OrderExecuted g.S.BlockStore.protected (g.S.BlockStore.failures c.args.store.now) fa
       (g.S.BlockStore.disk c.args.store.now) c.args.order.now bytes e)
       (sym (data_of_one c.args.bytes.now)) c.in_ok-outcome.ensures.ok)
-      c.count.ensures refl
+      c.advance_stat_sn.ensures refl
       (write_told c.args.self.now c.args.tag (g.S.BlockStore.disk c.args.store.now).count c.args.order.now c.in_ok-outcome.outcome c.args.out.now.items c.append_response.new.out.items
       c.requires.write
       (told_write c.args.self.now c.args.tag c.in_ok-outcome.outcome c.response_head-head.result c.args.out.now.items c.reserve.new.self.items
       c.append_response.new.out.items none
-      (c.response_head-head.ensures.head c.args.self.now.session (waiting c.args.self.now.tasks) (sym c.numbers.ensures.stat_sn)
+      (c.response_head-head.ensures.head c.args.self.now.session (waiting_tasks c.args.self.now.tasks) (sym c.numbers.ensures.stat_sn)
       (sym c.numbers.ensures.exp_cmd_sn) (sym c.numbers.ensures.max_cmd_sn))
       c.in_ok-reserve.ensures.items c.in-Ok.ensures.ok));
   err = search rules;

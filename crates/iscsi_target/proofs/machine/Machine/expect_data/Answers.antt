@@ -1,6 +1,6 @@
 use Rattle.std.proofs.Common.{ap, ◌∙◌}
-use Rattle.iscsi_target.proofs.TurnLemmas.{with_tasks}
-use Rattle.iscsi_target.proofs.TaskPlaceLemmas.{tag_found, with_same}
+use Rattle.iscsi_target.proofs.Steps.TurnLemmas.{with_tasks}
+use Rattle.iscsi_target.proofs.Queue.TaskPlaceLemmas.{tag_found, with_same}
 use Rattle.iscsi_target.proofs.machine.Machine.expect_data.Goals as goal
 
 pub returns-then-not-is_due-clause-none : goal.returns-then-not-is_due-clause-none

@@ -4,9 +4,10 @@ use Rattle.scsi_disk.specs.declared.order.Outcome.{Outcome}
 use Rattle.scsi_unit.specs.LogicalUnit.{LogicalUnit}
 use Rattle.scsi_unit.specs.Telling.{unit_outcome}
 use Rattle.iscsi_target.specs.State.{Machine}
-use Rattle.iscsi_target.specs.Inside.{LedTo, store_of}
-use Rattle.iscsi_target.proofs.CrashLemmas.{none_written}
-use Rattle.iscsi_target.proofs.OrderLemmas.{told_leads, untold_ok, held_unit, held_none, none_said, result_keeps}
+use Rattle.iscsi_target.specs.Advances.{store_of}
+use Rattle.iscsi_target.specs.inner.Inside.{OrderLedTo}
+use Rattle.iscsi_target.proofs.Feed.CrashLemmas.{none_written}
+use Rattle.iscsi_target.proofs.Answers.OrderLemmas.{told_leads, untold_ok, held_unit, held_none, none_said, result_keeps}
 use Rattle.iscsi_target.proofs.machine.Machine.outcome_of.Goals as goal
 use Rattle.iscsi_target.proofs.machine.Machine.outcome_of.Goals.{in-Some+in_ok-told+in_default-2, in_default}
 
@@ -14,7 +15,8 @@ pub returns-in-Some-2-clause-ok : goal.returns-in-Some-2-clause-ok
 returns-in-Some-2-clause-ok g c =
     let disk = g.S.BlockStore.disk c.args.store.now in
     let failures : ℕ = g.S.BlockStore.failures c.args.store.now in
-    subst (λ (unit : Option LogicalUnit). LedTo g.S.BlockStore.protected unit c.args.order (store_of disk failures) (store_of disk failures) c.in-Some-2.told)
+    subst (λ (unit : Option LogicalUnit). OrderLedTo g.S.BlockStore.protected unit c.args.order (store_of disk failures) (store_of disk failures)
+    c.in-Some-2.told)
     (held_unit _ c.unit.result c.in-Some.unit _ c.in-Some.is (c.unit.ensures ∙ ap (λ (s : Machine). s.session.settings.extras.unit) c.self.view_is))
     (told_leads g.S.BlockStore.protected c.in-Some.unit.now c.args.order disk failures c.in-Some-2.told c.requires.gives
     (sym c.in-Some-2.is ∙ c.in_ok-told.ensures.told

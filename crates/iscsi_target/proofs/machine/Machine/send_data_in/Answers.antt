@@ -1,7 +1,7 @@
 use Rattle.std.proofs.Common.{◌≡◌, ◌<◌, ◌+◌, ◌-◌, ℕ, min, ap, ◌∙◌, refl, subst, arith}
 use Rattle.iscsi_login.specs.Held.{max_burst}
-use Rattle.iscsi_target.specs.Reads.{HasPart, given, source_len}
-use Rattle.iscsi_target.proofs.ReadPartLemmas.{part_left, sequences_all, sequences_next, sequences_none}
+use Rattle.iscsi_target.specs.inner.Reads.{HasPart, given_by_source, source_len}
+use Rattle.iscsi_target.proofs.Answers.ReadPartLemmas.{part_left, sequences_all, sequences_next, sequences_none}
 use Rattle.iscsi_target.proofs.machine.Machine.send_data_in.Goals as goal
 
 pub loop-sent-init : goal.loop-sent-init
@@ -48,5 +48,5 @@ loop-sent-preserved g c =
 pub returns-clause-ok : goal.returns-clause-ok
 returns-clause-ok g c =
     let failures = g.S.BlockStore.failures in
-    sequences_all c.args.self.now c.args.tag (given c.args.source.now (g.S.BlockStore.disk c.args.store.now) (failures c.args.store.now) (failures c.loop-sent.store))
+    sequences_all c.args.self.now c.args.tag (given_by_source c.args.source.now (g.S.BlockStore.disk c.args.store.now) (failures c.args.store.now) (failures c.loop-sent.store))
     c.loop-sent.sent c.args.out.now.items c.loop-sent.out.items (omega (arith, c.loop-sent-test.false, c.len-total.ensures)) c.loop-sent.invariant.sequences

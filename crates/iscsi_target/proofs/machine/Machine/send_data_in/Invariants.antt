@@ -1,7 +1,7 @@
 use Rattle.std.proofs.Common.{◌≡◌, ◌≤◌, ◌-◌}
 use Rattle.scsi_disk.specs.Lasting.{Within}
-use Rattle.iscsi_target.specs.Reads.{HasPart, given, reply, source_len}
-use Rattle.iscsi_target.proofs.ReadPartLemmas.{SequencesOut}
+use Rattle.iscsi_target.specs.inner.Reads.{HasPart, given_by_source, reply, source_len}
+use Rattle.iscsi_target.proofs.Answers.ReadPartLemmas.{SequencesOut}
 use Rattle.iscsi_target.proofs.machine.Machine.send_data_in.Given as goal
 
 -- The sequences of the bytes before those that are left went out.
@@ -12,7 +12,7 @@ invariant-loop-sent g l =
     let kept = g.S.BlockStore.kept in
     record {
       sequences : SequencesOut (reply l.self l.fn.tag l.fn.out.items l.out.items)
-          (given l.fn.source (disk l.fn.store) (failures l.fn.store) (failures l.store)) l.sent;
+          (given_by_source l.fn.source (disk l.fn.store) (failures l.fn.store) (failures l.store)) l.sent;
       left : HasPart l.fn.source (disk l.fn.store).count l.sent.bytes (source_len l.fn.source - l.sent.bytes);
       disk : disk l.store ≡ disk l.fn.store;
       kept : Within (kept l.fn.store) (kept l.store);

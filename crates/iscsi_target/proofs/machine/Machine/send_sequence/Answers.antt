@@ -1,6 +1,6 @@
 use Rattle.std.proofs.Common.{◌≡◌, ◌<◌, ◌-◌, ℕ, min, ap, ◌∙◌, refl, arith}
-use Rattle.iscsi_target.specs.Reads.{given}
-use Rattle.iscsi_target.proofs.ReadPartLemmas.{part_left, parts_all, parts_next, parts_none}
+use Rattle.iscsi_target.specs.inner.Reads.{given_by_source}
+use Rattle.iscsi_target.proofs.Answers.ReadPartLemmas.{part_left, parts_all, parts_next, parts_none}
 use Rattle.iscsi_target.proofs.machine.Machine.send_sequence.Goals as goal
 
 pub loop-sent-init : goal.loop-sent-init
@@ -41,5 +41,5 @@ loop-sent-preserved g c =
 pub returns-clause-ok : goal.returns-clause-ok
 returns-clause-ok g c =
     let failures = g.S.BlockStore.failures in
-    parts_all c.args.self.now c.args.tag (given c.args.source.now (g.S.BlockStore.disk c.args.store.now) (failures c.args.store.now) (failures c.loop-sent.store))
+    parts_all c.args.self.now c.args.tag (given_by_source c.args.source.now (g.S.BlockStore.disk c.args.store.now) (failures c.args.store.now) (failures c.loop-sent.store))
     c.args.before c.loop-sent.sent c.args.end c.args.out.now.items c.loop-sent.out.items (omega (arith, c.loop-sent-test.false)) c.loop-sent.invariant.parts

@@ -1,7 +1,7 @@
 use Rattle.std.proofs.Common.{◌≡◌, ◌≤◌, ◌-◌}
 use Rattle.scsi_disk.specs.Lasting.{Within}
-use Rattle.iscsi_target.specs.Reads.{HasPart, given, reply}
-use Rattle.iscsi_target.proofs.ReadPartLemmas.{PartsOut}
+use Rattle.iscsi_target.specs.inner.Reads.{HasPart, given_by_source, reply}
+use Rattle.iscsi_target.proofs.Answers.ReadPartLemmas.{PartsOut}
 use Rattle.iscsi_target.proofs.machine.Machine.send_sequence.Given as goal
 
 -- The parts of the bytes before those that are left went out.
@@ -12,7 +12,7 @@ invariant-loop-sent g l =
     let kept = g.S.BlockStore.kept in
     record {
       parts : PartsOut (reply l.self l.fn.tag l.fn.out.items l.out.items)
-          (given l.fn.source (disk l.fn.store) (failures l.fn.store) (failures l.store)) l.fn.before l.sent l.fn.end;
+          (given_by_source l.fn.source (disk l.fn.store) (failures l.fn.store) (failures l.store)) l.fn.before l.sent l.fn.end;
       left : HasPart l.fn.source (disk l.fn.store).count l.sent.bytes (l.fn.end - l.sent.bytes);
       disk : disk l.store ≡ disk l.fn.store;
       kept : Within (kept l.fn.store) (kept l.store);

@@ -1,44 +1,29 @@
-use Rattle.std.proofs.Common.{◌≡◌, ℕ, ap, sym, ◌∙◌, rules}
-use Rattle.std.proofs.lemmas.Bool.{false≢true}
-use Rattle.scsi_disk.specs.Plan.{first_refusal, is_write, plan_of}
-use Rattle.scsi_disk.specs.declared.order.Plan.TheVariants.{Take}
-use Rattle.scsi_disk.specs.declared.order.Order.{Order}
-use Rattle.iscsi_target.specs.Command.{opened, order_of}
+use Rattle.std.proofs.Common.{◌≡◌, sym, ap, ◌∙◌, subst, rules}
+use Rattle.std.specs.Prelude.{IfOk}
+use Rattle.iscsi_target_session.specs.declared.inbound.Asks.TheVariants as asks
+use Rattle.iscsi_target_session.proofs.InboundLemmas.{request_plain}
+use Rattle.iscsi_target.specs.declared.tasks.Task.{Task}
+use Rattle.iscsi_target.specs.declared.tasks.Task.TheVariants.{Request}
 use Rattle.iscsi_target.specs.State.{unit_of}
-use Rattle.iscsi_target.specs.declared.tasks.Task.TheVariants.{Data, Request}
-use Rattle.iscsi_target.proofs.DispatchLemmas.{kept_as, waits_fit, waits_as}
-use Rattle.iscsi_target.proofs.OrderLemmas.{takes_is}
+use Rattle.iscsi_target.proofs.Turns.DispatchLemmas.{command_keeps, task_asks, task_command}
 use Rattle.iscsi_target.proofs.machine.Machine.task.Goals as goal
-use Rattle.iscsi_target.proofs.machine.Machine.task.Goals.{in-ScsiCommand+then-is_write+in_default-plan, in-ScsiCommand+else-is_write, in_default}
 
-pub opened-requires-clause-fits : goal.opened-requires-clause-fits
-opened-requires-clause-fits c =
-    let plan : plan_of (order_of (unit_of c.args.self.now.session) c.in-ScsiCommand.command) c.args.blocks ≡ Take c.in-Take.total = search rules in
-    waits_fit (unit_of c.args.self.now.session) c.args.self.now.session.held c.args.blocks c.in-Take.total c.received.inside.continued c.received.inside.pdu.head c.received.inside.pdu.bytes.now
-    c.args.received.now c.received.view_is c.in-ScsiCommand.command c.in-ScsiCommand.is c.requires.keeps plan
+pub command_task-requires : goal.command_task-requires
+command_task-requires c = record {
+  keeps = command_keeps c.args.self.now.session.held c.received.inside.continued c.received.inside.pdu.head c.received.inside.pdu.bytes.now c.args.received.now
+      c.received.view_is c.args.request.now c.in-Command.command c.requires.is c.in-Command.is c.requires.keeps;
+}
 
-pub returns-in-Take : goal.returns-in-Take
-returns-in-Take c =
-    let plan : plan_of (order_of (unit_of c.args.self.now.session) c.in-ScsiCommand.command) c.args.blocks ≡ Take c.in-Take.total = search rules in
-    ap Data (c.in_ok-write.ensures ∙ ap (λ (order : Order). opened c.in-ScsiCommand.command order c.in-Take.total c.received.inside.pdu.bytes.now) c.order_of-order.ensures)
-    ∙ waits_as (unit_of c.args.self.now.session) c.args.blocks c.in-Take.total c.received.inside.continued c.received.inside.pdu.head
-    c.received.inside.pdu.bytes.now c.args.received.now c.received.view_is c.in-ScsiCommand.command c.in-ScsiCommand.is plan
+pub copy-requires : goal.copy-requires
+copy-requires c = record { plain = request_plain c.args.received.now.head c.args.request.now c.requires.is }
 
-pub returns : goal.returns
-returns c =
-    let unit = unit_of c.args.self.now.session in
-    let blocks : ℕ = c.args.blocks in
-    elim c.match-received.branch [
-      | in-ScsiCommand+then-is_write+in_default-plan w ↦ ap Request c.in_ok-copy.ensures
-          ∙ kept_as unit blocks c.received.inside.continued c.received.inside.pdu.head c.received.inside.pdu.bytes.now c.args.received.now c.received.view_is
-          w.in-ScsiCommand.command w.in-ScsiCommand.is
-          (λ n e. w.in_default-plan.not-Take n (w.plan.ensures ∙ ap (plan_of w.order_of-order.result) w.of-found.ensures.blocks
-          ∙ ap (λ (o : Order). plan_of o blocks) w.order_of-order.ensures ∙ e))
-      | in-ScsiCommand+else-is_write w ↦ ap Request c.in_ok-copy.ensures
-          ∙ kept_as unit blocks c.received.inside.continued c.received.inside.pdu.head c.received.inside.pdu.bytes.now c.args.received.now c.received.view_is
-          w.in-ScsiCommand.command w.in-ScsiCommand.is
-          (λ n e. (let order = order_of unit w.in-ScsiCommand.command in
-          false≢true (sym w.if-is_write.false ∙ w.is_write.ensures ∙ ap (λ (o : Order). is_write o.cdb) w.order_of-order.ensures
-          ∙ (takes_is (first_refusal order blocks) order n blocks e).0)))
-      | in_default w ↦ search rules
-    ]
+pub returns-in-Command : goal.returns-in-Command
+returns-in-Command c =
+    subst (λ (x : Task). IfOk c.command_task.result (λ task. task ≡ x))
+    (task_command (unit_of c.args.self.now.session) c.args.blocks c.received.inside.continued c.received.inside.pdu.head c.received.inside.pdu.bytes.now
+    c.args.received.now c.received.view_is c.args.request.now c.in-Command.command c.requires.is c.in-Command.is) c.command_task.ensures
+
+pub returns-in_ok-copy-in-Session : goal.returns-in_ok-copy-in-Session
+returns-in_ok-copy-in-Session c =
+    ap Request c.in_ok-copy-in-Session.ensures
+    ∙ sym (task_asks (unit_of c.args.self.now.session) c.args.blocks c.args.received.now c.args.request.now (asks.Session c.in-Session.asked) c.in-Session.is)

@@ -1,6 +1,6 @@
 use Rattle.std.proofs.Common.{◌≤◌, length, arith, rules}
 use Rattle.scsi_disk.specs.Plan.{first_refusal}
-use Rattle.iscsi_target.proofs.OrderLemmas.{takes_is, staged_at}
+use Rattle.iscsi_target.proofs.Answers.OrderLemmas.{takes_is, staged_at}
 use Rattle.iscsi_target.proofs.machine.writes.opened.Goals.{then-command, else-command}
 use Rattle.iscsi_target.proofs.machine.writes.opened.Goals as goal
 

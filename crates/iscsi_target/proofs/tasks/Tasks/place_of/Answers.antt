@@ -1,9 +1,10 @@
 use Rattle.std.proofs.Common.{◌≡◌, ◌<◌, List, true, length, subst, rules}
 use Rattle.std.specs.Prelude.{slice_index_or, None}
 use Rattle.iscsi_target.specs.declared.tasks.Task.{Task}
-use Rattle.iscsi_target.specs.Machine.{is_write_with, write_of}
-use Rattle.iscsi_target.specs.Inside.{IsWriteAt}
-use Rattle.iscsi_target.proofs.TaskPlaceLemmas.{NoneBefore, write_at, write_none}
+use Rattle.iscsi_target.specs.Machine.{write_of}
+use Rattle.iscsi_target.specs.inner.Machine.{is_write_with}
+use Rattle.iscsi_target.specs.inner.Inside.{IsWriteAt}
+use Rattle.iscsi_target.proofs.Queue.TaskPlaceLemmas.{NoneBefore, write_at, write_none}
 use Rattle.iscsi_target.proofs.tasks.Tasks.place_of.Goals as goal
 
 pub returns-then-is_write-clause-some : goal.returns-then-is_write-clause-some

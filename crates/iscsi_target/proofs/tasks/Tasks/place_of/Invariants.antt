@@ -1,5 +1,5 @@
 use Rattle.std.specs.Prelude.{◌≤◌, ◌-◌, length}
-use Rattle.iscsi_target.proofs.TaskPlaceLemmas.{NoneBefore}
+use Rattle.iscsi_target.proofs.Queue.TaskPlaceLemmas.{NoneBefore}
 use Rattle.iscsi_target.proofs.tasks.Tasks.place_of.Given as goal
 
 abbrev pub invariant-loop-place : goal.invariant-loop-place

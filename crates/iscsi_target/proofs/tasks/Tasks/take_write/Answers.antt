@@ -3,8 +3,8 @@ use Rattle.std.specs.Prelude.{insert}
 use Rattle.iscsi_target.specs.Write.{Write}
 use Rattle.iscsi_target.specs.declared.tasks.Task.{Task}
 use Rattle.iscsi_target.specs.declared.tasks.Task.TheVariants.{Data}
-use Rattle.iscsi_target.specs.Inside.{AreInPlace, IsWriteAt}
-use Rattle.iscsi_target.proofs.TaskPlaceLemmas.{without, with_}
+use Rattle.iscsi_target.specs.inner.Inside.{AreInPlace, IsWriteAt}
+use Rattle.iscsi_target.proofs.Queue.TaskPlaceLemmas.{without, with_}
 use Rattle.iscsi_target.proofs.tasks.Tasks.take_write.Goals as goal
 
 pub invariant_of-self : goal.invariant_of-self

@@ -1,21 +1,25 @@
-use Rattle.iscsi_target_session.specs.Requests.{nop_out}
-use Rattle.iscsi_target_session.specs.TextRequests.{text_request}
-use Rattle.iscsi_target_session.specs.Requests.{request_answered}
-use Rattle.iscsi_target_session.proofs.KindLemmas.{does_as, answers_ping, answers_text_request}
+use Rattle.std.proofs.Common.{ℕ, List, sym, ap, ◌∙◌}
+use Rattle.iscsi_target_session.specs.TextRequests.{on_text_request}
+use Rattle.iscsi_target_session.specs.Requests.{on_nop_out, request_answered}
+use Rattle.iscsi_target_session.proofs.KindLemmas.{does_as, bytes_of}
 use Rattle.iscsi_target_session.proofs.session.Session.answer_request.Goals as goal
 
-pub returns-in-NopOut : goal.returns-in-NopOut
-returns-in-NopOut c =
-    does_as c.nop_out.result (nop_out c.args.self.now c.args.waiting c.in-NopOut.head c.received.inside.pdu.bytes.now)
-    (request_answered c.args.self.now c.args.waiting c.args.received.now c.args.received.now.head) c.args.self.now c.nop_out.new.self c.args.out.now.items
+pub returns-in-Ping : goal.returns-in-Ping
+returns-in-Ping c =
+    let bytes = bytes_of c.received.inside.continued c.received.inside.pdu.head c.received.inside.pdu.bytes.now c.args.received.now c.received.view_is
+    c.requires.plain in
+    does_as c.nop_out.result (on_nop_out c.args.self.now c.args.waiting c.in-Ping.head c.received.inside.pdu.bytes.now)
+    (request_answered c.args.self.now c.args.waiting c.args.received.now c.args.request.now) c.args.self.now c.nop_out.new.self c.args.out.now.items
     c.nop_out.new.out.items
-    (answers_ping c.args.self.now c.args.waiting c.received.inside.continued c.received.inside.pdu.head c.received.inside.pdu.bytes.now c.args.received.now
-    c.received.view_is c.in-NopOut.head c.in-NopOut.is) c.nop_out.ensures
+    (ap (λ (b : List ℕ). on_nop_out c.args.self.now c.args.waiting c.in-Ping.head b) (sym bytes)
+    ∙ sym (ap (request_answered c.args.self.now c.args.waiting c.args.received.now) c.in-Ping.is)) c.nop_out.ensures
 
-pub returns-in-TextRequest : goal.returns-in-TextRequest
-returns-in-TextRequest c =
-    does_as c.text_request.result (text_request c.args.self.now c.args.waiting c.args.received.now c.in-TextRequest.head c.received.inside.pdu.bytes.now)
-    (request_answered c.args.self.now c.args.waiting c.args.received.now c.args.received.now.head) c.args.self.now c.text_request.new.self
-    c.args.out.now.items c.text_request.new.out.items
-    (answers_text_request c.args.self.now c.args.waiting c.received.inside.continued c.received.inside.pdu.head c.received.inside.pdu.bytes.now
-    c.args.received.now c.received.view_is c.in-TextRequest.head c.in-TextRequest.is) c.text_request.ensures
+pub returns-in-Text : goal.returns-in-Text
+returns-in-Text c =
+    let bytes = bytes_of c.received.inside.continued c.received.inside.pdu.head c.received.inside.pdu.bytes.now c.args.received.now c.received.view_is
+    c.requires.plain in
+    does_as c.text_request.result (on_text_request c.args.self.now c.args.waiting c.args.received.now c.in-Text.head c.received.inside.pdu.bytes.now)
+    (request_answered c.args.self.now c.args.waiting c.args.received.now c.args.request.now) c.args.self.now c.text_request.new.self c.args.out.now.items
+    c.text_request.new.out.items
+    (ap (λ (b : List ℕ). on_text_request c.args.self.now c.args.waiting c.args.received.now c.in-Text.head b) (sym bytes)
+    ∙ sym (ap (request_answered c.args.self.now c.args.waiting c.args.received.now) c.in-Text.is)) c.text_request.ensures

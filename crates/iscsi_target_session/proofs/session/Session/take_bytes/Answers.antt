@@ -4,7 +4,7 @@ use Rattle.iscsi_text.specs.Reading.{text_in}
 use Rattle.iscsi_stream.specs.Segment.{Bytes}
 use Rattle.iscsi_target_session.specs.Session.{Session}
 use Rattle.iscsi_target_session.specs.LoginText.{out_of_resources, initiator_error}
-use Rattle.iscsi_target_session.specs.Login.{refuse, whole_text, segment_taken, gather, response}
+use Rattle.iscsi_target_session.specs.Login.{refuse, whole_text, segment_taken, gather, login_response_to}
 use Rattle.iscsi_target_session.proofs.LoginLemmas.{replied_as, bytes_too_long, bytes_gathered, bytes_whole, gathered_answer, not_past}
 use Rattle.iscsi_target_session.proofs.session.Session.take_bytes.Goals as goal
 
@@ -27,7 +27,7 @@ returns-then-request c = record {
       (bytes_gathered c.args.self.now c.args.request.now c.args.bytes.now within c.if-request.true)
       (gathered_answer c.answer.result c.args.self.now c.gather.new.self c.args.request.now c.args.bytes.now c.response-response.result c.answer.new.self
       c.args.out.now.items c.answer.new.out.items mid (c.response-response.ensures
-      ∙ ap (λ (m : Session). response m c.args.request.now) mid) c.answer.ensures.ok);
+      ∙ ap (λ (m : Session). login_response_to m c.args.request.now) mid) c.answer.ensures.ok);
   err = search rules;
   unwritten = search rules;
 }

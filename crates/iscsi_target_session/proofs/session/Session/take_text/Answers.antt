@@ -21,9 +21,9 @@ pub returns : goal.returns
 returns c = record {
   ok = let within = not_past c.is_past_limit.result (length c.args.self.now.gathered
       + c.canonical_len.result) 16384 c.is_past_limit.ensures c.if-is_past_limit.false in
-      replied_as c.answer_text.result (whole_text c.forget.new.self c.args.request.now (Some c.args.text.now))
+      replied_as c.answer_text.result (whole_text c.clear_gathered.new.self c.args.request.now (Some c.args.text.now))
       (segment_taken c.args.self.now c.args.request.now (Text c.args.text.now)) c.answer_text.new.self c.args.out.now.items c.answer_text.new.out.items
-      (ap (λ (m : Session). whole_text m c.args.request.now (Some c.args.text.now)) c.forget.ensures
+      (ap (λ (m : Session). whole_text m c.args.request.now (Some c.args.text.now)) c.clear_gathered.ensures
       ∙ text_taken c.args.self.now c.args.request.now c.args.text.now (omega (arith, within, c.canonical_len.ensures.len)) c.requires.whole)
       c.answer_text.ensures.ok;
   err = search rules;

@@ -3,7 +3,7 @@ use Rattle.std.specs.Prelude.{codes}
 use Rattle.iscsi_text.specs.Numeral.{canonical_number}
 use Rattle.iscsi_text.specs.Value.{Plain}
 use Rattle.iscsi_text.specs.Canonical.{canonical_text}
-use Rattle.iscsi_text.specs.Inside.{all_shown}
+use Rattle.iscsi_text.specs.Shown.{all_shown}
 use Rattle.iscsi_target_session.specs.TextRequests.{name_if}
 use Rattle.iscsi_target_session.proofs.PortalLemmas.{behind}
 use Rattle.iscsi_target_session.proofs.session.text_request.announced_text.Goals as goal

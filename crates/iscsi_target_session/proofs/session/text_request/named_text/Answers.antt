@@ -7,7 +7,7 @@ use Rattle.iscsi_text.specs.declared.pair.Pair.{Pair}
 use Rattle.iscsi_text.specs.Value.{Typed, Plain}
 use Rattle.iscsi_text.specs.Text.{key_le}
 use Rattle.iscsi_text.specs.Canonical.{canonical_text}
-use Rattle.iscsi_text.specs.Inside.{all_shown}
+use Rattle.iscsi_text.specs.Shown.{all_shown}
 use Rattle.iscsi_target_session.proofs.TextReplyLemmas.{partitioned, placed_split, named}
 use Rattle.iscsi_target_session.proofs.session.text_request.named_text.Goals as goal
 

@@ -1,5 +1,5 @@
 use Rattle.std.proofs.Common.{◌≡◌, ◌++◌, drop}
-use Rattle.iscsi_text.specs.Inside.{all_shown}
+use Rattle.iscsi_text.specs.Shown.{all_shown}
 use Rattle.iscsi_target_session.specs.TextRequests.{replies}
 use Rattle.iscsi_target_session.proofs.session.text_request.replies.Given as goal
 

@@ -2,7 +2,7 @@ use Rattle.std.proofs.Common.{◌≡◌, ℕ, List, subst, sym, ap, ◌∙◌}
 use Rattle.std.specs.Prelude.{IfOk}
 use Rattle.iscsi_text.specs.Canonical.{canonical_text}
 use Rattle.iscsi_target_session.specs.TextRequests.{reply_pairs, reply_text}
-use Rattle.iscsi_target_session.specs.Inside.{told_text}
+use Rattle.iscsi_target_session.specs.inner.Inside.{told_text}
 use Rattle.iscsi_target_session.proofs.PortalLemmas.{with_portal, without_portal}
 use Rattle.iscsi_target_session.proofs.session.text_request.reply_text.Goals as goal
 

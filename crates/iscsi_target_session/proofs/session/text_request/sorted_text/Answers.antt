@@ -3,7 +3,7 @@ use Rattle.std.specs.Prelude.{codes, IfOk}
 use Rattle.iscsi_text.specs.Value.{Plain}
 use Rattle.iscsi_text.specs.Text.{Pairs, IsInOrder}
 use Rattle.iscsi_text.specs.Canonical.{canonical_text}
-use Rattle.iscsi_text.specs.Inside.{all_shown}
+use Rattle.iscsi_text.specs.Shown.{all_shown}
 use Rattle.iscsi_text.specs.Reading.{placed}
 use Rattle.iscsi_target_session.specs.TextRequests.{reply_pairs}
 use Rattle.iscsi_target_session.proofs.TextReplyLemmas.{order_replies, reply_named, reply_unnamed}

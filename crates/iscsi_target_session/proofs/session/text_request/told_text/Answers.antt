@@ -2,7 +2,7 @@ use Rattle.std.proofs.Common.{◌≡◌, List, ℕ, Bool, true, false, subst, sy
 use Rattle.std.specs.Prelude.{IfOk, if◌then◌else◌}
 use Rattle.iscsi_text.specs.Canonical.{canonical_text}
 use Rattle.iscsi_target_session.specs.TextRequests.{is_asked, reply_pairs}
-use Rattle.iscsi_target_session.specs.Inside.{announced_text, told_text}
+use Rattle.iscsi_target_session.specs.inner.Inside.{announced_text, told_text}
 use Rattle.iscsi_target_session.proofs.session.text_request.told_text.Goals as goal
 
 pub returns-then-is_asked : goal.returns-then-is_asked

@@ -3,7 +3,7 @@ use Rattle.iscsi_text.specs.declared.fault.TextFault.{TextFault}
 use Rattle.iscsi_text.specs.declared.fault.TextFault.TheVariants.{NoMemory}
 use Rattle.iscsi_text.specs.Text.{Pairs, TextMeans}
 use Rattle.iscsi_text.specs.Fault.{IsFirstFault}
-use Rattle.iscsi_text.specs.Inside.{all_shown}
+use Rattle.iscsi_text.specs.Shown.{all_shown}
 use Rattle.iscsi_text.proofs.CanonicalLemmas.{is_meaning, canonical_no_longer}
 use Rattle.iscsi_text.proofs.FaultLemmas.{no_meaning}
 use Rattle.iscsi_text.proofs.text.Text.read.Goals as goal

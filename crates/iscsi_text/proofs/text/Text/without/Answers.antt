@@ -3,7 +3,7 @@ use Rattle.std.specs.Prelude.{not, length}
 use Rattle.iscsi_text.specs.Key.{is_among}
 use Rattle.iscsi_text.specs.Text.{without, IsMeaning}
 use Rattle.iscsi_text.specs.Canonical.{canonical_text}
-use Rattle.iscsi_text.specs.Inside.{all_shown}
+use Rattle.iscsi_text.specs.Shown.{all_shown}
 use Rattle.iscsi_text.proofs.WithoutLemmas.{meaning_kept, text_kept}
 use Rattle.iscsi_text.proofs.text.Text.without.Goals as goal
 

@@ -3,7 +3,7 @@ use Rattle.std.specs.Prelude.{not}
 use Rattle.std.specs.List.{filter}
 use Rattle.std.proofs.lemmas.List.{take_all}
 use Rattle.iscsi_text.specs.Key.{is_among}
-use Rattle.iscsi_text.specs.Inside.{all_shown}
+use Rattle.iscsi_text.specs.Shown.{all_shown}
 use Rattle.iscsi_text.proofs.WithoutLemmas.{shown_without}
 use Rattle.iscsi_text.proofs.text.leaving_out.pairs_without.Goals as goal
 

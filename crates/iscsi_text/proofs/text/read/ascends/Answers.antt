@@ -1,6 +1,7 @@
 use Rattle.std.proofs.Common.{rules}
 use Rattle.std.proofs.lemmas.List.Sorted.{answers_always}
-use Rattle.iscsi_text.specs.Inside.{shown, follows}
+use Rattle.iscsi_text.specs.Shown.{shown}
+use Rattle.iscsi_text.specs.inner.Inside.{follows}
 use Rattle.iscsi_text.proofs.SortLemmas.{ascends_is}
 use Rattle.iscsi_text.proofs.text.read.ascends.Goals as goal
 

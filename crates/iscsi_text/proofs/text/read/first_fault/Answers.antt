@@ -2,7 +2,7 @@ use Rattle.std.proofs.Common.{rules, sym, subst}
 use borrow.Author.Tests.{tests}
 use Rattle.iscsi_text.specs.Key.{target_address}
 use Rattle.iscsi_text.specs.Value.{typed}
-use Rattle.iscsi_text.specs.Inside.{shown}
+use Rattle.iscsi_text.specs.Shown.{shown}
 use Rattle.iscsi_text.proofs.KeyLemmas.{same_key, bytes_eq_same}
 use Rattle.iscsi_text.proofs.FirstFaultLemmas.{Seen, seen_spare, seen_address, seen_key, seen_repeated, seen_goes_on, was_new, was_there}
 use Rattle.iscsi_text.proofs.text.read.first_fault.Goals as goal

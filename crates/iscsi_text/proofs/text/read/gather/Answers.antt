@@ -1,6 +1,7 @@
 use Rattle.std.proofs.Common.{[], ◌∷◌, Some, None, sym, subst}
 use Rattle.std.proofs.lemmas.List.{append-nil, map-append}
-use Rattle.iscsi_text.specs.Inside.{shown, all_shown, GathersTo}
+use Rattle.iscsi_text.specs.Shown.{shown, all_shown}
+use Rattle.iscsi_text.specs.inner.Inside.{GathersTo}
 use Rattle.iscsi_text.proofs.ReadInvariant.{gathers_more}
 use Rattle.iscsi_text.proofs.text.read.gather.Goals as goal
 

@@ -1,5 +1,6 @@
 use Rattle.std.proofs.Common.{length}
-use Rattle.iscsi_text.specs.Inside.{all_shown, GathersTo}
+use Rattle.iscsi_text.specs.Shown.{all_shown}
+use Rattle.iscsi_text.specs.inner.Inside.{GathersTo}
 use Rattle.iscsi_text.proofs.text.read.gather.Given as goal
 
 abbrev pub invariant-loop-rest : goal.invariant-loop-rest

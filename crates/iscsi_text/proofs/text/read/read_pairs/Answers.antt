@@ -1,4 +1,4 @@
-use Rattle.iscsi_text.specs.Inside.{all_shown}
+use Rattle.iscsi_text.specs.Shown.{all_shown}
 use Rattle.iscsi_text.proofs.FirstFaultLemmas.{repeats_mean_nothing}
 use Rattle.iscsi_text.proofs.text.read.read_pairs.Goals as goal
 

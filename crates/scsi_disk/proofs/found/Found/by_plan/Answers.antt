@@ -8,9 +8,9 @@ use Rattle.scsi_disk.proofs.found.Found.by_plan.Goals as goal
 
 pub unrefused-requires : goal.unrefused-requires
 unrefused-requires c = record {
-  named = c.transfer_of.ensures.named;
-  kind = c.transfer_of.ensures.kind;
-  «data» = c.parameter_data-data.ensures;
+  transfer = c.of.ensures.transfer;
+  kind = c.of.ensures.kind;
+  told = c.of.ensures.told;
   unrefused =
       not_refused c.args.order.now c.args.blocks (λ sense e. elim c.in-Take.is [
         | inl (n, is) ↦ (let h : Take n ≡ Refuse sense = sym is ∙ c.requires.planned ∙ e in cc)

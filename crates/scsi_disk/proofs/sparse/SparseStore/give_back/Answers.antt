@@ -1,6 +1,6 @@
 use Rattle.std.proofs.Common.{sym, ap, ◌∙◌, rules}
 use Rattle.std.specs.FinMap.{from_entries}
-use Rattle.scsi_disk.specs.Sparse.{disk_in}
+use Rattle.scsi_disk.specs.Sparse.{extents_disk}
 use Rattle.scsi_disk.proofs.SparseLemmas.{get_at, get_removed, removed, unseen_gone, others_stay}
 use Rattle.scsi_disk.proofs.sparse.SparseStore.give_back.Goals as goal
 use Rattle.scsi_disk.proofs.sparse.SparseStore.give_back.Goals.{in-Some-1, in-None-1}
@@ -21,8 +21,8 @@ returns-then-is_blank-clause-disk c =
     let before = get_at es k ∙ sym c.in-Some.ensures.value in
     let same = unseen_gone (from_entries es) (from_entries fs) k h c.self.inside.blocks c.in-Some.found.now before (c.is_blank.ensures (search rules)) in
     elim c.match-remove.branch [
-      | in-Some-1 w ↦ ap disk_in w.self-is ∙ same ∙ ap disk_in c.self.view_is
-      | in-None-1 w ↦ ap disk_in w.self-is ∙ same ∙ ap disk_in c.self.view_is
+      | in-Some-1 w ↦ ap extents_disk w.self-is ∙ same ∙ ap extents_disk c.self.view_is
+      | in-None-1 w ↦ ap extents_disk w.self-is ∙ same ∙ ap extents_disk c.self.view_is
     ]
 
 pub returns-then-is_blank-clause-kept : goal.returns-then-is_blank-clause-kept

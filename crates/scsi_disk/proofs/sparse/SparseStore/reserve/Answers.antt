@@ -1,7 +1,7 @@
 use Rattle.std.proofs.Common.{subst, ◌≡◌, ℕ, List, Option, None, IsSome, true, false, ap, sym, ◌∙◌, rules}
 use Rattle.std.specs.Ordering.{nat_cmp}
 use Rattle.std.specs.FinMap.{from_entries, get}
-use Rattle.scsi_disk.specs.Sparse.{disk_in}
+use Rattle.scsi_disk.specs.Sparse.{extents_disk}
 use Rattle.scsi_disk.proofs.SparseLemmas.{get_inserted, inserted, unseen, missing, is_missing, is_inserted, stays, is_kept}
 use Rattle.scsi_disk.proofs.sparse.SparseStore.reserve.Goals as goal
 use Rattle.scsi_disk.proofs.sparse.SparseStore.reserve.Goals.{in-Some-1, in-None-1}
@@ -22,8 +22,8 @@ returns-in_ok-insert-clause-disk c =
     let none = missing es c.args.extent (sym c.contains_key.ensures ∙ absent) in
     let same = unseen c.self.inside.blocks (from_entries es) (from_entries fs) c.args.extent c.in_ok-blank.blank h c.in_ok-blank.ensures.blank none in
     elim c.match-branch-3.branch [
-      | in-Some-1 w ↦ ap disk_in w.self-is ∙ same ∙ ap disk_in c.self.view_is
-      | in-None-1 w ↦ ap disk_in w.self-is ∙ same ∙ ap disk_in c.self.view_is
+      | in-Some-1 w ↦ ap extents_disk w.self-is ∙ same ∙ ap extents_disk c.self.view_is
+      | in-None-1 w ↦ ap extents_disk w.self-is ∙ same ∙ ap extents_disk c.self.view_is
     ]
 
 pub returns-in_ok-insert-clause-there : goal.returns-in_ok-insert-clause-there

@@ -1,6 +1,6 @@
 use Rattle.std.proofs.Common.{◌≡◌, ◌+◌, ◌-◌, ◌*◌, ◌/◌, ◌≤◌, length, take, drop, sym, ap, ◌∙◌, inl, inr, arith}
-use Rattle.scsi_disk.specs.Disk.{written}
-use Rattle.scsi_disk.specs.Sparse.{disk_in}
+use Rattle.scsi_disk.specs.Disk.{disk_written}
+use Rattle.scsi_disk.specs.Sparse.{extents_disk}
 use Rattle.scsi_disk.proofs.OverlayLemmas.{written_none, written_next}
 use Rattle.scsi_disk.proofs.SparseLemmas.{rest_there}
 use Rattle.scsi_disk.proofs.sparse.SparseStore.write_all.Goals as goal
@@ -8,7 +8,7 @@ use Rattle.scsi_disk.proofs.sparse.SparseStore.write_all.Goals as goal
 pub loop-done-init : goal.loop-done-init
 loop-done-init c = record {
   inside = omega arith;
-  disk = sym (written_none c.args.first (disk_in c.args.self.now));
+  disk = sym (written_none c.args.first (extents_disk c.args.self.now));
   there = elim c.requires.there [
     | inl zeros ↦ inl zeros
     | inr has ↦ inr (λ n low high. has n (omega (arith, low)) (omega (arith, high)))
@@ -28,9 +28,9 @@ loop-done-preserved c =
       inside = omega arith;
       disk =
           c.give_back.ensures.disk ∙ c.write_run.ensures.disk
-          ∙ ap (λ k. written (first + i) (take k (drop (512 * i) bytes)) (disk_in c.loop-done.self)) long
-          ∙ ap (written (first + i) (take (512 * run) (drop (512 * i) bytes))) c.loop-done.invariant.disk
-          ∙ written_next first i run bytes (disk_in c.args.self.now) room;
+          ∙ ap (λ k. disk_written (first + i) (take k (drop (512 * i) bytes)) (extents_disk c.loop-done.self)) long
+          ∙ ap (disk_written (first + i) (take (512 * run) (drop (512 * i) bytes))) c.loop-done.invariant.disk
+          ∙ written_next first i run bytes (extents_disk c.args.self.now) room;
       there = elim c.loop-done.invariant.there [
         | inl zeros ↦ inl zeros
         | inr has ↦ inr (rest_there c.loop-done.self.extents c.give_back.new.self.extents first i run (length bytes / 512) c.run_length.ensures.end

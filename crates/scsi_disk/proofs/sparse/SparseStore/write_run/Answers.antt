@@ -3,8 +3,8 @@ use Rattle.std.specs.Ordering.{nat_cmp}
 use Rattle.std.specs.FinMap.{get, from_entries}
 use Rattle.std.specs.Map.{lookup}
 use Rattle.std.specs.BTreeMap.{is_at}
-use Rattle.scsi_disk.specs.Disk.{written}
-use Rattle.scsi_disk.specs.Sparse.{disk_in}
+use Rattle.scsi_disk.specs.Disk.{disk_written}
+use Rattle.scsi_disk.specs.Sparse.{extents_disk}
 use Rattle.scsi_disk.proofs.SparseLemmas.{get_at, get_inserted, is_there, inserted, stays, run_written, run_cleared, all_zeros, some_at, never_none}
 use Rattle.scsi_disk.proofs.sparse.SparseStore.write_run.Goals as goal
 use Rattle.scsi_disk.proofs.sparse.SparseStore.write_run.Goals.{in-Some, in_default}
@@ -45,7 +45,7 @@ returns-clause-disk c =
           rw w.self-inside-is
           (run_written c.self.inside.blocks c.args.n (length bytes / 512) (from_entries es)
           (from_entries fs) old v bytes h before w.put.ensures.blocks long c.requires.one inside
-          ∙ ap (λ s. written c.args.n c.args.bytes.now (disk_in s)) c.self.view_is))
+          ∙ ap (λ s. disk_written c.args.n c.args.bytes.now (extents_disk s)) c.self.view_is))
       | in_default w ↦ elim here [
         | inl zeros ↦
             (let bytes = c.args.bytes.now in
@@ -54,7 +54,7 @@ returns-clause-disk c =
             rw (w.self-inside-is, c.get_mut.follows.holds-at-none)
             (sym (run_cleared c.self.inside.blocks es c.args.n (length bytes / 512) None w.in_default.ensures.value c.requires.one inside bytes refl
             (all_zeros bytes zeros ∙ ap (λ n. replicate n 0) long))
-            ∙ ap (λ s. written c.args.n c.args.bytes.now (disk_in s)) c.self.view_is))
+            ∙ ap (λ s. disk_written c.args.n c.args.bytes.now (extents_disk s)) c.self.view_is))
         | inr there ↦ absurd (never_none _ w.in_default.ensures.value (some_at es k there))
       ]
     ]

@@ -1,16 +1,16 @@
 use Rattle.std.proofs.Common.{◌≡◌, ◌+◌, ◌-◌, ◌*◌, ◌/◌, ◌≤◌, length, take, drop, sym, ap, ◌∙◌, arith}
 use Rattle.std.proofs.lemmas.List.{length-take-le, length-drop}
 use Rattle.scsi_disk.specs.Disk.{blocks_from}
-use Rattle.scsi_disk.specs.Sparse.{disk_in}
+use Rattle.scsi_disk.specs.Sparse.{extents_disk}
 use Rattle.scsi_disk.proofs.SparseLemmas.{joined-none, joined_next}
 use Rattle.scsi_disk.proofs.sparse.SparseStoreBlockStore.read.Goals as goal
 
 pub loop-done-init : goal.loop-done-init
-loop-done-init c = record { inside = omega arith; read = sym (joined-none (disk_in c.args.self.now).block c.args.lba) }
+loop-done-init c = record { inside = omega arith; read = sym (joined-none (extents_disk c.args.self.now).block c.args.lba) }
 
 pub loop-done-preserved : goal.loop-done-preserved
 loop-done-preserved c =
-    let disk = disk_in c.args.self.now in
+    let disk = extents_disk c.args.self.now in
     let i = c.loop-done.done in
     let run = c.run_length.result in
     let few = c.run_length.ensures.few in

@@ -1,6 +1,6 @@
 use Rattle.std.proofs.Common.{refl}
 use Rattle.std.proofs.lemmas.Map.Lookups.{exact_bytes}
-use Rattle.iscsi_compare.specs.SameJobJudge.{known_by}
+use Rattle.iscsi_compare.specs.inner.SameJobJudge.{known_by}
 use Rattle.iscsi_compare.proofs.LearningLemmas.{learns_nine}
 use Rattle.iscsi_compare.proofs.same_job.renaming.Renaming.learn.Goals as goal
 

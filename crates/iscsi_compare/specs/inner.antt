@@ -1,0 +1,5 @@
+pub mod Comparing
+pub mod Inside
+pub mod SameJobJudge
+pub mod SameJobLearning
+pub mod SameJobNumbers

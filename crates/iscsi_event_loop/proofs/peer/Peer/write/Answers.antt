@@ -1,0 +1,34 @@
+use Rattle.std.proofs.Common.{arith, refl}
+use Rattle.iscsi_target.specs.Advances.{store_of}
+use Rattle.iscsi_event_loop.proofs.RunningLemmas.{idle_at, sync_at, unsent_at, write_at}
+use Rattle.iscsi_event_loop.proofs.peer.Peer.write.Goals as goal
+
+pub returns-then-not-is_writable-clause-runs : goal.returns-then-not-is_writable-clause-runs
+returns-then-not-is_writable-clause-runs g c = idle_at g.S.BlockStore.protected c.args.slot c.args.left.now c.args.table.now c.sent.new.self
+    (store_of (g.S.BlockStore.disk c.args.store.now) (g.S.BlockStore.failures c.args.store.now))
+    (unsent_at c.args.slot c.args.table.now c.sent.new.self c.sent.ensures.sent c.sent.ensures.machines)
+
+pub returns-in_default-clause-runs : goal.returns-in_default-clause-runs
+returns-in_default-clause-runs g c = sync_at g.S.BlockStore.protected c.args.slot c.args.left.now c.args.table.now
+    (store_of (g.S.BlockStore.disk c.args.store.now) (g.S.BlockStore.failures c.args.store.now))
+    (store_of (g.S.BlockStore.disk c.offered.new.store) (g.S.BlockStore.failures c.offered.new.store))
+    c.requires.some c.offered.ensures.syncs
+
+pub returns-in-Bytes-clause-runs : goal.returns-in-Bytes-clause-runs
+returns-in-Bytes-clause-runs g c = write_at g.S.BlockStore.protected c.args.slot c.in-Bytes.count c.args.left.now c.give.new.self c.args.table.now
+    c.sent-in-Bytes.new.self
+    (store_of (g.S.BlockStore.disk c.args.store.now) (g.S.BlockStore.failures c.args.store.now))
+    (store_of (g.S.BlockStore.disk c.offered.new.store) (g.S.BlockStore.failures c.offered.new.store))
+    c.give.ensures.pdus c.give.ensures.given c.sent-in-Bytes.ensures.sent c.sent-in-Bytes.ensures.machines c.offered.ensures.syncs
+
+pub returns-in-Nothing-clause-runs : goal.returns-in-Nothing-clause-runs
+returns-in-Nothing-clause-runs g c = write_at g.S.BlockStore.protected c.args.slot 0 c.args.left.now c.args.left.now c.args.table.now c.sent-in-Nothing.new.self
+    (store_of (g.S.BlockStore.disk c.args.store.now) (g.S.BlockStore.failures c.args.store.now))
+    (store_of (g.S.BlockStore.disk c.offered.new.store) (g.S.BlockStore.failures c.offered.new.store))
+    refl (omega arith) c.sent-in-Nothing.ensures.sent c.sent-in-Nothing.ensures.machines c.offered.ensures.syncs
+
+pub returns-in-End-clause-runs : goal.returns-in-End-clause-runs
+returns-in-End-clause-runs g c = sync_at g.S.BlockStore.protected c.args.slot c.args.left.now c.args.table.now
+    (store_of (g.S.BlockStore.disk c.args.store.now) (g.S.BlockStore.failures c.args.store.now))
+    (store_of (g.S.BlockStore.disk c.offered.new.store) (g.S.BlockStore.failures c.offered.new.store))
+    c.requires.some c.offered.ensures.syncs

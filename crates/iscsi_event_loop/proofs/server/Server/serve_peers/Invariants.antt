@@ -1,0 +1,13 @@
+use Rattle.std.proofs.Common.{◌≡◌, ◌≤◌, length}
+use Rattle.iscsi_target.specs.Advances.{store_of}
+use Rattle.iscsi_event_loop.specs.Giving.{most_given}
+use Rattle.iscsi_event_loop.specs.Running.{InTurns, most_taken}
+use Rattle.iscsi_event_loop.proofs.server.Server.serve_peers.Given as goal
+
+abbrev pub invariant-loop-slot : goal.invariant-loop-slot
+invariant-loop-slot g l = InTurns g.S.BlockStore.protected l.slot
+    l.fn.self.table (store_of (g.S.BlockStore.disk l.fn.store) (g.S.BlockStore.failures l.fn.store))
+    l.self.table (store_of (g.S.BlockStore.disk l.store) (g.S.BlockStore.failures l.store))
+    × (length l.self.table.slots ≡ length l.fn.self.table.slots)
+    × (l.self.sessions ≡ l.fn.self.sessions) × (l.fn.self.logins ≤ l.self.logins)
+    × (l.budget.pdus ≤ most_taken) × (l.budget.given ≤ most_given)

@@ -1,0 +1,5 @@
+pub mod Giving
+pub mod Limited
+pub mod Running
+pub mod Serving
+pub mod inner

@@ -1,0 +1,5 @@
+pub mod Giving
+pub mod Moving
+pub mod Room
+pub mod Running
+pub mod Serving

@@ -1,0 +1,304 @@
+//! The peer of a slot: its connection is read, its PDUs are taken, its answers are written.
+
+ghost use Rattle.std.specs.Prelude.{◌≡◌, ◌<◌, length, is_some, true};
+ghost use Rattle.iscsi_target.specs.Advances.{store_of};
+ghost use Rattle.iscsi_sessions.specs.Slots.{may_read_at, may_take_at, slot_at, slot_waiting};
+ghost use Rattle.iscsi_event_loop.specs.Running.{SlotTurns};
+ghost use Rattle.iscsi_event_loop.specs.inner.Running.{SlotRuns, RunsIdleAt};
+
+use crate::budget::Budget;
+use crate::connection::{Connection, Moved};
+use crate::tally::Tally;
+use iscsi_login::Phase;
+use iscsi_options::Limits;
+use iscsi_serving::SessionEnd;
+use iscsi_sessions::{MOST_READ, SessionTable};
+use scsi_disk::BlockStore;
+use std::alloc::{AllocError, Global};
+use std::time::Instant;
+
+/// How many reads, PDUs and writes a slot has in a turn at most.
+const STEPS: usize = 64;
+
+/// The peer of a slot.
+#[derive(Drop)]
+pub struct Peer {
+    /// Its connection.
+    pub connection: Connection,
+    /// Why its session ends; the first reason stays, but where a sync fails.
+    pub end: Option<SessionEnd>,
+    /// What came of the session so far.
+    pub tally: Tally,
+}
+
+// What a step leaves to do.
+#[derive(Clone, Copy)]
+enum Step {
+    // perhaps another step
+    Went,
+    // nothing in this turn
+    Rests,
+    // nothing: the session is over
+    Over,
+}
+
+impl Peer {
+    /// A peer whose session begins.
+    pub fn new(connection: Connection) -> Peer {
+        Peer {
+            connection,
+            end: None,
+            tally: Tally::new(),
+        }
+    }
+
+    /// Whether a turn would do something.
+    pub fn wants_turn(&self, table: &SessionTable, slot: usize) -> bool {
+        if table.may_take(slot) {
+            true
+        } else if !table.waiting(slot).is_empty() {
+            self.connection.is_writable()
+        } else if table.may_read(slot) {
+            self.connection.is_readable()
+        } else {
+            true
+        }
+    }
+
+    /// A turn of its session: at most 64 reads, PDUs and writes, and no more once the budget is spent.
+    /// What is read goes through `buffer`. Says whether the session is over; where that is for a
+    /// fault, it is kept as its end.
+    #[tactic(auto, using(crate::proofs::RunningLemmas::none_at, crate::proofs::RunningLemmas::spent_at))]
+    pub fn turn<S: BlockStore>(
+        &mut self,
+        table: &mut SessionTable,
+        store: &mut S,
+        slot: usize,
+        now: Instant,
+        buffer: &mut [u8; MOST_READ],
+        budget: Budget,
+    ) -> bool
+        // It takes as many PDUs at most as the budget says. It gives as many bytes at most in all
+        // writes but the last one, which gives no more than what waited.
+        ensures runs { SlotTurns S.protected slot budget
+            table.old (store_of (S.disk store.old) (S.failures store.old))
+            table.new (store_of (S.disk store.new) (S.failures store.new)) }
+        ensures slots { length table.new.slots ≡ length table.old.slots }
+    {
+        let mut left = budget;
+        for _ in 0..STEPS {
+            if left.is_spent() {
+                return false;
+            }
+            match self.step(table, store, slot, now, buffer, &mut left) {
+                Step::Went => {}
+                Step::Rests => return false,
+                Step::Over => return true,
+            }
+        }
+        false
+    }
+
+    /// Whether the time of its session is over, which is then kept as its end.
+    pub fn is_late(&mut self, limits: &Limits, phase: Option<Phase>, now: Instant) -> bool {
+        let accepted = self.connection.since_accepted(now).as_secs();
+        let silent = self.connection.since_moved(now).as_secs();
+        match SessionEnd::by_limits(limits, phase.unwrap_or(Phase::Closed), accepted, silent) {
+            Some(end) => {
+                self.end_by(end);
+                true
+            }
+            None => false,
+        }
+    }
+
+    /// Keeps why the session ends, unless there was a reason before.
+    pub fn end_by(&mut self, end: SessionEnd) {
+        self.end = Some(self.end.unwrap_or(end));
+    }
+
+    // Takes a PDU, if one is there and its answers may be gathered; else writes what waits; if
+    // nothing does, reads. A session in which none of these may be done is closed, and its answers
+    // are written.
+    #[tactic(auto, using(crate::proofs::RunningLemmas::none_at, crate::proofs::RunningLemmas::idle_at))]
+    fn step<S: BlockStore>(
+        &mut self,
+        table: &mut SessionTable,
+        store: &mut S,
+        slot: usize,
+        now: Instant,
+        buffer: &mut [u8; MOST_READ],
+        left: &mut Budget,
+    ) -> Step
+        requires some { 0 < left.old.pdus }
+        ensures runs { SlotRuns S.protected slot left.old left.new
+            table.old (store_of (S.disk store.old) (S.failures store.old))
+            table.new (store_of (S.disk store.new) (S.failures store.new)) }
+        ensures slots { length table.new.slots ≡ length table.old.slots }
+    {
+        if table.may_take(slot) {
+            self.take(table, store, slot, left)
+        } else if !table.waiting(slot).is_empty() {
+            self.write(table, store, slot, now, left)
+        } else if table.may_read(slot) {
+            self.read(table, slot, now, buffer)
+        } else {
+            Step::Over
+        }
+    }
+
+    // Writes what the connection takes, once the store is synced, if the slot has to wait for that.
+    fn write<S: BlockStore>(
+        &mut self,
+        table: &mut SessionTable,
+        store: &mut S,
+        slot: usize,
+        now: Instant,
+        left: &mut Budget,
+    ) -> Step
+        requires some { 0 < length (slot_waiting (slot_at table.old slot)) }
+        ensures runs { SlotRuns S.protected slot left.old left.new
+            table.old (store_of (S.disk store.old) (S.failures store.old))
+            table.new (store_of (S.disk store.new) (S.failures store.new)) }
+        ensures slots { length table.new.slots ≡ length table.old.slots }
+    {
+        if !self.connection.is_writable() {
+            table.sent(slot, 0);
+            return Step::Rests;
+        }
+        let Ok(bytes) = table.offered(slot, store) else {
+            return self.lost();
+        };
+        match self.connection.write(bytes, now) {
+            Moved::Bytes(count) => {
+                table.sent(slot, count);
+                left.give(count);
+                Step::Went
+            }
+            Moved::Nothing => {
+                table.sent(slot, 0);
+                Step::Rests
+            }
+            Moved::End | Moved::Failed => self.over(SessionEnd::Write),
+        }
+    }
+
+    // Takes a PDU. Where the login is completed the turn ends, so that an older session of the same
+    // port can leave first.
+    fn take<S: BlockStore>(
+        &mut self,
+        table: &mut SessionTable,
+        store: &mut S,
+        slot: usize,
+        left: &mut Budget,
+    ) -> Step
+        requires may { may_take_at (slot_at table.old slot) ≡ true }
+        requires some { 0 < left.old.pdus }
+        ensures runs { SlotRuns S.protected slot left.old left.new
+            table.old (store_of (S.disk store.old) (S.failures store.old))
+            table.new (store_of (S.disk store.new) (S.failures store.new)) }
+        ensures slots { length table.new.slots ≡ length table.old.slots }
+    {
+        let was = table.phase(slot);
+        self.take_pdu(table, store, slot, left);
+        self.note(table, slot, was);
+        if was == table.phase(slot) {
+            Step::Went
+        } else {
+            Step::Rests
+        }
+    }
+
+    // Notes what a PDU led to, behind which the session was in this phase.
+    fn note(&mut self, table: &SessionTable, slot: usize, was: Option<Phase>) {
+        match (was, table.phase(slot)) {
+            (_, Some(Phase::Full)) => self.tally.expect(table.expected_command(slot)),
+            (Some(Phase::Login), Some(Phase::Closed)) => self.tally.refuse(table.waiting(slot)),
+            _ => {}
+        }
+    }
+
+    // Takes a PDU. A fault closes the session, and its last answers are still written.
+    fn take_pdu<S: BlockStore>(
+        &mut self,
+        table: &mut SessionTable,
+        store: &mut S,
+        slot: usize,
+        left: &mut Budget,
+    )
+        requires may { may_take_at (slot_at table.old slot) ≡ true }
+        requires some { 0 < left.old.pdus }
+        ensures runs { SlotRuns S.protected slot left.old left.new
+            table.old (store_of (S.disk store.old) (S.failures store.old))
+            table.new (store_of (S.disk store.new) (S.failures store.new)) }
+        ensures slots { length table.new.slots ≡ length table.old.slots }
+    {
+        match table.take(slot, store) {
+            Ok(count) => left.take(count),
+            Err(fault) => {
+                left.take(0);
+                self.end_by(SessionEnd::of(fault));
+            }
+        }
+    }
+
+    // Reads what came.
+    #[tactic(auto, using(crate::proofs::RunningLemmas::none_idle_at))]
+    fn read(
+        &mut self,
+        table: &mut SessionTable,
+        slot: usize,
+        now: Instant,
+        buffer: &mut [u8; MOST_READ],
+    ) -> Step
+        requires may { may_read_at (slot_at table.old slot) ≡ true }
+        ensures runs { RunsIdleAt slot table.old table.new }
+        ensures slots { length table.new.slots ≡ length table.old.slots }
+    {
+        if !self.connection.is_readable() {
+            return Step::Rests;
+        }
+        match self.connection.read(buffer, now) {
+            Moved::Bytes(count) => match table.receive(slot, &buffer[..count]) {
+                Ok(()) => Step::Went,
+                Err(_) => self.over(SessionEnd::NoMemory),
+            },
+            Moved::Nothing => Step::Rests,
+            Moved::End => self.finish(table, slot),
+            Moved::Failed => self.over(SessionEnd::Read),
+        }
+    }
+
+    // The peer sends no more.
+    fn finish(&mut self, table: &mut SessionTable, slot: usize) -> Step
+        requires taken { is_some (slot_at table.old slot) ≡ true }
+        ensures runs { RunsIdleAt slot table.old table.new }
+        ensures slots { length table.new.slots ≡ length table.old.slots }
+    {
+        match table.finish(slot) {
+            Ok(()) => Step::Over,
+            Err(fault) => self.over(SessionEnd::of(fault)),
+        }
+    }
+
+    fn over(&mut self, end: SessionEnd) -> Step {
+        self.end_by(end);
+        Step::Over
+    }
+
+    // What commands wrote may be lost. That ends the session whatever the reason before, since it
+    // ends the others too.
+    fn lost(&mut self) -> Step {
+        self.end = Some(SessionEnd::Sync);
+        Step::Over
+    }
+}
+
+/// `n` places for peers.
+pub fn no_peers(alloc: Global, count: usize) -> Result<Vec<Option<Peer>>, AllocError> {
+    let mut peers = Vec::new(alloc);
+    for _ in 0..count {
+        peers.push(None)?;
+    }
+    Ok(peers)
+}

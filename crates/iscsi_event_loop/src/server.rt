@@ -1,0 +1,208 @@
+//! A listening socket, and the sessions of those who came there.
+
+ghost use Rattle.std.specs.Prelude.{◌≡◌, ◌≤◌, ◌↔◌, length, replicate, None, IsTrue, IfSome, IfOk, IfErr};
+ghost use Rattle.iscsi_target.specs.Advances.{store_of};
+ghost use Rattle.iscsi_serving.specs.Executed.{HasExecuted};
+ghost use Rattle.iscsi_serving.specs.Faults.{EndsService};
+ghost use Rattle.iscsi_serving.specs.declared.fault.ServeFault.TheVariants as serve;
+ghost use Rattle.iscsi_event_loop.specs.Running.{RunsFew, RunsInTurns, RunsWithin, most_taken};
+ghost use Rattle.iscsi_event_loop.specs.Serving.{has_all, IsServiceDone, IsEmpty};
+
+mod admitting;
+mod ending;
+mod serving;
+mod waiting;
+
+use crate::accepting::Accepting;
+use crate::lines::Lines;
+use crate::peer::{Peer, no_peers};
+use crate::refusals::Refusals;
+use crate::system::{listen, now};
+use iscsi_options::Options;
+use iscsi_serving::{Access, ServeFault};
+use iscsi_sessions::{MOST_READ, SessionTable};
+use mio::net::TcpListener;
+use mio::{Events, Poll};
+use scsi_disk::BlockStore;
+use std::marker::Model;
+use std::net::SocketAddr;
+
+/// A listening socket, and the sessions of those who came there, some at a time, by calls of `turn`.
+#[derive(Drop)]
+pub struct Server<'a> {
+    options: Options<'a>,
+    access: Access<'a>,
+    lines: Lines,
+    refusals: Refusals,
+    poll: Poll,
+    events: Events,
+    // none once all logins were completed
+    listener: Option<TcpListener>,
+    accepting: Accepting,
+    // how many logins were completed
+    logins: u64,
+    table: SessionTable,
+    peers: Vec<Option<Peer>>,
+    // the number of the session of each slot, and 0 of one that is free
+    numbers: Vec<u16>,
+    // the number of the connection that was accepted last
+    last_number: u16,
+    // how many connections were accepted before that of each slot
+    arrivals: Vec<u64>,
+    // how many connections were accepted
+    accepted: u64,
+    // what a read of a peer goes through
+    buffer: Box<[u8; MOST_READ]>,
+}
+
+impl<'a> Model for Server<'a> {
+    ghost use Rattle.std.specs.Prelude.{◌≤◌, IfSome};
+    ghost use Rattle.iscsi_event_loop.specs.Serving.{ServerState};
+
+    ghost Value = { ServerState };
+
+    ghost view = { λ s. record {
+      table = s.table;
+      logins = s.logins;
+      sessions = s.options.sessions;
+    } };
+
+    ghost invariant = { λ s. IfSome s.options.sessions (λ n. s.logins ≤ n) };
+}
+
+impl<'a> Server<'a> {
+    /// Listens, with all slots free, for those who may log in. `Network` is returned where that fails, and `NoMemory` where
+    /// memory runs out.
+    pub fn open(
+        rt: &HostRuntime,
+        options: Options<'a>,
+        access: Access<'a>,
+    ) -> Result<Server<'a>, ServeFault>
+        ensures slots { IfOk result (λ server. length server.table.slots ≡ options.entry.at_once) }
+        ensures free { IfOk result (λ server.
+            server.table ≡ record { slots = replicate options.entry.at_once None }) }
+        ensures logins { IfOk result (λ server. server.logins ≡ 0) }
+        ensures sessions { IfOk result (λ server. server.sessions ≡ options.entry.sessions) }
+        ensures ends { IfErr result EndsService }
+    {
+        let alloc = rt.alloc();
+        let count = usize::from(options.at_once);
+        let peers = no_peers(alloc, count)?;
+        let numbers = vec![in alloc; 0u16; count]?;
+        let arrivals = vec![in alloc; 0u64; count]?;
+        let events = Events::with_capacity(alloc, count + 1)?;
+        let table = SessionTable::new(alloc, count)?;
+        let Ok(buffer) = Box::new(alloc, [0u8; MOST_READ]) else {
+            return Err(ServeFault::NoMemory);
+        };
+        let (poll, listener) = listen(rt, SocketAddr::new(options.listen, options.port))?;
+        Ok(Server {
+            options,
+            access,
+            lines: Lines::new(),
+            refusals: Refusals::new(),
+            poll,
+            events,
+            listener: Some(listener),
+            accepting: Accepting::new(),
+            logins: 0,
+            table,
+            peers,
+            numbers,
+            last_number: 0,
+            arrivals,
+            accepted: 0,
+            buffer,
+        })
+    }
+
+    /// The port at which it listens; `Network` where the system doesn't tell it, or all logins were
+    /// completed.
+    pub fn port(&self) -> Result<u16, ServeFault>
+        ensures ends { IfErr result (λ fault. fault ≡ serve.Network) }
+    {
+        match &self.listener {
+            Some(listener) => port_of(listener),
+            None => Err(ServeFault::Network),
+        }
+    }
+
+    /// Whether all sessions were served. No more logins are completed than are to be.
+    pub fn is_done(&self) -> bool
+        ensures done { IsTrue result ↔ IsServiceDone self.now }
+        ensures limit { IfSome self.now.sessions (λ n. self.now.logins ≤ n) }
+    {
+        self.has_all() && is_empty(&self.table)
+    }
+
+    // Whether all logins were completed that are to be.
+    fn has_all(&self) -> bool
+        ensures all { result ≡ has_all self.now.sessions self.now.logins }
+    {
+        match self.options.sessions {
+            Some(most) => u64::from(most) <= self.logins,
+            None => false,
+        }
+    }
+
+    /// Waits until there is something to do. Then it accepts connections, as long as a slot is free
+    /// or makes room and not all logins were completed. It gives each slot a turn. With the last
+    /// login that is to be completed the listener closes, and connections that have not logged in
+    /// are ended.
+    ///
+    /// The line of a session that ends with a fault goes to the standard error, and the others go
+    /// on. A connection that the system does not watch, or for which there is no memory, is closed.
+    /// If the system has no room for connections, nobody is accepted until a slot gets free or a
+    /// second is over. Only the system's refusing to wait or to tell the time (`Network`) is returned.
+    #[tactic(auto, using(crate::proofs::RunningLemmas::none_turns, crate::proofs::RunningLemmas::idle_turns, crate::proofs::RunningLemmas::none_few, crate::proofs::RunningLemmas::none_runs, crate::proofs::RunningLemmas::idle_few, crate::proofs::RunningLemmas::few_runs, crate::proofs::RunningLemmas::none_executed, crate::proofs::RunningLemmas::runs_executed))]
+    pub fn turn<S: BlockStore>(&mut self, rt: &HostRuntime, store: &mut S) -> Result<(), ServeFault>
+        // Whatever comes of it, it is a run of the table, of which the laws of `iscsi_sessions` speak.
+        ensures runs { RunsWithin S.protected
+            self.old.table (store_of (S.disk store.old) (S.failures store.old))
+            self.new.table (store_of (S.disk store.new) (S.failures store.new)) }
+        // Each slot takes eight PDUs at most: so much the others do between two turns of one.
+        ensures few { RunsFew S.protected (λ k. most_taken)
+            self.old.table (store_of (S.disk store.old) (S.failures store.old))
+            self.new.table (store_of (S.disk store.new) (S.failures store.new)) }
+        // Each slot has one turn at most. All its writes but the last one give the peer 262,144 bytes
+        // at most, and the last one gives no more than what waited.
+        ensures turns { RunsInTurns S.protected
+            self.old.table (store_of (S.disk store.old) (S.failures store.old))
+            self.new.table (store_of (S.disk store.new) (S.failures store.new)) }
+        // The blocks are those that commands left.
+        ensures blocks { HasExecuted S.protected (S.disk store.old) (S.disk store.new) }
+        ensures slots { length self.new.table.slots ≡ length self.old.table.slots }
+        ensures sessions { self.new.sessions ≡ self.old.sessions }
+        ensures logins { self.old.logins ≤ self.new.logins }
+        ensures ends { IfErr result EndsService }
+    {
+        self.wait(now(rt)?)?;
+        let now = now(rt)?;
+        self.admit(rt, now);
+        self.serve_peers(rt, store, now);
+        self.lines.tell_lost(rt);
+        Ok(())
+    }
+}
+
+// The port of a listener.
+fn port_of(listener: &TcpListener) -> Result<u16, ServeFault>
+    ensures ends { IfErr result (λ fault. fault ≡ serve.Network) }
+{
+    match listener.local_addr() {
+        Ok(address) => Ok(address.port()),
+        Err(_) => Err(ServeFault::Network),
+    }
+}
+
+// Whether no session has a slot.
+fn is_empty(table: &SessionTable) -> bool
+    ensures empty { IsTrue result ↔ IsEmpty table.now }
+{
+    for slot in 0..table.slots() {
+        if table.is_taken(slot) {
+            return false;
+        }
+    }
+    true
+}

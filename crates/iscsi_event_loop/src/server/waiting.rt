@@ -1,0 +1,87 @@
+//! The wait of a service, and for how long.
+
+ghost use Rattle.std.specs.Prelude.{◌≡◌, IfErr};
+ghost use Rattle.iscsi_serving.specs.Faults.{EndsService};
+
+use super::Server;
+use crate::system::LISTENER;
+use iscsi_login::Phase;
+use iscsi_options::sooner;
+use iscsi_serving::ServeFault;
+use std::time::{Duration, Instant};
+
+impl<'a> Server<'a> {
+    // Waits until there is something to do, and notes what the system tells.
+    pub(super) fn wait(&mut self, now: Instant) -> Result<(), ServeFault>
+        ensures same { self.new ≡ self.old }
+        ensures ends { IfErr result EndsService }
+    {
+        let timeout = if self.is_busy(now) {
+            Some(Duration::ZERO)
+        } else {
+            sooner(
+                sooner(self.time_left(now), self.rest_left(now)),
+                self.lost_left(),
+            )
+        };
+        if self.poll.poll(&mut self.events, timeout).is_err() {
+            return Err(ServeFault::Network);
+        }
+        for event in self.events.iter() {
+            if event.token() == LISTENER {
+                self.accepting.ask();
+            } else if let Some(Some(peer)) = self.peers.get_mut(event.token().0) {
+                peer.connection.note(event);
+            }
+        }
+        Ok(())
+    }
+
+    // Whether there is something to do of which the system will not tell again.
+    fn is_busy(&self, now: Instant) -> bool {
+        if self.may_admit(now) {
+            return true;
+        }
+        for (slot, peer) in self.peers.iter().enumerate() {
+            if let Some(peer) = peer {
+                if peer.wants_turn(&self.table, slot) {
+                    return true;
+                }
+            }
+        }
+        false
+    }
+
+    // How long until connections are accepted again; none: nobody is waited for.
+    fn rest_left(&self, now: Instant) -> Option<Duration> {
+        if self.has_place() {
+            self.accepting.left(now)
+        } else {
+            None
+        }
+    }
+
+    // How long until it is tried again to tell of lines that were lost.
+    fn lost_left(&self) -> Option<Duration> {
+        if self.lines.has_lost() {
+            Some(Duration::from_secs(1))
+        } else {
+            None
+        }
+    }
+
+    // How long until the time of a session is over; none: for ever.
+    fn time_left(&self, now: Instant) -> Option<Duration> {
+        let mut left = None;
+        for (slot, peer) in self.peers.iter().enumerate() {
+            if let Some(peer) = peer {
+                let phase = self.table.phase(slot).unwrap_or(Phase::Closed);
+                let accepted = peer.connection.since_accepted(now);
+                let silent = peer.connection.since_moved(now);
+                let limits = &self.options.limits;
+                left = sooner(left, limits.time_left(phase, accepted, silent));
+            }
+        }
+        left
+    }
+}

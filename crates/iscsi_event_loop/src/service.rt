@@ -1,0 +1,123 @@
+//! A service of several sessions at a time.
+
+ghost use Rattle.std.specs.Prelude.{◌≡◌, ◌⊎◌, ◌<◌, ◌≤◌, IfErr};
+ghost use Rattle.scsi_disk.specs.Disk.{most_blocks};
+ghost use Rattle.iscsi_target.specs.Advances.{store_of};
+ghost use Rattle.iscsi_serving.specs.Executed.{HasExecuted};
+ghost use Rattle.iscsi_serving.specs.Faults.{EndsService};
+ghost use Rattle.iscsi_serving.specs.declared.fault.ServeFault.TheVariants as serve;
+ghost use Rattle.iscsi_event_loop.specs.Running.{RunsWithin, Served};
+ghost use Rattle.iscsi_options.specs.Options.{IsService};
+
+use crate::limited::LimitedStore;
+use crate::server::Server;
+use crate::system::{OTHER_DESCRIPTORS, most_descriptors};
+use iscsi_options::Options;
+use iscsi_serving::{Access, ServeFault};
+use scsi_disk::BlockStore;
+
+/// Listens, and prints `listening` and, if asked, the port on a line of its own. Serves connections
+/// over one store, at most `at_once` at a time, until the wanted number of logins is completed. The
+/// access says who may log in.
+///
+/// A session that ends with a fault has the fault's line on standard error, and the others go on.
+/// Only being out of memory outside of sessions and a fault of the network end the service; `Write`
+/// is returned where what it prints first cannot be printed. More slots than the process may have
+/// descriptors for are refused with a line, and `Network`.
+///
+/// Each session is one of RFC 7143, sections 6 and 11; that they take turns in one thread, a PDU at a
+/// time, is own rule.
+#[tactic(auto, using(crate::proofs::RunningLemmas::none_served, crate::proofs::RunningLemmas::all_served, crate::proofs::RunningLemmas::none_executed, crate::proofs::RunningLemmas::runs_executed))]
+pub fn serve_at_once<S: BlockStore>(
+    rt: &HostRuntime,
+    options: Options<'_>,
+    access: Access<'_>,
+    store: &mut S,
+) -> Result<(), ServeFault>
+    requires service { IsService options }
+    // Whatever comes of it, it was a run of a table from free slots on, of which the laws of
+    // `iscsi_sessions` speak.
+    ensures served { Served S.protected options.entry.at_once
+        (store_of (S.disk store.old) (S.failures store.old))
+        (store_of (S.disk store.new) (S.failures store.new)) }
+    // The blocks are those that commands left.
+    ensures blocks { HasExecuted S.protected (S.disk store.old) (S.disk store.new) }
+    ensures ends { IfErr result (λ fault. EndsService fault ⊎ (fault ≡ serve.Write)) }
+{
+    allow_slots(rt, options.at_once)?;
+    let mut server = Server::open(rt, options, access)?;
+    announce(rt, &server, options.print_port)?;
+    serve_all(rt, &mut server, store)
+}
+
+/// Serves in the same way over a disk in memory of `n` blocks of 00, from 1 to 2^40. The options
+/// say how many bytes of blocks are kept. A write for which there is no room is answered by CHECK
+/// CONDITION.
+pub fn serve_memory_at_once(
+    rt: &HostRuntime,
+    options: Options<'_>,
+    access: Access<'_>,
+    blocks: u64,
+) -> Result<(), ServeFault>
+    requires service { IsService options }
+    requires some { 0 < blocks }
+    requires few { blocks ≤ most_blocks }
+    ensures ends { IfErr result (λ fault. EndsService fault ⊎ (fault ≡ serve.Write)) }
+{
+    let mut store = LimitedStore::new(rt.alloc(), blocks, options.memory);
+    serve_at_once(rt, options, access, &mut store)
+}
+
+// Refuses, with a line, more slots than the process may have descriptors for.
+fn allow_slots(rt: &HostRuntime, slots: u16) -> Result<(), ServeFault>
+    ensures ends { IfErr result EndsService }
+{
+    let wanted = u64::from(slots) + OTHER_DESCRIPTORS;
+    match most_descriptors() {
+        Some(most) if most < wanted => {
+            let _ = eprintln!(rt;
+                "--at-once {slots} wants {wanted} descriptors, and the limit is {most}"
+            );
+            Err(ServeFault::Network)
+        }
+        _ => Ok(()),
+    }
+}
+
+// Tells that connections are accepted, and at which port.
+fn announce(rt: &HostRuntime, server: &Server<'_>, print_port: bool) -> Result<(), ServeFault>
+    ensures fault { IfErr result
+        (λ fault. (fault ≡ serve.Network) ⊎ (fault ≡ serve.Write)) }
+{
+    if println!(rt; "listening").is_err() {
+        return Err(ServeFault::Write);
+    }
+    if print_port {
+        let port = server.port()?;
+        if println!(rt; "{port}").is_err() {
+            return Err(ServeFault::Write);
+        }
+    }
+    Ok(())
+}
+
+// Turn after turn, until all sessions were served.
+#[tactic(auto, using(crate::proofs::RunningLemmas::none_runs, crate::proofs::RunningLemmas::then_runs))]
+fn serve_all<S: BlockStore>(
+    rt: &HostRuntime,
+    server: &mut Server<'_>,
+    store: &mut S,
+) -> Result<(), ServeFault>
+    ensures runs { RunsWithin S.protected
+        server.old.table (store_of (S.disk store.old) (S.failures store.old))
+        server.new.table (store_of (S.disk store.new) (S.failures store.new)) }
+    ensures ends { IfErr result EndsService }
+{
+    for _ in 0..u64::MAX {
+        if server.is_done() {
+            return Ok(());
+        }
+        server.turn(rt, store)?;
+    }
+    Ok(())
+}

@@ -1,6 +1,0 @@
-use Rattle.iscsi_hall.proofs.RunLemmas.{runs_lead}
-use Rattle.iscsi_hall.proofs.ExactLemmas.{runs_follows}
-use Rattle.iscsi_hall.proofs.laws.one_disk_of_all.Goals as goal
-
-pub returns : goal.returns
-returns c = record { may = runs_lead; follows = runs_follows }

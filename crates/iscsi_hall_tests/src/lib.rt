@@ -1,9 +1,0 @@
-//! Tests of `iscsi_hall`: several sessions over one disk.
-#![tactic(auto)]
-
-#[cfg(test)]
-mod asserts;
-#[cfg(test)]
-mod tests;
-#[cfg(test)]
-mod uses;

@@ -1,0 +1,4 @@
+pub mod Commands
+pub mod Script
+pub mod LoopSteps
+pub mod LoopPairs

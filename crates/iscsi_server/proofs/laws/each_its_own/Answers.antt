@@ -1,5 +1,0 @@
-use Rattle.iscsi_server.proofs.RunningLemmas.{served_own}
-use Rattle.iscsi_server.proofs.laws.each_its_own.Goals as goal
-
-pub returns : goal.returns
-returns c = record { own = served_own }

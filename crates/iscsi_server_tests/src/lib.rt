@@ -1,9 +1,0 @@
-//! Tests of `iscsi_server`: several sessions at a time over sockets.
-#![tactic(auto)]
-
-#[cfg(test)]
-mod asserts;
-#[cfg(test)]
-mod tests;
-#[cfg(test)]
-mod uses;

@@ -1,9 +1,0 @@
-//! Tests of `iscsi_service`: sessions over a stream and over sockets.
-#![tactic(auto)]
-
-#[cfg(test)]
-mod asserts;
-#[cfg(test)]
-mod tests;
-#[cfg(test)]
-mod uses;

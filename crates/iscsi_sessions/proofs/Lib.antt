@@ -1,0 +1,12 @@
+pub mod SlotLemmas
+pub mod RunLemmas
+pub mod BlockLemmas
+pub mod ExactLemmas
+pub mod TakingLaw
+pub mod CompanyLemmas
+pub mod ReinstatementLemmas
+pub mod CompanyNumberLemmas
+pub mod OwnOrderLemmas
+pub mod BoundLemmas
+pub mod FlushLemmas
+pub mod WrittenLemmas

@@ -1,0 +1,33 @@
+use Rattle.std.proofs.Common.{List, ℕ, ◌+◌, drop, ap, subst, sym, ◌∙◌}
+use Rattle.std.proofs.lemmas.List.{drop-drop, take_rest}
+use Rattle.iscsi_target.specs.Crash.{CrashesNext}
+use Rattle.iscsi_target.specs.Feed.{TargetConnection}
+use Rattle.iscsi_target.specs.Advances.{store_of}
+use Rattle.iscsi_sessions.specs.Slots.{Slot}
+use Rattle.iscsi_sessions.proofs.TakingLaw.{takes_at}
+use Rattle.iscsi_sessions.proofs.slot.Slot.take.Goals as goal
+
+pub returns-in-Ok-clause-takes : goal.returns-in-Ok-clause-takes
+returns-in-Ok-clause-takes g c =
+    takes_at g.S.BlockStore.protected c.args.self.now (store_of (g.S.BlockStore.disk c.args.store.now) (g.S.BlockStore.failures c.args.store.now))
+    (store_of (g.S.BlockStore.disk c.feed_asking.new.store) (g.S.BlockStore.failures c.feed_asking.new.store)) c.in-Ok.taken c.in-Ok.field-0-1
+    c.self.inside.target c.feed_asking.new.self c.self.inside.output.items c.feed_asking.new.out.items _
+    (drop c.self.inside.fed c.self.inside.unfed.items) (drop (c.self.inside.fed + c.in-Ok.taken) c.self.inside.unfed.items) c.self.inside.sent
+    c.self.inside.asks c.feed_asking.new.asks c.self.inside.offered c.requires.may (c.self.view_is ∙ c.gather.ensures) c.self.invariant.3
+    (take_rest c.self.inside.unfed.items c.self.inside.fed) (sym (drop-drop c.in-Ok.taken c.self.inside.fed c.self.inside.unfed.items))
+    (rw c.deref.ensures.value at c.in-Ok.ensures.fed) (rw c.deref.ensures.value at c.in-Ok.ensures.asks)
+
+pub returns-in-Err-clause-crash : goal.returns-in-Err-clause-crash
+returns-in-Err-clause-crash g c =
+    let same = c.self.view_is ∙ c.gather.ensures in
+    subst (λ (u : List ℕ). CrashesNext g.S.BlockStore.protected c.args.self.now.connection u (g.S.BlockStore.disk c.args.store.now)
+    (g.S.BlockStore.disk c.feed_asking.new.store) (g.S.BlockStore.kept c.args.store.now) (g.S.BlockStore.kept c.feed_asking.new.store))
+    (ap (λ (s : Slot). s.unfed) same)
+    (subst (λ (x : TargetConnection). CrashesNext g.S.BlockStore.protected x (drop c.self.inside.fed c.self.inside.unfed.items)
+    (g.S.BlockStore.disk c.args.store.now)
+    (g.S.BlockStore.disk c.feed_asking.new.store) (g.S.BlockStore.kept c.args.store.now) (g.S.BlockStore.kept c.feed_asking.new.store))
+    (ap (λ (s : Slot). s.connection) same)
+    (subst (λ (u : List ℕ). CrashesNext g.S.BlockStore.protected c.self.inside.target u (g.S.BlockStore.disk c.args.store.now)
+    (g.S.BlockStore.disk c.feed_asking.new.store) (g.S.BlockStore.kept c.args.store.now) (g.S.BlockStore.kept c.feed_asking.new.store))
+    (take_rest c.self.inside.unfed.items c.self.inside.fed)
+    (rw c.deref.ensures.value at c.in-Err.ensures.crash)))

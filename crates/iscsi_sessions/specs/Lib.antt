@@ -1,0 +1,9 @@
+pub mod Slots
+pub mod Turns
+pub mod Blocks
+pub mod Company
+pub mod Reinstatement
+pub mod OwnOrder
+pub mod Bounds
+pub mod Flushes
+pub mod inner

@@ -1,0 +1,319 @@
+//! The slots of several sessions over one store.
+
+ghost use Rattle.std.specs.Prelude.{◌≡◌, ◌≤◌, ℕ, false, length, option_map, is_none, is_some, replicate, true, None, Some, IfOk, IfSome, IfNone, OnOk, OnErr};
+ghost use Rattle.std.specs.List.{position};
+ghost use Rattle.scsi_disk.specs.Disk.{StoreTellsFailures};
+ghost use Rattle.scsi_disk.specs.Lasting.{LastsOnceSynced, SettledDisk, Within};
+ghost use Rattle.iscsi_target.specs.Crash.{CrashesNext};
+ghost use Rattle.iscsi_target.specs.Advances.{store_of};
+ghost use Rattle.iscsi_sessions.specs.Slots.{expected_command_at, initiator_at, opening_slot, phase_of, may_read_at, may_take_at, most_read, must_sync, slot_with_read, with_sent, slot_waiting, slot_at, with_slot, SlotChanges, SlotTakesPdu, SlotFinishes};
+ghost use Rattle.iscsi_sessions.specs.Reinstatement.{takes_place_of};
+ghost use Rattle.iscsi_sessions.specs.Turns.{Comes, Ends, Goes, HallEventStep, HappensIn, SameMachines, Syncs, TakesTurn, machines};
+
+use crate::slot::Slot;
+use iscsi_login::Phase;
+use iscsi_target::{Config, TargetFault};
+use scsi_disk::{BlockStore, StoreFault};
+use std::alloc::{AllocError, Global};
+use std::marker::Model;
+
+/// Several sessions at a time over one store, which each turn is given: a row of slots, each free
+/// or with a session.
+///
+/// A slot is read only if all that was read before is taken and all answers are written. It takes PDU
+/// after PDU of what was read, until all is taken or 65,536 bytes of answers wait (own rule). If the
+/// answers that wait were offered to the peer, it takes no PDU before all of them are written (own
+/// rule). So the answers to one read leave in one write, a peer that reads nothing is not read, and
+/// beyond those bytes a slot keeps the answers to one PDU. Slots are numbered from 0; a place behind
+/// the last one counts as free.
+#[derive(Drop)]
+pub struct SessionTable {
+    alloc: Global,
+    slots: Vec<Option<Slot>>,
+}
+
+impl Model for SessionTable {
+    ghost use Rattle.iscsi_sessions.specs.Slots.{SessionTable};
+
+    ghost Value = { SessionTable };
+
+    ghost view = { λ h. record { slots = h.slots.items } };
+}
+
+impl SessionTable {
+    /// `n` slots, all free. The error is that memory ran out.
+    pub fn new(alloc: Global, slots: usize) -> Result<SessionTable, AllocError>
+        ensures new { IfOk result (λ table. table ≡ record { slots = replicate slots None }) }
+    {
+        let mut free = Vec::new(alloc);
+        for _ in 0..slots {
+            free.push(None)?;
+        }
+        Ok(SessionTable { alloc, slots: free })
+    }
+
+    /// How many slots there are.
+    pub fn slots(&self) -> usize
+        ensures { result ≡ length self.now.slots }
+    {
+        self.slots.len()
+    }
+
+    /// Gives the first free slot to a new session, whose first StatSN is 1, and returns its place;
+    /// none where all are taken. It takes no memory.
+    pub fn slot(&mut self, config: Config) -> Option<usize>
+        ensures place { result ≡ position is_none self.old.slots }
+        ensures filled { IfSome result (λ place.
+            self.new ≡ with_slot self.old place (Some (opening_slot config))) }
+        ensures full { IfNone result (self.new ≡ self.old) }
+        ensures comes { IfSome result (λ place. HappensIn (Comes place config) self.old self.new) }
+    {
+        let Some(place) = self.first_free() else {
+            return None;
+        };
+        self.slots[place] = Some(Slot::new(self.alloc, config));
+        Some(place)
+    }
+
+    // The first free slot.
+    fn first_free(&self) -> Option<usize>
+        ensures { result ≡ position is_none self.now.slots }
+    {
+        self.slots.iter().position(|slot| slot.is_none())
+    }
+
+    /// Whether a session has the slot.
+    pub fn is_taken(&self, slot: usize) -> bool
+        ensures { result ≡ is_some (slot_at self.now slot) }
+    {
+        self.at(slot).is_some()
+    }
+
+    // The session of a slot.
+    fn at(&self, slot: usize) -> Option<&Slot>
+        ensures taken { IfSome result (λ taken. slot_at self.now slot ≡ Some taken.now) }
+        ensures free { IfNone result (slot_at self.now slot ≡ None) }
+    {
+        if slot < self.slots() {
+            self.slots[slot].as_ref()
+        } else {
+            None
+        }
+    }
+
+    /// What the session of the slot is doing; none where the slot is free.
+    pub fn phase(&self, slot: usize) -> Option<Phase>
+        ensures { result ≡ option_map phase_of (slot_at self.now slot) }
+    {
+        match self.at(slot) {
+            Some(taken) => Some(taken.phase()),
+            None => None,
+        }
+    }
+
+    /// The name of the initiator at the slot, as its login gave it; no byte before that, and where the
+    /// slot is free.
+    pub fn initiator_name(&self, slot: usize) -> &[u8]
+        ensures { result.now ≡ initiator_at (slot_at self.now slot) }
+    {
+        match self.at(slot) {
+            Some(taken) => taken.initiator_name(),
+            None => &[],
+        }
+    }
+
+    /// The CmdSN that the next numbered request at the slot is to have (ExpCmdSN; RFC 7143, section
+    /// 4.2.2.1). It is 0 before a login, once the session is closed, and if the slot is free.
+    pub fn expected_command(&self, slot: usize) -> u32
+        ensures { result ≡ expected_command_at (slot_at self.now slot) }
+    {
+        match self.at(slot) {
+            Some(taken) => taken.expected_command(),
+            None => 0,
+        }
+    }
+
+    /// Whether `receive` may be called: the slot's session goes on, has taken all that was read,
+    /// and nothing of it waits to be written.
+    pub fn may_read(&self, slot: usize) -> bool
+        ensures { result ≡ may_read_at (slot_at self.now slot) }
+    {
+        match self.at(slot) {
+            Some(taken) => taken.may_read(),
+            None => false,
+        }
+    }
+
+    /// Whether `take` may be called, which needs three things:
+    /// - The slot's session goes on.
+    /// - The session has not taken all that was read.
+    /// - Nothing waits to be written, or less than 65,536 bytes that were not offered to the peer.
+    pub fn may_take(&self, slot: usize) -> bool
+        ensures { result ≡ may_take_at (slot_at self.now slot) }
+    {
+        match self.at(slot) {
+            Some(taken) => taken.may_take(),
+            None => false,
+        }
+    }
+
+    /// The place of an older session whose place this slot's session takes, or none if there is
+    /// none. The initiator of the older session logged in once more with the same name and ISID, as
+    /// after a restart, so the older session is to leave. Discovery sessions are left alone, which
+    /// is own rule (RFC 7143, section 6.3.5).
+    pub fn taken_over(&self, slot: usize) -> Option<usize>
+        ensures some { IfSome result (λ place. takes_place_of self.now slot place ≡ true) }
+        ensures none { IfNone result ((place : ℕ) → takes_place_of self.now slot place ≡ false) }
+    {
+        for place in 0..self.slots() {
+            if self.takes_place_of(slot, place) {
+                return Some(place);
+            }
+        }
+        None
+    }
+
+    // Whether the session of a slot takes the place of that of another one.
+    fn takes_place_of(&self, slot: usize, place: usize) -> bool
+        ensures { result ≡ takes_place_of self.now slot place }
+    {
+        match (self.at(slot), self.at(place)) {
+            (Some(newer), Some(older)) => place != slot && newer.takes_over(older),
+            _ => false,
+        }
+    }
+
+    /// Keeps what was read for a slot: at most 65,536 bytes. Where memory runs out nothing is kept.
+    pub fn receive(&mut self, slot: usize, piece: &[u8]) -> Result<(), AllocError>
+        requires may { may_read_at (slot_at self.old slot) ≡ true }
+        requires short { length piece.now ≤ most_read }
+        ensures ok { OnOk result
+            (SlotChanges slot self.old self.new
+            (λ before after. after ≡ slot_with_read piece.now before)) }
+        ensures err { OnErr result (self.new ≡ self.old) }
+        ensures machines { SameMachines self.old self.new }
+    {
+        let Some(taken) = &mut self.slots[slot] else {
+            unreachable!()
+        };
+        taken.receive(piece)
+    }
+
+    /// One turn, over the store of all sessions. The session of a slot takes what was read up to
+    /// the end of one PDU. Its answers wait to be written, behind the answers that wait already.
+    /// Says how many bytes the session took. A fault closes this session alone: what was read is
+    /// dropped, and what the fault leaves is as `Target::feed_next` says.
+    pub fn take<S: BlockStore>(&mut self, slot: usize, store: &mut S) -> Result<usize, TargetFault>
+        requires may { may_take_at (slot_at self.old slot) ≡ true }
+        ensures takes { SlotTakesPdu S.protected slot self.old
+            (store_of (S.disk store.old) (S.failures store.old))
+            result self.new (store_of (S.disk store.new) (S.failures store.new)) }
+        ensures turn { TakesTurn S.protected slot self.old
+            (store_of (S.disk store.old) (S.failures store.old))
+            result self.new (store_of (S.disk store.new) (S.failures store.new)) }
+        // Once the store is synced, a crash leaves the blocks that the answered commands led to, and no
+        // others.
+        ensures lasts { S.failures store.new ≡ 0
+            → LastsOnceSynced (S.synced store.new) (S.disk store.new) (S.kept store.new) }
+        // Come what may, a crash leaves each block as before, or as a command of the PDU does.
+        ensures crash { IfSome (slot_at self.old slot)
+            (λ taken. CrashesNext S.protected taken.connection
+            taken.unfed (S.disk store.old) (S.disk store.new) (S.kept store.old) (S.kept store.new)) }
+    {
+        let Some(fed) = &mut self.slots[slot] else {
+            unreachable!()
+        };
+        fed.take(store)
+    }
+
+    /// What the slot's session has still to write.
+    pub fn waiting(&self, slot: usize) -> &[u8]
+        ensures { result.now ≡ slot_waiting (slot_at self.now slot) }
+    {
+        match self.at(slot) {
+            Some(taken) => taken.waiting(),
+            None => &[],
+        }
+    }
+
+    /// What the slot's session has still to write, once the store is synced: so no peer is told of a
+    /// write that a crash could take back. The fault is that of the sync; then what waits at any
+    /// slot may tell of a write that is lost, so that all of them are to be left.
+    ///
+    /// Over a disk with a write cache the store is synced only where the slot asks for it: a command
+    /// asks whose answer waits, a SYNCHRONIZE CACHE or one with the bit FUA, or the session is over.
+    /// So a peer may be told of writes that a crash takes back, as its disk has told it, and is never
+    /// told so of a SYNCHRONIZE CACHE (SBC-3, section 4.15).
+    pub fn offered<S: BlockStore>(&self, slot: usize, store: &mut S) -> Result<&[u8], StoreFault>
+        ensures waiting { IfOk result
+            (λ bytes. bytes.now ≡ slot_waiting (slot_at self.now slot)) }
+        // A crash leaves the blocks that the answered commands led to, and no others. Over a disk with
+        // a write cache this is so where the slot asks for it.
+        ensures lasts { must_sync (slot_at self.now slot) ≡ true → OnOk result
+            (S.failures store.new ≡ 0 → SettledDisk (S.disk store.new) (S.kept store.new)) }
+        ensures synced { must_sync (slot_at self.now slot) ≡ true
+            → OnOk result (S.synced store.new ≡ true) }
+        ensures disk { S.disk store.new ≡ S.disk store.old }
+        ensures crash { Within (S.kept store.old) (S.kept store.new) }
+        ensures tells { StoreTellsFailures (S.disk store.old).tells (S.failures store.old)
+            (S.failures store.new)
+            (S.untold store.old) (S.untold store.new) result }
+        // Whatever comes of it, it is the event of a sync.
+        ensures syncs { HallEventStep S.protected (machines self.now)
+            (store_of (S.disk store.old) (S.failures store.old)) (Syncs slot)
+            (machines self.now) (store_of (S.disk store.new) (S.failures store.new)) }
+    {
+        if self.must_sync(slot) {
+            store.sync()?;
+        }
+        Ok(self.waiting(slot))
+    }
+
+    // Whether what waits at a slot is offered only once the store is synced.
+    fn must_sync(&self, slot: usize) -> bool
+        ensures { result ≡ must_sync (slot_at self.now slot) }
+    {
+        match self.at(slot) {
+            Some(taken) => taken.must_sync(),
+            None => true,
+        }
+    }
+
+    /// What waits was offered to the peer, and `n` bytes of it were written.
+    pub fn sent(&mut self, slot: usize, count: usize)
+        requires taken { is_some (slot_at self.old slot) ≡ true }
+        requires few { count ≤ length (slot_waiting (slot_at self.old slot)) }
+        ensures sent { SlotChanges slot self.old self.new
+            (λ before after. after ≡ with_sent count before) }
+        ensures machines { SameMachines self.old self.new }
+    {
+        let Some(taken) = &mut self.slots[slot] else {
+            unreachable!()
+        };
+        taken.sent(count)
+    }
+
+    /// The stream of a slot ended. The fault is that of `Target::finish`; what waits to be written
+    /// stays.
+    pub fn finish(&mut self, slot: usize) -> Result<(), TargetFault>
+        requires taken { is_some (slot_at self.old slot) ≡ true }
+        ensures finishes { SlotChanges slot self.old self.new
+            (λ before after. SlotFinishes before result after) }
+        ensures ends { HappensIn (Ends slot) self.old self.new }
+    {
+        let Some(taken) = &mut self.slots[slot] else {
+            unreachable!()
+        };
+        taken.finish()
+    }
+
+    /// The slot is free; what waited there is dropped.
+    pub fn leave(&mut self, slot: usize)
+        ensures free { self.new ≡ with_slot self.old slot None }
+        ensures goes { HappensIn (Goes slot) self.old self.new }
+    {
+        if slot < self.slots() {
+            self.slots[slot] = None;
+        }
+    }
+}

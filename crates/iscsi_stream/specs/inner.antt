@@ -1,0 +1,4 @@
+pub mod Gathering
+pub mod Headers
+pub mod Passing
+pub mod Texts

@@ -1,0 +1,2 @@
+pub mod AllowedLaw
+pub mod AccessLaws

@@ -1,0 +1,11 @@
+pub mod ProtectedLaw
+pub mod StreamNumberLemmas
+pub mod ReplyLemmas
+pub mod BesideLemmas
+pub mod DataInSequenceLemmas
+pub mod OrderLemmas
+pub mod CommandLemmas
+pub mod DataInTilingLaw
+pub mod WindowLemmas
+pub mod ReadPartLemmas
+pub mod RefusedLaw

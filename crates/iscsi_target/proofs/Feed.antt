@@ -1,0 +1,11 @@
+pub mod ArrivalLemmas
+pub mod NotingLemmas
+pub mod PrefixLemmas
+pub mod FeedingLemmas
+pub mod FeedInvariant
+pub mod HeldStaysLaw
+pub mod StreamingLemmas
+pub mod OneOutcomeLaw
+pub mod CrashLemmas
+pub mod PassedLemmas
+pub mod AlikeLemmas

@@ -1,0 +1,4 @@
+pub mod TaskPlaceLemmas
+pub mod PendingLemmas
+pub mod AcceptedOrderLaw
+pub mod QueueLemmas

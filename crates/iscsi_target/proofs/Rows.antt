@@ -1,0 +1,4 @@
+pub mod Computing
+pub mod LoginRows
+pub mod SessionRows
+pub mod ManyKeysRow

@@ -1,0 +1,11 @@
+pub mod FailingDiskLemmas
+pub mod TurnLemmas
+pub mod StepPartLemmas
+pub mod DiskFoldLemmas
+pub mod AppendLemmas
+pub mod AskingLemmas
+pub mod SendingLemmas
+pub mod NumberLaws
+pub mod ReachableLemmas
+pub mod ClosingLemmas
+pub mod KeepingLemmas

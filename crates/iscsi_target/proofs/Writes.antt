@@ -1,0 +1,5 @@
+pub mod OpenWriteLemmas
+pub mod JoiningLemmas
+pub mod WriteTilingLaws
+pub mod UnansweredR2tLaw
+pub mod ResponseLaw

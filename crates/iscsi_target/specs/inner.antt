@@ -1,0 +1,10 @@
+pub mod Staged
+pub mod State
+pub mod Machine
+pub mod Worked
+pub mod Crash
+pub mod Asking
+pub mod Reads
+pub mod Inside
+pub mod Arrival
+pub mod Alike

@@ -1,0 +1,55 @@
+-- More of `Worked`, of which no public contract speaks.
+use Rattle.std.specs.Prelude.{◌≡◌, ℕ, true, false, List, Option, Some, None, codes}
+use Rattle.iscsi_pdu.specs.declared.head.Head.TheVariants as heads
+use Rattle.iscsi_stream.specs.Segment.{Bytes}
+use Rattle.iscsi_stream.specs.Stream.{Message}
+use Rattle.iscsi_stream.specs.Canonical.{canon}
+use Rattle.iscsi_target_session.specs.Configured.{no_extras}
+use Rattle.iscsi_target.specs.State.{Machine, opening_machine}
+use Rattle.iscsi_target.specs.Machine.{answers}
+use Rattle.iscsi_target.specs.Worked.{segment, settings, blank}
+
+-- ---- PDUs of an initiator
+
+-- a ping with a tag
+abbrev pub worked_ping : ℕ → Message
+worked_ping tag = record {
+  head = heads.NopOut (record {
+    immediate = true;
+    lun = None;
+    initiator_task_tag = tag;
+    target_transfer_tag = 0xffff_ffff;
+    cmd_sn = 1;
+    exp_stat_sn = 3;
+  });
+  segment = Bytes (codes "abc");
+}
+
+-- the one unsolicited Data-Out of a command: its offset and bytes
+abbrev pub volunteers : ℕ → List ℕ → Message
+volunteers offset bytes = record {
+  head = heads.DataOut (record {
+    is_final = true;
+    lun = None;
+    initiator_task_tag = 1;
+    target_transfer_tag = 0xffff_ffff;
+    exp_stat_sn = 3;
+    data_sn = 0;
+    buffer_offset = offset;
+  });
+  segment = Bytes bytes;
+}
+
+-- ---- sessions
+
+-- the same, where initiators are told a portal
+abbrev pub told_opening : Machine
+told_opening = opening_machine
+    (record settings { extras = record no_extras { portal = Some (codes "192.0.2.7:3260") } }) 1
+
+-- ---- what is stated of a row
+
+-- The messages are answered by these bytes; this rule is broken, if one is.
+abbrev pub WorkedAnswers : Machine → List Message → List ℕ → Option ℕ → Type 0
+WorkedAnswers s ms output rule =
+    (canon (answers false s blank ms).answers ≡ output) × ((answers false s blank ms).rule ≡ rule)

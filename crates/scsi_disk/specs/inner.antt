@@ -1,0 +1,4 @@
+pub mod FailAt
+pub mod Sparse
+pub mod Found
+pub mod Reading
