@@ -15,6 +15,7 @@ It looks at:
 - wrong bodies, in the gate and beside it: each old text stands in its file once;
 - src/asserts.rt of the test crates: what several of them have is one text;
 - other helpers that stand in several test crates: each is one text, wherever it stands;
+- the names of definitions: no two have one name;
 - the lengths of sentences and of table cells: those of the pages in PLAIN are within the limits of docs/STYLE.md.
 
 It counts the longer ones of all pages in a line. With --lengths each is told, and there is a count for each page. Each fault is
@@ -29,6 +30,7 @@ from pathlib import Path
 TOP = Path(__file__).resolve().parents[2]
 CRATES = TOP / "crates"
 # Names that stand for others: crates/NAME/src/THING.rt.
+DEFINITION = re.compile(r"^(?:(?:abbrev|unfoldable|foldable) )?pub (?:(?:record|data) )?(?!mod |use )(\S+)", re.M)
 PLACEHOLDER = re.compile(r"\b(NAME|KIND|THING|MODULE|TYPE|CRATE|NN|F)\b")
 # Pages of the toolchain, which `rt doc` leads to.
 TOOLCHAIN = {"FIRST_PROOFS.md", "CONTRACTS.md", "GUIDELINES.md", "CONTRACT_STYLE.md"}
@@ -326,6 +328,16 @@ PLAIN = [
 ]
 
 
+def check_names():
+    """No two definitions of the repository have one name."""
+    places = {}
+    for path in sorted(CRATES.glob("*/specs/**/*.antt")):
+        for name in DEFINITION.findall(read(path)):
+            places.setdefault(name, []).append(str(path.relative_to(CRATES)))
+    for name, paths in places.items():
+        look(len(paths) == 1, paths[-1], f"{name} is a definition of {paths[0]}, too")
+
+
 def words_in(text):
     """How many words a text has. A list of names between backquotes is one, and a link's address is none."""
     text = re.sub(r"`[^`]*`", "code", re.sub(r"\]\([^)]*\)", "]", text))
@@ -391,6 +403,7 @@ def main():
     check_edits()
     check_asserts()
     check_repeated()
+    check_names()
     check_lengths(pages, "--lengths" in sys.argv[1:])
     for fault in faults:
         print(fault)

@@ -98,7 +98,8 @@ class Table:
                 continue
             parent, start, seconds, memory = times
             key = process, start
-            if key not in self.known:
+            # a process that has just begun may still have its parent's words
+            if self.known.get(key) is None:
                 words = words_of(process)
                 self.known[key] = part_of(words)
                 if self.known[key] and self.known[key][1] == "edits":

@@ -31,7 +31,7 @@ TOOLS = [
     ("tools/many_sessions/run.py --figures", ["Several sessions at a time"]),
     ("tools/lasting/run.py --costs --seconds 0.5", ["A disk that lasts"]),
     ("tools/nbd/run.py --costs", ["A disk on an NBD server"]),
-    ("tools/captures/speed.py --write", None),
+    ("tools/captures/speed.py --rounds 5 --write", None),
 ]
 TABLE = re.compile(r"(?:^\|.*\n)+", re.M)
 

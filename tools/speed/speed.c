@@ -67,7 +67,7 @@ static double many(struct run *r, int writes, int depth, long most, double secon
   for (int i = 0; i < depth && (!most || i < most); i++) issue(r);
   while (r->outstanding) {
     struct pollfd p = {iscsi_get_fd(r->context), iscsi_which_events(r->context), 0};
-    if (poll(&p, 1, 5000) <= 0 || iscsi_serve(r->context, p.revents)) fail("service", r->context);
+    if (poll(&p, 1, 5000) <= 0 || iscsi_service(r->context, p.revents)) fail("service", r->context);
   }
   return now() - start;
 }

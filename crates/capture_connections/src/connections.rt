@@ -1,4 +1,4 @@
-//! The connections of a capture.
+//! The connections of a capture. One file, since each call keeps the same invariant of the list.
 
 ghost use Rattle.std.specs.Prelude.{◌≡◌, ◌≢◌, ◌<◌, ◌≤◌, ◌+◌, ◌-◌, ◌^◌, ℕ, OnOk, IfOk, IfErr, IfSome, IsSome, length, max, min, slice_get, None, Some, [], ◌∷◌, ◌++◌};
 ghost use Rattle.capture_connections.specs.Following.{TableStep, KeepsConnection, KeepsConnections, ConnectionStep, no_connections, unheard};

@@ -55,7 +55,8 @@ pub passed_by : (c : Chap) (before : Progress) (initiator : List ℕ) (pairs : P
     → (before ≡ Passed) ⊎ AnswersChallenge c initiator pairs
 passed_by c Unasked initiator pairs said e = absurd (chosen_only (not (has_chap_key pairs) && lists (codes "CHAP") (exchange_value (codes "AuthMethod") pairs))
     (Goes Chosen Method) said (λ f. absurd (cc f)) e)
-passed_by c Chosen initiator pairs said e = absurd (chosen_only (not (has_more_than_algorithms pairs) && lists (codes "5") (exchange_value (codes "CHAP_A") pairs))
+passed_by c Chosen initiator pairs said e = absurd (chosen_only (not (has_more_than_algorithms pairs) && lists (codes "5")
+    (exchange_value (codes "CHAP_A") pairs))
     (Goes Challenged Challenge) said (λ f. absurd (cc f)) e)
 passed_by c Challenged initiator pairs said e = inr (right_answers c initiator pairs
     (responded (stands (codes "AuthMethod") pairs || stands (codes "CHAP_A") pairs) (is_right c initiator pairs)

@@ -1,4 +1,5 @@
-//! One direction of a connection of a capture, as a reader of its bytes.
+//! One direction of a connection of a capture, as a reader of its bytes. One file, since it is one
+//! type.
 //!
 //! `normalise` and `show` take a reader, so their contracts hold of a captured direction. They
 //! write the canonical stream, or the lines, of the bytes that they read.

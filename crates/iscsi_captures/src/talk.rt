@@ -1,4 +1,5 @@
-//! What both ends of a connection said, PDU by PDU.
+//! What both ends of a connection said, PDU by PDU. One file, since both directions go through the
+//! same steps.
 
 ghost use Rattle.std.specs.Prelude.{◌≡◌, OnOk, OnErr, ℕ, List};
 ghost use Rattle.iscsi_stream.specs.Stream.{Message};

@@ -20,6 +20,7 @@ use Rattle.iscsi_compare.specs.Comparing.{ReadInput, GaveInput, BeginsWithMessag
 use Rattle.iscsi_compare.specs.inner.Comparing.{input_of}
 use Rattle.iscsi_compare.specs.inner.Inside.{PdusGivenUp, HasRead, IsOpen, SideReadsOn, SideHasRead, SideFails, FormIf, pending}
 use Rattle.iscsi_compare.proofs.SideLemmas.{read_given, reaches, begins, stands_at}
+use Rattle.iscsi_stream.proofs.LoopInvariants.{sides}
 
 -- ---- equal forms
 
@@ -177,32 +178,44 @@ first_stops e a b c d f first second held now step reads =
           (begins step.other_read step.ms second.framer (pending second) second.reads f step.other_has_read),
     )
 
--- both went on
-pub onwards : (Holds : ReadInput → ReadInput → Type 0) (a b c d f h : Option (List ℕ)) (first second first_new second_new : Side) (held now : List ℕ)
-    (p q : Bool) →
-    InStep (streams a d held) (streams b f now) first second
-    → SideReadsOn first b c (SideHasRead p first_new) → SideReadsOn second f h (SideHasRead q second_new)
-    → ((x y : ReadInput) (ms : List Message) → SideHasRead p first_new x ms → SideHasRead q second_new y ms → Holds x y) → Compared Holds a c d h
-onwards Holds a b c d f h first second first_new second_new held now p q step reads others so =
-    let one = reads step.read step.ms step.has_read in
-    let two = others step.other_read step.ms step.other_has_read in
-    let x = input_of (step.read ++ one.0) c in
-    let y = input_of (step.other_read ++ two.0) h in
-    (x, y, gave a b c step.read one.0 step.consumed one.1 one.2, gave d f h step.other_read two.0 step.other_consumed two.1 two.2, so x y step.ms one.3 two.3)
+-- the two sides of a comparison
+pub record BothSides : Type 0 where
+  pub first : Side
+  pub second : Side
 
--- the second stream has a fault
-pub second_stops : (e : CompareFault) (a b c d f h : Option (List ℕ)) (first second first_new : Side) (held now form : List ℕ) (p : Bool) →
-    InStep (streams a d held) (streams b f now) first second → SideReadsOn first b c (SideHasRead p first_new)
-    → FormIf p first_new.framer form → SideReadsOn second f h (SideFails e second.which) → Compared (ComparisonFails e) a c d h
-second_stops e a b c d f h first second first_new held now form p step reads formed others =
+-- both went on
+pub onwards : (Holds : ReadInput → ReadInput → Type 0) (from here : Streams) (c h : Option (List ℕ)) (first second first_new second_new : Side)
+    (p q : Bool) →
+    InStep from here first second
+    → SideReadsOn first here.mine c (SideHasRead p first_new) → SideReadsOn second here.other h (SideHasRead q second_new)
+    → ((x y : ReadInput) (ms : List Message) → SideHasRead p first_new x ms → SideHasRead q second_new y ms → Holds x y) → Compared Holds from.mine c
+    from.other h
+onwards Holds from here c h first second first_new second_new p q step reads others so =
     let one = reads step.read step.ms step.has_read in
     let two = others step.other_read step.ms step.other_has_read in
     let x = input_of (step.read ++ one.0) c in
     let y = input_of (step.other_read ++ two.0) h in (
       x,
       y,
-      gave a b c step.read one.0 step.consumed one.1 one.2,
-      gave d f h step.other_read two.0 step.other_consumed two.1 two.2,
+      gave from.mine here.mine c step.read one.0 step.consumed one.1 one.2,
+      gave from.other here.other h step.other_read two.0 step.other_consumed
+          two.1 two.2,
+      so x y step.ms one.3 two.3,
+    )
+
+-- the second stream has a fault
+pub second_stops : (e : CompareFault) (from here : Streams) (c h : Option (List ℕ)) (first second first_new : Side) (form : List ℕ) (p : Bool) →
+    InStep from here first second → SideReadsOn first here.mine c (SideHasRead p first_new)
+    → FormIf p first_new.framer form → SideReadsOn second here.other h (SideFails e second.which) → Compared (ComparisonFails e) from.mine c from.other h
+second_stops e from here c h first second first_new form p step reads formed others =
+    let one = reads step.read step.ms step.has_read in
+    let two = others step.other_read step.ms step.other_has_read in
+    let x = input_of (step.read ++ one.0) c in
+    let y = input_of (step.other_read ++ two.0) h in (
+      x,
+      y,
+      gave from.mine here.mine c step.read one.0 step.consumed one.1 one.2,
+      gave from.other here.other h step.other_read two.0 step.other_consumed two.1 two.2,
       second_fails e x y step.ms (next_of p first_new.framer form formed) (subst (λ (w : Which). SideFails e w y step.ms) step.other_which two.3)
           (begun p first_new x step.ms one.3) (goes_on p first_new x step.ms form one.3 formed),
     )
@@ -238,33 +251,34 @@ same_given read other ms m n first second r s e =
     subst (λ (x : Message). HasRead other (ms ++ x ∷ []) second) same s
 
 -- both gave up a PDU of one form
-pub one_more : (a b c d f h : Option (List ℕ)) (first second first_new second_new first_last second_last : Side) (held now form other : List ℕ) (p q : Bool) → p
-    ≡ true → q ≡ true → InStep (streams a d held) (streams b f now) first second
-    → SideReadsOn first b c (SideHasRead p first_new) → SideReadsOn second f h (SideHasRead q second_new) → FormIf p first_new.framer form
-    → FormIf q second_new.framer other →
+pub one_more : (from here : Streams) (c h : Option (List ℕ)) (sides read left : BothSides) (form other : List ℕ) (p q : Bool) → p
+    ≡ true → q ≡ true → InStep from here sides.first sides.second
+    → SideReadsOn sides.first here.mine c (SideHasRead p read.first) → SideReadsOn sides.second here.other h (SideHasRead q read.second) → FormIf p
+    read.first.framer form
+    → FormIf q read.second.framer other →
     form ≡ other
-    → is_ready first_new.framer ≡ p → is_ready second_new.framer ≡ q → GivesUp first_new first_last → GivesUp second_new second_last
-    → IsOpen first_last → IsOpen second_last → first_last.which ≡ first.which → second_last.which ≡ second.which →
-    InStep (streams a d held) (streams c h now) first_last second_last
-one_more a b c d f h first second first_new second_new first_last second_last held now form other false q i j step reads others g k e r s up down o t w u =
+    → is_ready read.first.framer ≡ p → is_ready read.second.framer ≡ q → GivesUp read.first left.first → GivesUp read.second left.second
+    → IsOpen left.first → IsOpen left.second → left.first.which ≡ sides.first.which → left.second.which ≡ sides.second.which →
+    InStep from (streams c h here.written) left.first left.second
+one_more from here c h sides read left form other false q i j step reads others g k e r s up down o t w u =
     absurd cc
-one_more a b c d f h first second first_new second_new first_last second_last held now form other true false i j step reads others g k e r s up down o t w u =
+one_more from here c h sides read left form other true false i j step reads others g k e r s up down o t w u =
     absurd cc
-one_more a b c d f h first second first_new second_new first_last second_last held now form other true true i j step reads others g k e r s up down o t w u =
+one_more from here c h sides read left form other true true i j step reads others g k e r s up down o t w u =
     let one = reads step.read step.ms step.has_read in
     let two = others step.other_read step.ms step.other_has_read in
-    let m = message_of first_new.framer g.0 g.1 in
-    let n = message_of second_new.framer k.0 k.1 in
+    let m = message_of read.first.framer g.0 g.1 in
+    let n = message_of read.second.framer k.0 k.1 in
     let given = up (step.read ++ one.0) step.ms g.0 g.1 one.3 r g.2 in
     let other_given = down (step.other_read ++ two.0) step.ms k.0 k.1 two.3 s k.2 in
     record {
       read = step.read ++ one.0;
       other_read = step.other_read ++ two.0;
       ms = step.ms ++ m ∷ [];
-      consumed = Consumes-trans a b c step.read one.0 step.consumed one.1;
-      other_consumed = Consumes-trans d f h step.other_read two.0 step.other_consumed two.1;
+      consumed = Consumes-trans from.mine here.mine c step.read one.0 step.consumed one.1;
+      other_consumed = Consumes-trans from.other here.other h step.other_read two.0 step.other_consumed two.1;
       has_read = given;
-      other_has_read = same_given (step.read ++ one.0) (step.other_read ++ two.0) step.ms m n first_last second_last given other_given (sym g.3 ∙ e ∙ k.3);
+      other_has_read = same_given (step.read ++ one.0) (step.other_read ++ two.0) step.ms m n left.first left.second given other_given (sym g.3 ∙ e ∙ k.3);
       inside = o;
       other_inside = t;
       which = w ∙ step.which;

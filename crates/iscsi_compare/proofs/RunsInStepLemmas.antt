@@ -51,11 +51,12 @@ use Rattle.iscsi_compare.specs.inner.SameJobLearning.{LearnsAnswer}
 use Rattle.iscsi_compare.specs.inner.SameJobJudge.{AllowsRenumbering, IsSoundRenaming, NextIs, LearnsNext}
 use Rattle.iscsi_compare.specs.SameJobVerdict.{AgreeOnJob, PartFromJob, FailsInJob}
 use Rattle.iscsi_compare.proofs.SideLemmas.{read_given, begins, stands_at}
-use Rattle.iscsi_compare.proofs.InStepLemmas.{Compared, Streams, streams, GivesUp, gave, has_read, begun}
+use Rattle.iscsi_compare.proofs.InStepLemmas.{BothSides, Compared, Streams, streams, GivesUp, gave, has_read, begun}
 use Rattle.iscsi_compare.proofs.LearningLemmas.{some_left}
 use Rattle.iscsi_compare.proofs.SameJobLaws.{same_self}
 use Rattle.iscsi_compare.proofs.NextMessageLemmas.{inside}
 use Rattle.iscsi_compare.proofs.WholeRunsLaw.{same_count}
+use Rattle.iscsi_stream.proofs.LoopInvariants.{sides}
 
 -- ---- what is known of two lists
 
@@ -228,10 +229,11 @@ job_first_stops e a b c d f first second known held now step reads =
     )
 
 -- the second stream has a fault
-pub job_second_stops : (e : CompareFault) (a b c d f h : Option (List ℕ)) (first second first_new : Side) (known : Renaming) (held now : List ℕ) (p : Bool) →
-    JobInStep (streams a d held) (streams b f now) first second known → is_ready first_new.framer ≡ p
-    → SideReadsOn first b c (SideHasRead p first_new) → SideReadsOn second f h (SideFails e second.which) → Compared (FailsInJob e) a c d h
-job_second_stops e a b c d f h first second first_new known held now p step ready reads others =
+pub job_second_stops : (e : CompareFault) (from here : Streams) (c h : Option (List ℕ)) (first second first_new : Side) (known : Renaming) (p : Bool) →
+    JobInStep from here first second known → is_ready first_new.framer ≡ p
+    → SideReadsOn first here.mine c (SideHasRead p first_new) → SideReadsOn second here.other h (SideFails e second.which) → Compared (FailsInJob e)
+    from.mine c from.other h
+job_second_stops e from here c h first second first_new known p step ready reads others =
     let one = reads step.read step.ms step.has_read in
     let two = others step.other_read step.ns step.other_has_read in
     let x = input_of (step.read ++ one.0) c in
@@ -239,30 +241,31 @@ job_second_stops e a b c d f h first second first_new known held now p step read
     let next = next_exists p first_new x step.ms ready one.3 in (
       x,
       y,
-      gave a b c step.read one.0 step.consumed one.1 one.2,
-      gave d f h step.other_read two.0 step.other_consumed two.1 two.2,
-      second_fails e x y step.ms step.ns next.0 (job_of a b d f first second known held now step)
+      gave from.mine here.mine c step.read one.0 step.consumed one.1 one.2,
+      gave from.other here.other h step.other_read two.0 step.other_consumed two.1 two.2,
+      second_fails e x y step.ms step.ns next.0 (job_of from.mine here.mine from.other here.other first second known from.written here.written step)
           (subst (λ (w : Which). SideFails e w y step.ns) step.other_which two.3) (begun p first_new x step.ms one.3) next.1,
     )
 
 -- both went on
-pub job_onwards : (Holds : ReadInput → ReadInput → Type 0) (a b c d f h : Option (List ℕ)) (first second first_new second_new : Side) (known : Renaming)
-    (held now : List ℕ) (p q : Bool)
-    → JobInStep (streams a d held) (streams b f now) first second known → SideReadsOn first b c (SideHasRead p first_new)
-    → SideReadsOn second f h (SideHasRead q second_new)
+pub job_onwards : (Holds : ReadInput → ReadInput → Type 0) (from here : Streams) (c h : Option (List ℕ)) (first second first_new second_new : Side)
+    (known : Renaming)
+    (p q : Bool)
+    → JobInStep from here first second known → SideReadsOn first here.mine c (SideHasRead p first_new)
+    → SideReadsOn second here.other h (SideHasRead q second_new)
     → ((x y : ReadInput) (ms ns : List Message) → SameJob ms ns → Knows known ms ns → SideHasRead p first_new x ms → SideHasRead q second_new y ns → Holds x y)
     →
-    Compared Holds a c d h
-job_onwards Holds a b c d f h first second first_new second_new known held now p q step reads others so =
+    Compared Holds from.mine c from.other h
+job_onwards Holds from here c h first second first_new second_new known p q step reads others so =
     let one = reads step.read step.ms step.has_read in
     let two = others step.other_read step.ns step.other_has_read in
     let x = input_of (step.read ++ one.0) c in
     let y = input_of (step.other_read ++ two.0) h in (
       x,
       y,
-      gave a b c step.read one.0 step.consumed one.1 one.2,
-      gave d f h step.other_read two.0 step.other_consumed two.1 two.2,
-      so x y step.ms step.ns (job_of a b d f first second known held now step) step.knows one.3 two.3,
+      gave from.mine here.mine c step.read one.0 step.consumed one.1 one.2,
+      gave from.other here.other h step.other_read two.0 step.other_consumed two.1 two.2,
+      so x y step.ms step.ns (job_of from.mine here.mine from.other here.other first second known from.written here.written step) step.knows one.3 two.3,
     )
 
 -- memory runs out
@@ -323,30 +326,29 @@ knows_given old new ms ns v w g h a b next other e f k l =
     (subst (λ (x : Option Message). LearnsAnswer (AllowsRenumbering old) (AllowsRenumbering new) (λ r. option_map (renumbered_message r) next ≡ x) true) f l))
 
 -- both gave up a PDU
-pub job_one_more : (a b c d f h : Option (List ℕ)) (first second first_new second_new first_last second_last : Side) (old new : Renaming) (held now : List ℕ)
+pub job_one_more : (from here : Streams) (c h : Option (List ℕ)) (sides read left : BothSides) (old new : Renaming)
     (p q : Bool) → p ≡ true → q ≡ true
-    → JobInStep (streams a d held) (streams b f now) first second old → SideReadsOn first b c (SideHasRead p first_new)
-    → SideReadsOn second f h (SideHasRead q second_new) →
-    is_ready first_new.framer ≡ p → is_ready second_new.framer ≡ q
-    → IsSoundRenaming new → LearnsNext old new first_new.framer second_new.framer true → GivesUp first_new first_last → GivesUp second_new second_last
-    → IsOpen first_last → IsOpen second_last → first_last.which ≡ first.which → second_last.which ≡ second.which →
-    JobInStep (streams a d held) (streams c h now) first_last second_last new
-job_one_more a b c d f h first second first_new second_new first_last second_last old new held now false q i j step reads others r s sound l up down o t w u =
+    → JobInStep from here sides.first sides.second old → SideReadsOn sides.first here.mine c (SideHasRead p read.first)
+    → SideReadsOn sides.second here.other h (SideHasRead q read.second) →
+    is_ready read.first.framer ≡ p → is_ready read.second.framer ≡ q
+    → IsSoundRenaming new → LearnsNext old new read.first.framer read.second.framer true → GivesUp read.first left.first → GivesUp read.second left.second
+    → IsOpen left.first → IsOpen left.second → left.first.which ≡ sides.first.which → left.second.which ≡ sides.second.which →
+    JobInStep from (streams c h here.written) left.first left.second new
+job_one_more from here c h sides read left old new false q i j step reads others r s sound l up down o t w u =
     absurd cc
-job_one_more a b c d f h first second first_new second_new first_last second_last old new held now true false i j step reads others r s sound l up down o t w u
-    = absurd cc
-job_one_more a b c d f h first second first_new second_new first_last second_last old new held now true true i j step reads others r s sound l up down o t w u =
+job_one_more from here c h sides read left old new true false i j step reads others r s sound l up down o t w u = absurd cc
+job_one_more from here c h sides read left old new true true i j step reads others r s sound l up down o t w u =
     let one = reads step.read step.ms step.has_read in
     let two = others step.other_read step.ns step.other_has_read in
-    let g : NextIs true first_new.framer l.next = next_at first_new.framer true l.next r l.next_is in
-    let k : NextIs true second_new.framer l.other_next = next_at second_new.framer true l.other_next s l.other_next_is in
+    let g : NextIs true read.first.framer l.next = next_at read.first.framer true l.next r l.next_is in
+    let k : NextIs true read.second.framer l.other_next = next_at read.second.framer true l.other_next s l.other_next_is in
     record {
       read = step.read ++ one.0;
       other_read = step.other_read ++ two.0;
-      ms = step.ms ++ message_of first_new.framer g.0 g.1 ∷ [];
-      ns = step.ns ++ message_of second_new.framer k.0 k.1 ∷ [];
-      consumed = Consumes-trans a b c step.read one.0 step.consumed one.1;
-      other_consumed = Consumes-trans d f h step.other_read two.0 step.other_consumed two.1;
+      ms = step.ms ++ message_of read.first.framer g.0 g.1 ∷ [];
+      ns = step.ns ++ message_of read.second.framer k.0 k.1 ∷ [];
+      consumed = Consumes-trans from.mine here.mine c step.read one.0 step.consumed one.1;
+      other_consumed = Consumes-trans from.other here.other h step.other_read two.0 step.other_consumed two.1;
       has_read = up (step.read ++ one.0) step.ms g.0 g.1 one.3 r g.2;
       other_has_read = down (step.other_read ++ two.0) step.ns k.0 k.1 two.3 s k.2;
       inside = o;
@@ -354,6 +356,6 @@ job_one_more a b c d f h first second first_new second_new first_last second_las
       which = w ∙ step.which;
       other_which = u ∙ step.other_which;
       sound = sound;
-      knows = knows_given old new step.ms step.ns first_new.framer second_new.framer g.0 k.0 g.1 k.1 l.next l.other_next g.3 k.3 step.knows l.learns;
+      knows = knows_given old new step.ms step.ns read.first.framer read.second.framer g.0 k.0 g.1 k.1 l.next l.other_next g.3 k.3 step.knows l.learns;
       same = step.same;
     }

@@ -8,7 +8,7 @@ use Rattle.iscsi_target_session.specs.Configured.{TargetSettings}
 use Rattle.iscsi_target.specs.declared.fault.TargetFault.{TargetFault}
 use Rattle.iscsi_target.specs.Feed.{Store}
 use Rattle.iscsi_sessions.specs.Slots.{SessionTable, Slot, opening_slot, may_take_at, slot_at, slot_waiting, with_slot, with_sent, SlotChanges}
-use Rattle.iscsi_sessions.specs.Turns.{HallEvent, Takes, TakesTurn, answers_of}
+use Rattle.iscsi_sessions.specs.Turns.{SlotEvent, Takes, TakesTurn, answers_of}
 use Rattle.iscsi_sessions.proofs.SlotLemmas.{changed_other, changed_same, some_within}
 use Rattle.iscsi_sessions.proofs.BoundLemmas.{turn_waits}
 use Rattle.iscsi_event_loop.specs.Giving.{GivesNothing, IsSlotKept, bytes_answered, answered_in, most_answered, most_waiting_at, waits_at}
@@ -16,7 +16,7 @@ use Rattle.iscsi_event_loop.specs.inner.Giving.{GivesWithin}
 
 -- ---- events behind others
 
-answered_append : (es fs : List HallEvent) → answered_in (es ++ fs) ≡ answered_in es + answered_in fs
+answered_append : (es fs : List SlotEvent) → answered_in (es ++ fs) ≡ answered_in es + answered_in fs
 answered_append [] fs = omega arith
 answered_append (e ∷ es) fs = omega (arith, answered_append es fs)
 
@@ -26,7 +26,7 @@ max_zero n = omega arith
 max_more : (a b c m : ℕ) → m ≡ max b c → max a m ≡ max (max a b) c
 max_more a b c m e = omega (arith, e)
 
-most_append : (es fs : List HallEvent) → most_answered (es ++ fs) ≡ max (most_answered es) (most_answered fs)
+most_append : (es fs : List SlotEvent) → most_answered (es ++ fs) ≡ max (most_answered es) (most_answered fs)
 most_append [] fs = max_zero (most_answered fs)
 most_append (e ∷ es) fs =
     max_more (bytes_answered e) (most_answered es) (most_answered fs) (most_answered (es ++ fs)) (most_append es fs)
@@ -46,7 +46,7 @@ then_most wa wb wc a b ab had mid waits more e p q le = omega (arith, e, p, q, l
 le_of : (a b c : ℕ) → a ≤ b → b ≤ c → a ≤ c
 le_of a b c p q = omega (arith, p, q)
 
-pub then_gives : (slot had mid left : ℕ) (a b c : SessionTable) (es fs : List HallEvent) → 0 < mid → GivesWithin slot had mid a es b
+pub then_gives : (slot had mid left : ℕ) (a b c : SessionTable) (es fs : List SlotEvent) → 0 < mid → GivesWithin slot had mid a es b
     → GivesWithin slot mid left b fs c → GivesWithin slot had left a (es ++ fs) c
 then_gives slot had mid left a b c es fs some p q =
     let more : most_waiting_at slot b fs ≤ most_waiting_at slot a (es ++ fs) =
@@ -88,7 +88,7 @@ silent_most w v n had z e = omega (arith, z, e)
 silent_waits : (w v n : ℕ) → v ≡ w → v ≤ max w (65_535 + max n 0)
 silent_waits w v n e = omega (arith, e)
 
-pub silent_gives : (slot had : ℕ) (old new : SessionTable) (e : HallEvent) → bytes_answered e ≡ 0 → waits_at slot new ≡ waits_at slot old
+pub silent_gives : (slot had : ℕ) (old new : SessionTable) (e : SlotEvent) → bytes_answered e ≡ 0 → waits_at slot new ≡ waits_at slot old
     → GivesWithin slot had had old (e ∷ []) new
 silent_gives slot had old new e none same = record {
   going = λ going. silent_going (waits_at slot old) (waits_at slot new) (bytes_answered e) had none same;
@@ -130,7 +130,7 @@ sent_most w v n had z = omega (arith, z)
 sent_waits : (w v n count : ℕ) → v ≡ w - count → v ≤ max w (65_535 + max n 0)
 sent_waits w v n count e = omega (arith, e)
 
-pub sent_gives : (slot count had left : ℕ) (old new : SessionTable) (e : HallEvent) → bytes_answered e ≡ 0 → waits_at slot new ≡ waits_at slot old - count
+pub sent_gives : (slot count had left : ℕ) (old new : SessionTable) (e : SlotEvent) → bytes_answered e ≡ 0 → waits_at slot new ≡ waits_at slot old - count
     → left ≡ had - count → GivesWithin slot had left old (e ∷ []) new
 sent_gives slot count had left old new e none less is = record {
   going = λ going. sent_going (waits_at slot old) (waits_at slot new) (bytes_answered e) count had left none less is going;

@@ -37,7 +37,8 @@ taken_next : (table : SessionTable) (slot : ℕ) → ((k : ℕ) → k < slot →
 taken_next table slot all one = all_next (λ k. is_some (slot_at table k) ≡ true) slot all one
 
 -- the slot has a guest that came before the others
-newer_first : (table : SessionTable) (arrivals : List ℕ) (slot : ℕ) (oldest : Option ℕ) → IsOldest table arrivals slot oldest → comes_first arrivals slot oldest ≡ true
+newer_first : (table : SessionTable) (arrivals : List ℕ) (slot : ℕ) (oldest : Option ℕ) → IsOldest table arrivals slot oldest → comes_first arrivals slot
+    oldest ≡ true
     → is_guest (slot_at table slot) ≡ true → OldestIn table arrivals (slot + 1) slot
 newer_first table arrivals slot None o e guest = record {
   guest = guest;

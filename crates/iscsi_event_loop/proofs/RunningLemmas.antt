@@ -16,7 +16,7 @@ use Rattle.iscsi_target.specs.Advances.{store_of}
 use Rattle.iscsi_serving.specs.Executed.{HasExecuted}
 use Rattle.iscsi_sessions.specs.Slots.{SlotFinishes, SessionTable, Slot, opening_slot, may_take_at, slot_with_read, slot_at, slot_waiting, with_slot, with_sent, SlotChanges}
 use Rattle.iscsi_sessions.specs.Slots.{SlotTakesPdu as TakesAtSlot}
-use Rattle.iscsi_sessions.specs.Turns.{HallEvent, Comes, Ends, Goes, Syncs, Takes, HallEventStep, HappensIn, HallRuns, Slots, SameMachines, TakesTurn}
+use Rattle.iscsi_sessions.specs.Turns.{SlotEvent, Comes, Ends, Goes, Syncs, Takes, SlotEventStep, HappensIn, SlotEventsRun, Slots, SameMachines, TakesTurn}
 use Rattle.iscsi_sessions.specs.Turns.{SessionEvents, KeepsSlot, slot_events, executed_in, machine_in, machines}
 use Rattle.iscsi_sessions.proofs.SlotLemmas.{changed_other, some_within, taken_within}
 use Rattle.iscsi_sessions.proofs.RunLemmas.{own_session, runs_append, runs_lead, runs_none, runs_one}
@@ -28,13 +28,13 @@ use Rattle.iscsi_event_loop.specs.Running.{InTurns, IsAmong, IsSlotEvent, Others
 use Rattle.iscsi_event_loop.specs.inner.Running.{SlotRuns, RunsIdleAt, below}
 use Rattle.iscsi_event_loop.proofs.GivingLemmas.{comes_kept, goes_kept, none_gives, none_kept, same_kept, sent_gives, silent_gives, then_gives, then_kept, turn_gives, waits_less, waits_same}
 
-all_append : (P : HallEvent → Type 0) (es fs : List HallEvent) → AllByRecursion P es → AllByRecursion P fs → AllByRecursion P (es ++ fs)
+all_append : (P : SlotEvent → Type 0) (es fs : List SlotEvent) → AllByRecursion P es → AllByRecursion P fs → AllByRecursion P (es ++ fs)
 all_append P [] fs p q = q
 all_append P (e ∷ es) fs p q = (p.0, all_append P es fs p.1 q)
 
 -- ---- how much is taken
 
-taken_append : (k : ℕ) (es fs : List HallEvent) → taken_at k (es ++ fs) ≡ taken_at k es + taken_at k fs
+taken_append : (k : ℕ) (es fs : List SlotEvent) → taken_at k (es ++ fs) ≡ taken_at k es + taken_at k fs
 taken_append k [] fs = omega arith
 taken_append k (e ∷ es) fs = omega (arith, taken_append k es fs)
 
@@ -74,7 +74,8 @@ pub none_runs : (protected : Bool) (table : SessionTable) (store : Store) → Ru
 unfolding RunsWithin
 none_runs protected table store = (refl, [], tt, runs_none protected (machines table) (machines table) store (λ k. refl))
 
-pub then_runs : (protected : Bool) (a b c : SessionTable) (s t u : Store) → RunsWithin protected a s b t → RunsWithin protected b t c u → RunsWithin protected a s c u
+pub then_runs : (protected : Bool) (a b c : SessionTable) (s t u : Store) → RunsWithin protected a s b t → RunsWithin protected b t c u →
+    RunsWithin protected a s c u
 unfolding RunsWithin
 then_runs protected a b c s t u p q = (
   q.0 ∙ p.0,
@@ -115,11 +116,13 @@ then_idle a b c p q = (
   λ protected store. then_few protected (λ k. 0) (λ k. 0) (λ k. 0) a b c store store store (λ k. omega arith) (p.1 protected store) (q.1 protected store),
 )
 
-pub idle_few : (protected : Bool) (most : ℕ → ℕ) (a b c : SessionTable) (s t : Store) → RunsIdle a b → RunsFew protected most b s c t → RunsFew protected most a s c t
+pub idle_few : (protected : Bool) (most : ℕ → ℕ) (a b c : SessionTable) (s t : Store) → RunsIdle a b → RunsFew protected most b s c t → RunsFew protected
+    most a s c t
 unfolding RunsIdle
 idle_few protected most a b c s t p q = then_few protected (λ k. 0) most most a b c s s t (λ k. omega arith) (p.1 protected s) q
 
-pub few_idle : (protected : Bool) (most : ℕ → ℕ) (a b c : SessionTable) (s t : Store) → RunsFew protected most a s b t → RunsIdle b c → RunsFew protected most a s c t
+pub few_idle : (protected : Bool) (most : ℕ → ℕ) (a b c : SessionTable) (s t : Store) → RunsFew protected most a s b t → RunsIdle b c → RunsFew protected
+    most a s c t
 unfolding RunsIdle
 few_idle protected most a b c s t p q = then_few protected most (λ k. 0) most a b c s t t (λ k. omega arith) p (q.1 protected t)
 
@@ -202,7 +205,8 @@ none_at protected slot had table store = (
   ((λ k. omega arith), none_gives slot had.given table table refl),
 )
 
-pub then_at : (protected : Bool) (slot : ℕ) (had mid left : Budget) (a b c : SessionTable) (s t u : Store) → 0 < mid.given → SlotRuns protected slot had mid a s b t
+pub then_at : (protected : Bool) (slot : ℕ) (had mid left : Budget) (a b c : SessionTable) (s t u : Store) → 0 < mid.given → SlotRuns protected slot had mid
+    a s b t
     → SlotRuns protected slot mid left b t c u → SlotRuns protected slot had left a s c u
 unfolding SlotRuns
 then_at protected slot had mid left a b c s t u some p q = (
@@ -218,7 +222,8 @@ then_at protected slot had mid left a b c s t u some p q = (
 )
 
 -- the turn is over, though it might do more
-pub spent_at : (protected : Bool) (slot : ℕ) (had left : Budget) (old new : SessionTable) (before after : Store) → SlotRuns protected slot had left old before new after
+pub spent_at : (protected : Bool) (slot : ℕ) (had left : Budget) (old new : SessionTable) (before after : Store) → SlotRuns protected slot had left old
+    before new after
     → SlotTurns protected slot had old before new after
 unfolding SlotRuns SlotTurns
 spent_at protected slot had left old new before after p = (
@@ -230,7 +235,7 @@ spent_at protected slot had left old new before after p = (
   ((λ k. omega (arith, p.5.0 k)), p.5.1.most),
 )
 
-all_among : (slot count : ℕ) (es : List HallEvent) → AllByRecursion (IsSlotEvent slot count) es → AllByRecursion (IsAmong count) es
+all_among : (slot count : ℕ) (es : List SlotEvent) → AllByRecursion (IsSlotEvent slot count) es → AllByRecursion (IsAmong count) es
 all_among slot count [] p = tt
 all_among slot count (e ∷ es) p = (p.0.1, all_among slot count es p.1)
 
@@ -264,9 +269,9 @@ changed_others : (slot : ℕ) (old new : SessionTable) (P : Slot → Slot → Ty
 changed_others slot old new P c = λ k ne. changed_other slot k old new (Some c.after) ne c.now
 
 -- an event that changes one slot
-changed_at : (protected : Bool) (slot : ℕ) (had left : Budget) (old new : SessionTable) (before after : Store) (P : Slot → Slot → Type 0) (e : HallEvent)
+changed_at : (protected : Bool) (slot : ℕ) (had left : Budget) (old new : SessionTable) (before after : Store) (P : Slot → Slot → Type 0) (e : SlotEvent)
     → SlotChanges slot old new P
-    → IsSlotEvent slot (length old.slots) e → HallEventStep protected (machines old) before e (machines new) after
+    → IsSlotEvent slot (length old.slots) e → SlotEventStep protected (machines old) before e (machines new) after
     → ((k : ℕ) → taken_by k e + only_at_slot slot left.pdus k ≤ only_at_slot slot had.pdus k) → GivesWithin slot had.given left.given old (e ∷ []) new
     → SlotRuns protected slot had left old before new after
 unfolding SlotRuns
@@ -300,7 +305,7 @@ waits_taken None lt = absurd (omega (arith, lt))
 waits_taken (Some s) lt = refl
 
 pub sync_at : (protected : Bool) (slot : ℕ) (had : Budget) (table : SessionTable) (before after : Store) → 0 < length (slot_waiting (slot_at table slot))
-    → HallEventStep protected (machines table) before (Syncs slot) (machines table) after → SlotRuns protected slot had had table before table after
+    → SlotEventStep protected (machines table) before (Syncs slot) (machines table) after → SlotRuns protected slot had had table before table after
 unfolding SlotRuns
 sync_at protected slot had table before after waits h = (
   λ k ne. refl,
@@ -315,7 +320,7 @@ sync_at protected slot had table before after waits h = (
 pub write_at : (protected : Bool) (slot count : ℕ) (had left : Budget) (old new : SessionTable) (before after : Store) → left.pdus ≡ had.pdus
     → left.given ≡ had.given - count
     → SlotChanges slot old new (λ was now. now ≡ with_sent count was) → SameMachines old new
-    → HallEventStep protected (machines old) before (Syncs slot) (machines old) after → SlotRuns protected slot had left old before new after
+    → SlotEventStep protected (machines old) before (Syncs slot) (machines old) after → SlotRuns protected slot had left old before new after
 write_at protected slot count had left old new before after pdus given c same h =
     changed_at protected slot had left old new before after _ (Syncs slot) c (refl, changed_within slot old new _ c, tt) (same, h.1, h.2)
     (λ k. subst (λ (n : ℕ). 0 + only_at_slot slot n k ≤ only_at_slot slot had.pdus k) (sym pdus) (omega arith))
@@ -460,28 +465,28 @@ all_served protected count old new before after many free r = record {
   events = r.1;
   few = subst (λ (n : ℕ). AllByRecursion (IsAmong n) r.1) many r.2;
   slots = machines new;
-  runs = subst (λ (x : Slots). HallRuns protected x before r.1 (machines new) after)
+  runs = subst (λ (x : Slots). SlotEventsRun protected x before r.1 (machines new) after)
       (fun_ext (λ k. ap (λ (h : SessionTable). machines h k) free ∙ ap machine_in (free_at count k))) r.3;
 }
 
 -- ---- a part of a run
 
-runs_split : (protected : Bool) (slots after : Slots) (store last : Store) (es fs : List HallEvent) → HallRuns protected slots store (es ++ fs) after last
-    → (mid : Slots) × (now : Store) × HallRuns protected slots store es mid now × HallRuns protected mid now fs after last
-unfolding HallRuns
+runs_split : (protected : Bool) (slots after : Slots) (store last : Store) (es fs : List SlotEvent) → SlotEventsRun protected slots store (es ++ fs) after last
+    → (mid : Slots) × (now : Store) × SlotEventsRun protected slots store es mid now × SlotEventsRun protected mid now fs after last
+unfolding SlotEventsRun
 runs_split protected slots after store last [] fs r = (slots, store, ((λ k. refl), refl), r)
 runs_split protected slots after store last (e ∷ es) fs r =
     let rest = runs_split protected r.0 after r.1 last es fs r.3 in (rest.0, rest.1, (r.0, r.1, r.2, rest.2), rest.3)
 
 -- a session from the event by which it comes
-pub served_own : (protected : Bool) (count : ℕ) (before after : Store) (s : Served protected count before after) (past es later : List HallEvent)
+pub served_own : (protected : Bool) (count : ℕ) (before after : Store) (s : Served protected count before after) (past es later : List SlotEvent)
     (slot : ℕ) (settings : TargetSettings)
     → s.events ≡ past ++ (Comes slot settings ∷ (es ++ later)) → KeepsSlot slot es
     → (end : Machine) × SessionEvents protected (opening_machine settings 1) (slot_events slot es) end
-unfolding HallRuns
+unfolding SlotEventsRun
 served_own protected count before after s past es later slot settings is stays =
-    let whole : HallRuns protected no_sessions before (past ++ (Comes slot settings ∷ (es ++ later))) s.slots after =
-    subst (λ (x : List HallEvent). HallRuns protected no_sessions before x s.slots after) is s.runs in
+    let whole : SlotEventsRun protected no_sessions before (past ++ (Comes slot settings ∷ (es ++ later))) s.slots after =
+    subst (λ (x : List SlotEvent). SlotEventsRun protected no_sessions before x s.slots after) is s.runs in
     let behind = runs_split protected no_sessions s.slots before after past (Comes slot settings ∷ (es ++ later)) whole in
     let comes = behind.3 in
     let stay = runs_split protected comes.0 s.slots comes.1 after es later comes.3 in

@@ -3,10 +3,10 @@ use Rattle.std.specs.Prelude.{◌≡◌, ◌⊎◌, ℕ, ◌+◌, ◌-◌, max, 
 use Rattle.iscsi_stream.specs.Canonical.{canon}
 use Rattle.iscsi_target_session.specs.Configured.{TargetSettings}
 use Rattle.iscsi_sessions.specs.Slots.{SessionTable, Slot, opening_slot, slot_at, slot_waiting}
-use Rattle.iscsi_sessions.specs.Turns.{HallEvent, Comes, Ends, Goes, Syncs, Takes, answers_of}
+use Rattle.iscsi_sessions.specs.Turns.{SlotEvent, Comes, Ends, Goes, Syncs, Takes, answers_of}
 
 -- How many bytes an event answers: those of the answers to a PDU.
-abbrev pub bytes_answered : HallEvent → ℕ
+abbrev pub bytes_answered : SlotEvent → ℕ
 bytes_answered (Takes turn) = length (canon (answers_of turn))
 bytes_answered (Comes slot settings) = 0
 bytes_answered (Syncs slot) = 0
@@ -14,12 +14,12 @@ bytes_answered (Ends slot) = 0
 bytes_answered (Goes slot) = 0
 
 -- How many bytes events answer.
-abbrev pub answered_in : List HallEvent → ℕ
+abbrev pub answered_in : List SlotEvent → ℕ
 answered_in [] = 0
 answered_in (e ∷ es) = bytes_answered e + answered_in es
 
 -- The most bytes that one of the events answers.
-abbrev pub most_answered : List HallEvent → ℕ
+abbrev pub most_answered : List SlotEvent → ℕ
 most_answered [] = 0
 most_answered (e ∷ es) = max (bytes_answered e) (most_answered es)
 
@@ -29,12 +29,12 @@ waits_at slot table = length (slot_waiting (slot_at table slot))
 
 -- How many bytes the peer of a slot was given while its session had these events. They are those
 -- that waited or were answered, without those that wait behind the events.
-abbrev pub given_at : ℕ → SessionTable → List HallEvent → SessionTable → ℕ
+abbrev pub given_at : ℕ → SessionTable → List SlotEvent → SessionTable → ℕ
 given_at slot old es new = waits_at slot old + answered_in es - waits_at slot new
 
 -- The most bytes that wait there at one time: those that waited before, or 65,535 and the answers
 -- to one PDU.
-abbrev pub most_waiting_at : ℕ → SessionTable → List HallEvent → ℕ
+abbrev pub most_waiting_at : ℕ → SessionTable → List SlotEvent → ℕ
 most_waiting_at slot old es = max (waits_at slot old) (65_535 + most_answered es)
 
 -- How many bytes a turn gives a peer at most in all its writes but the last (own rule).

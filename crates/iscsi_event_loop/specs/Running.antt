@@ -5,7 +5,7 @@ use Rattle.std.specs.Prelude.{Bool, ◌≡◌, ◌<◌, ◌≤◌, ℕ, zero, su
 use Rattle.std.specs.List.{AllByRecursion}
 use Rattle.iscsi_target.specs.Feed.{Store}
 use Rattle.iscsi_sessions.specs.Slots.{SessionTable, slot_at}
-use Rattle.iscsi_sessions.specs.Turns.{HallEvent, Comes, Ends, Goes, KeepsSession, HallRuns, Slots, Syncs, Takes, machines, slot_of}
+use Rattle.iscsi_sessions.specs.Turns.{SlotEvent, Comes, Ends, Goes, KeepsSession, SlotEventsRun, Slots, Syncs, Takes, machines, slot_of}
 use Rattle.iscsi_event_loop.specs.declared.budget.Budget.{Budget}
 use Rattle.iscsi_event_loop.specs.Giving.{GivesNothing, given_at, most_given, most_waiting_at}
 
@@ -16,7 +16,7 @@ abbrev pub only_at_slot : ℕ → ℕ → ℕ → ℕ
 only_at_slot slot n k = if nat_lt k slot then 0 else if nat_lt slot k then 0 else n
 
 -- How many PDUs an event takes at a slot. A turn takes one, or a part of one.
-abbrev pub taken_by : ℕ → HallEvent → ℕ
+abbrev pub taken_by : ℕ → SlotEvent → ℕ
 taken_by k (Takes turn) = only_at_slot turn.slot 1 k
 taken_by k (Comes slot settings) = 0
 taken_by k (Syncs slot) = 0
@@ -24,7 +24,7 @@ taken_by k (Ends slot) = 0
 taken_by k (Goes slot) = 0
 
 -- How many PDUs events take at a slot.
-abbrev pub taken_at : ℕ → List HallEvent → ℕ
+abbrev pub taken_at : ℕ → List SlotEvent → ℕ
 taken_at k [] = 0
 taken_at k (e ∷ es) = taken_by k e + taken_at k es
 
@@ -35,20 +35,20 @@ most_taken = 8
 -- ---- in the whole table
 
 -- The event is at one of the first n slots.
-abbrev pub IsAmong : ℕ → HallEvent → Type 0
+abbrev pub IsAmong : ℕ → SlotEvent → Type 0
 IsAmong count e = slot_of e < count
 
 -- Some events at the slots of a table lead from it and its store to another one, which has as many.
 unfoldable pub RunsWithin : Bool → SessionTable → Store → SessionTable → Store → Type 0
 RunsWithin protected old before new after = (length new.slots ≡ length old.slots)
-    × (es : List HallEvent) × AllByRecursion (IsAmong (length old.slots)) es
-    × HallRuns protected (machines old) before es (machines new) after
+    × (es : List SlotEvent) × AllByRecursion (IsAmong (length old.slots)) es
+    × SlotEventsRun protected (machines old) before es (machines new) after
 
 -- Some events do so, and take so many PDUs at each slot at most.
 unfoldable pub RunsFew : Bool → (ℕ → ℕ) → SessionTable → Store → SessionTable → Store → Type 0
 RunsFew protected most old before new after = (length new.slots ≡ length old.slots)
-    × (es : List HallEvent) × AllByRecursion (IsAmong (length old.slots)) es
-    × HallRuns protected (machines old) before es (machines new) after
+    × (es : List SlotEvent) × AllByRecursion (IsAmong (length old.slots)) es
+    × SlotEventsRun protected (machines old) before es (machines new) after
     × ((k : ℕ) → taken_at k es ≤ most k)
 
 -- Some events do so whatever the store, leave it as it is, take no PDU, and give no peer anything.
@@ -64,16 +64,16 @@ abbrev pub OthersAreKept : ℕ → SessionTable → SessionTable → Type 0
 OthersAreKept slot old new = (k : ℕ) → (slot == k) ≡ false → slot_at new k ≡ slot_at old k
 
 -- The event is one of the session at a slot, of n, which keeps it.
-abbrev pub IsSlotEvent : ℕ → ℕ → HallEvent → Type 0
+abbrev pub IsSlotEvent : ℕ → ℕ → SlotEvent → Type 0
 IsSlotEvent slot count e = (slot_of e ≡ slot) × IsAmong count e × KeepsSession true e
 
 -- Some events of the session at one slot lead from a table and its store to another one, which has
 -- as many slots. Every other slot is as it was, and P holds of the events.
-abbrev pub HappensAt : Bool → ℕ → SessionTable → Store → (List HallEvent → Type 0) → SessionTable → Store → Type 0
+abbrev pub HappensAt : Bool → ℕ → SessionTable → Store → (List SlotEvent → Type 0) → SessionTable → Store → Type 0
 HappensAt protected slot old before P new after = OthersAreKept slot old new
     × (length new.slots ≡ length old.slots)
-    × (es : List HallEvent) × AllByRecursion (IsSlotEvent slot (length old.slots)) es
-    × HallRuns protected (machines old) before es (machines new) after
+    × (es : List SlotEvent) × AllByRecursion (IsSlotEvent slot (length old.slots)) es
+    × SlotEventsRun protected (machines old) before es (machines new) after
     × P es
 
 -- A turn of the session at one slot. It takes as many PDUs at most as its budget says. It gives
@@ -115,7 +115,7 @@ no_sessions place = None
 -- What a service of n slots did: its events at these slots, and the sessions in the end. The events
 -- lead from free slots and one store to those sessions and the other store.
 pub record Served (protected : Bool) (count : ℕ) (before after : Store) : Type 0 where
-  pub events : List HallEvent
+  pub events : List SlotEvent
   pub few : AllByRecursion (IsAmong count) events
   pub slots : Slots
-  pub runs : HallRuns protected no_sessions before events slots after
+  pub runs : SlotEventsRun protected no_sessions before events slots after

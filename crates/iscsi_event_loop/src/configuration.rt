@@ -1,41 +1,18 @@
-//! What the target of a session is configured with.
+//! What the target of a session is configured with, beside its name, its number and its preferences.
 
 ghost use Rattle.std.specs.Prelude.{◌≡◌, IfNone, IfOk, IfSome, OnOk};
 ghost use Rattle.std.specs.Option.{option_map};
-ghost use Rattle.iscsi_login.specs.Name.{IsName};
-ghost use Rattle.iscsi_login.specs.Negotiation.{ArePreferencesInRange};
 ghost use Rattle.iscsi_portal.specs.Portal.{IsPortal};
 ghost use Rattle.scsi_unit.specs.LogicalUnit.{IsSerial};
-ghost use Rattle.iscsi_event_loop.specs.inner.Serving.{settings_of, telling, settings_with_portal};
+ghost use Rattle.iscsi_event_loop.specs.inner.Serving.{telling, settings_with_portal};
 
-use iscsi_login::Preferences;
 use iscsi_options::UnitOptions;
 use iscsi_portal::Portal;
 use iscsi_target::Config;
 use scsi_unit::LogicalUnit;
 use std::alloc::{AllocError, Global};
 
-/// The tag of the target's portal group.
-const GROUP: u16 = 1;
-
-/// What the session of this number is configured with, if everybody may log in. If name, number and
-/// preferences are in range, the only error is that memory ran out.
-pub fn configuration(
-    alloc: Global,
-    name: &[u8],
-    number: u16,
-    preferences: Preferences,
-) -> Result<Config, AllocError>
-    ensures settings { IfOk result (λ config. config ≡ settings_of name.now number preferences) }
-    ensures ok { OnOk result (IsName name.now × ArePreferencesInRange preferences) }
-{
-    match Config::new(alloc, name, GROUP, number, preferences) {
-        Ok(config) => Ok(config),
-        Err(_) => Err(AllocError),
-    }
-}
-
-/// The same, which tells initiators to use the portal of this address, if there is one. If its bytes are
+/// A configuration that tells initiators to use the portal of this address, if there is one. If its bytes are
 /// an address, the only error is that memory ran out; the configuration is dropped then.
 pub fn with_address(
     alloc: Global,

@@ -7,7 +7,7 @@ ghost use Rattle.iscsi_target.specs.Feed.{Store};
 ghost use Rattle.iscsi_target.specs.Laws.{ExecutionsLead};
 ghost use Rattle.iscsi_target.specs.State.{Machine, opening_machine};
 ghost use Rattle.iscsi_sessions.specs.Blocks.{ExactExecutionsLead, block_left};
-ghost use Rattle.iscsi_sessions.specs.Turns.{Comes, HallEvent, SessionEvents, KeepsSlot, slot_events, executed_in};
+ghost use Rattle.iscsi_sessions.specs.Turns.{Comes, SlotEvent, SessionEvents, KeepsSlot, slot_events, executed_in};
 ghost use Rattle.iscsi_event_loop.specs.Running.{Served};
 /// One disk of all sessions of a service: the blocks are those that all executed commands leave, one
 /// after another.
@@ -33,7 +33,7 @@ pub fn one_disk_of_all()
 pub fn each_its_own()
     ensures own { (protected : Bool) (count : ℕ) (before after : Store)
         (s : Served protected count before after)
-        (past es later : List HallEvent) (slot : ℕ) (settings : TargetSettings)
+        (past es later : List SlotEvent) (slot : ℕ) (settings : TargetSettings)
         → s.events ≡ past ++ (Comes slot settings ∷ (es ++ later)) → KeepsSlot slot es
         → (end : Machine) × SessionEvents protected (opening_machine settings 1)
         (slot_events slot es) end }

@@ -1,8 +1,10 @@
-//! The peer of a slot: its connection is read, its PDUs are taken, its answers are written.
+//! The peer of a slot: its connection is read, its PDUs are taken, its answers are written. One file,
+//! since these are the steps of one turn.
 
 ghost use Rattle.std.specs.Prelude.{◌≡◌, ◌<◌, length, is_some, true};
 ghost use Rattle.iscsi_target.specs.Advances.{store_of};
 ghost use Rattle.iscsi_sessions.specs.Slots.{may_read_at, may_take_at, slot_at, slot_waiting};
+ghost use Rattle.iscsi_event_loop.specs.declared.peer.Due.TheVariants as dues;
 ghost use Rattle.iscsi_event_loop.specs.Running.{SlotTurns};
 ghost use Rattle.iscsi_event_loop.specs.inner.Running.{SlotRuns, RunsIdleAt};
 
@@ -31,6 +33,37 @@ pub struct Peer {
     pub tally: Tally,
 }
 
+// What a session is to do next.
+#[derive(Clone, Copy)]
+enum Due {
+    // a PDU is taken
+    Take,
+    // what waits is written
+    Write,
+    // more is read
+    Read,
+    // nothing: the session is over
+    End,
+}
+
+// A PDU is taken, if one is there and its answers may be gathered; else what waits is written; if nothing
+// does, more is read. A session in which none of these may be done is closed, and its answers are written.
+fn due_at(table: &SessionTable, slot: usize) -> Due
+    ensures take { result ≡ dues.Take → may_take_at (slot_at table.now slot) ≡ true }
+    ensures write { result ≡ dues.Write → 0 < length (slot_waiting (slot_at table.now slot)) }
+    ensures read { result ≡ dues.Read → may_read_at (slot_at table.now slot) ≡ true }
+{
+    if table.may_take(slot) {
+        Due::Take
+    } else if !table.waiting(slot).is_empty() {
+        Due::Write
+    } else if table.may_read(slot) {
+        Due::Read
+    } else {
+        Due::End
+    }
+}
+
 // What a step leaves to do.
 #[derive(Clone, Copy)]
 enum Step {
@@ -54,14 +87,10 @@ impl Peer {
 
     /// Whether a turn would do something.
     pub fn wants_turn(&self, table: &SessionTable, slot: usize) -> bool {
-        if table.may_take(slot) {
-            true
-        } else if !table.waiting(slot).is_empty() {
-            self.connection.is_writable()
-        } else if table.may_read(slot) {
-            self.connection.is_readable()
-        } else {
-            true
+        match due_at(table, slot) {
+            Due::Take | Due::End => true,
+            Due::Write => self.connection.is_writable(),
+            Due::Read => self.connection.is_readable(),
         }
     }
 
@@ -117,9 +146,7 @@ impl Peer {
         self.end = Some(self.end.unwrap_or(end));
     }
 
-    // Takes a PDU, if one is there and its answers may be gathered; else writes what waits; if
-    // nothing does, reads. A session in which none of these may be done is closed, and its answers
-    // are written.
+    // Does what is due.
     #[tactic(auto, using(crate::proofs::RunningLemmas::none_at, crate::proofs::RunningLemmas::idle_at))]
     fn step<S: BlockStore>(
         &mut self,
@@ -136,14 +163,11 @@ impl Peer {
             table.new (store_of (S.disk store.new) (S.failures store.new)) }
         ensures slots { length table.new.slots ≡ length table.old.slots }
     {
-        if table.may_take(slot) {
-            self.take(table, store, slot, left)
-        } else if !table.waiting(slot).is_empty() {
-            self.write(table, store, slot, now, left)
-        } else if table.may_read(slot) {
-            self.read(table, slot, now, buffer)
-        } else {
-            Step::Over
+        match due_at(table, slot) {
+            Due::Take => self.take(table, store, slot, left),
+            Due::Write => self.write(table, store, slot, now, left),
+            Due::Read => self.read(table, slot, now, buffer),
+            Due::End => Step::Over,
         }
     }
 

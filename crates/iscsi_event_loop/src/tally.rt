@@ -1,11 +1,9 @@
 //! What the log tells of a session when it ends.
 
 use iscsi_login::Phase;
+use iscsi_pdu::HEADER_LEN;
 use iscsi_serving::SessionEnd;
 use std::fmt::{self, Display, Write};
-
-/// The bytes of a header (RFC 7143, section 11.2.1).
-const HEADER: usize = 48;
 
 /// Where a Login Response has its status (RFC 7143, section 11.13.5).
 const STATUS: usize = 36;
@@ -43,7 +41,7 @@ impl Tally {
     /// The login is refused: the last of these answers says so. A Login Response that refuses has no
     /// data segment.
     pub fn refuse(&mut self, answers: &[u8]) {
-        if let Some(start) = answers.len().checked_sub(HEADER) {
+        if let Some(start) = answers.len().checked_sub(HEADER_LEN) {
             self.refused = Some((answers[start + STATUS], answers[start + STATUS + 1]));
         }
     }

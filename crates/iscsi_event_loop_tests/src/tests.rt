@@ -1,6 +1,6 @@
 //! Sessions over sockets, several at a time, in the thread of the test: a client writes, the server
 //! has turns until the answers are there. PDUs are worked out by hand from the tables of RFC 7143,
-//! section 11.
+//! section 11. One file, since the sessions share one client.
 
 use crate::asserts::same;
 use iscsi_event_loop::{LimitedStore, Limits, MEMORY, Options, Server, UnitOptions};

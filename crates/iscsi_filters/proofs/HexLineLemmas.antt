@@ -1,5 +1,5 @@
 -- The line that is due for bytes.
-use Rattle.std.proofs.Common.{false, true, ◌≡◌, ℕ, ◌<◌, ◌≤◌, List, [], ◌++◌, length, Result, Ok, Err, sym, ap, subst, ◌∙◌, append-nil, arith}
+use Rattle.std.proofs.Common.{◌≡◌, ℕ, ◌<◌, ◌≤◌, List, [], ◌++◌, length, Result, Ok, Err, sym, ap, subst, ◌∙◌, append-nil, arith}
 use Rattle.std.proofs.lemmas.List.{length-append}
 use Rattle.iscsi_text.specs.declared.fault.TextFault.{TextFault}
 use Rattle.iscsi_text.specs.Fault.{IsFirstFault}
@@ -13,6 +13,7 @@ use Rattle.iscsi_stream.specs.Canonical.{canon}
 use Rattle.iscsi_stream.specs.Normalising.{IsCanonical, WritesUntil, AreCounts, AtEnd}
 use Rattle.iscsi_stream.specs.Texts.{CanonicalOf, longest_text}
 use Rattle.iscsi_stream.proofs.OneMeaningLaw.{splits_more}
+use Rattle.iscsi_filters.specs.declared.work.Content.TheVariants as content
 use Rattle.iscsi_filters.specs.HexText.{hex_line}
 use Rattle.iscsi_filters.specs.Filters.{IsDueLine}
 
@@ -22,7 +23,7 @@ all_read source read rest parts none = parts ∙ ap (λ (x : List ℕ). read ++ 
 -- ---- streams
 
 pub stream_done : (source read rest out written line : List ℕ) (counts : Counts) → source ≡ read ++ rest → rest ≡ [] → out ≡ written → line ≡ hex_line out
-    → ((ms : List Message) × StreamMeans read ms × (written ≡ canon ms) × AreCounts counts ms read written) → IsDueLine false source (Ok tt) line
+    → ((ms : List Message) × StreamMeans read ms × (written ≡ canon ms) × AreCounts counts ms read written) → IsDueLine content.Stream source (Ok tt) line
 stream_done source read rest out written line counts parts none same is m =
     record {
       due = written;
@@ -33,7 +34,7 @@ stream_done source read rest out written line counts parts none same is m =
 
 pub stream_fails : (f : StreamFault) (source read rest out written line : List ℕ) → source ≡ read ++ rest →
     (let r : Result Counts ToolFault = Err (tool.Stream f) in AtEnd r (rest ≡ [])) → out ≡ written → line ≡ hex_line out
-    → WritesUntil IsCanonical (tool.Stream f) read written → IsDueLine false source (Err (tool.Stream f)) line
+    → WritesUntil IsCanonical (tool.Stream f) read written → IsDueLine content.Stream source (Err (tool.Stream f)) line
 stream_fails stream.NoMemory source read rest out written line parts end same is m = absurd m.4.2
 stream_fails (stream.Head f place) source read rest out written line parts end same is m =
     let more = splits_more longest_segment read rest m.0 m.1 m.2 f (record { reaches = m.3; no_more = m.4.0 }) m.4.2.0 m.4.2.1 in
@@ -66,7 +67,7 @@ stream_fails stream.Failed source read rest out written line parts end same is m
 -- ---- texts
 
 pub text_done : (source read rest out written line : List ℕ) → source ≡ read ++ rest → rest ≡ [] → out ≡ written → line ≡ hex_line out →
-    CanonicalOf read written × (length read ≤ longest_text) → IsDueLine true source (Ok tt) line
+    CanonicalOf read written × (length read ≤ longest_text) → IsDueLine content.Text source (Ok tt) line
 text_done source read rest out written line parts none same is m =
     let all = all_read source read rest parts none in
     record {
@@ -77,7 +78,7 @@ text_done source read rest out written line parts none same is m =
     }
 
 pub text_fails : (f : TextFault) (source read rest out written line : List ℕ) → source ≡ read ++ rest → rest ≡ [] → out ≡ written → line ≡ hex_line out →
-    IsFirstFault read f × (length read ≤ longest_text) × (written ≡ []) → IsDueLine true source (Err (tool.Text f)) line
+    IsFirstFault read f × (length read ≤ longest_text) × (written ≡ []) → IsDueLine content.Text source (Err (tool.Text f)) line
 text_fails f source read rest out written line parts none same is m =
     let all = all_read source read rest parts none in
     record {
@@ -88,6 +89,6 @@ text_fails f source read rest out written line parts none same is m =
     }
 
 pub text_too_long : (source read rest out written line : List ℕ) → source ≡ read ++ rest → out ≡ written → line ≡ hex_line out → (longest_text < length read)
-    × (written ≡ []) → IsDueLine true source (Err tool.TextTooLong) line
+    × (written ≡ []) → IsDueLine content.Text source (Err tool.TextTooLong) line
 text_too_long source read rest out written line parts same is m =
     record { due = written; is_due = (omega (arith, ap length parts, length-append read rest, m.0), m.1); spelled = is ∙ ap hex_line same }

@@ -10,6 +10,8 @@ use Rattle.iscsi_stream.specs.Canonical.{canon}
 use Rattle.iscsi_stream.specs.Normalising.{IsCanonical, WritesUntil}
 use Rattle.iscsi_stream.specs.Shown.{AreLines}
 use Rattle.iscsi_stream.specs.Texts.{CanonicalOf, NormalisesText, TextAtEnd, longest_text}
+use Rattle.iscsi_filters.specs.declared.work.Content.{Content}
+use Rattle.iscsi_filters.specs.declared.work.Content.TheVariants as content
 use Rattle.iscsi_filters.specs.declared.work.StreamWork.{StreamWork}
 use Rattle.iscsi_filters.specs.declared.work.StreamWork.TheVariants.{Show, Normalise, Text}
 use Rattle.iscsi_filters.specs.HexText.{BytesOf, IsNotHex, IsReadToFault, hex_line}
@@ -50,41 +52,41 @@ DueOfText bytes (Err tool.TextTooLong) due = (longest_text < length bytes) × (d
 DueOfText bytes (Err fault) due = ⊥
 
 -- What is due for the bytes of a text or of a stream.
-abbrev pub DueOutput : Bool → List ℕ → FilterOutcome → List ℕ → Type 0
-DueOutput true bytes outcome due = DueOfText bytes outcome due
-DueOutput false bytes outcome due = DueOfStream bytes outcome due
+abbrev pub DueOutput : Content → List ℕ → FilterOutcome → List ℕ → Type 0
+DueOutput content.Text bytes outcome due = DueOfText bytes outcome due
+DueOutput content.Stream bytes outcome due = DueOfStream bytes outcome due
 
 -- The line that is due for bytes, with this outcome.
-pub record IsDueLine (text : Bool) (bytes : List ℕ) (outcome : FilterOutcome) (line : List ℕ) : Type
+pub record IsDueLine (content : Content) (bytes : List ℕ) (outcome : FilterOutcome) (line : List ℕ) : Type
     0 where
   pub due : List ℕ
-  pub is_due : DueOutput text bytes outcome due
+  pub is_due : DueOutput content bytes outcome due
   pub spelled : line ≡ hex_line due
 
 -- The line that is due for hex text.
-abbrev pub LineOf : Bool → List ℕ → FilterOutcome → List ℕ → Type 0
-LineOf text read outcome line =
-    (bytes : List ℕ) × BytesOf read bytes × IsDueLine text bytes outcome line
+abbrev pub LineOf : Content → List ℕ → FilterOutcome → List ℕ → Type 0
+LineOf content read outcome line =
+    (bytes : List ℕ) × BytesOf read bytes × IsDueLine content bytes outcome line
 
 -- What a filter of hex text has written where it answers a fault.
-abbrev pub HexFails : Bool → ToolFault → List ℕ → List ℕ → Type 0
-HexFails text tool.NoMemory read written = written ≡ []
-HexFails text (tool.Stream fault) read written =
-    LineOf text read (Err (tool.Stream fault)) written
-HexFails text (tool.Text fault) read written = LineOf text read (Err (tool.Text fault)) written
-HexFails text tool.TextTooLong read written = LineOf text read (Err tool.TextTooLong) written
-HexFails text tool.Read read written = written ≡ []
-HexFails text tool.Write read written =
+abbrev pub HexFails : Content → ToolFault → List ℕ → List ℕ → Type 0
+HexFails content tool.NoMemory read written = written ≡ []
+HexFails content (tool.Stream fault) read written =
+    LineOf content read (Err (tool.Stream fault)) written
+HexFails content (tool.Text fault) read written = LineOf content read (Err (tool.Text fault)) written
+HexFails content tool.TextTooLong read written = LineOf content read (Err tool.TextTooLong) written
+HexFails content tool.Read read written = written ≡ []
+HexFails content tool.Write read written =
     (outcome : FilterOutcome) × (line : List ℕ) × (n : ℕ)
-    × LineOf text read outcome line × (written ≡ take n line)
-HexFails text tool.NotHex read written = IsNotHex read × (written ≡ [])
-HexFails text (tool.Protocol rule) read written = ⊥
+    × LineOf content read outcome line × (written ≡ take n line)
+HexFails content tool.NotHex read written = IsNotHex read × (written ≡ [])
+HexFails content (tool.Protocol rule) read written = ⊥
 
 -- The canonical form of what the hex text means is written as a line of hex, or what is due at a
 -- fault.
-abbrev pub NormalisesHex : Bool → FilterOutcome → List ℕ → List ℕ → Type 0
-NormalisesHex text (Ok done) read written = LineOf text read (Ok done) written
-NormalisesHex text (Err fault) read written = HexFails text fault read written
+abbrev pub NormalisesHex : Content → FilterOutcome → List ℕ → List ℕ → Type 0
+NormalisesHex content (Ok done) read written = LineOf content read (Ok done) written
+NormalisesHex content (Err fault) read written = HexFails content fault read written
 
 -- ---- where a reader has ended
 
@@ -109,9 +111,9 @@ HexAtEnd _ before after = Unit {0}
 abbrev pub DoesWork : StreamWork → Bool → FilterOutcome → List ℕ → List ℕ → Type 0
 DoesWork Show true outcome read written = Unit {0}
 DoesWork Show false outcome read written = ShowsBytes outcome read written
-DoesWork Normalise true outcome read written = NormalisesHex false outcome read written
+DoesWork Normalise true outcome read written = NormalisesHex content.Stream outcome read written
 DoesWork Normalise false outcome read written = NormalisesBytes outcome read written
-DoesWork Text true outcome read written = NormalisesHex true outcome read written
+DoesWork Text true outcome read written = NormalisesHex content.Text outcome read written
 DoesWork Text false outcome read written = NormalisesText outcome read written
 
 -- A work whose input is refused for what it lacks has read it to its end.

@@ -10,7 +10,7 @@ use std::alloc::{AllocError, Global};
 use std::io::Read;
 
 /// The longest hex text, in bytes; those that are dropped count.
-const LONGEST_TEXT: usize = 1_048_576;
+const LONGEST_HEX_TEXT: usize = 1_048_576;
 
 // The text without its blanks and line ends.
 fn digits(alloc: Global, text: &[u8]) -> Result<Vec<u8>, AllocError>
@@ -35,8 +35,8 @@ pub fn read_bytes<R: Read>(alloc: Global, r: &mut R) -> Result<Vec<u8>, ToolFaul
         × Consumes (R.remaining r.old) (R.remaining r.new) read × HexTextFails fault read
         × IsReadToFault fault read (R.remaining r.new)) }
 {
-    let text = read_within(alloc, r, LONGEST_TEXT)?;
-    if text.len() > LONGEST_TEXT {
+    let text = read_within(alloc, r, LONGEST_HEX_TEXT)?;
+    if text.len() > LONGEST_HEX_TEXT {
         return Err(ToolFault::NotHex);
     }
     let digits = digits(alloc, &text)?;

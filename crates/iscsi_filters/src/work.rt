@@ -1,9 +1,10 @@
 //! What `show` and `normalise` do with one reader and one writer, of bytes or of hex text.
 
-ghost use Rattle.std.specs.Prelude.{◌≡◌, ◌⊎◌, ℕ, List, true, false, OnOk, IfOk, IfErr};
+ghost use Rattle.std.specs.Prelude.{◌≡◌, ◌⊎◌, ℕ, List, OnOk, IfOk, IfErr};
 ghost use Rattle.std.specs.Io.KnownBytes.{Appends, Consumes, IsAtEnd};
 ghost use Rattle.iscsi_stream.specs.declared.fault.ToolFault.TheVariants as tool;
 ghost use Rattle.iscsi_stream.specs.Texts.{NormalisesText, TextAtEnd};
+ghost use Rattle.iscsi_filters.specs.declared.work.Content.TheVariants as content;
 ghost use Rattle.iscsi_filters.specs.Filters.{CutAtEnd, DoesWork, HexAtEnd, IsDueLine, NormalisesBytes, NormalisesHex, RefusesWork, ShowsBytes, filter_exit_status};
 
 use crate::hex_text::{line, read_bytes};
@@ -19,6 +20,13 @@ pub enum StreamWork {
     /// Writes the canonical stream.
     Normalise,
     /// Writes the canonical text of one text.
+    Text,
+}
+
+/// What bytes are taken for.
+#[derive(Clone, Copy)]
+pub(crate) enum Content {
+    Stream,
     Text,
 }
 
@@ -47,9 +55,9 @@ pub fn run_work<R: Read, W: Write>(
         (StreamWork::Show, false) => show_bytes(alloc, r, w),
         (StreamWork::Show, true) => show_hex(alloc, r, w),
         (StreamWork::Normalise, false) => normalise_bytes(alloc, r, w),
-        (StreamWork::Normalise, true) => normalise_hex(alloc, false, r, w),
+        (StreamWork::Normalise, true) => normalise_hex(alloc, Content::Stream, r, w),
         (StreamWork::Text, false) => text_bytes(alloc, r, w),
-        (StreamWork::Text, true) => normalise_hex(alloc, true, r, w),
+        (StreamWork::Text, true) => normalise_hex(alloc, Content::Text, r, w),
     }
 }
 
@@ -108,10 +116,8 @@ fn normalise_bytes<R: Read, W: Write>(alloc: Global, r: &mut R, w: &mut W) -> Re
     ensures end { OnOk result (IsAtEnd (R.remaining r.new)) }
     ensures refused { CutAtEnd result (IsAtEnd (R.remaining r.new)) }
 {
-    match normalise(alloc, r, w) {
-        Ok(_) => Ok(()),
-        Err(fault) => Err(fault),
-    }
+    normalise(alloc, r, w)?;
+    Ok(())
 }
 
 // The canonical text of a text's bytes.
@@ -131,66 +137,95 @@ fn text_bytes<R: Read, W: Write>(alloc: Global, r: &mut R, w: &mut W) -> Result<
 #[tactic(auto, using(crate::proofs::AtEndLemmas::hex_refused, crate::proofs::AtEndLemmas::hex_read))]
 fn normalise_hex<R: Read, W: Write>(
     alloc: Global,
-    text: bool,
+    content: Content,
     r: &mut R,
     w: &mut W,
 ) -> Result<(), ToolFault>
     ensures normalises { (read : List ℕ) × (written : List ℕ)
         × Consumes (R.remaining r.old) (R.remaining r.new) read
         × Appends (W.contents w.old) (W.contents w.new) written
-        × NormalisesHex text result read written }
+        × NormalisesHex content result read written }
     ensures end { OnOk result (IsAtEnd (R.remaining r.new)) }
     ensures refused { HexAtEnd result (R.remaining r.old) (R.remaining r.new) }
 {
     let bytes = read_bytes(alloc, r)?;
-    let (line, outcome) = line_of(alloc, text, &bytes)?;
-    write_fully(w, &line)?;
-    outcome
+    let due = line_of(alloc, content, &bytes)?;
+    write_fully(w, &due.line)?;
+    due.outcome
 }
 
 // The line that is due for bytes, and how the filter ends once it is written.
-fn line_of(
-    alloc: Global,
-    text: bool,
-    bytes: &[u8],
-) -> Result<(Vec<u8>, Result<(), ToolFault>), ToolFault>
-    ensures ok { IfOk result (λ x. IsDueLine text bytes.now x.1 x.0.items) }
+#[derive(Drop)]
+struct DueLine {
+    line: Vec<u8>,
+    outcome: Result<(), ToolFault>,
+}
+
+fn line_of(alloc: Global, content: Content, bytes: &[u8]) -> Result<DueLine, ToolFault>
+    ensures ok { IfOk result (λ x. IsDueLine content bytes.now x.outcome x.line.items) }
     ensures err { IfErr result (λ fault. (fault ≡ tool.NoMemory) ⊎ (fault ≡ tool.Read)) }
 {
-    if text {
-        text_line(alloc, bytes)
-    } else {
-        stream_line(alloc, bytes)
+    match content {
+        Content::Stream => stream_line(alloc, bytes),
+        Content::Text => text_line(alloc, bytes),
     }
 }
 
-fn stream_line(alloc: Global, bytes: &[u8]) -> Result<(Vec<u8>, Result<(), ToolFault>), ToolFault>
-    ensures ok { IfOk result (λ x. IsDueLine false bytes.now x.1 x.0.items) }
+fn stream_line(alloc: Global, bytes: &[u8]) -> Result<DueLine, ToolFault>
+    ensures ok { IfOk result (λ x. IsDueLine content.Stream bytes.now x.outcome x.line.items) }
     ensures err { IfErr result (λ fault. (fault ≡ tool.NoMemory) ⊎ (fault ≡ tool.Read)) }
 {
     let mut source = bytes;
     let mut out = Vec::new(alloc);
     match normalise(alloc, &mut source, &mut out) {
-        Ok(_) => Ok((line(alloc, &out)?, Ok(()))),
-        Err(ToolFault::Stream(fault)) => Ok((line(alloc, &out)?, Err(ToolFault::Stream(fault)))),
+        Ok(_) => Ok(DueLine {
+            line: line(alloc, &out)?,
+            outcome: Ok(()),
+        }),
+        Err(ToolFault::Stream(fault)) => Ok(DueLine {
+            line: line(alloc, &out)?,
+            outcome: Err(ToolFault::Stream(fault)),
+        }),
         Err(ToolFault::Read) => Err(ToolFault::Read),
-        // What is written here goes to memory.
-        Err(_) => Err(ToolFault::NoMemory),
+        // What is written here goes to memory, and no text is read.
+        Err(
+            ToolFault::NoMemory
+            | ToolFault::Write
+            | ToolFault::Text(_)
+            | ToolFault::TextTooLong
+            | ToolFault::NotHex
+            | ToolFault::Protocol(_),
+        ) => Err(ToolFault::NoMemory),
     }
 }
 
-fn text_line(alloc: Global, bytes: &[u8]) -> Result<(Vec<u8>, Result<(), ToolFault>), ToolFault>
-    ensures ok { IfOk result (λ x. IsDueLine true bytes.now x.1 x.0.items) }
+fn text_line(alloc: Global, bytes: &[u8]) -> Result<DueLine, ToolFault>
+    ensures ok { IfOk result (λ x. IsDueLine content.Text bytes.now x.outcome x.line.items) }
     ensures err { IfErr result (λ fault. (fault ≡ tool.NoMemory) ⊎ (fault ≡ tool.Read)) }
 {
     let mut source = bytes;
     let mut out = Vec::new(alloc);
     match normalise_text(alloc, &mut source, &mut out) {
-        Ok(()) => Ok((line(alloc, &out)?, Ok(()))),
-        Err(ToolFault::Text(fault)) => Ok((line(alloc, &out)?, Err(ToolFault::Text(fault)))),
-        Err(ToolFault::TextTooLong) => Ok((line(alloc, &out)?, Err(ToolFault::TextTooLong))),
+        Ok(()) => Ok(DueLine {
+            line: line(alloc, &out)?,
+            outcome: Ok(()),
+        }),
+        Err(ToolFault::Text(fault)) => Ok(DueLine {
+            line: line(alloc, &out)?,
+            outcome: Err(ToolFault::Text(fault)),
+        }),
+        Err(ToolFault::TextTooLong) => Ok(DueLine {
+            line: line(alloc, &out)?,
+            outcome: Err(ToolFault::TextTooLong),
+        }),
         Err(ToolFault::Read) => Err(ToolFault::Read),
-        // What is written here goes to memory.
-        Err(_) => Err(ToolFault::NoMemory),
+        // What is written here goes to memory, and no stream is read.
+        Err(
+            ToolFault::NoMemory
+            | ToolFault::Write
+            | ToolFault::Stream(_)
+            | ToolFault::NotHex
+            | ToolFault::Protocol(_),
+        ) => Err(ToolFault::NoMemory),
     }
 }

@@ -223,16 +223,22 @@ stays_closed old piece (Err faults.Closed) new output written over f memory = (r
 
 -- ---- the law
 
+-- what a call leaves: the connection, and what was written
+pub record Called : Type 0 where
+  pub connection : InitiatorConnection
+  pub written : List ℕ
+
 by_state : (shut : Bool) (stream : List ℕ) (ms : List Message) (old same : InitiatorConnection) (piece output : List ℕ)
     (result other : Result Phase InitiatorFault)
-    (a b : InitiatorConnection) (written rewritten : List ℕ)
+    (one two : Called)
     → is_session_closed old.machine ≡ shut → (is_session_closed old.machine ≡ false → HasTaken stream ms old.framing) → InitiatorsAlike old same
-    → InitiatorFeedPost result old piece a output written
+    → InitiatorFeedPost result old piece one.connection output one.written
     → result ≢ Err faults.NoMemory
-    → InitiatorFeedPost other same piece b output rewritten → other ≢ Err faults.NoMemory → CalledAlike result other a b written rewritten
-by_state true stream ms old same piece output result other a b written rewritten over t like f memory g memory' =
-    let p = stays_closed old piece result a output written over f memory in
-    let q = stays_closed same piece other b output rewritten (ap is_session_closed like.machine ∙ over) g memory' in
+    → InitiatorFeedPost other same piece two.connection output two.written → other ≢ Err faults.NoMemory → CalledAlike result other one.connection
+    two.connection one.written two.written
+by_state true stream ms old same piece output result other one two over t like f memory g memory' =
+    let p = stays_closed old piece result one.connection output one.written over f memory in
+    let q = stays_closed same piece other two.connection output two.written (ap is_session_closed like.machine ∙ over) g memory' in
     record {
       answered = q.0 ∙ sym p.0;
       alike = record {
@@ -241,11 +247,12 @@ by_state true stream ms old same piece output result other a b written rewritten
       };
       output = q.1.output ∙ sym p.1.output;
     }
-by_state false stream ms old same piece output result other a b written rewritten live t like f memory g memory' =
+by_state false stream ms old same piece output result other one two live t like f memory g memory' =
     let is : same ≡ old = λ i. record { machine = like.machine i; framing = like.framing live i } in
-    run_alike (stream ++ piece) ms old result other a b output written rewritten
-    (run_of stream ms old piece result a output written (t live) live f memory)
-    (run_of stream ms old piece other b output rewritten (t live) live (subst (λ (x : InitiatorConnection). InitiatorFeedPost other x piece b output rewritten)
+    run_alike (stream ++ piece) ms old result other one.connection two.connection output one.written two.written
+    (run_of stream ms old piece result one.connection output one.written (t live) live f memory)
+    (run_of stream ms old piece other two.connection output two.written (t live) live
+    (subst (λ (x : InitiatorConnection). InitiatorFeedPost other x piece two.connection output two.written)
     is g) memory')
 
 pub one_feed : (stream piece output written rewritten : List ℕ) (ms : List Message) (old same a b : InitiatorConnection)
@@ -255,7 +262,8 @@ pub one_feed : (stream piece output written rewritten : List ℕ) (ms : List Mes
     → InitiatorFeedPost other same piece b output rewritten → other ≢ Err faults.NoMemory
     → CalledAlike result other a b written rewritten
 one_feed stream piece output written rewritten ms old same a b result other t like f memory g memory' =
-    by_state (is_session_closed old.machine) stream ms old same piece output result other a b written rewritten refl t like f memory g memory'
+    by_state (is_session_closed old.machine) stream ms old same piece output result other (record { connection = a; written = written })
+    (record { connection = b; written = rewritten }) refl t like f memory g memory'
 
 -- ---- a request
 

@@ -47,7 +47,7 @@ use Rattle.iscsi_initiator.specs.Full.{completes, has_received, read_outcome, re
 use Rattle.iscsi_initiator.specs.Machine.{initiator_step, step_in, outcome_taken}
 use Rattle.iscsi_initiator.specs.Submitted.{submitted, or_accepted, accepted as accept, submit_refusal, refusal_in}
 use Rattle.iscsi_initiator.specs.declared.request.SubmitFault.TheVariants as refusals
-use Rattle.iscsi_initiator.specs.Laws.{InitiatorEvent, Starts, Meets, Comes, Asks, Takes, Ends, session_after, run, accepted, accepted_in, accepted_if, outcomes_given, outcome_given_in, listed}
+use Rattle.iscsi_initiator.specs.Laws.{InitiatorEvent, Starts, Meets, Comes, Asks, Takes, Ends, session_after, run, accepted_requests, accepted_in, accepted_if, outcomes_given, outcome_given_in, listed}
 use Rattle.iscsi_initiator.specs.Laws.{IsOutcomeOf, AreOutcomesOf, OutcomesInOrder}
 use Rattle.iscsi_stream.proofs.ReadyLemmas.{and_right}
 
@@ -484,13 +484,13 @@ event_inv m Ends rs ds i = none_more m (closed_session m) rs ds (same m (closed_
 -- ---- runs
 
 run_inv : (m : InitiatorSession) (events : List InitiatorEvent) (rs : List Request) (ds : List Done) → Inv m rs ds →
-    Inv (run m events) (rs ++ accepted m events) (ds ++ outcomes_given m events)
+    Inv (run m events) (rs ++ accepted_requests m events) (ds ++ outcomes_given m events)
 run_inv m [] rs ds i = none_more m m rs ds (same m m refl refl) i
 run_inv m (event ∷ events) rs ds i =
     subst (λ (xs : List Request). Inv (run (session_after m event) events) xs
     (ds ++ (outcome_given_in m event ++ outcomes_given (session_after m event) events)))
-    (append_assoc rs (accepted_in m event) (accepted (session_after m event) events))
-    (subst (λ (ys : List Done). Inv (run (session_after m event) events) (rs ++ accepted_in m event ++ accepted (session_after m event) events) ys)
+    (append_assoc rs (accepted_in m event) (accepted_requests (session_after m event) events))
+    (subst (λ (ys : List Done). Inv (run (session_after m event) events) (rs ++ accepted_in m event ++ accepted_requests (session_after m event) events) ys)
     (append_assoc ds (outcome_given_in m event) (outcomes_given (session_after m event) events))
     (run_inv (session_after m event) events (rs ++ accepted_in m event) (ds ++ outcome_given_in m event) (event_inv m event rs ds i)))
 
@@ -516,5 +516,5 @@ inv_says m rs ds (waits w) =
 
 pub outcomes_in_order : (settings : InitiatorSettings) → OutcomesInOrder settings
 outcomes_in_order settings events =
-    inv_says (run (new_session settings) events) (accepted (new_session settings) events) (outcomes_given (new_session settings) events)
+    inv_says (run (new_session settings) events) (accepted_requests (new_session settings) events) (outcomes_given (new_session settings) events)
     (run_inv (new_session settings) events [] [] (idle (record { none = refl; all = tt })))

@@ -62,9 +62,9 @@ accepted_in m (Meets (Asks request)) = accepted_if (submit_refusal m request) re
 accepted_in m _ = []
 
 -- The requests that are accepted.
-abbrev pub accepted : InitiatorSession → List InitiatorEvent → List Request
-accepted m [] = []
-accepted m (event ∷ events) = accepted_in m event ++ accepted (session_after m event) events
+abbrev pub accepted_requests : InitiatorSession → List InitiatorEvent → List Request
+accepted_requests m [] = []
+accepted_requests m (event ∷ events) = accepted_in m event ++ accepted_requests (session_after m event) events
 
 -- The outcome, if there is one.
 abbrev pub listed : Option Done → List Done
@@ -116,7 +116,7 @@ AreOutcomesOf (request ∷ requests) (outcome ∷ outcomes) =
 -- The k-th outcome is one of the k-th accepted request's kind.
 abbrev pub OutcomesInOrder : InitiatorSettings → Type 0
 OutcomesInOrder settings = (events : List InitiatorEvent) →
-    AreOutcomesOf (accepted (new_session settings) events)
+    AreOutcomesOf (accepted_requests (new_session settings) events)
     (outcomes_given (new_session settings) events
     ++ listed (run (new_session settings) events).done)
 

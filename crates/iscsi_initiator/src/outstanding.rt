@@ -115,7 +115,7 @@ impl Writing {
     }
 
     /// The bytes that an R2T requested are sent.
-    pub(crate) fn count(&mut self, head: &ReadyToTransfer)
+    pub(crate) fn count_r2t(&mut self, head: &ReadyToTransfer)
         requires { self.old.sent + head.now.desired_data_transfer_length ≤ length self.old.bytes }
         ensures { self.new ≡ record self.old {
           sent = self.old.sent + head.now.desired_data_transfer_length;

@@ -14,3 +14,4 @@ pub use fault::{LineReason, TextFault};
 pub use job_reading::{LONGEST_JOB, read_job};
 pub use outcome_writing::{write_outcome, write_outcome_from};
 pub use request_writing::{write_item, write_request};
+pub use words::number_of;

@@ -1,6 +1,6 @@
 //! The words of a line, taken one after another.
 
-ghost use Rattle.std.specs.Prelude.{◌≤◌, IfOk};
+ghost use Rattle.std.specs.Prelude.{◌≤◌, IfOk, IfSome};
 
 use crate::fault::{LineFault, LineReason};
 use hex::{FromHex, FromHexError};
@@ -45,10 +45,7 @@ impl<'a> Words<'a> {
         let Some(digits) = self.take() else {
             return Err(LineReason::Number);
         };
-        match number_of(digits) {
-            Some(number) if number <= most => Ok(number),
-            _ => Err(LineReason::Number),
-        }
+        number_of(digits, most).ok_or(LineReason::Number)
     }
 
     /// Takes two hex digits.
@@ -131,12 +128,18 @@ impl<'a> Words<'a> {
     }
 }
 
-// The number that decimal digits mean.
-fn number_of(digits: &str) -> Option<u64> {
+/// The number that decimal digits mean, if it is at most `most`. It is `None` for an empty word, for
+/// anything that is no digit, a sign too, and for a larger number.
+pub fn number_of(digits: &str, most: u64) -> Option<u64>
+    ensures most { IfSome result (λ n. n ≤ most) }
+{
     if !digits.bytes().all(|digit| digit.is_ascii_digit()) {
         return None;
     }
-    digits.parse::<u64>().ok()
+    match digits.parse::<u64>() {
+        Ok(number) if number <= most => Some(number),
+        Ok(_) | Err(_) => None,
+    }
 }
 
 // The LUN that 16 hex digits mean, or that of the unit with a number below 256.
@@ -145,7 +148,7 @@ fn lun_of(digits: &str) -> Option<u64> {
         let bytes = <[u8; 8]>::from_hex(digits).ok()?;
         return Some(u64::from_be_bytes(bytes));
     }
-    let unit = u8::try_from(number_of(digits)?).ok()?;
+    let unit = u8::try_from(number_of(digits, 255)?).ok()?;
     Some(u64::from(unit) << 48)
 }
 

@@ -231,7 +231,8 @@ writable_other key w e = no (is_among answered_no key) refl e
     reject false not_ found = last (is_some (kind_of key)) refl found
 
     no : (t : Bool) → is_among answered_no key ≡ t → cond t (Some (values.Boolean false))
-        (cond (is_among rejected_keys key) (Some (values.Plain (codes "Reject"))) (cond (is_some (kind_of key)) None (Some (values.Plain (codes "NotUnderstood")))))
+        (cond (is_among rejected_keys key) (Some (values.Plain (codes "Reject")))
+        (cond (is_some (kind_of key)) None (Some (values.Plain (codes "NotUnderstood")))))
         ≡ Some w → Writable (kind_of key) w
     no true is_ found = let is : values.Boolean false ≡ w = cc in
         subst (λ kind. Writable kind w) (sym (answered_no_kind key is_)) (subst (Writable (Some kinds.Boolean)) is (writable_boolean false))

@@ -66,7 +66,14 @@ impl Preferences {
             NegKey::FirstBurstLength => Answered::Number(self.first_burst),
             NegKey::DefaultTime2Wait => Answered::Number(self.time2wait),
             NegKey::DefaultTime2Retain => Answered::Number(self.time2retain),
-            fixed => fixed.default_value(),
+            NegKey::MaxConnections
+            | NegKey::MaxOutstandingR2T
+            | NegKey::DataPDUInOrder
+            | NegKey::DataSequenceInOrder
+            | NegKey::ErrorRecoveryLevel
+            | NegKey::HeaderDigest
+            | NegKey::DataDigest
+            | NegKey::AuthMethod => key.default_value(),
         }
     }
 }

@@ -129,43 +129,51 @@ refused_blocks false target_faults.Closed blocks old new before after back writt
 
 -- ---- pieces
 
+-- what waits for an end, the bytes of it that it read, and how many
+pub record ReadOf : Type 0 where
+  pub waiting : List ℕ
+  pub read : List ℕ
+  pub count : ℕ
+
 -- the target refuses none
 target_refuses : (fault : TargetFault) → target_ran_out (Some fault) ≡ false → (fault ≡ target_faults.NoMemory → ⊥) → (i : initiator.InitiatorConnection)
-    (old new : target.TargetConnection) (before after : Disk) (rest back written read : List ℕ) (n : ℕ)
-    → target.TargetFeedPost false (target.scene old (stored before) back) read (Err fault) (target.scene new (stored after) written) → take n rest ≡ read
-    → length read ≡ n
-    → 0 < n → (blocks : ℕ) (requests : List Request) (outcomes : List Done) → HaveServed blocks requests outcomes (ends_of i old before rest back) → ⊥
-target_refuses fault calm never i old new before after rest back written read n fed front size some blocks requests outcomes h =
+    (old new : target.TargetConnection) (before after : Disk) (got : ReadOf) (back written : List ℕ)
+    → target.TargetFeedPost false (target.scene old (stored before) back) got.read (Err fault) (target.scene new (stored after) written) → take got.count
+    got.waiting ≡ got.read
+    → length got.read ≡ got.count
+    → 0 < got.count → (blocks : ℕ) (requests : List Request) (outcomes : List Done) → HaveServed blocks requests outcomes
+    (ends_of i old before got.waiting back) → ⊥
+target_refuses fault calm never i old new before after got back written fed front size some blocks requests outcomes h =
     let c : Opening = loop_opening blocks in
-    let here : BothEnds = ends_of i old before rest back in
-    let b : HasBlocks after = refused_blocks (target_machine.is_machine_closed old.machine) fault blocks old new before after back written read
+    let here : BothEnds = ends_of i old before got.waiting back in
+    let b : HasBlocks after = refused_blocks (target_machine.is_machine_closed old.machine) fault blocks old new before after back written got.read
     (led_there blocks requests outcomes here h) (record { bytes = h.bytes; is = h.disk_is }) never fed in
     let there : World = record {
       target = new;
       blocks = b.bytes;
       initiator = i;
-      to_target = drop n rest;
+      to_target = drop got.count got.waiting;
       to_initiator = written;
       target_fault = Some fault;
       initiator_fault = None;
     } in
-    let receives : TargetReceives read (world_of here h.bytes) there = record {
+    let receives : TargetReceives got.read (world_of here h.bytes) there = record {
       result = Err fault;
-      fed = subst (λ (d : Disk). target.TargetFeedPost false (target.scene old (stored d) back) read (Err fault)
+      fed = subst (λ (d : Disk). target.TargetFeedPost false (target.scene old (stored d) back) got.read (Err fault)
           (target.scene new (reliable_store b.bytes) written)) (sym h.disk_is)
-          (subst (λ (d : Disk). target.TargetFeedPost false (target.scene old (stored before) back) read (Err fault)
+          (subst (λ (d : Disk). target.TargetFeedPost false (target.scene old (stored before) back) got.read (Err fault)
           (target.scene new (stored d) written)) (sym b.is) fed);
-      dropped = ap (λ (k : ℕ). drop k rest) (sym size);
+      dropped = ap (λ (k : ℕ). drop k got.waiting) (sym size);
       initiator = refl;
       fault = refl;
       other_fault = refl;
     } in
-    let happens : PairEventStep (world_of here h.bytes) (ToTarget n) there =
+    let happens : PairEventStep (world_of here h.bytes) (ToTarget got.count) there =
     subst (λ (x : List ℕ). MovesToTarget None x (world_of here h.bytes) there) (sym front)
-    (moves_there read (world_of here h.bytes) there (omega (arith, size, some)) receives) in
-    let events : List PairEvent = h.events ++ ToTarget n ∷ [] in
+    (moves_there got.read (world_of here h.bytes) there (omega (arith, size, some)) receives) in
+    let events : List PairEvent = h.events ++ ToTarget got.count ∷ [] in
     let runs : RunsServed (new_pair c) events there (outcomes ++ []) =
-    served_more (new_pair c) h.events (world_of here h.bytes) outcomes (ToTarget n) there h.runs happens tt
+    served_more (new_pair c) h.events (world_of here h.bytes) outcomes (ToTarget got.count) there h.runs happens tt
     (ap (λ (x : Bool). x || initiator_ran_out None) calm) in
     let s = served c events there (outcomes ++ []) (is_normal blocks) runs in
     (let bad : Some fault ≡ None = s.target_well in cc)
@@ -177,48 +185,53 @@ pub target_blameless : (fault : TargetFault) (i : initiator.InitiatorConnection)
     → 0 < n → IsBlameless (ends_of i old before rest back) (target_serve_fault fault)
 target_blameless target_faults.NoMemory i old new before after rest back written read n fed same within some = λ blocks requests outcomes h. tt
 target_blameless (target_faults.Stream fault) i old new before after rest back written read n fed same within some =
-    target_refuses (target_faults.Stream fault) refl (λ e. absurd cc) i old new before after rest back written read n fed (sym same)
+    target_refuses (target_faults.Stream fault) refl (λ e. absurd cc) i old new before after (record { waiting = rest; read = read; count = n }) back
+    written fed (sym same)
     (ap length same ∙ length-take-le n rest within) some
 target_blameless (target_faults.Protocol rule) i old new before after rest back written read n fed same within some =
-    target_refuses (target_faults.Protocol rule) refl (λ e. absurd cc) i old new before after rest back written read n fed (sym same)
+    target_refuses (target_faults.Protocol rule) refl (λ e. absurd cc) i old new before after (record { waiting = rest; read = read; count = n }) back
+    written fed (sym same)
     (ap length same ∙ length-take-le n rest within) some
 target_blameless target_faults.Closed i old new before after rest back written read n fed same within some =
-    target_refuses target_faults.Closed refl (λ e. absurd cc) i old new before after rest back written read n fed (sym same)
+    target_refuses target_faults.Closed refl (λ e. absurd cc) i old new before after (record { waiting = rest; read = read; count = n }) back written fed
+    (sym same)
     (ap length same ∙ length-take-le n rest within) some
 
 -- nor does the initiator
 initiator_refuses : (fault : InitiatorFault) → initiator_ran_out (Some (ends.Feed fault)) ≡ false
     → (old new : initiator.InitiatorConnection) (t : target.TargetConnection)
-    (disk : Disk) (out rest written read : List ℕ) (n : ℕ) → initiator.InitiatorFeedPost (Err fault) old read new out written → take n rest ≡ read → length read
-    ≡ n
-    → 0 < n → (blocks : ℕ) (requests : List Request) (outcomes : List Done) → HaveServed blocks requests outcomes (ends_of old t disk out rest) → ⊥
-initiator_refuses fault calm old new t disk out rest written read n fed front size some blocks requests outcomes h =
+    (disk : Disk) (out : List ℕ) (got : ReadOf) (written : List ℕ) → initiator.InitiatorFeedPost (Err fault) old got.read new out written → take got.count
+    got.waiting ≡ got.read → length got.read
+    ≡ got.count
+    → 0 < got.count → (blocks : ℕ) (requests : List Request) (outcomes : List Done) → HaveServed blocks requests outcomes
+    (ends_of old t disk out got.waiting) → ⊥
+initiator_refuses fault calm old new t disk out got written fed front size some blocks requests outcomes h =
     let c : Opening = loop_opening blocks in
-    let here : BothEnds = ends_of old t disk out rest in
+    let here : BothEnds = ends_of old t disk out got.waiting in
     let there : World = record {
       target = t;
       blocks = h.bytes;
       initiator = new;
       to_target = written;
-      to_initiator = drop n rest;
+      to_initiator = drop got.count got.waiting;
       target_fault = None;
       initiator_fault = Some (ends.Feed fault);
     } in
-    let receives : InitiatorReceives read (world_of here h.bytes) there = record {
+    let receives : InitiatorReceives got.read (world_of here h.bytes) there = record {
       result = Err fault;
       fed = fed;
-      dropped = ap (λ (k : ℕ). drop k rest) (sym size);
+      dropped = ap (λ (k : ℕ). drop k got.waiting) (sym size);
       target = refl;
       blocks = refl;
       fault = refl;
       other_fault = refl;
     } in
-    let happens : PairEventStep (world_of here h.bytes) (ToInitiator n) there =
+    let happens : PairEventStep (world_of here h.bytes) (ToInitiator got.count) there =
     subst (λ (x : List ℕ). MovesToInitiator None x (world_of here h.bytes) there) (sym front)
-    (moves_here read (world_of here h.bytes) there (omega (arith, size, some)) receives) in
-    let events : List PairEvent = h.events ++ ToInitiator n ∷ [] in
+    (moves_here got.read (world_of here h.bytes) there (omega (arith, size, some)) receives) in
+    let events : List PairEvent = h.events ++ ToInitiator got.count ∷ [] in
     let runs : RunsServed (new_pair c) events there (outcomes ++ []) =
-    served_more (new_pair c) h.events (world_of here h.bytes) outcomes (ToInitiator n) there h.runs happens tt calm in
+    served_more (new_pair c) h.events (world_of here h.bytes) outcomes (ToInitiator got.count) there h.runs happens tt calm in
     let s = served c events there (outcomes ++ []) (is_normal blocks) runs in
     (let bad : Some (ends.Feed fault) ≡ None = s.initiator_well in cc)
 
@@ -227,19 +240,20 @@ pub initiator_blameless : (fault : InitiatorFault) (old new : initiator.Initiato
     → IsBlameless (ends_of old t disk out rest) (initiator_serve_fault fault)
 initiator_blameless initiator_faults.NoMemory old new t disk out rest written read n fed same within some = λ blocks requests outcomes h. tt
 initiator_blameless (initiator_faults.Stream fault) old new t disk out rest written read n fed same within some =
-    initiator_refuses (initiator_faults.Stream fault) refl old new t disk out rest written read n fed (sym same)
+    initiator_refuses (initiator_faults.Stream fault) refl old new t disk out (record { waiting = rest; read = read; count = n }) written fed (sym same)
     (ap length same ∙ length-take-le n rest within) some
 initiator_blameless (initiator_faults.Protocol rule) old new t disk out rest written read n fed same within some =
-    initiator_refuses (initiator_faults.Protocol rule) refl old new t disk out rest written read n fed (sym same)
+    initiator_refuses (initiator_faults.Protocol rule) refl old new t disk out (record { waiting = rest; read = read; count = n }) written fed (sym same)
     (ap length same ∙ length-take-le n rest within) some
 initiator_blameless (initiator_faults.Refused status detail) old new t disk out rest written read n fed same within some =
-    initiator_refuses (initiator_faults.Refused status detail) refl old new t disk out rest written read n fed (sym same)
+    initiator_refuses (initiator_faults.Refused status detail) refl old new t disk out (record { waiting = rest; read = read; count = n }) written fed
+    (sym same)
     (ap length same ∙ length-take-le n rest within) some
 initiator_blameless (initiator_faults.BadAnswer key) old new t disk out rest written read n fed same within some =
-    initiator_refuses (initiator_faults.BadAnswer key) refl old new t disk out rest written read n fed (sym same)
+    initiator_refuses (initiator_faults.BadAnswer key) refl old new t disk out (record { waiting = rest; read = read; count = n }) written fed (sym same)
     (ap length same ∙ length-take-le n rest within) some
 initiator_blameless initiator_faults.Closed old new t disk out rest written read n fed same within some =
-    initiator_refuses initiator_faults.Closed refl old new t disk out rest written read n fed (sym same)
+    initiator_refuses initiator_faults.Closed refl old new t disk out (record { waiting = rest; read = read; count = n }) written fed (sym same)
     (ap length same ∙ length-take-le n rest within) some
 
 -- ---- the login

@@ -13,7 +13,7 @@ use Rattle.iscsi_initiator.specs.Login.{start_step}
 use Rattle.iscsi_initiator.specs.Machine.{initiator_step, steps, then_steps}
 use Rattle.iscsi_initiator.specs.Submitted.{submitted, or_accepted, submit_refusal}
 use Rattle.iscsi_initiator.specs.Calls.{InitiatorConnection, InitiatorStartPost, InitiatorFeedPost, InitiatorSubmitPost, ReceivesWholePiece, PieceClosesSession, after_taking}
-use Rattle.iscsi_initiator.specs.Laws.{InitiatorEvent, Meets, Comes, Asks, Takes, session_after, run, accepted, accepted_in, accepted_if, outcomes_given, outcome_given_in, listed, AreOutcomesOf}
+use Rattle.iscsi_initiator.specs.Laws.{InitiatorEvent, Meets, Comes, Asks, Takes, session_after, run, accepted_requests, accepted_in, accepted_if, outcomes_given, outcome_given_in, listed, AreOutcomesOf}
 use Rattle.iscsi_initiator.specs.Laws as laws
 use Rattle.iscsi_initiator.proofs.OutcomeLaws.{outcomes_in_order, AllOutcomes}
 use Rattle.std.specs.Io.KnownBytes.{Appends, IsAtEnd}
@@ -42,11 +42,12 @@ run_parts : (m : InitiatorSession) (front back : List InitiatorEvent) → run m 
 run_parts m [] back = refl
 run_parts m (e ∷ front) back = run_parts (session_after m e) front back
 
-accepted_parts : (m : InitiatorSession) (front back : List InitiatorEvent) → accepted m (front ++ back) ≡ accepted m front ++ accepted (run m front) back
+accepted_parts : (m : InitiatorSession) (front back : List InitiatorEvent) → accepted_requests m (front ++ back) ≡ accepted_requests m front ++
+    accepted_requests (run m front) back
 accepted_parts m [] back = refl
 accepted_parts m (e ∷ front) back =
     ap (λ (rs : List Request). accepted_in m e ++ rs) (accepted_parts (session_after m e) front back)
-    ∙ sym (append_assoc (accepted_in m e) (accepted (session_after m e) front) (accepted (run (session_after m e) front) back))
+    ∙ sym (append_assoc (accepted_in m e) (accepted_requests (session_after m e) front) (accepted_requests (run (session_after m e) front) back))
 
 given_parts : (m : InitiatorSession) (front back : List InitiatorEvent) → outcomes_given m (front ++ back) ≡ outcomes_given m front
     ++ outcomes_given (run m front) back
@@ -66,8 +67,8 @@ then_continues a b c rs ss ds es x y =
     record {
       events = x.events ++ y.events;
       reached = y.reached ∙ ap (λ (m : InitiatorSession). run m y.events) x.reached ∙ sym (run_parts a x.events y.events);
-      requests = accepted_parts a x.events y.events ∙ ap (λ (m : InitiatorSession). accepted a x.events ++ accepted m y.events) at
-          ∙ ap (λ (l : List Request). l ++ accepted b y.events) x.requests ∙ ap (λ (l : List Request). rs ++ l) y.requests;
+      requests = accepted_parts a x.events y.events ∙ ap (λ (m : InitiatorSession). accepted_requests a x.events ++ accepted_requests m y.events) at
+          ∙ ap (λ (l : List Request). l ++ accepted_requests b y.events) x.requests ∙ ap (λ (l : List Request). rs ++ l) y.requests;
       outcomes = given_parts a x.events y.events ∙ ap (λ (m : InitiatorSession). outcomes_given a x.events ++ outcomes_given m y.events) at
           ∙ ap (λ (l : List Done). l ++ outcomes_given b y.events) x.outcomes ∙ ap (λ (l : List Done). ds ++ l) y.outcomes;
     }

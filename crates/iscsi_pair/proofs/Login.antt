@@ -7,6 +7,7 @@ pub mod Exchange
 pub mod AgreementLaw
 pub mod IdleLaw
 pub mod Compatible
+pub mod RoundBegins
 pub mod RoundProgress
 pub mod NearerLemmas
 pub mod LoginEndsInStep

@@ -66,7 +66,8 @@ abbrev pub local_command : Effect → Local
 local_command after = record { outcome = reported after.outcome; disk = after.disk }
 
 -- What a request does where the disk is here. A ping returns the first of its bytes, at most so
--- many; texts and logouts are nothing to a disk (sections 11.3, 11.4 and 11.18).
+-- many; texts and logouts are nothing to a disk (sections 11.3, 11.4 and 11.18). No law asks what a
+-- text returns (`IsServed`).
 abbrev pub local : ℕ → Disk → Request → Local
 local most disk (requests.In lun cdb expected) =
     local_command (effect false disk (reading_order lun cdb expected) [])

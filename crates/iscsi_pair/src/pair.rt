@@ -1,4 +1,5 @@
-//! A target and an initiator, and the bytes between them.
+//! A target and an initiator, and the bytes between them. One file, more than half of which is the
+//! contracts of one type.
 
 ghost use Rattle.std.specs.Prelude.{◌≡◌, ◌≤◌, false, Some, None, [], ◌++◌, ◌↔◌, IsTrue, IsSome, OnOk, IfSome, length, drop, map, IfOk, IfErr, MatchOption};
 ghost use Rattle.iscsi_initiator.specs.declared.fault.InitiatorFault.TheVariants as faults;

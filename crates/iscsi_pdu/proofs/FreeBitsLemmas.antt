@@ -147,7 +147,8 @@ pub zero_where_free : (h : Head) (len n mask : ℕ) → IsWritable h len → are
 unfolding all_rows
 zero_where_free h len n mask w free =
     ap (λ (b : List ℕ). at_mask n mask b) (sym (header_is h len))
-    ∙ stays_free n mask (all_rows h len) (replicate 48 0) refl (all_rows-table h len) (room_of h len w) (not_false (list_any (uses n mask) (written_rows h len)) free)
+    ∙ stays_free n mask (all_rows h len) (replicate 48 0) refl (all_rows-table h len) (room_of h len w)
+    (not_false (list_any (uses n mask) (written_rows h len)) free)
     ∙ zero_at n mask
 
 -- the ones of a header are there

@@ -1,5 +1,5 @@
 -- Numbers that count round (RFC 7143, section 4.2.2; RFC 1982), and the window of command numbers.
-use Rattle.std.specs.Prelude.{ℕ, ◌+◌, ◌-◌, ◌^◌, ◌%◌, ◌<◌, Bool, ◌&&◌, nat_lt, nat_le, if◌then◌else◌}
+use Rattle.std.specs.Prelude.{ℕ, ◌+◌, ◌-◌, ◌^◌, ◌%◌, Bool, ◌&&◌, nat_lt, nat_le, if◌then◌else◌}
 use Rattle.iscsi_pdu.specs.declared.serial.Serial.{Serial}
 use Rattle.iscsi_pdu.specs.declared.serial.Window.{Window}
 
@@ -7,17 +7,13 @@ use Rattle.iscsi_pdu.specs.declared.serial.Window.{Window}
 abbrev pub distance : ℕ → ℕ → ℕ
 distance a b = (b + (2 ^ 32 - a)) % 2 ^ 32
 
--- b is after a, by less than half the circle (RFC 1982, section 3.2)
-abbrev pub IsBefore : ℕ → ℕ → Type 0
-IsBefore a b = (0 < distance a b) × (distance a b < 2 ^ 31)
-
 -- the number after another
 abbrev pub next_sn : ℕ → ℕ
 next_sn n = (n + 1) % 2 ^ 32
 
 -- ---- the window of command numbers (RFC 7143, section 4.2.2.1)
 
--- a is before b
+-- a is before b, by less than half the circle (RFC 1982, section 3.2)
 abbrev pub is_before : Serial → Serial → Bool
 is_before a b = nat_lt 0 (distance a.0 b.0) && nat_lt (distance a.0 b.0) (2 ^ 31)
 

@@ -243,7 +243,8 @@ pub fn read_bare_head(bytes: &[u8; 48]) -> Option<Head>
     Head::read(bytes)
 }
 
-/// The head and length of a header that passes each check.
+/// The head and length of a header that passes each check. It stands apart from `read_head`, whose other
+/// clauses follow from these two.
 fn checked(bytes: &[u8; 48]) -> Result<(Head, u32), HeadFault>
     ensures means { IfOk result (λ x. IsHeader bytes.now x.0 x.1) }
     ensures fault { result_err result ≡ head_fault bytes.now }

@@ -16,6 +16,9 @@ pub use head::{
 pub use pdu::{Pdu, pad};
 pub use serial::{Serial, Window};
 
+/// How many bytes a header has (RFC 7143, section 11.2.1).
+pub const HEADER_LEN: usize = 48;
+
 /// The reserved tag, ffffffff: as an initiator task tag it names no task, as a target transfer tag
 /// no transfer (RFC 7143, sections 11.2.1.8 and 11.7.4).
 pub const RESERVED_TAG: u32 = 0xffff_ffff;

@@ -1,7 +1,7 @@
 //! Serial numbers and the window of commands (RFC 7143, section 4.2.2).
 
-ghost use Rattle.std.specs.Prelude.{◌≡◌, ◌↔◌, ◌<◌, ◌≤◌, ◌+◌, ◌^◌, ◌%◌, IsTrue};
-ghost use Rattle.iscsi_pdu.specs.Serial.{distance, moved, IsBefore};
+ghost use Rattle.std.specs.Prelude.{◌≡◌, ◌+◌, ◌^◌, ◌%◌};
+ghost use Rattle.iscsi_pdu.specs.Serial.{is_before, is_within, moved};
 
 /// A sequence number, as CmdSN and StatSN: after 2^32 - 1 comes 0 (RFC 7143, section 4.2.2; RFC
 /// 1982).
@@ -13,7 +13,7 @@ impl Serial {
     ///
     /// Of two numbers that are 2^31 steps apart neither is before the other.
     pub fn before(self, other: Serial) -> bool
-        ensures { IsTrue result ↔ IsBefore self.0 other.0 }
+        ensures { result ≡ is_before self other }
     {
         let distance = other.0.wrapping_sub(self.0);
         0 < distance && distance < 1 << 31
@@ -31,8 +31,7 @@ impl Serial {
     /// Where `high` is 2^31 or more steps ahead of `low`, as where it is one behind, there are
     /// none.
     pub fn within(self, low: Serial, high: Serial) -> bool
-        ensures { IsTrue result
-            ↔ ((distance low.0 high.0 < 2 ^ 31) × (distance low.0 self.0 ≤ distance low.0 high.0)) }
+        ensures { result ≡ is_within self.0 low.0 high.0 }
     {
         let size = high.0.wrapping_sub(low.0);
         size < 1 << 31 && self.0.wrapping_sub(low.0) <= size

@@ -1,4 +1,4 @@
-//! A job, done again request by request.
+//! A job, done again request by request. One file, since its steps share one state.
 
 use crate::comparing::{are_same, is_good, is_unit_attention};
 use crate::fault::ReplayFault;

@@ -1,6 +1,7 @@
 //! The words of `job`.
 
-use crate::words::{Refusal, number_of, text_of};
+use crate::words::{Refusal, text_of};
+use iscsi_job_text::number_of;
 use std::convert::AsStr;
 
 /// Where a recorded session stands.
@@ -71,7 +72,7 @@ impl<'a> Said<'a> {
 
 // The connection of a capture file whose number these digits are.
 fn connection_of<'a>(file: &'a str, digits: &'a str) -> Result<Source<'a>, Refusal<'a>> {
-    match number_of(digits, u32::MAX) {
+    match number_of(digits, u64::from(u32::MAX)) {
         Some(number) => Ok(Source::Capture(file, number as usize)),
         None => Err(Refusal::Wrong("no number of a connection:", digits)),
     }

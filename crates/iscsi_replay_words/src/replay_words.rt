@@ -1,6 +1,7 @@
 //! The words of `replay`.
 
-use crate::words::{Refusal, number_of, text_of};
+use crate::words::{Refusal, text_of};
+use iscsi_job_text::number_of;
 use iscsi_login::is_name;
 use iscsi_replay::{Account, Ignored, Plan};
 use std::convert::AsStr;
@@ -140,7 +141,7 @@ impl<'a> Said<'a> {
                 self.plan.unit.is_some()
             }
             _ => {
-                self.seconds = number_of(value, 65_535).unwrap_or(0);
+                self.seconds = seconds_of(value);
                 self.seconds > 0
             }
         }
@@ -215,6 +216,14 @@ fn port_of(digits: Option<&str>) -> Option<u16> {
     };
     let port = u16::try_from(number_of(digits, 65_535)?).ok()?;
     (port > 0).then_some(port)
+}
+
+// The number of seconds that digits spell; 0 where they spell none up to 65535.
+fn seconds_of(digits: &str) -> u32 {
+    match number_of(digits, 65_535) {
+        Some(seconds) => seconds as u32,
+        None => 0,
+    }
 }
 
 // The number of a logical unit.

@@ -60,14 +60,3 @@ pub(crate) fn text_of<'a, S: AsStr>(word: Option<&'a S>) -> Option<&'a str> {
         None => None,
     }
 }
-
-/// The number that digits spell, if it is at most this.
-pub(crate) fn number_of(digits: &str, most: u32) -> Option<u32> {
-    if !digits.bytes().all(|digit| digit.is_ascii_digit()) {
-        return None;
-    }
-    match digits.parse::<u32>() {
-        Ok(number) if number <= most => Some(number),
-        _ => None,
-    }
-}

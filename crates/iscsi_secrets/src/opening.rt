@@ -9,7 +9,7 @@ ghost use Rattle.iscsi_secrets.specs.Secrets.{secrets_in};
 ghost use Rattle.iscsi_secrets.specs.declared.fault.SecretsFault.TheVariants.{Exposed, NoFile, NotOwned};
 
 use crate::fault::SecretsFault;
-use crate::secrets::{LONGEST_TEXT, Secrets};
+use crate::secrets::{LONGEST_SECRETS, Secrets};
 use std::alloc::Global;
 use std::fs::{self, File, Metadata};
 use std::io::{ErrorKind, Read};
@@ -76,7 +76,7 @@ fn is_stream(rt: &HostRuntime, path: &str) -> bool {
 // The text of a file, up to one byte more than a text may have.
 fn text_of(alloc: Global, file: &File) -> Result<Vec<u8>, SecretsFault> {
     let mut text = Vec::new(alloc);
-    match file.take(LONGEST_TEXT as u64 + 1).read_to_end(&mut text) {
+    match file.take(LONGEST_SECRETS as u64 + 1).read_to_end(&mut text) {
         Ok(_) => Ok(text),
         Err(error) if error.kind() == ErrorKind::OutOfMemory => Err(SecretsFault::NoMemory),
         Err(_) => Err(SecretsFault::NotRead),

@@ -1,4 +1,4 @@
-//! Secrets, and the lines of a text that give them.
+//! Secrets, and the lines of a text that give them. One file, since it reads one format.
 
 ghost use Rattle.std.specs.Prelude.{◌≡◌, ◌≢◌, ◌||◌, true, false, IfOk, IfErr, OnOk, Ok, Err, Some, None, map};
 ghost use Rattle.std.specs.Char.{is_ascii_control};
@@ -14,7 +14,7 @@ use std::alloc::{AllocError, Global};
 use std::marker::Model;
 
 /// The most bytes of a text.
-pub(crate) const LONGEST_TEXT: usize = 65_536;
+pub(crate) const LONGEST_SECRETS: usize = 65_536;
 
 /// The most bytes of a name.
 const LONGEST_NAME: usize = 255;
@@ -67,7 +67,7 @@ impl Secrets {
         ensures err { IfErr result (λ fault. fault ≢ faults.NoMemory →
             secrets_in text.now ≡ Err fault) }
     {
-        if text.len() > LONGEST_TEXT {
+        if text.len() > LONGEST_SECRETS {
             return Err(SecretsFault::TooLong);
         }
         let lines = lines_of(alloc, text)?;

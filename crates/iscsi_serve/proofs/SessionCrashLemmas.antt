@@ -24,7 +24,10 @@ use Rattle.iscsi_target.proofs.Feed.PassedLemmas.{no_advance, advances_then, fee
 use Rattle.iscsi_target.proofs.Turns.ServingLemmas.{runs_rise}
 use Rattle.iscsi_serve.specs.Session.{SyncedAdvances, SentBefore, GoesOnOrClosed, exchange}
 use Rattle.iscsi_serve.specs.inner.SessionSteps.{ServedTarget, service, ServiceGoesOn, LeftLast, StoreSynced}
-use Rattle.iscsi_serve.proofs.SessionReadInvariant.{Outside, outside, ReadUpTo, PieceUpTo, at_start, all_served, goes_none, next_rises, next_is_open}
+use Rattle.iscsi_serve.proofs.SessionReadInvariant.{Outside, outside, ReadUpTo, all_served, next_is_open}
+use Rattle.iscsi_serve.proofs.PieceLemmas.{PieceUpTo, goes_none}
+use Rattle.iscsi_serve.proofs.FedMoreLemmas.{at_start}
+use Rattle.iscsi_serve.proofs.NextPduLemmas.{next_rises}
 
 -- ---- failures that a sync counts
 
@@ -269,21 +272,21 @@ last_begins protected target store contents waiting piece kept = record {
 }
 
 -- a PDU more, whose answers wait
-last_waits : (protected : Bool) (old : ServedTarget) (piece rest : List ℕ) (n : ℕ) (target new : TargetConnection) (then store after : Store)
-    (contents now : Option (List ℕ))
-    (waiting written : List ℕ) (kept was left : ℕ → List ℕ → Type 0)
-    → LastUpTo protected old (serving piece rest) then kept (service target store contents waiting) was →
-    now ≡ contents → SyncedAdvances protected target store (take n rest) new after → Crashed protected target store rest after was left →
-    LastUpTo protected old (serving piece (drop n rest)) then kept (service new after now written) left
-last_waits protected old piece rest n target new then store after contents now waiting written kept was left l same comes crash = record {
+last_waits : (protected : Bool) (old : ServedTarget) (at : Serving) (n : ℕ) (here to : ServedTarget) (then : Store)
+    (kept was left : ℕ → List ℕ → Type 0)
+    → LastUpTo protected old at then kept here was →
+    to.contents ≡ here.contents → SyncedAdvances protected here.target here.store (take n at.rest) to.target to.store → Crashed protected here.target
+    here.store at.rest to.store was left →
+    LastUpTo protected old (serving at.piece (drop n at.rest)) then kept to left
+last_waits protected old at n here to then kept was left l same comes crash = record {
   front = l.front;
   behind = l.behind;
   whole = l.whole;
   target = l.target;
   goes = subst (λ (x : Option (List ℕ)). ServiceGoesOn protected old l.front (service l.target then x [])) (sym same) l.goes;
   comes = l.comes;
-  advances = piece_advances protected l.target target new then store after l.behind rest n l.advances comes;
-  crash = piece_crashes protected l.target target then store after l.behind rest kept was left l.advances l.crash crash;
+  advances = piece_advances protected l.target here.target to.target then here.store to.store l.behind at.rest n l.advances comes;
+  crash = piece_crashes protected l.target here.target then here.store to.store l.behind at.rest kept was left l.advances l.crash crash;
 }
 
 -- a PDU more, behind which the answers left
@@ -317,18 +320,18 @@ pub last_more : {S : Type 0} (protected : Bool) (synced : S → Bool) (state : S
 last_more protected synced state kept here old piece rest n target new store contents now waiting written was l p a comes crash (inl same) = (
   l.0,
   l.1,
-  last_waits protected old piece rest n target new (state l.0) store (state here) contents now waiting written (kept l.0) was (kept here) l.2 same comes crash,
+  last_waits protected old (serving piece rest) n (service target store contents waiting) (service new (state here) now written) (state l.0) (kept l.0) was
+      (kept here) l.2 same comes crash,
 )
 last_more protected synced state kept here old piece rest n target new store contents now waiting written was l p a comes crash (inr sent) =
     (here, sent.1, last_leaves protected old piece (drop n rest) new (state here) now written (kept here) p a sent.0)
 
 -- the answers to the next PDU did not leave
-pub last_stops : (protected : Bool) (old : ServedTarget) (piece rest : List ℕ) (target new : TargetConnection) (then store after : Store)
-    (contents now : Option (List ℕ))
-    (waiting written : List ℕ) (kept was left : ℕ → List ℕ → Type 0)
-    → LastUpTo protected old (serving piece rest) then kept (service target store contents waiting) was →
-    now ≡ contents → Crashed protected target store rest after was left → LeftLast protected old piece then kept (service new after now written) left
-last_stops protected old piece rest target new then store after contents now waiting written kept was left l same crash = record {
+pub last_stops : (protected : Bool) (old : ServedTarget) (at : Serving) (here to : ServedTarget) (then : Store)
+    (kept was left : ℕ → List ℕ → Type 0)
+    → LastUpTo protected old at then kept here was →
+    to.contents ≡ here.contents → Crashed protected here.target here.store at.rest to.store was left → LeftLast protected old at.piece then kept to left
+last_stops protected old at here to then kept was left l same crash = record {
   front = l.front;
   behind = l.behind;
   whole = l.whole;
@@ -336,7 +339,7 @@ last_stops protected old piece rest target new then store after contents now wai
   goes = subst (λ (x : Option (List ℕ)). ServiceGoesOn protected old l.front (service l.target then x [])) (sym same) l.goes;
   stands = inr l.comes;
   few = (let low = l.crash.0 in let high = crash.0 in omega (arith, low, high));
-  crash = (piece_crashes protected l.target target then store after l.behind rest kept was left l.advances l.crash crash).1;
+  crash = (piece_crashes protected l.target here.target then here.store to.store l.behind at.rest kept was left l.advances l.crash crash).1;
 }
 
 -- the next PDU closed the session
@@ -350,7 +353,8 @@ pub last_closed : {S : Type 0} (protected : Bool) (synced : S → Bool) (state :
 last_closed protected synced state kept here old piece rest n target new store contents now waiting written was l p over crash (inl same) = (
   l.0,
   l.1,
-  last_stops protected old piece rest target new (state l.0) store (state here) contents now waiting written (kept l.0) was (kept here) l.2 same crash,
+  last_stops protected old (serving piece rest) (service target store contents waiting) (service new (state here) now written) (state l.0) (kept l.0) was
+      (kept here) l.2 same crash,
 )
 last_closed protected synced state kept here old piece rest n target new store contents now waiting written was l p over crash (inr sent) = (
   here,
@@ -368,11 +372,11 @@ last_closed protected synced state kept here old piece rest n target new store c
 )
 
 -- a sync failed
-pub last_synced : (protected : Bool) (old : ServedTarget) (piece : List ℕ) (target : TargetConnection) (then store after : Store)
-    (contents now : Option (List ℕ))
-    (waiting written : List ℕ) (kept was left : ℕ → List ℕ → Type 0) → LeftLast protected old piece then kept (service target store contents waiting) was →
-    StoreSynced store after → Within was left → now ≡ contents → LeftLast protected old piece then kept (service target after now written) left
-last_synced protected old piece target then store after contents now waiting written kept was left l s within same = record {
+pub last_synced : (protected : Bool) (old : ServedTarget) (piece : List ℕ) (here : ServedTarget) (then after : Store)
+    (now : Option (List ℕ))
+    (written : List ℕ) (kept was left : ℕ → List ℕ → Type 0) → LeftLast protected old piece then kept here was →
+    StoreSynced here.store after → Within was left → now ≡ here.contents → LeftLast protected old piece then kept (service here.target after now written) left
+last_synced protected old piece here then after now written kept was left l s within same = record {
   front = l.front;
   behind = l.behind;
   whole = l.whole;
@@ -380,17 +384,17 @@ last_synced protected old piece target then store after contents now waiting wri
   goes = subst (λ (x : Option (List ℕ)). ServiceGoesOn protected old l.front (service l.target then x [])) (sym same) l.goes;
   stands = l.stands;
   few = (let low = l.few in let high = s.rises in omega (arith, low, high));
-  crash = crash_synced protected l.target then store after l.behind kept was left l.crash s within;
+  crash = crash_synced protected l.target then here.store after l.behind kept was left l.crash s within;
 }
 
 -- a sync failed behind the whole piece
-pub last_done : (protected : Bool) (old : ServedTarget) (piece rest : List ℕ) (target : TargetConnection) (then store after : Store)
-    (contents now : Option (List ℕ))
-    (waiting written : List ℕ) (kept was left : ℕ → List ℕ → Type 0)
-    → LastUpTo protected old (serving piece rest) then kept (service target store contents waiting) was →
-    StoreSynced store after → Within was left → now ≡ contents → LeftLast protected old piece then kept (service target after now written) left
-last_done protected old piece rest target then store after contents now waiting written kept was left l s within same =
-    last_synced protected old piece target then store after contents now waiting written kept was left (record {
+pub last_done : (protected : Bool) (old : ServedTarget) (piece rest : List ℕ) (here : ServedTarget) (then after : Store)
+    (now : Option (List ℕ))
+    (written : List ℕ) (kept was left : ℕ → List ℕ → Type 0)
+    → LastUpTo protected old (serving piece rest) then kept here was →
+    StoreSynced here.store after → Within was left → now ≡ here.contents → LeftLast protected old piece then kept (service here.target after now written) left
+last_done protected old piece rest here then after now written kept was left l s within same =
+    last_synced protected old piece here then after now written kept was left (record {
       front = l.front;
       behind = l.behind;
       whole = l.whole;
@@ -419,46 +423,50 @@ session_start protected settings first r w kept = record {
 }
 
 -- behind one piece more
-pub session_crashes : (protected : Bool) (settings : TargetSettings) (first : Store) (now : TargetConnection) (store after : Store)
-    (r0 r1 w0 w1 : Option (List ℕ))
+pub session_crashes : (protected : Bool) (settings : TargetSettings) (from : Outside) (now : TargetConnection) (here : Outside) (after : Store)
     (kept was left : ℕ → List ℕ → Type 0) (piece : List ℕ)
-    → (up : SessionUpTo protected settings (outside first r0 w0) now (outside store r1 w1) kept was) → Crashed protected now store piece after was left
-    → CrashesFed protected (opening_target settings 1) first (up.read.stream ++ piece) after kept left
-session_crashes protected settings first now store after r0 r1 w0 w1 kept was left piece up crash =
-    crashes_behind protected (opening_target settings 1) now first store after (up.read.stream ++ piece) up.read.stream piece kept was left
+    → (up : SessionUpTo protected settings from now here kept was) → Crashed protected now here.store piece after was left
+    → CrashesFed protected (opening_target settings 1) from.store (up.read.stream ++ piece) after kept left
+session_crashes protected settings from now here after kept was left piece up crash =
+    crashes_behind protected (opening_target settings 1) now from.store here.store after (up.read.stream ++ piece) up.read.stream piece kept was left
     refl up.advances crash.0
-    (crashes_more protected (opening_target settings 1) first store up.read.stream piece kept was up.crash) crash.1
+    (crashes_more protected (opening_target settings 1) from.store here.store up.read.stream piece kept was up.crash) crash.1
 
-pub session_more : (protected : Bool) (settings : TargetSettings) (first : Store) (now new : TargetConnection) (store after : Store)
-    (r0 r1 r2 w0 w1 w2 : Option (List ℕ))
+pub session_more : (protected : Bool) (settings : TargetSettings) (from : Outside) (now new : TargetConnection) (here to : Outside)
     (kept was left : ℕ → List ℕ → Type 0) (piece : List ℕ)
-    → SessionUpTo protected settings (outside first r0 w0) now (outside store r1 w1) kept was → Consumes r1 r2 piece →
-    ServiceGoesOn protected (service now store w1 []) piece (service new after w2 [])
-    → SyncedAdvances protected now store piece new after → Crashed protected now store piece after was left →
-    SessionUpTo protected settings (outside first r0 w0) new (outside after r2 w2) kept left
-session_more protected settings first now new store after r0 r1 r2 w0 w1 w2 kept was left piece up read goes advances crash = record {
+    → SessionUpTo protected settings from now here kept was → Consumes here.remaining to.remaining piece →
+    ServiceGoesOn protected (service now here.store here.contents []) piece (service new to.store to.contents [])
+    → SyncedAdvances protected now here.store piece new to.store → Crashed protected now here.store piece to.store was left →
+    SessionUpTo protected settings from new to kept left
+session_more protected settings from now new here to kept was left piece up read goes advances crash = record {
   read = record {
     stream = up.read.stream ++ piece;
-    consumed = Consumes-trans r0 r1 r2 up.read.stream piece up.read.consumed read;
-    served = goes settings first up.read.stream w0 up.read.served;
+    consumed = Consumes-trans from.remaining here.remaining to.remaining up.read.stream piece up.read.consumed read;
+    served = goes settings from.store up.read.stream from.contents up.read.served;
   };
-  advances = comes_then protected (opening_target settings 1) now new first store after up.read.stream piece up.advances advances;
-  crash = session_crashes protected settings first now store after r0 r1 w0 w1 kept was left piece up crash;
+  advances = comes_then protected (opening_target settings 1) now new from.store here.store to.store up.read.stream piece up.advances advances;
+  crash = session_crashes protected settings from now here to.store kept was left piece up crash;
 }
 
+-- a store at a sync, and what a crash leaves of it then
+pub record AtSync : Type 1 where
+  pub store : Store
+  pub kept : ℕ → List ℕ → Type 0
+
 -- where a sync failed in the next piece, what was written before
-pub session_last : (protected : Bool) (settings : TargetSettings) (range : ArePreferencesInRange settings.preferences) (first : Store)
+pub session_last : (protected : Bool) (settings : TargetSettings) (range : ArePreferencesInRange settings.preferences) (from : Outside)
     (now new : TargetConnection)
-    (then store after : Store) (r0 r1 r2 w0 w1 w2 : Option (List ℕ))
-    (kept was at left : ℕ → List ℕ → Type 0) (piece : List ℕ) → SessionUpTo protected settings (outside first r0 w0) now (outside store r1 w1) kept was →
-    Consumes r1 r2 piece → LeftLast protected (service now store w1 []) piece then at (service new after w2 []) left →
-    (read : List ℕ) × (written : List ℕ) × Consumes r0 r2 read × Appends w0 w2 written
-    × SentBefore protected (exchange settings first read written) then at after left
-session_last protected settings range first now new then store after r0 r1 r2 w0 w1 w2 kept was at left piece up read l =
-    let served = l.goes settings first up.read.stream w0 up.read.served in (
+    (sync : AtSync) (here to : Outside)
+    (kept was left : ℕ → List ℕ → Type 0) (piece : List ℕ) → SessionUpTo protected settings from now here kept was →
+    Consumes here.remaining to.remaining piece → LeftLast protected (service now here.store here.contents []) piece sync.store sync.kept
+    (service new to.store to.contents []) left →
+    (read : List ℕ) × (written : List ℕ) × Consumes from.remaining to.remaining read × Appends from.contents to.contents written
+    × SentBefore protected (exchange settings from.store read written) sync.store sync.kept to.store left
+session_last protected settings range from now new sync here to kept was left piece up read l =
+    let served = l.goes settings from.store up.read.stream from.contents up.read.served in (
       up.read.stream ++ piece,
       served.sent,
-      Consumes-trans r0 r1 r2 up.read.stream piece up.read.consumed read,
+      Consumes-trans from.remaining here.remaining to.remaining up.read.stream piece up.read.consumed read,
       served.appended,
       record {
         front = up.read.stream ++ l.front;
@@ -466,13 +474,14 @@ session_last protected settings range first now new then store after r0 r1 r2 w0
         whole = ap (λ (x : List ℕ). up.read.stream ++ x) l.whole ∙ sym (append_assoc up.read.stream l.front l.behind);
         target = l.target;
         stands = stands_then l.stands;
-        answered = λ none. all_served protected settings first (up.read.stream ++ l.front) l.target then w0 w2 served range none;
+        answered = λ none. all_served protected settings from.store (up.read.stream ++ l.front) l.target sync.store from.contents to.contents served range none;
         few = l.few;
         crash = l.crash;
       },
     )
   where
-    stands_then : GoesOnOrClosed protected now store l.front l.target then
-        → GoesOnOrClosed protected (opening_target settings 1) first (up.read.stream ++ l.front) l.target then
+    stands_then : GoesOnOrClosed protected now here.store l.front l.target sync.store
+        → GoesOnOrClosed protected (opening_target settings 1) from.store (up.read.stream ++ l.front) l.target sync.store
     stands_then (inl over) = inl over
-    stands_then (inr comes) = inr (comes_then protected (opening_target settings 1) now l.target first store then up.read.stream l.front up.advances comes)
+    stands_then (inr comes) = inr (comes_then protected (opening_target settings 1) now l.target from.store here.store sync.store up.read.stream l.front
+        up.advances comes)

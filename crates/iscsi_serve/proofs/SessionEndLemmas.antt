@@ -32,12 +32,12 @@ use Rattle.iscsi_target.specs.Machine.{MayStop}
 use Rattle.iscsi_target.proofs.Feed.FeedInvariant.{stop_as, may_rise, short_rises}
 use Rattle.iscsi_serve.specs.Session.{led}
 use Rattle.iscsi_target.specs.Feed as feed
-use Rattle.iscsi_target.specs.Feed.{StopsForMemory, TargetConnection, Store, AnswersPdus, CallEnds, TargetFeedPost, FeedPostIfClosed, FeedsFirstBytes, ClosedTargetStays, TargetFinishPost, HasAnswered, FeedsAllPieces, opening_target}
+use Rattle.iscsi_target.specs.Feed.{Scene, StopsForMemory, TargetConnection, Store, AnswersPdus, CallEnds, TargetFeedPost, FeedPostIfClosed, FeedsFirstBytes, ClosedTargetStays, TargetFinishPost, HasAnswered, FeedsAllPieces, opening_target}
 use Rattle.iscsi_target.specs.Feed.{scene, call_progress, remainder, beginning}
 use Rattle.iscsi_target.specs.Feed.{stream_of}
 use Rattle.iscsi_target.proofs.Steps.AppendLemmas.{answers_append}
 use Rattle.iscsi_target.proofs.Writes.JoiningLemmas.{answers_joined}
-use Rattle.iscsi_target.proofs.Feed.FeedingLemmas.{Told, told}
+use Rattle.iscsi_target.proofs.Feed.FedStreamLemmas.{Told, told}
 use Rattle.iscsi_target.proofs.Steps.ClosingLemmas.{answers_close}
 use Rattle.iscsi_target.proofs.Feed.StreamingLemmas.{goes_on}
 use Rattle.iscsi_serve.specs.Session.{ended_by, ServedPdus, ServesFirstPdus, IsSessionOver, SessionGoesOnBehind, ServedRestFails, SessionEndsBy}
@@ -120,7 +120,7 @@ stands_more protected settings disk bytes old before out piece result new after 
     new.machine after written f.leaves) (works_close protected old before out (take f.count piece) f.framing f.messages f.stepped after
     f.answered works) live in
     record {
-      has = goes_on protected settings 1 disk bytes old before out piece result new after written f works live s.has;
+      has = goes_on protected (beginning settings 1 disk) bytes (scene old before out) piece result (scene new after written) f works live s.has;
       ready = ap is_ready kept ∙ f.answered.ready;
       bound = ap (λ (v : Framing). v.limit) kept ∙ f.answered.limit ∙ s.bound;
     }
@@ -188,19 +188,20 @@ none_broken protected settings disk ms live =
     none_of (answers protected (opening_machine settings 1) disk ms).rule (λ k e. apart (answers_close protected (opening_machine settings 1) disk ms k e) live)
 
 -- the rule that the PDUs of a call broke is that of all PDUs
-rule_of : (protected : Bool) (settings : TargetSettings) (disk : Disk) (taken : List ℕ) (old : TargetConnection) (before : Store) (out bytes : List ℕ)
+rule_of : (protected : Bool) (settings : TargetSettings) (disk : Disk) (taken : List ℕ) (from : Scene) (bytes : List ℕ)
     (framing : Framing)
     (more : List Message) (r : TargetStep) (after : Store)
-    → (h : HasAnswered protected (beginning settings 1 disk) taken old before.disk out) → is_machine_closed old.machine ≡ false
-    → AnswersPdus protected old before bytes (call_progress framing more r) after →
-    after.failures ≡ before.failures
+    → (h : HasAnswered protected (beginning settings 1 disk) taken from.connection from.store.disk from.output) → is_machine_closed from.connection.machine
+    ≡ false
+    → AnswersPdus protected from.connection from.store bytes (call_progress framing more r) after →
+    after.failures ≡ from.store.failures
     → r.rule ≡ (answers protected (opening_machine settings 1) disk (h.messages ++ more)).rule
-rule_of protected settings disk taken old before out bytes framing more r after h live a works =
+rule_of protected settings disk taken from bytes framing more r after h live a works =
     let first : TargetStep = answers protected (opening_machine settings 1) disk h.messages in
     let later : TargetStep = answers protected first.machine first.disk more in
     let e : joined_stepped r ≡ joined_stepped later =
     ap joined_stepped (a.works works)
-    ∙ ap (λ (s : Machine). joined_stepped (answers protected s before.disk more)) h.machine
+    ∙ ap (λ (s : Machine). joined_stepped (answers protected s from.store.disk more)) h.machine
     ∙ ap (λ (d : Disk). joined_stepped (answers protected (writes_joined first.machine) d more)) h.disk_is
     ∙ answers_joined protected first.machine first.disk more in
     let both : answers protected (opening_machine settings 1) disk (h.messages ++ more)
@@ -325,25 +326,23 @@ fed_receives protected settings disk bytes piece old new before after out writte
     receives_of settings (bytes ++ piece) (bytes ++ take f.count piece) (drop f.count piece)
     (s.has.messages ++ f.messages) f.framing (f.answered.taken bytes s.has.messages s.has.taken) (f.answered.limit ∙ s.bound) (whole_is bytes piece f.count)
 
-fed_told : (protected : Bool) (settings : TargetSettings) (disk : Disk) (bytes piece : List ℕ) (old new : TargetConnection) (before after : Store)
-    (out written : List ℕ)
-    (result : Result Phase TargetFault) → (s : Stands protected settings disk bytes old before.disk out)
-    → (f : FeedsFirstBytes protected (scene old before out) piece result (scene new after written))
-    → feed.OutputStands out f.stepped f.answered.failures after written
-    → after.failures ≡ before.failures
-    → Told protected (beginning settings 1 disk) (s.has.messages ++ f.messages) f.stepped after.disk written
-fed_told protected settings disk bytes piece old new before after out written result s f left works =
-    told protected settings 1 disk bytes old before out (take f.count piece) f.framing f.messages f.stepped f.answered.failures after written
+fed_told : (protected : Bool) (settings : TargetSettings) (disk : Disk) (bytes piece : List ℕ) (from to : Scene)
+    (result : Result Phase TargetFault) → (s : Stands protected settings disk bytes from.connection from.store.disk from.output)
+    → (f : FeedsFirstBytes protected from piece result to)
+    → feed.OutputStands from.output f.stepped f.answered.failures to.store to.output
+    → to.store.failures ≡ from.store.failures
+    → Told protected (beginning settings 1 disk) (s.has.messages ++ f.messages) f.stepped to.store.disk to.output
+fed_told protected settings disk bytes piece from to result s f left works =
+    told protected (beginning settings 1 disk) bytes from (take f.count piece) f.framing f.messages f.stepped f.answered.failures to.store to.output
     s.has f.answered left works
 
-fed_rule : (protected : Bool) (settings : TargetSettings) (disk : Disk) (bytes piece : List ℕ) (old new : TargetConnection) (before after : Store)
-    (out written : List ℕ)
-    (result : Result Phase TargetFault) → (s : Stands protected settings disk bytes old before.disk out)
-    → is_machine_closed old.machine ≡ false → (f : FeedsFirstBytes protected (scene old before out) piece result (scene new after written)) → after.failures
-    ≡ before.failures →
+fed_rule : (protected : Bool) (settings : TargetSettings) (disk : Disk) (bytes piece : List ℕ) (from to : Scene)
+    (result : Result Phase TargetFault) → (s : Stands protected settings disk bytes from.connection from.store.disk from.output)
+    → is_machine_closed from.connection.machine ≡ false → (f : FeedsFirstBytes protected from piece result to) → to.store.failures
+    ≡ from.store.failures →
     (answers protected (opening_machine settings 1) disk (s.has.messages ++ f.messages)).rule ≡ f.stepped.rule
-fed_rule protected settings disk bytes piece old new before after out written result s live f works =
-    sym (rule_of protected settings disk bytes old before out (take f.count piece) f.framing f.messages f.stepped after s.has live f.answered works)
+fed_rule protected settings disk bytes piece from to result s live f works =
+    sym (rule_of protected settings disk bytes from (take f.count piece) f.framing f.messages f.stepped to.store s.has live f.answered works)
 
 pub fault_told : (protected : Bool) (fault : TargetFault) (settings : TargetSettings) (disk : Disk) (bytes piece : List ℕ) (old new : TargetConnection)
     (before after : Store)
@@ -353,10 +352,10 @@ pub fault_told : (protected : Bool) (fault : TargetFault) (settings : TargetSett
     SessionEndsBy protected settings disk (Err (ended_by fault)) (bytes ++ piece)
 fault_told protected (faults.Stream fault) settings disk bytes piece old new before after out written s live f works =
     let result : Result Phase TargetFault = Err (faults.Stream fault) in
-    let t = fed_told protected settings disk bytes piece old new before after out written result s f f.leaves works in (
+    let t = fed_told protected settings disk bytes piece (scene old before out) (scene new after written) result s f f.leaves works in (
       fed_receives protected settings disk bytes piece old new before after out written result s f,
       (
-        fed_rule protected settings disk bytes piece old new before after out written result s live f works ∙ f.ends.0.rule,
+        fed_rule protected settings disk bytes piece (scene old before out) (scene new after written) result s live f works ∙ f.ends.0.rule,
         sym (ap is_machine_closed t.machine)
             ∙ f.ends.0.live,
       ),
@@ -367,23 +366,23 @@ fault_told protected (faults.Stream fault) settings disk bytes piece old new bef
 fault_told protected (faults.Protocol rule) settings disk bytes piece old new before after out written s live f works =
     let result : Result Phase TargetFault = Err (faults.Protocol rule) in (
       fed_receives protected settings disk bytes piece old new before after out written result s f,
-      fed_rule protected settings disk bytes piece old new before after out written result s live f works ∙ f.ends.0,
+      fed_rule protected settings disk bytes piece (scene old before out) (scene new after written) result s live f works ∙ f.ends.0,
     )
 fault_told protected faults.NoMemory settings disk bytes piece old new before after out written s live f works = tt
 fault_told protected faults.Closed settings disk bytes piece old new before after out written s live f works = absurd f.ends
 
 -- where memory ran out, the PDUs before were answered, and perhaps some tasks of the next one
 first_front : (protected : Bool) (settings : TargetSettings) (disk : Disk) (read out : List ℕ) (framing : Framing) (rest : List ℕ) (r : TargetStep)
-    (counted : ℕ) (new : Machine)
-    (after : Store) (written : List ℕ) (receives : ServedPdus settings read)
-    → Told protected (beginning settings 1 disk) receives.messages r r.disk (out ++ canon r.answers) → after.failures ≡ counted →
-    (l : StopsForMemory protected out (remainder framing rest r counted) new after written)
+    (counted : ℕ) (to : Scene)
+    (receives : ServedPdus settings read)
+    → Told protected (beginning settings 1 disk) receives.messages r r.disk (out ++ canon r.answers) → to.store.failures ≡ counted →
+    (l : StopsForMemory protected out (remainder framing rest r counted) to.connection.machine to.store to.output)
     → ((message : Message) (next : Framing) (n : ℕ) → FramerMoves framing next (take n rest) (message ∷ []) → next.limit ≡ framing.limit →
     (more : ServedPdus settings read) × (more.messages ≡ receives.messages ++ message ∷ []))
-    → ServesFirstPdus protected settings disk read after.disk written
-first_front protected settings disk read out framing rest r counted new after written receives t same l receive =
+    → ServesFirstPdus protected settings disk read to.store.disk to.output
+first_front protected settings disk read out framing rest r counted to receives t same l receive =
     let all : TargetStep = led protected settings disk read receives in
-    let wrote : (q : TargetStep) → joined_stepped l.front ≡ joined_stepped q → written ≡ canon (all.answers ++ q.answers) = λ q e.
+    let wrote : (q : TargetStep) → joined_stepped l.front ≡ joined_stepped q → to.output ≡ canon (all.answers ++ q.answers) = λ q e.
     l.output_is ∙ ap (λ (x : List ℕ). out ++ x) (canon_append r.answers l.front.answers) ∙ sym (append_assoc out (canon r.answers) (canon l.front.answers))
     ∙ ap (λ (x : List ℕ). x ++ canon l.front.answers) t.output_is ∙ sym (canon_append all.answers l.front.answers)
     ∙ ap (λ (x : TargetStep). canon (all.answers ++ x.answers)) e in
@@ -393,7 +392,7 @@ first_front protected settings disk read out framing rest r counted new after wr
           let e : joined_stepped l.front ≡ joined_stepped q = ap joined_stepped none.0 ∙ (λ i. unchanged (t.machine i) (t.disk_is i)) in
           record { receives = receives; front = q; stops = inl refl; disk_is = l.disk ∙ ap (λ (x : TargetStep). x.disk) e; output_is = wrote q e })
       | inr at ↦
-          (let x = stop_as protected r.machine all.machine r.disk all.disk counted at.message l.front after.failures t.machine t.disk_is at.stops in
+          (let x = stop_as protected r.machine all.machine r.disk all.disk counted at.message l.front to.store.failures t.machine t.disk_is at.stops in
           let m = receive at.message at.next at.count at.taken at.limit in
           record {
             receives = receives;
@@ -427,7 +426,7 @@ first_told protected settings disk bytes piece old new before after out written 
       may = f.answered.may;
       works = f.answered.works;
     } in
-    let t = told protected settings 1 disk bytes old before out (take f.count piece) f.framing f.messages f.stepped after.failures mid (out
+    let t = told protected (beginning settings 1 disk) bytes (scene old before out) (take f.count piece) f.framing f.messages f.stepped after.failures mid (out
     ++ canon f.stepped.answers) s.has a (record { failures = refl; disk = refl; output_is = refl }) works in
     let low : before.failures ≤ f.answered.failures = may_rise protected old.machine before.disk before.failures f.messages f.stepped
     f.answered.failures f.answered.may
@@ -435,7 +434,8 @@ first_told protected settings disk bytes piece old new before after out written 
     let high : f.answered.failures ≤ after.failures = short_rises protected out f.framing (drop f.count piece) f.stepped f.answered.failures
     new.machine after written
     f.leaves in
-    first_front protected settings disk (bytes ++ piece) out f.framing (drop f.count piece) f.stepped f.answered.failures new.machine after written receives t
+    first_front protected settings disk (bytes ++ piece) out f.framing (drop f.count piece) f.stepped f.answered.failures (scene new after written)
+    receives t
     (omega (arith, low, high, works)) f.leaves
     (λ message next n moves limit_. (
       receives_of settings (bytes ++ piece) ((bytes ++ take f.count piece) ++ take n (drop f.count piece)) (drop n (drop f.count piece))
@@ -455,8 +455,8 @@ pub over_told : (protected : Bool) (phase : Phase) (settings : TargetSettings) (
     ≡ before.failures →
     IsSessionOver protected settings disk (bytes ++ piece)
 over_told protected phase settings disk bytes piece old new before after out written s live f over works =
-    let t = fed_told protected settings disk bytes piece old new before after out written (Ok phase) s f f.leaves works in (
+    let t = fed_told protected settings disk bytes piece (scene old before out) (scene new after written) (Ok phase) s f f.leaves works in (
       fed_receives protected settings disk bytes piece old new before after out written (Ok phase) s f,
-      fed_rule protected settings disk bytes piece old new before after out written (Ok phase) s live f works ∙ f.ends.0,
+      fed_rule protected settings disk bytes piece (scene old before out) (scene new after written) (Ok phase) s live f works ∙ f.ends.0,
       sym (ap is_machine_closed t.machine) ∙ sym (ap is_closed_phase f.ends.2) ∙ over,
     )

@@ -7,5 +7,5 @@ mod session_fault;
 
 pub use iscsi_serving::ServeFault;
 pub use serving::{serve, serve_connections, serve_one};
-pub use session::{FIRST_STAT_SN, TARGET_NAME, configuration, serve_stream};
+pub use session::{TARGET_NAME, configuration, serve_stream};
 pub use session_fault::SessionFault;

@@ -39,7 +39,7 @@ const LONGEST_READ: usize = 1_048_576;
 ///
 /// The session is that of RFC 7143, sections 6 and 11; that it has a connection of its own is own
 /// rule.
-#[tactic(auto, using(crate::proofs::SessionReadInvariant::none_executed))]
+#[tactic(auto, using(crate::proofs::FedMoreLemmas::none_executed))]
 pub fn serve_one<S: BlockStore>(
     alloc: Global,
     listener: &TcpListener,
@@ -122,7 +122,7 @@ impl Write for Answers<'_> {
 /// A session that ends with a fault has the fault's line on standard error, and the next one is
 /// served. Only being out of memory and a fault of the network end the service; `Write` is returned
 /// where `listening` cannot be printed.
-#[tactic(auto, using(crate::proofs::SessionReadInvariant::none_executed))]
+#[tactic(auto, using(crate::proofs::FedMoreLemmas::none_executed))]
 pub fn serve<S: BlockStore>(
     rt: &HostRuntime,
     port: u16,
@@ -159,7 +159,7 @@ fn listen(rt: &HostRuntime, port: u16) -> Result<TcpListener, ServeFault>
 ///
 /// Each session is that of `serve_one`, with the target of the programs (`configuration`). A connection
 /// for which the system gives no random bytes ends with that.
-#[tactic(auto, using(crate::proofs::SessionReadInvariant::none_executed))]
+#[tactic(auto, using(crate::proofs::FedMoreLemmas::none_executed))]
 pub fn serve_connections<S: BlockStore>(
     rt: &HostRuntime,
     listener: &TcpListener,
@@ -183,7 +183,7 @@ pub fn serve_connections<S: BlockStore>(
 }
 
 // Serves the next connection of a listener. It is closed if the system gives no random bytes for it.
-#[tactic(auto, using(crate::proofs::SessionReadInvariant::none_executed))]
+#[tactic(auto, using(crate::proofs::FedMoreLemmas::none_executed))]
 fn serve_next<S: BlockStore>(
     rt: &HostRuntime,
     listener: &TcpListener,

@@ -17,19 +17,15 @@ ghost use Rattle.iscsi_serve.specs.inner.SessionSteps.{ServiceGoesOn, BytesClose
 use crate::session_fault::SessionFault;
 use iscsi_login::{Phase, Preferences};
 use iscsi_stream::{PIECE, ReadFault, Reads, write_fully};
-use iscsi_target::{Config, Target, TargetFault};
+use iscsi_target::{Config, FIRST_STAT_SN, Target, TargetFault};
 use scsi_disk::BlockStore;
 use std::alloc::{AllocError, Global};
 use std::io::{Read, Write};
 
 /// The name of the target of the programs.
 pub const TARGET_NAME: &[u8] = b"iqn.2026-01.example:disk";
-/// The tag of its portal group.
-const GROUP: u16 = 1;
 /// The TSIH of a session that has logged in.
 const TSIH: u16 = 1;
-/// The StatSN of the first answer.
-pub const FIRST_STAT_SN: u32 = 1;
 /// How many bytes of answers may wait while the PDUs of a read are answered.
 const MOST_WAITING: usize = 65_536;
 
@@ -38,8 +34,7 @@ const MOST_WAITING: usize = 65_536;
 pub fn configuration(alloc: Global) -> Result<Config, AllocError>
     ensures settings { IfOk result (λ config. config ≡ target_settings) }
 {
-    // Name and numbers are in range, so only memory can run out.
-    Config::new(alloc, TARGET_NAME, GROUP, TSIH, Preferences::standard()).map_err(|_| AllocError)
+    iscsi_serving::configuration(alloc, TARGET_NAME, TSIH, Preferences::standard())
 }
 
 /// Runs the session of a target with a store over a stream. It takes what a reader returns, in

@@ -5,6 +5,7 @@ ghost use Rattle.scsi_disk.specs.Disk.{most_blocks};
 
 use crate::command_line::{LineFault, bad_number, bad_value, valued};
 use clap::{ArgMatches, Command};
+use iscsi_options::number_of;
 use scsi_disk::MOST_BLOCKS;
 use std::alloc::{AllocError, Global};
 
@@ -108,7 +109,7 @@ pub fn bad_size(
 fn blocks_of(digits: &str) -> Option<u64>
     ensures range { IfSome result (λ n. (0 < n) × (n ≤ most_blocks)) }
 {
-    in_range(number_of(digits)?)
+    in_range(number_of(digits, MOST_BLOCKS)?)
 }
 
 // The number of blocks, from 1 to 2^40, that a size in bytes makes without a rest.
@@ -116,7 +117,7 @@ fn size_of(size: &str) -> Option<u64>
     ensures range { IfSome result (λ n. (0 < n) × (n ≤ most_blocks)) }
 {
     let (digits, unit) = unit_of(size);
-    let bytes = number_of(digits)?.checked_mul(unit)?;
+    let bytes = number_of(digits, u64::MAX)?.checked_mul(unit)?;
     if bytes % BLOCK != 0 {
         return None;
     }
@@ -132,14 +133,6 @@ fn in_range(blocks: u64) -> Option<u64>
     } else {
         None
     }
-}
-
-// The number that digits spell.
-fn number_of(digits: &str) -> Option<u64> {
-    if !digits.bytes().all(|c| c.is_ascii_digit()) {
-        return None;
-    }
-    digits.parse::<u64>().ok()
 }
 
 // The digits of a size, and the bytes of its unit; a size without a unit is in bytes.

@@ -5,6 +5,9 @@ mod command_line;
 mod disk_size;
 mod examples;
 mod nbd_storage;
+mod serve_disk;
+mod serve_lengths;
+mod serve_options;
 mod serve_words;
 mod storage;
 
@@ -14,8 +17,8 @@ pub use command_line::{
 };
 pub use disk_size::{SizeFault, bad_size, needed_blocks, with_size};
 pub use nbd_storage::{FaultLine, NbdExport, NbdFault};
+pub use serve_options::serve_program;
 pub use serve_words::{
-    MOST_INITIATORS, ServeJob, Service, read_initiators, read_serve_words, serve_program,
-    service_of,
+    MOST_INITIATORS, ServeJob, Service, read_initiators, read_serve_words, service_of,
 };
 pub use storage::{Image, ImageFault, Origin, Storage};

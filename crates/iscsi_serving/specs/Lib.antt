@@ -1,4 +1,5 @@
 pub mod Access
+pub mod Configuring
 pub mod Ending
 pub mod Executed
 pub mod Faults

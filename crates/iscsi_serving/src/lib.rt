@@ -2,9 +2,11 @@
 #![tactic(auto)]
 
 mod access;
+mod configuring;
 mod fault;
 mod session_end;
 
 pub use access::{Access, AccessFault, EVERYBODY};
+pub use configuring::configuration;
 pub use fault::ServeFault;
 pub use session_end::SessionEnd;

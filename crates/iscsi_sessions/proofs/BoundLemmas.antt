@@ -22,7 +22,7 @@ use Rattle.iscsi_target_session.specs.Configured.{TargetSettings}
 use Rattle.iscsi_target.specs.declared.fault.TargetFault.{TargetFault}
 use Rattle.iscsi_target.specs.Feed.{Store}
 use Rattle.iscsi_sessions.specs.Slots.{SessionTable, Slot, has_answer_room as has_room_at, may_take_at, slot_at, slot_waiting}
-use Rattle.iscsi_sessions.specs.Turns.{HallEvent, Comes, Takes, Syncs, Ends, Goes, IsEnded, IsLeftSession, SessionEvents, TakesTurn, answers_of}
+use Rattle.iscsi_sessions.specs.Turns.{SlotEvent, Comes, Takes, Syncs, Ends, Goes, IsEnded, IsLeftSession, SessionEvents, TakesTurn, answers_of}
 use Rattle.iscsi_sessions.specs.Company.{Group, HaveCount, answers_over}
 use Rattle.iscsi_sessions.specs.Bounds.{ExecutesFew, HoldsFew, IsNumbered}
 use Rattle.iscsi_target.proofs.Writes.WriteTilingLaws.{IsSound}
@@ -49,11 +49,11 @@ is_ended_few s new (inl same) f = subst (λ (x : Machine). AreFew x.tasks) (sym 
 is_ended_few s new (inr over) f = subst (λ (x : Machine). AreFew x.tasks) (sym over) no_few
 
 -- what the session has in the end, and what each of its events executed
-record InSession (es : List HallEvent) (end : Machine) : Type 0 where
+record InSession (es : List SlotEvent) (end : Machine) : Type 0 where
   pub keeps : AreFew end.tasks
   pub each : AllByRecursion ExecutesFew es
 
-session_few : (protected : Bool) (s end : Machine) (es : List HallEvent) → SessionEvents protected s es end → AllByRecursion IsNumbered es → AreFew s.tasks
+session_few : (protected : Bool) (s end : Machine) (es : List SlotEvent) → SessionEvents protected s es end → AllByRecursion IsNumbered es → AreFew s.tasks
     → InSession es end
 unfolding SessionEvents
 session_few protected s end [] h all f = record { keeps = subst (λ (x : Machine). AreFew x.tasks) (sym h) f; each = tt }
@@ -77,13 +77,13 @@ session_few protected s end (Takes t ∷ es) h all f =
       each = (subst (λ (ms : List Message). length (t.stepped.executed ++ t.front.executed) ≤ 9 * length ms) (sym (append-nil t.messages)) few, later.each);
     }
 
-pub opening_few : (protected : Bool) (settings : TargetSettings) (n : ℕ) (end : Machine) (es : List HallEvent)
+pub opening_few : (protected : Bool) (settings : TargetSettings) (n : ℕ) (end : Machine) (es : List SlotEvent)
     → SessionEvents protected (opening_machine settings n) es end
     → AllByRecursion IsNumbered es →
     length end.tasks ≤ 9
 opening_few protected settings n end es h all = nine end.tasks (session_few protected (opening_machine settings n) end es h all no_few).keeps
 
-pub opening_executes : (protected : Bool) (settings : TargetSettings) (n : ℕ) (end : Machine) (es : List HallEvent)
+pub opening_executes : (protected : Bool) (settings : TargetSettings) (n : ℕ) (end : Machine) (es : List SlotEvent)
     → SessionEvents protected (opening_machine settings n) es end
     → AllByRecursion IsNumbered es →
     AllByRecursion ExecutesFew es

@@ -12,8 +12,8 @@ use Rattle.iscsi_target.specs.State.{Machine, Execution, TargetStep, writes_join
 use Rattle.iscsi_target.specs.Execution.{reliable}
 use Rattle.iscsi_target.specs.Machine.{answers, is_machine_closed, target_step, then_stepped}
 use Rattle.iscsi_target.specs.Tiles.{TilesDataIn}
-use Rattle.iscsi_target.specs.Laws.{AreInOrder, Command, CountOn, given_number, joined_stepped, response_tag, response_tags, stat_sn_of, stat_sns}
-use Rattle.iscsi_target.specs.Laws.{task_of, tasks_done, tasks_in, tasks_open}
+use Rattle.iscsi_target.specs.Laws.{AreInOrder, TaggedOrder, CountOn, given_number, joined_stepped, response_tag, response_tags, stat_sn_of, stat_sns}
+use Rattle.iscsi_target.specs.Laws.{order_done, orders_done, orders_asked, orders_waiting}
 use Rattle.iscsi_target_session.proofs.CaseLemmas.{by_cases}
 use Rattle.iscsi_target.proofs.Queue.AcceptedOrderLaw.{Queues, answers_queue, tasks_append}
 use Rattle.iscsi_target.proofs.Writes.JoiningLemmas.{answers_joined, joined_then}
@@ -23,7 +23,7 @@ use Rattle.iscsi_target.proofs.Answers.ReplyLemmas.{Count}
 use Rattle.iscsi_target.proofs.Steps.SendingLemmas.{StepTells, count_append, step_tells}
 use Rattle.iscsi_target.proofs.Writes.WriteTilingLaws.{KeepsWrites, answers_sound, step_goes}
 use Rattle.iscsi_target.proofs.Writes.WriteTilingLaws.{IsSound}
-use Rattle.iscsi_sessions.specs.Turns.{HallEvent, Comes, Takes, Syncs, Ends, Goes, IsEnded, IsLeftSession, SessionEvents, executed_in}
+use Rattle.iscsi_sessions.specs.Turns.{SlotEvent, Comes, Takes, Syncs, Ends, Goes, IsEnded, IsLeftSession, SessionEvents, executed_in}
 use Rattle.iscsi_sessions.specs.Company.{Group, HaveCount, IsCalm, answers_in, answers_over, groups_in}
 
 -- ---- StatSN and tags
@@ -81,36 +81,38 @@ over_settings protected s disk [] = refl
 over_settings protected s disk (g ∷ gs) = over_settings protected (answers protected s g.0 g.1).machine (answers protected s g.0 g.1).disk gs
     ∙ answers_settings protected s g.0 g.1
 
-end_queues : (unit : Option LogicalUnit) (tasks : _) (first later : TargetStep) → Queues unit tasks first → is_machine_closed first.machine ≡ true → later.accepted ≡ [] → later.executed ≡ [] →
+end_queues : (unit : Option LogicalUnit) (tasks : _) (first later : TargetStep) → Queues unit tasks first → is_machine_closed first.machine ≡ true →
+    later.accepted ≡ [] → later.executed ≡ [] →
     is_machine_closed later.machine ≡ true → Queues unit tasks (then_stepped first later)
 end_queues unit tasks first later q e a x c = record {
   more = q.more;
-  order = ap (λ (ms : List Message). tasks_open tasks ++ tasks_in unit (first.accepted ++ ms)) a
-      ∙ ap (λ (ms : List Message). tasks_open tasks ++ tasks_in unit ms) (append-nil first.accepted) ∙ q.order
-      ∙ ap (λ (es : List Execution). tasks_done es ++ q.more) (sym (append-nil first.executed))
-      ∙ ap (λ (es : List Execution). tasks_done (first.executed ++ es) ++ q.more) (sym x);
+  order = ap (λ (ms : List Message). orders_waiting tasks ++ orders_asked unit (first.accepted ++ ms)) a
+      ∙ ap (λ (ms : List Message). orders_waiting tasks ++ orders_asked unit ms) (append-nil first.accepted) ∙ q.order
+      ∙ ap (λ (es : List Execution). orders_done es ++ q.more) (sym (append-nil first.executed))
+      ∙ ap (λ (es : List Execution). orders_done (first.executed ++ es) ++ q.more) (sym x);
   open_ = λ f. absurd (cc (c, f));
 }
 
-open_queues : (unit : Option LogicalUnit) (tasks : _) (first later : TargetStep) → Queues unit tasks first → is_machine_closed first.machine ≡ false → Queues unit first.machine.tasks later →
+open_queues : (unit : Option LogicalUnit) (tasks : _) (first later : TargetStep) → Queues unit tasks first → is_machine_closed first.machine ≡ false →
+    Queues unit first.machine.tasks later →
     Queues unit tasks (then_stepped first later)
 open_queues unit tasks first later q e p = record {
   more = p.more;
   order =
-      ap (λ (ts : List Command). tasks_open tasks ++ ts) (tasks_append unit first.accepted later.accepted)
-      ∙ sym (append_assoc (tasks_open tasks) (tasks_in unit first.accepted) (tasks_in unit later.accepted))
-      ∙ ap (λ (ts : List Command). ts ++ tasks_in unit later.accepted) q.order
-      ∙ append_assoc (tasks_done first.executed) q.more (tasks_in unit later.accepted)
-      ∙ ap (λ (ts : List Command). tasks_done first.executed ++ (ts ++ tasks_in unit later.accepted)) (q.open_ e)
-      ∙ ap (λ (ts : List Command). tasks_done first.executed ++ ts) p.order
-      ∙ sym (append_assoc (tasks_done first.executed) (tasks_done later.executed) p.more)
-      ∙ ap (λ (ts : List Command). ts ++ p.more) (sym (map-append task_of first.executed later.executed));
+      ap (λ (ts : List TaggedOrder). orders_waiting tasks ++ ts) (tasks_append unit first.accepted later.accepted)
+      ∙ sym (append_assoc (orders_waiting tasks) (orders_asked unit first.accepted) (orders_asked unit later.accepted))
+      ∙ ap (λ (ts : List TaggedOrder). ts ++ orders_asked unit later.accepted) q.order
+      ∙ append_assoc (orders_done first.executed) q.more (orders_asked unit later.accepted)
+      ∙ ap (λ (ts : List TaggedOrder). orders_done first.executed ++ (ts ++ orders_asked unit later.accepted)) (q.open_ e)
+      ∙ ap (λ (ts : List TaggedOrder). orders_done first.executed ++ ts) p.order
+      ∙ sym (append_assoc (orders_done first.executed) (orders_done later.executed) p.more)
+      ∙ ap (λ (ts : List TaggedOrder). ts ++ p.more) (sym (map-append order_done first.executed later.executed));
   open_ = p.open_;
 }
 
 over_queue : (protected : Bool) (s : Machine) (disk : Disk) (gs : List Group) → Queues (unit_of s.session) s.tasks (answers_over protected s disk gs)
 unfolding answers_over
-over_queue protected s disk [] = record { more = tasks_open s.tasks; order = append-nil (tasks_open s.tasks); open_ = λ f. refl }
+over_queue protected s disk [] = record { more = orders_waiting s.tasks; order = append-nil (orders_waiting s.tasks); open_ = λ f. refl }
 over_queue protected s disk (g ∷ gs) =
     let first : TargetStep = answers protected s g.0 g.1 in
     let q : Queues (unit_of s.session) s.tasks first = answers_queue protected s g.0 g.1 in
@@ -183,7 +185,7 @@ over_joined protected s disk (g ∷ gs) =
     ∙ ap (λ (r : TargetStep). then_stepped (joined_stepped b) r) (over_joined protected b.machine b.disk gs)
     ∙ sym (joined_then b (answers_over protected b.machine b.disk gs))
 
-pub closed_quiet : (protected : Bool) (s end : Machine) (es : List HallEvent) → is_machine_closed s ≡ true → SessionEvents protected s es end
+pub closed_quiet : (protected : Bool) (s end : Machine) (es : List SlotEvent) → is_machine_closed s ≡ true → SessionEvents protected s es end
     → (answers_in es ≡ [])
     × (groups_in es ≡ [])
     × (executed_in es ≡ [])
@@ -199,29 +201,29 @@ closed_quiet protected s end (Ends k ∷ es) e h = elim h.1 [
 ]
 
 -- behind this machine the rest of the session answers so
-abbrev Answers : Bool → List HallEvent → Machine → Type 0
+abbrev Answers : Bool → List SlotEvent → Machine → Type 0
 Answers protected es s = (disk : Disk) → answers_in es ≡ (answers_over protected s disk (groups_in es)).answers
 
-quiet_answers : (protected : Bool) (s m end : Machine) (es : List HallEvent) → is_machine_closed m ≡ true → SessionEvents protected m es end
+quiet_answers : (protected : Bool) (s m end : Machine) (es : List SlotEvent) → is_machine_closed m ≡ true → SessionEvents protected m es end
     → Answers protected es s
 unfolding answers_over
 quiet_answers protected s m end es e h disk =
     let q = closed_quiet protected m end es e h in
     q.0 ∙ ap (λ (gs : List Group). (answers_over protected s disk gs).answers) (sym q.1)
 
-left_answers : (protected : Bool) (s m end : Machine) (es : List HallEvent) → IsLeftSession s m → SessionEvents protected m es end → Answers protected es m
+left_answers : (protected : Bool) (s m end : Machine) (es : List SlotEvent) → IsLeftSession s m → SessionEvents protected m es end → Answers protected es m
     → Answers protected es s
 left_answers protected s m end es (inl same) h go disk =
     go disk ∙ ap (λ (x : Machine). (answers_over protected x disk (groups_in es)).answers) same
     ∙ ap (λ (r : TargetStep). r.answers) (over_joined protected s disk (groups_in es))
 left_answers protected s m end es (inr over) h go disk = quiet_answers protected s m end es (ap is_machine_closed over) h disk
 
-ended_answers : (protected : Bool) (s m end : Machine) (es : List HallEvent) → IsEnded s m → SessionEvents protected m es end → Answers protected es m
+ended_answers : (protected : Bool) (s m end : Machine) (es : List SlotEvent) → IsEnded s m → SessionEvents protected m es end → Answers protected es m
     → Answers protected es s
 ended_answers protected s m end es (inl same) h go disk = go disk ∙ ap (λ (x : Machine). (answers_over protected x disk (groups_in es)).answers) same
 ended_answers protected s m end es (inr over) h go disk = quiet_answers protected s m end es (ap is_machine_closed over) h disk
 
-pub session_answers : (protected : Bool) (s end : Machine) (es : List HallEvent) → SessionEvents protected s es end → AllByRecursion IsCalm es
+pub session_answers : (protected : Bool) (s end : Machine) (es : List SlotEvent) → SessionEvents protected s es end → AllByRecursion IsCalm es
     → Answers protected es s
 unfolding SessionEvents answers_over
 session_answers protected s end [] h calm disk = refl

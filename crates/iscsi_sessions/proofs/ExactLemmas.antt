@@ -11,7 +11,7 @@ use Rattle.iscsi_target.specs.Feed.{Store}
 use Rattle.iscsi_target.proofs.Steps.DiskFoldLemmas.{Does, Goes, step_does, first_does}
 use Rattle.iscsi_target.proofs.Feed.FeedInvariant.{may_rise}
 use Rattle.iscsi_target.proofs.Turns.ServingLemmas.{runs_rise}
-use Rattle.iscsi_sessions.specs.Turns.{Slots, Turn, IsTaskFront, IsOwn, HallEvent, Comes, Takes, Syncs, Ends, Goes as Leaves, HallEventStep, HallRuns, executed_of, executed_by, executed_in}
+use Rattle.iscsi_sessions.specs.Turns.{Slots, Turn, IsTaskFront, IsOwn, SlotEvent, Comes, Takes, Syncs, Ends, Goes as Leaves, SlotEventStep, SlotEventsRun, executed_of, executed_by, executed_in}
 use Rattle.iscsi_sessions.specs.Blocks.{ExactExecutionsLead}
 
 follow_append : (protected : Bool) (disk mid last : Disk) (a b : List Execution) → ExactExecutionsLead protected disk a mid
@@ -96,8 +96,8 @@ own_follows protected s t o same =
 none_rises : (store last : Store) → last ≡ store → store.failures ≤ last.failures
 none_rises store last e = omega (arith, ap (λ (x : Store). x.failures) e)
 
-happens_rises : (protected : Bool) (slots : Slots) (store : Store) (e : HallEvent) (after : Slots) (last : Store)
-    → HallEventStep protected slots store e after last →
+happens_rises : (protected : Bool) (slots : Slots) (store : Store) (e : SlotEvent) (after : Slots) (last : Store)
+    → SlotEventStep protected slots store e after last →
     store.failures ≤ last.failures
 happens_rises protected slots store (Comes k settings) after last h = none_rises store last h.3
 happens_rises protected slots store (Takes t) after last h =
@@ -109,9 +109,9 @@ happens_rises protected slots store (Syncs k) after last h = h.2
 happens_rises protected slots store (Ends k) after last h = none_rises store last h.1
 happens_rises protected slots store (Leaves k) after last h = none_rises store last h.2
 
-runs_rises : (protected : Bool) (slots after : Slots) (store last : Store) (es : List HallEvent) → HallRuns protected slots store es after last
+runs_rises : (protected : Bool) (slots after : Slots) (store last : Store) (es : List SlotEvent) → SlotEventsRun protected slots store es after last
     → store.failures ≤ last.failures
-unfolding HallRuns
+unfolding SlotEventsRun
 runs_rises protected slots after store last [] r = none_rises store last r.1
 runs_rises protected slots after store last (e ∷ es) r =
     let a = happens_rises protected slots store e r.0 r.1 r.2 in let b = runs_rises protected r.0 after r.1 last es r.3 in omega (arith, a, b)
@@ -124,8 +124,8 @@ none_follows : (protected : Bool) (store last : Store) → last ≡ store → Ex
 unfolding ExactExecutionsLead
 none_follows protected store last e = ap (λ (x : Store). x.disk) e
 
-happens_follows : (protected : Bool) (slots : Slots) (store : Store) (e : HallEvent) (after : Slots) (last : Store)
-    → HallEventStep protected slots store e after last →
+happens_follows : (protected : Bool) (slots : Slots) (store : Store) (e : SlotEvent) (after : Slots) (last : Store)
+    → SlotEventStep protected slots store e after last →
     last.failures ≡ store.failures → ExactExecutionsLead protected store.disk (executed_by e) last.disk
 happens_follows protected slots store (Comes k settings) after last h same = none_follows protected store last h.3
 happens_follows protected slots store (Takes t) after last h same =
@@ -138,10 +138,10 @@ happens_follows protected slots store (Syncs k) after last h same = sync_follows
 happens_follows protected slots store (Ends k) after last h same = none_follows protected store last h.1
 happens_follows protected slots store (Leaves k) after last h same = none_follows protected store last h.2
 
-pub runs_follows : (protected : Bool) (slots after : Slots) (store last : Store) (es : List HallEvent) → HallRuns protected slots store es after last
+pub runs_follows : (protected : Bool) (slots after : Slots) (store last : Store) (es : List SlotEvent) → SlotEventsRun protected slots store es after last
     → last.failures ≡ store.failures →
     ExactExecutionsLead protected store.disk (executed_in es) last.disk
-unfolding HallRuns
+unfolding SlotEventsRun
 runs_follows protected slots after store last [] r same = none_follows protected store last r.1
 runs_follows protected slots after store last (e ∷ es) r same =
     let a = happens_rises protected slots store e r.0 r.1 r.2 in

@@ -8,7 +8,7 @@ use Rattle.iscsi_target.specs.State.{Machine, TargetStep}
 use Rattle.iscsi_target.specs.Laws.{ExecutionsLead}
 use Rattle.iscsi_target.specs.Feed.{Store}
 use Rattle.iscsi_target.proofs.Steps.FailingDiskLemmas.{leads_append, may_leads, stop_leads}
-use Rattle.iscsi_sessions.specs.Turns.{Slots, Turn, IsTaskFront, IsOwn, IsEnded, OthersStay, HallEvent, Comes, Takes, Syncs, Ends, Goes, HallEventStep, HallRuns, SessionEvents, KeepsSession}
+use Rattle.iscsi_sessions.specs.Turns.{Slots, Turn, IsTaskFront, IsOwn, IsEnded, OthersStay, SlotEvent, Comes, Takes, Syncs, Ends, Goes, SlotEventStep, SlotEventsRun, SessionEvents, KeepsSession}
 use Rattle.iscsi_sessions.specs.Turns.{KeepsSlot, executed_of, executed_by, executed_in, slot_of, event_if, slot_events}
 
 -- ---- the blocks
@@ -34,8 +34,8 @@ sync_leads : (protected : Bool) (store last : Store) → last.disk ≡ store.dis
 unfolding ExecutionsLead
 sync_leads protected store last e = e
 
-happens_leads : (protected : Bool) (slots : Slots) (store : Store) (e : HallEvent) (after : Slots) (last : Store)
-    → HallEventStep protected slots store e after last →
+happens_leads : (protected : Bool) (slots : Slots) (store : Store) (e : SlotEvent) (after : Slots) (last : Store)
+    → SlotEventStep protected slots store e after last →
     ExecutionsLead protected store.disk (executed_by e) last.disk
 happens_leads protected slots store (Comes k settings) after last h = none_leads protected store last h.3
 happens_leads protected slots store (Takes t) after last h =
@@ -45,9 +45,9 @@ happens_leads protected slots store (Syncs k) after last h = sync_leads protecte
 happens_leads protected slots store (Ends k) after last h = none_leads protected store last h.1
 happens_leads protected slots store (Goes k) after last h = none_leads protected store last h.2
 
-pub runs_lead : (protected : Bool) (slots after : Slots) (store last : Store) (es : List HallEvent) → HallRuns protected slots store es after last
+pub runs_lead : (protected : Bool) (slots after : Slots) (store last : Store) (es : List SlotEvent) → SlotEventsRun protected slots store es after last
     → ExecutionsLead protected store.disk (executed_in es) last.disk
-unfolding HallRuns
+unfolding SlotEventsRun
 runs_lead protected slots after store last [] r = none_leads protected store last r.1
 runs_lead protected slots after store last (e ∷ es) r =
     leads_append protected store.disk r.1.disk last.disk (executed_by e) (executed_in es) (happens_leads protected slots store e r.0 r.1 r.2)
@@ -56,29 +56,31 @@ runs_lead protected slots after store last (e ∷ es) r =
 -- ---- one behind the other
 
 -- two runs are one
-pub runs_append : (protected : Bool) (slots mid after : Slots) (store now last : Store) (es fs : List HallEvent) → HallRuns protected slots store es mid now
-    → HallRuns protected mid now fs after last →
-    HallRuns protected slots store (es ++ fs) after last
-unfolding HallRuns
+pub runs_append : (protected : Bool) (slots mid after : Slots) (store now last : Store) (es fs : List SlotEvent) → SlotEventsRun protected slots store es
+    mid now
+    → SlotEventsRun protected mid now fs after last →
+    SlotEventsRun protected slots store (es ++ fs) after last
+unfolding SlotEventsRun
 runs_append protected slots mid after store now last [] fs r q =
-    subst (λ (s : Store). HallRuns protected slots s fs after last) r.1 (subst (λ (x : Slots). HallRuns protected x now fs after last) (fun_ext r.0) q)
+    subst (λ (s : Store). SlotEventsRun protected slots s fs after last) r.1
+    (subst (λ (x : Slots). SlotEventsRun protected x now fs after last) (fun_ext r.0) q)
 runs_append protected slots mid after store now last (e ∷ es) fs r q = (r.0, r.1, r.2, runs_append protected r.0 mid after r.1 now last es fs r.3 q)
 
 -- no event
-pub runs_none : (protected : Bool) (slots after : Slots) (store : Store) → ((k : ℕ) → after k ≡ slots k) → HallRuns protected slots store [] after store
-unfolding HallRuns
+pub runs_none : (protected : Bool) (slots after : Slots) (store : Store) → ((k : ℕ) → after k ≡ slots k) → SlotEventsRun protected slots store [] after store
+unfolding SlotEventsRun
 runs_none protected slots after store same = (same, refl)
 
 -- one event
-pub runs_one : (protected : Bool) (slots after : Slots) (store last : Store) (e : HallEvent) → HallEventStep protected slots store e after last
-    → HallRuns protected slots store (e ∷ []) after last
-unfolding HallRuns
+pub runs_one : (protected : Bool) (slots after : Slots) (store last : Store) (e : SlotEvent) → SlotEventStep protected slots store e after last
+    → SlotEventsRun protected slots store (e ∷ []) after last
+unfolding SlotEventsRun
 runs_one protected slots after store last e h = (after, last, h, ((λ k. refl), refl))
 
 -- ---- one session
 
-happens_others : (protected : Bool) (slots : Slots) (store : Store) (e : HallEvent) (after : Slots) (last : Store)
-    → HallEventStep protected slots store e after last →
+happens_others : (protected : Bool) (slots : Slots) (store : Store) (e : SlotEvent) (after : Slots) (last : Store)
+    → SlotEventStep protected slots store e after last →
     OthersStay (slot_of e) slots after
 happens_others protected slots store (Comes k settings) after last h = h.2
 happens_others protected slots store (Takes t) after last h = h.others
@@ -87,11 +89,11 @@ happens_others protected slots store (Ends k) after last h = h.0.others
 happens_others protected slots store (Goes k) after last h = h.1
 
 -- behind these events the session stands so
-abbrev StandsBehind : Bool → ℕ → Machine → List HallEvent → Slots → Type 0
+abbrev StandsBehind : Bool → ℕ → Machine → List SlotEvent → Slots → Type 0
 StandsBehind protected k s es after = (end : Machine) × (after k ≡ Some end) × SessionEvents protected s es end
 
-own_event : (protected : Bool) (k : ℕ) (slots mid after : Slots) (store now : Store) (e : HallEvent) (es : List HallEvent) (s : Machine) → slot_of e ≡ k →
-    HallEventStep protected slots store e mid now → slots k ≡ Some s → KeepsSession true e →
+own_event : (protected : Bool) (k : ℕ) (slots mid after : Slots) (store now : Store) (e : SlotEvent) (es : List SlotEvent) (s : Machine) → slot_of e ≡ k →
+    SlotEventStep protected slots store e mid now → slots k ≡ Some s → KeepsSession true e →
     ((m : Machine) → mid k ≡ Some m → StandsBehind protected k m es after) → StandsBehind protected k s (e ∷ es) after
 unfolding SessionEvents
 own_event protected k slots mid after store now (Comes j settings) es s same h has keeps go = absurd keeps
@@ -106,18 +108,18 @@ own_event protected k slots mid after store now (Ends j) es s same h has keeps g
     let is : h.0.machine ≡ s = same_Some h.0.machine s (sym h.0.had ∙ ap slots same ∙ has) in
     (rest.0, rest.1, (h.0.left, subst (λ (m : Machine). IsEnded m h.0.left) is h.0.does, rest.2))
 
-one_event : (protected : Bool) (b : Bool) (k : ℕ) (slots mid after : Slots) (store now : Store) (e : HallEvent) (es : List HallEvent) (s : Machine)
+one_event : (protected : Bool) (b : Bool) (k : ℕ) (slots mid after : Slots) (store now : Store) (e : SlotEvent) (es : List SlotEvent) (s : Machine)
     → (slot_of e == k) ≡ b →
-    HallEventStep protected slots store e mid now → slots k ≡ Some s → KeepsSession b e →
+    SlotEventStep protected slots store e mid now → slots k ≡ Some s → KeepsSession b e →
     ((m : Machine) → mid k ≡ Some m → StandsBehind protected k m es after) → StandsBehind protected k s (event_if b e es) after
 one_event protected true k slots mid after store now e es s at h has keeps go =
     own_event protected k slots mid after store now e es s (eqb-true (slot_of e) k at) h has keeps go
 one_event protected false k slots mid after store now e es s at h has keeps go = go s (happens_others protected slots store e mid now h k at ∙ has)
 
-pub own_session : (protected : Bool) (slots after : Slots) (store last : Store) (es : List HallEvent) (k : ℕ) (s : Machine)
-    → HallRuns protected slots store es after last →
+pub own_session : (protected : Bool) (slots after : Slots) (store last : Store) (es : List SlotEvent) (k : ℕ) (s : Machine)
+    → SlotEventsRun protected slots store es after last →
     slots k ≡ Some s → KeepsSlot k es → (end : Machine) × (after k ≡ Some end) × SessionEvents protected s (slot_events k es) end
-unfolding HallRuns SessionEvents
+unfolding SlotEventsRun SessionEvents
 own_session protected slots after store last [] k s r has stays = (s, r.0 k ∙ has, refl)
 own_session protected slots after store last (e ∷ es) k s r has stays =
     one_event protected (slot_of e == k) k slots r.0 after store r.1 e (slot_events k es) s refl r.2 has stays.0

@@ -45,7 +45,8 @@ changed_same place old new o within e =
     ap (λ (x : List (Option Slot)). get_or x place None) e ∙ get_or-set_same old.slots place o None within
 
 -- and each other
-pub changed_other : (place k : ℕ) (old new : SessionTable) (o : Option Slot) → (place == k) ≡ false → new.slots ≡ set old.slots place o → slot_at new k ≡ slot_at old k
+pub changed_other : (place k : ℕ) (old new : SessionTable) (o : Option Slot) → (place == k) ≡ false → new.slots ≡ set old.slots place o → slot_at new k ≡
+    slot_at old k
 changed_other place k old new o ne e =
     ap (λ (x : List (Option Slot)). get_or x k None) e ∙ get_or-set_other old.slots place k o None (λ same. eqb-false place k ne (sym same))
 

@@ -165,45 +165,46 @@ phase_now protected true old new piece n phase live f = absurd cc
 phase_now protected false old new piece n phase live f = f.fed.ends.2 ∙ ap (λ (s : Machine). s.session.phase) (sym f.fed.ends.1)
 
 -- a call of feed_next with what a slot has, kept as its parts
-pub takes_at : (protected : Bool) (old : Slot) (before after : Store) (n : ℕ) (phase : Phase) (was now : TargetConnection)
-    (out more piece unfed rest : List ℕ) (sent : ℕ) (noted notes offered : Bool)
+pub takes_at : (protected : Bool) (old : Slot) (from to : Scene) (done : ℕ × Phase)
+    (piece unfed rest : List ℕ) (sent : ℕ) (noted notes offered : Bool)
     → may_take old ≡ true
-    → record { connection = was; waiting = drop sent out; offered = offered; unfed = unfed; asks = noted } ≡ gathering old
-    → (offered ≡ false → sent ≡ 0) → piece ≡ unfed → rest ≡ drop n unfed
-    → FeedNextPost protected (scene was before out) piece (Ok (n, phase)) (scene now after more)
-    → NotesAsking protected (scene was before out) piece (Ok (n, phase)) (scene now after more) noted notes
-    → SlotFeedsNext protected old before (Ok n)
-    (record { connection = now; waiting = drop sent more; offered = offered; unfed = rest; asks = notes }) after
-takes_at protected old before after n phase was now out more piece unfed rest sent noted notes offered may same first whole left fed asks =
+    → record { connection = from.connection; waiting = drop sent from.output; offered = offered; unfed = unfed; asks = noted } ≡ gathering old
+    → (offered ≡ false → sent ≡ 0) → piece ≡ unfed → rest ≡ drop done.0 unfed
+    → FeedNextPost protected from piece (Ok done) to
+    → NotesAsking protected from piece (Ok done) to noted notes
+    → SlotFeedsNext protected old from.store (Ok done.0)
+    (record { connection = to.connection; waiting = drop sent to.output; offered = offered; unfed = rest; asks = notes }) to.store
+takes_at protected old from to done piece unfed rest sent noted notes offered may same first whole left fed asks =
     let quiet : offered ≡ false = ap (λ (s : Slot). s.offered) same in
     let none : sent ≡ 0 = first quiet in
-    let here : was ≡ old.connection = ap (λ (s : Slot). s.connection) same in
-    let waits : out ≡ old.waiting = sym (ap (λ (k : ℕ). drop k out) none) ∙ ap (λ (s : Slot). s.waiting) same in
+    let here : from.connection ≡ old.connection = ap (λ (s : Slot). s.connection) same in
+    let waits : from.output ≡ old.waiting = sym (ap (λ (k : ℕ). drop k from.output) none) ∙ ap (λ (s : Slot). s.waiting) same in
     let mine : piece ≡ old.unfed = whole ∙ ap (λ (s : Slot). s.unfed) same in
-    let ends : more ≡ drop sent more = sym (ap (λ (k : ℕ). drop k more) none) in
+    let ends : to.output ≡ drop sent to.output = sym (ap (λ (k : ℕ). drop k to.output) none) in
     let asked : noted ≡ still_asks old = ap (λ (s : Slot). s.asks) same in
     let Does : TargetConnection → List ℕ → List ℕ → List ℕ → Bool → Phase → Type 0 = λ x o p w b e.
-    FeedNextPost protected (scene x before o) p (Ok (n, e)) (scene now after w)
-    × NotesAsking protected (scene x before o) p (Ok (n, e)) (scene now after w) b notes in
-    let at_place : Does old.connection old.waiting old.unfed (drop sent more) (still_asks old) phase =
-    subst (λ (b : Bool). Does old.connection old.waiting old.unfed (drop sent more) b phase) asked
-    (subst (λ (w : List ℕ). Does old.connection old.waiting old.unfed w noted phase) ends
-    (subst (λ (p : List ℕ). Does old.connection old.waiting p more noted phase) mine
-    (subst (λ (o : List ℕ). Does old.connection o piece more noted phase) waits
-    (subst (λ (x : TargetConnection). Does x out piece more noted phase) here (fed, asks))))) in
+    FeedNextPost protected (scene x from.store o) p (Ok (done.0, e)) (scene to.connection to.store w)
+    × NotesAsking protected (scene x from.store o) p (Ok (done.0, e)) (scene to.connection to.store w) b notes in
+    let at_place : Does old.connection old.waiting old.unfed (drop sent to.output) (still_asks old) done.1 =
+    subst (λ (b : Bool). Does old.connection old.waiting old.unfed (drop sent to.output) b done.1) asked
+    (subst (λ (w : List ℕ). Does old.connection old.waiting old.unfed w noted done.1) ends
+    (subst (λ (p : List ℕ). Does old.connection old.waiting p to.output noted done.1) mine
+    (subst (λ (o : List ℕ). Does old.connection o piece to.output noted done.1) waits
+    (subst (λ (x : TargetConnection). Does x from.output piece to.output noted done.1) here (fed, asks))))) in
     let live : is_machine_closed old.connection.machine ≡ false =
     open_if (has_answer_room old) (is_machine_closed old.connection.machine) (not (length old.unfed == 0)) may in
-    let is : phase ≡ now.machine.session.phase =
-    phase_now protected (is_machine_closed old.connection.machine) (scene old.connection before old.waiting) (scene now after (drop sent more)) old.unfed n
-    phase
+    let is : done.1 ≡ to.connection.machine.session.phase =
+    phase_now protected (is_machine_closed old.connection.machine) (scene old.connection from.store old.waiting)
+    (scene to.connection to.store (drop sent to.output)) old.unfed done.0
+    done.1
     live at_place.0 in
-    let done : Does old.connection old.waiting old.unfed (drop sent more) (still_asks old) now.machine.session.phase =
-    subst (λ (e : Phase). Does old.connection old.waiting old.unfed (drop sent more) (still_asks old) e) is at_place in
+    let does : Does old.connection old.waiting old.unfed (drop sent to.output) (still_asks old) to.connection.machine.session.phase =
+    subst (λ (e : Phase). Does old.connection old.waiting old.unfed (drop sent to.output) (still_asks old) e) is at_place in
     record {
-      fed = done.0;
+      fed = does.0;
       offered = quiet;
-      unfed = left ∙ ap (λ (s : Slot). drop n s.unfed) same;
-      asks = done.1;
+      unfed = left ∙ ap (λ (s : Slot). drop done.0 s.unfed) same;
+      asks = does.1;
     }
 
 -- ---- a turn of a table

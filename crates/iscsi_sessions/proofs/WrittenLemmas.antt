@@ -15,7 +15,7 @@ use Rattle.iscsi_target.specs.Laws.{ExecutionsLead, MayLeave}
 use Rattle.iscsi_target.specs.State.{Execution}
 use Rattle.iscsi_sessions.specs.Blocks.{block_by, written_by}
 use Rattle.iscsi_sessions.specs.Flushes.{IsOrdered, IsWrittenBy}
-use Rattle.iscsi_sessions.specs.Turns.{HallEvent, HallRuns, Slots, executed_in}
+use Rattle.iscsi_sessions.specs.Turns.{SlotEvent, SlotEventsRun, Slots, executed_in}
 use Rattle.iscsi_sessions.proofs.BlockLemmas.{plan_block, plan_count}
 use Rattle.iscsi_sessions.proofs.RunLemmas.{runs_lead}
 
@@ -86,7 +86,7 @@ lead_block protected disk last (e ∷ es) f n =
       | inr later ↦ inr (inr (subst (λ (c : ℕ). IsWrittenBy protected c es n (last.block n)) counts later))
     ]
 
-pub runs_block : (protected : Bool) (slots after : Slots) (store last : Store) (es : List HallEvent) (n : ℕ) → HallRuns protected slots store es after last
+pub runs_block : (protected : Bool) (slots after : Slots) (store last : Store) (es : List SlotEvent) (n : ℕ) → SlotEventsRun protected slots store es after last
     → (last.disk.block n ≡ store.disk.block n) ⊎ IsWrittenBy protected store.disk.count (executed_in es) n (last.disk.block n)
 runs_block protected slots after store last es n r =
     lead_block protected store.disk last.disk (executed_in es) (runs_lead protected slots after store last es r) n

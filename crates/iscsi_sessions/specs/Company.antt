@@ -8,7 +8,7 @@ use Rattle.scsi_disk.specs.Disk.{Disk}
 use Rattle.iscsi_stream.specs.Stream.{Message}
 use Rattle.iscsi_target.specs.State.{Machine, TargetStep, unchanged}
 use Rattle.iscsi_target.specs.Machine.{answers, then_stepped}
-use Rattle.iscsi_sessions.specs.Turns.{HallEvent, Takes, answers_of}
+use Rattle.iscsi_sessions.specs.Turns.{SlotEvent, Takes, answers_of}
 
 -- PDUs that came together, and the disk that they met.
 abbrev pub Group : Type 0
@@ -32,25 +32,25 @@ abbrev pub HaveCount : ℕ → List Group → Type 0
 HaveCount count gs = AllByRecursion (λ g. g.0.count ≡ count) gs
 
 -- The PDUs of an event, with the disk that they met.
-abbrev pub groups_by : HallEvent → List Group
+abbrev pub groups_by : SlotEvent → List Group
 groups_by (Takes t) = (t.before.disk, t.messages) ∷ []
 groups_by _ = []
 
 -- The PDUs of events, turn by turn.
-abbrev pub groups_in : List HallEvent → List Group
+abbrev pub groups_in : List SlotEvent → List Group
 groups_in es = flat_map groups_by es
 
 -- What an event answered.
-abbrev pub answers_by : HallEvent → List Message
+abbrev pub answers_by : SlotEvent → List Message
 answers_by (Takes t) = answers_of t
 answers_by _ = []
 
 -- What events answered.
-abbrev pub answers_in : List HallEvent → List Message
+abbrev pub answers_in : List SlotEvent → List Message
 answers_in es = flat_map answers_by es
 
 -- No failure was counted in the event, and memory didn't run out.
-abbrev pub IsCalm : HallEvent → Type 0
+abbrev pub IsCalm : SlotEvent → Type 0
 IsCalm (Takes t) = (t.after.failures ≡ t.before.failures)
     × (t.front ≡ unchanged t.stepped.machine t.stepped.disk)
 IsCalm _ = Unit {0}

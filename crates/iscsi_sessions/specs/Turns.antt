@@ -86,12 +86,12 @@ pub record IsTurn (protected : Bool) (slots : Slots) (store : Store) (t : Turn) 
 
 -- What happens in a table: a session gets a free slot, takes a turn, has the store synced for its
 -- answers if these have to wait for it, has its stream ended, or leaves.
-pub data HallEvent : Type 0 where
-  Comes : ℕ → TargetSettings → HallEvent
-  Takes : Turn → HallEvent
-  Syncs : ℕ → HallEvent
-  Ends : ℕ → HallEvent
-  Goes : ℕ → HallEvent
+pub data SlotEvent : Type 0 where
+  Comes : ℕ → TargetSettings → SlotEvent
+  Takes : Turn → SlotEvent
+  Syncs : ℕ → SlotEvent
+  Ends : ℕ → SlotEvent
+  Goes : ℕ → SlotEvent
 
 -- The machine of the slot goes from one to another, and no other session changes.
 pub record MachineMoves (slot : ℕ) (slots after : Slots) (P : Machine → Machine → Type 0) : Type
@@ -104,38 +104,38 @@ pub record MachineMoves (slot : ℕ) (slots after : Slots) (P : Machine → Mach
   pub others : OthersStay slot slots after
 
 -- This happens, and the blocks change by turns alone. A sync may count failures.
-abbrev pub HallEventStep : Bool → Slots → Store → HallEvent → Slots → Store → Type 0
-HallEventStep protected slots store (Comes slot settings) after last =
+abbrev pub SlotEventStep : Bool → Slots → Store → SlotEvent → Slots → Store → Type 0
+SlotEventStep protected slots store (Comes slot settings) after last =
     (slots slot ≡ None) × (after slot ≡ Some (opening_machine settings 1))
     × OthersStay slot slots after × (last ≡ store)
-HallEventStep protected slots store (Takes t) after last = IsTurn protected slots store t after last
-HallEventStep protected slots store (Syncs slot) after last =
+SlotEventStep protected slots store (Takes t) after last = IsTurn protected slots store t after last
+SlotEventStep protected slots store (Syncs slot) after last =
     ((k : ℕ) → after k ≡ slots k) × (last.disk ≡ store.disk) × (store.failures ≤ last.failures)
-HallEventStep protected slots store (Ends slot) after last = MachineMoves slot slots after IsEnded
+SlotEventStep protected slots store (Ends slot) after last = MachineMoves slot slots after IsEnded
     × (last ≡ store)
-HallEventStep protected slots store (Goes slot) after last =
+SlotEventStep protected slots store (Goes slot) after last =
     (after slot ≡ None) × OthersStay slot slots after × (last ≡ store)
 
 -- Any events, in whatever order.
-unfoldable pub HallRuns : Bool → Slots → Store → List HallEvent → Slots → Store → Type 0
-HallRuns protected slots store [] after last = ((k : ℕ) → after k ≡ slots k) × (last ≡ store)
-HallRuns protected slots store (e ∷ es) after last =
-    (mid : Slots) × (now : Store) × HallEventStep protected slots store e mid now
-    × HallRuns protected mid now es after last
+unfoldable pub SlotEventsRun : Bool → Slots → Store → List SlotEvent → Slots → Store → Type 0
+SlotEventsRun protected slots store [] after last = ((k : ℕ) → after k ≡ slots k) × (last ≡ store)
+SlotEventsRun protected slots store (e ∷ es) after last =
+    (mid : Slots) × (now : Store) × SlotEventStep protected slots store e mid now
+    × SlotEventsRun protected mid now es after last
 
 -- What an event executed.
-abbrev pub executed_by : HallEvent → List Execution
+abbrev pub executed_by : SlotEvent → List Execution
 executed_by (Takes t) = executed_of t
 executed_by _ = []
 
 -- What was executed, whichever session had it done, in order.
-abbrev pub executed_in : List HallEvent → List Execution
+abbrev pub executed_in : List SlotEvent → List Execution
 executed_in es = flat_map executed_by es
 
 -- ---- one session's part
 
 -- The slot of an event.
-abbrev pub slot_of : HallEvent → ℕ
+abbrev pub slot_of : SlotEvent → ℕ
 slot_of (Comes slot settings) = slot
 slot_of (Takes t) = t.slot
 slot_of (Syncs slot) = slot
@@ -143,18 +143,18 @@ slot_of (Ends slot) = slot
 slot_of (Goes slot) = slot
 
 -- The event, if it is there.
-abbrev pub event_if : Bool → HallEvent → List HallEvent → List HallEvent
+abbrev pub event_if : Bool → SlotEvent → List SlotEvent → List SlotEvent
 event_if true e es = e ∷ es
 event_if false e es = es
 
 -- The events of one slot, in order.
-abbrev pub slot_events : ℕ → List HallEvent → List HallEvent
+abbrev pub slot_events : ℕ → List SlotEvent → List SlotEvent
 slot_events slot [] = []
 slot_events slot (e ∷ es) = event_if (slot_of e == slot) e (slot_events slot es)
 
 -- These events are one session's, from a machine on: each goes on from where the last one left it,
 -- over the blocks that it met.
-unfoldable pub SessionEvents : Bool → Machine → List HallEvent → Machine → Type 0
+unfoldable pub SessionEvents : Bool → Machine → List SlotEvent → Machine → Type 0
 SessionEvents protected s [] last = last ≡ s
 SessionEvents protected s (Takes t ∷ es) last =
     (mid : Machine) × IsOwn protected s t × IsLeftSession t.front.machine mid
@@ -166,7 +166,7 @@ SessionEvents protected s (Comes slot settings ∷ es) last = ⊥
 SessionEvents protected s (Goes slot ∷ es) last = ⊥
 
 -- The event leaves the session of the slot there.
-abbrev pub KeepsSession : Bool → HallEvent → Type 0
+abbrev pub KeepsSession : Bool → SlotEvent → Type 0
 KeepsSession false e = Unit {0}
 KeepsSession true (Takes t) = Unit {0}
 KeepsSession true (Syncs slot) = Unit {0}
@@ -175,7 +175,7 @@ KeepsSession true (Comes slot settings) = ⊥
 KeepsSession true (Goes slot) = ⊥
 
 -- In these events one session has the slot throughout.
-abbrev pub KeepsSlot : ℕ → List HallEvent → Type 0
+abbrev pub KeepsSlot : ℕ → List SlotEvent → Type 0
 KeepsSlot slot [] = Unit {0}
 KeepsSlot slot (e ∷ es) = KeepsSession (slot_of e == slot) e × KeepsSlot slot es
 
@@ -210,9 +210,9 @@ pub record TakesTurn (protected : Bool) (slot : ℕ) (old : SessionTable) (befor
   pub cache : OnOk result (has_cache_at (slot_at new slot) ≡ has_cache_at (slot_at old slot))
 
 -- This happened in the table, and no block changed.
-abbrev pub HappensIn : HallEvent → SessionTable → SessionTable → Type 0
+abbrev pub HappensIn : SlotEvent → SessionTable → SessionTable → Type 0
 HappensIn e old new =
-    (protected : Bool) (store : Store) → HallEventStep protected (machines old) store
+    (protected : Bool) (store : Store) → SlotEventStep protected (machines old) store
     e (machines new) store
 
 -- No session changed.

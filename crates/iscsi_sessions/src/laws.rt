@@ -22,9 +22,9 @@ ghost use Rattle.iscsi_target.specs.declared.fault.TargetFault.{TargetFault};
 ghost use Rattle.iscsi_target.specs.Asking.{NoneAsks};
 ghost use Rattle.iscsi_target.specs.Crash.{CrashesNext, IsBehindCommand};
 ghost use Rattle.iscsi_target.specs.Feed.{TargetConnection, Store};
-ghost use Rattle.iscsi_target.specs.Laws.{AreInOrder, Command, CountOn, HasCmdSn, ExecutionsLead, cmd_sns, joined_execution, response_tags, stat_sns, tasks_done, tasks_in};
+ghost use Rattle.iscsi_target.specs.Laws.{AreInOrder, TaggedOrder, CountOn, HasCmdSn, ExecutionsLead, cmd_sns, joined_execution, response_tags, stat_sns, orders_done, orders_asked};
 ghost use Rattle.iscsi_sessions.specs.Slots.{SessionTable, Slot, has_cache_at, may_take_at, must_sync, slot_at, slot_waiting};
-ghost use Rattle.iscsi_sessions.specs.Turns.{HallEvent, HallRuns, Slots, SessionEvents, KeepsSlot, TakesTurn, answers_of, slot_events, executed_in, executed_of};
+ghost use Rattle.iscsi_sessions.specs.Turns.{SlotEvent, SlotEventsRun, Slots, SessionEvents, KeepsSlot, TakesTurn, answers_of, slot_events, executed_in, executed_of};
 ghost use Rattle.iscsi_sessions.specs.Blocks.{ExactExecutionsLead, block_left};
 ghost use Rattle.iscsi_sessions.specs.Flushes.{AreNextCommands, AreNoted, Change, IsOrdered, IsWrittenBy, IsWrittenIn, LeaveInTurn, CrashLeavesCommands, change, owed_behind};
 ghost use Rattle.iscsi_sessions.specs.Bounds.{ExecutesFew, HoldsFew, IsNumbered};
@@ -38,13 +38,13 @@ use scsi_disk::BlockStore;
 pub fn one_disk_of_all()
     // Over a store that may fail, each does what it does, or what it may do where the device fails.
     ensures may { (protected : Bool) (slots after : Slots) (store last : Store)
-        (es : List HallEvent)
-        → HallRuns protected slots store es after last
+        (es : List SlotEvent)
+        → SlotEventsRun protected slots store es after last
         → ExecutionsLead protected store.disk (executed_in es) last.disk }
     // Where no failure was counted, each does exactly what it does.
     ensures follows { (protected : Bool) (slots after : Slots)
-        (store last : Store) (es : List HallEvent)
-        → HallRuns protected slots store es after last → last.failures ≡ store.failures
+        (store last : Store) (es : List SlotEvent)
+        → SlotEventsRun protected slots store es after last → last.failures ≡ store.failures
         → ExactExecutionsLead protected store.disk (executed_in es) last.disk }
 {}
 
@@ -53,9 +53,9 @@ pub fn one_disk_of_all()
 /// write, the READ gives what the block was at first. The blocks in the end are so too.
 pub fn last_write_is_read()
     ensures read { (protected : Bool) (slots after : Slots) (store last : Store)
-        (es : List HallEvent)
+        (es : List SlotEvent)
         (past later : List Execution) (e : Execution) (length : ℕ)
-        → HallRuns protected slots store es after last → last.failures ≡ store.failures
+        → SlotEventsRun protected slots store es after last → last.failures ≡ store.failures
         → executed_in es ≡ past ++ e ∷ later → is_read e.order.cdb ≡ true
         → plan_of e.order store.disk.count ≡ Give length
         → bytes_given protected e
@@ -63,8 +63,8 @@ pub fn last_write_is_read()
         (named_transfer e.order.cdb).first
         (named_transfer e.order.cdb).count) }
     ensures blocks { (protected : Bool) (slots after : Slots) (store last : Store)
-        (es : List HallEvent) (n : ℕ)
-        → HallRuns protected slots store es after last → last.failures ≡ store.failures
+        (es : List SlotEvent) (n : ℕ)
+        → SlotEventsRun protected slots store es after last → last.failures ≡ store.failures
         → last.disk.block n ≡ block_left protected store.disk (executed_in es) n }
 {}
 
@@ -83,8 +83,8 @@ pub fn flushed_lasts<S: BlockStore>()
         → (bytes ≡ disk.block n) ⊎ IsOrdered protected disk.count orders n bytes }
     // And the block had what it had at the flush, or what a command wrote that was executed since.
     ensures had { (protected : Bool) (slots after : Slots) (store last : Store)
-        (es : List HallEvent)
-        (n : ℕ) → HallRuns protected slots store es after last
+        (es : List SlotEvent)
+        (n : ℕ) → SlotEventsRun protected slots store es after last
         → (last.disk.block n ≡ store.disk.block n)
         ⊎ IsWrittenBy protected store.disk.count (executed_in es) n (last.disk.block n) }
     // A turn of a slot is such a change (`SessionTable::take`, clause `crash`), and so is a sync.
@@ -113,8 +113,8 @@ pub fn flushed_lasts<S: BlockStore>()
 /// over the blocks that it met, whatever other sessions do between them.
 pub fn each_its_own()
     ensures own { (protected : Bool) (slots after : Slots) (store last : Store)
-        (es : List HallEvent) (slot : ℕ)
-        (s : Machine) → HallRuns protected slots store es after last → slots slot ≡ Some s
+        (es : List SlotEvent) (slot : ℕ)
+        (s : Machine) → SlotEventsRun protected slots store es after last → slots slot ≡ Some s
         → KeepsSlot slot es
         → (end : Machine) × (after slot ≡ Some end)
         × SessionEvents protected s (slot_events slot es) end }
@@ -124,28 +124,28 @@ pub fn each_its_own()
 /// is what that slot's turns executed, one after another.
 pub fn own_order()
     // The one list of what was executed, each with its slot.
-    ensures all { (es : List HallEvent) → map (λ p. p.1) (placed_in es) ≡ executed_in es }
-    ensures turns { (es : List HallEvent) (slot : ℕ)
+    ensures all { (es : List SlotEvent) → map (λ p. p.1) (placed_in es) ≡ executed_in es }
+    ensures turns { (es : List SlotEvent) (slot : ℕ)
         → executed_for slot (placed_in es) ≡ executed_in (slot_events slot es) }
     // Suppose that one session has the slot, no failure was counted and memory was there. Then the
     // commands that the list has of the slot are those of the session's own machine with its own
     // PDUs, pieces of data joined.
     ensures own { (protected : Bool) (slots after : Slots) (store last : Store)
-        (es : List HallEvent) (slot : ℕ)
-        (s : Machine) → HallRuns protected slots store es after last → slots slot ≡ Some s
+        (es : List SlotEvent) (slot : ℕ)
+        (s : Machine) → SlotEventsRun protected slots store es after last → slots slot ≡ Some s
         → KeepsSlot slot es
         → AllByRecursion IsCalm (slot_events slot es) → (disk : Disk)
         → map joined_execution (executed_for slot (placed_in es)) ≡ map joined_execution
         (answers_over protected s disk (groups_in (slot_events slot es))).executed }
     // They are the commands that it accepted, in their order, and then come those that wait.
     ensures accepted { (protected : Bool) (slots after : Slots) (store last : Store)
-        (es : List HallEvent) (slot n : ℕ)
-        (settings : TargetSettings) → HallRuns protected slots store es after last
+        (es : List SlotEvent) (slot n : ℕ)
+        (settings : TargetSettings) → SlotEventsRun protected slots store es after last
         → slots slot ≡ Some (opening_machine settings n) → KeepsSlot slot es
-        → AllByRecursion IsCalm (slot_events slot es) → (disk : Disk) → (more : List Command)
-        × (tasks_in settings.extras.unit (answers_over protected (opening_machine settings n) disk
+        → AllByRecursion IsCalm (slot_events slot es) → (disk : Disk) → (more : List TaggedOrder)
+        × (orders_asked settings.extras.unit (answers_over protected (opening_machine settings n) disk
         (groups_in (slot_events slot es))).accepted
-        ≡ tasks_done (executed_for slot (placed_in es)) ++ more) }
+        ≡ orders_done (executed_for slot (placed_in es)) ++ more) }
 {}
 
 /// Little is there of a session at a time, whatever came to it in company, and whatever the store
@@ -156,11 +156,11 @@ pub fn own_order()
 /// to one PDU. Beside these it keeps what its framer holds of one PDU and one read.
 pub fn few_at_a_time()
     ensures tasks { (protected : Bool) (settings : TargetSettings) (n : ℕ)
-        (end : Machine) (es : List HallEvent)
+        (end : Machine) (es : List SlotEvent)
         → SessionEvents protected (opening_machine settings n) es end → AllByRecursion IsNumbered es
         → length end.tasks ≤ 9 }
     ensures executed { (protected : Bool) (settings : TargetSettings) (n : ℕ)
-        (end : Machine) (es : List HallEvent)
+        (end : Machine) (es : List SlotEvent)
         → SessionEvents protected (opening_machine settings n) es end → AllByRecursion IsNumbered es
         → AllByRecursion ExecutesFew es }
     // Where no failure was counted, a write that waits for data has at most 4,194,304 bytes of them.
@@ -187,7 +187,7 @@ pub fn few_at_a_time()
 /// each group of PDUs meets a disk of its own.
 pub fn in_company()
     // This is what a session of a table answers, where no failure was counted and memory was there.
-    ensures session { (protected : Bool) (s end : Machine) (es : List HallEvent)
+    ensures session { (protected : Bool) (s end : Machine) (es : List SlotEvent)
         → SessionEvents protected s es end
         → AllByRecursion IsCalm es
         → (disk : Disk) → answers_in es ≡ (answers_over protected s disk (groups_in es)).answers }

@@ -1,4 +1,5 @@
-//! The slots of several sessions over one store.
+//! The slots of several sessions over one store. One file, more than half of which is the contracts
+//! of one type.
 
 ghost use Rattle.std.specs.Prelude.{◌≡◌, ◌≤◌, ℕ, false, length, option_map, is_none, is_some, replicate, true, None, Some, IfOk, IfSome, IfNone, OnOk, OnErr};
 ghost use Rattle.std.specs.List.{position};
@@ -8,7 +9,7 @@ ghost use Rattle.iscsi_target.specs.Crash.{CrashesNext};
 ghost use Rattle.iscsi_target.specs.Advances.{store_of};
 ghost use Rattle.iscsi_sessions.specs.Slots.{expected_command_at, initiator_at, opening_slot, phase_of, may_read_at, may_take_at, most_read, must_sync, slot_with_read, with_sent, slot_waiting, slot_at, with_slot, SlotChanges, SlotTakesPdu, SlotFinishes};
 ghost use Rattle.iscsi_sessions.specs.Reinstatement.{takes_place_of};
-ghost use Rattle.iscsi_sessions.specs.Turns.{Comes, Ends, Goes, HallEventStep, HappensIn, SameMachines, Syncs, TakesTurn, machines};
+ghost use Rattle.iscsi_sessions.specs.Turns.{Comes, Ends, Goes, SlotEventStep, HappensIn, SameMachines, Syncs, TakesTurn, machines};
 
 use crate::slot::Slot;
 use iscsi_login::Phase;
@@ -259,7 +260,7 @@ impl SessionTable {
             (S.failures store.new)
             (S.untold store.old) (S.untold store.new) result }
         // Whatever comes of it, it is the event of a sync.
-        ensures syncs { HallEventStep S.protected (machines self.now)
+        ensures syncs { SlotEventStep S.protected (machines self.now)
             (store_of (S.disk store.old) (S.failures store.old)) (Syncs slot)
             (machines self.now) (store_of (S.disk store.new) (S.failures store.new)) }
     {

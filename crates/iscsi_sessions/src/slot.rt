@@ -8,14 +8,12 @@ ghost use Rattle.iscsi_sessions.specs.Reinstatement.{is_served, session_of, take
 ghost use Rattle.iscsi_sessions.specs.Slots.{opening_slot, phase_of, is_slot_idle, has_answer_room, may_read, may_take, most_read, must_sync, slot_with_read, with_sent, SlotFeedsNext, SlotFinishes};
 ghost use Rattle.iscsi_sessions.specs.inner.Slots.{gathering};
 
-use iscsi_login::{Phase, Session};
-use iscsi_target::{Config, Target, TargetFault};
+use iscsi_login::{Phase, Session as SessionType};
+use iscsi_target::{Config, FIRST_STAT_SN, Target, TargetFault};
 use scsi_disk::BlockStore;
 use std::alloc::{AllocError, Global};
 use std::marker::Model;
 
-/// The StatSN of a session's first answer.
-const FIRST_STAT_SN: u32 = 1;
 /// The most bytes that are read at a time.
 pub const MOST_READ: usize = 65_536;
 /// How many bytes of answers wait at most: these are written before more are gathered.
@@ -119,7 +117,7 @@ impl Slot {
         ensures { result ≡ is_served (session_of self.now) }
     {
         matches!(self.target.phase(), Phase::Full)
-            && matches!(self.target.session_type(), Session::Normal)
+            && matches!(self.target.session_type(), SessionType::Normal)
     }
 
     // Whether the session goes on, and nothing waits.

@@ -11,7 +11,7 @@ use Rattle.iscsi_stream.specs.declared.fault.StreamFault.{StreamFault}
 use Rattle.iscsi_stream.specs.declared.fault.StreamFault.TheVariants as faults
 use Rattle.iscsi_stream.specs.Stream.{pdu_len}
 use Rattle.iscsi_stream.specs.Framing.{length_at, content_len, settled, is_whole_pdu, begun_len, IsBegun, ReachesHeader}
-use Rattle.iscsi_stream.specs.inner.Gathering.{filling, IsBody, GathersPdu, FillsBody, HeaderFails, GatherFails}
+use Rattle.iscsi_stream.specs.inner.Gathering.{Filling, filling, IsBody, GathersPdu, FillsBody, HeaderFails, GatherFails}
 use Rattle.iscsi_stream.proofs.HeadLemmas.{length_at-same, header-length}
 use Rattle.iscsi_stream.proofs.SettledBytesLemmas.{settled-short}
 
@@ -245,16 +245,21 @@ header_fails (faults.OverLimit p) limit place room header held piece is reaches 
 header_fails (faults.Truncated p) limit place room header held piece is reaches h = absurd h
 header_fails faults.Failed limit place room header held piece is reaches h = absurd h
 
+-- what a header says: the head, and the length of the segment
+pub record Announced : Type 0 where
+  pub head : Head
+  pub len : ℕ
+
 -- a header that becomes whole, and then bytes of its body
-pub gathers_both : (limit : ℕ) (header header_new : List ℕ) (filled : ℕ) (piece rest : List ℕ) (n : ℕ) (h : Head) (len room m : ℕ) (segment_new : List ℕ)
-    (room_new padded_new : ℕ)
+pub gathers_both : (limit : ℕ) (header header_new : List ℕ) (filled : ℕ) (piece rest : List ℕ) (n : ℕ) (said : Announced) (room m : ℕ) (into : Filling)
+    (room_new : ℕ)
     → length header ≡ 48 → length header_new ≡ 48 → filled < 48 → filled + n ≡ 48 → n ≤ length piece → take (filled + n) header_new ≡ take filled header
     ++ take n piece → rest ≡ drop n piece
-    → IsBody limit header_new (filling [] 0) room h len → FillsBody len (filling [] 0) rest m (filling segment_new padded_new) → len ≤ room_new
-    → GathersPdu limit (take filled header) piece (n + m) (header_new ++ (segment_new ++ replicate padded_new 0))
-    × IsBody limit header_new (filling segment_new padded_new) room_new h len
-gathers_both limit header header_new filled piece rest n h len room m segment_new room_new padded_new size size_new short full bound taken is body fills fit =
-    let both = gathers_body limit header_new [] room h len 0 rest m segment_new room_new padded_new size_new body fills fit in
+    → IsBody limit header_new (filling [] 0) room said.head said.len → FillsBody said.len (filling [] 0) rest m into → said.len ≤ room_new
+    → GathersPdu limit (take filled header) piece (n + m) (header_new ++ (into.segment ++ replicate into.padded 0))
+    × IsBody limit header_new into room_new said.head said.len
+gathers_both limit header header_new filled piece rest n said room m into room_new size size_new short full bound taken is body fills fit =
+    let both = gathers_body limit header_new [] room said.head said.len 0 rest m into.segment room_new into.padded size_new body fills fit in
     let old = take filled header in
     let whole : header_new ≡ old ++ take n piece = sym (take_all (filled + n) header_new (omega arith)) ∙ taken in
     let rest_size : length rest ≡ length piece - n = ap length is ∙ length-drop n piece in

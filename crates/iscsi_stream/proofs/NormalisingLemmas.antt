@@ -18,14 +18,14 @@ use Rattle.iscsi_pdu.specs.Meaning.{AreBytes}
 use Rattle.iscsi_stream.specs.declared.normalising.Form.{Form}
 use Rattle.iscsi_stream.specs.Framing.{Framing, opening_framing, is_ready, IsBegun, HasTaken, FinishFails}
 use Rattle.iscsi_stream.specs.Normalising.{StreamRestFails, AreCounts, WritesUntil, AtEnd, WroteFront}
-use Rattle.iscsi_stream.specs.inner.Passing.{IsDueOutput, passing_progress, PassesOn, AppendedDue, PassingStops, PassFails}
+use Rattle.iscsi_stream.specs.inner.Passing.{PassingProgress, IsDueOutput, passing_progress, PassesOn, AppendedDue, PassingStops, PassFails}
 use Rattle.iscsi_stream.proofs.SettledBytesLemmas.{length-settled}
 use Rattle.iscsi_stream.proofs.ReadyLemmas.{apart, unready_of, not_whole-nil}
 use Rattle.iscsi_stream.proofs.GatheringLemmas.{take-add}
 use Rattle.iscsi_stream.proofs.OneMeaningLaw.{AreBytes-front, count-shorter}
 use Rattle.iscsi_stream.proofs.TakingLemmas.{at_opening, splits_taken}
 use Rattle.iscsi_stream.proofs.DueLemmas.{due_none, due_append, due_short}
-use Rattle.iscsi_stream.proofs.LoopInvariants.{WrittenUpTo, sides}
+use Rattle.iscsi_stream.proofs.LoopInvariants.{Sides, WrittenUpTo, sides}
 
 pub AreBytes-append : (xs ys : List ℕ) → AreBytes xs → AreBytes ys → AreBytes (xs ++ ys)
 AreBytes-append xs ys p q i =
@@ -158,27 +158,28 @@ not_truncated tool.TextTooLong form v piece before after Ended fails = tt
 not_truncated tool.NotHex form v piece before after Ended fails = tt
 not_truncated (tool.Protocol rule) form v piece before after Ended fails = tt
 
-pub pass_stops : (e : ToolFault) (form : Form) (v : Framing) (k : Counts) (i : ℕ) (r0 r1 r2 w0 w1 w2 : Option (List ℕ)) (piece out : List ℕ) → i < 16777216 →
-    length piece ≤ 4096 → AreBytes piece → WrittenUpTo form v k i (sides r0 w0) (sides r1 w1) → Consumes r1 r2 piece
-    → AppendedDue form v piece [] out → PassFails form v piece [] out e → Appends w1 w2 out → Answered r0 r2 w0 w2 (WritesUntil (IsDueOutput form) e)
-pass_stops tool.NoMemory form v k i r0 r1 r2 w0 w1 w2 piece out lt le bytes up read part fails wrote =
+pub pass_stops : (e : ToolFault) (form : Form) (v : Framing) (k : Counts) (i : ℕ) (from here to : Sides) (piece out : List ℕ) → i < 16777216 →
+    length piece ≤ 4096 → AreBytes piece → WrittenUpTo form v k i from here → Consumes here.remaining to.remaining piece
+    → AppendedDue form v piece [] out → PassFails form v piece [] out e → Appends here.contents to.contents out → Answered from.remaining to.remaining
+    from.contents to.contents (WritesUntil (IsDueOutput form) e)
+pass_stops tool.NoMemory form v k i from here to piece out lt le bytes up read part fails wrote =
     let r = part.reaches up.read up.ms up.taken in (
       up.read ++ piece,
       up.out ++ part.out,
       AreBytes-append up.read piece up.bytes bytes,
-      Consumes-trans r0 r1 r2 up.read piece up.consumed read,
-      wrote_on w0 w1 w2 up.out part.out out up.written part.appended wrote,
+      Consumes-trans from.remaining here.remaining to.remaining up.read piece up.consumed read,
+      wrote_on from.contents here.contents to.contents up.out part.out out up.written part.appended wrote,
       (up.ms ++ part.more, r.0, r.1, r.2, due_append form up.ms part.more up.out part.out up.due part.due),
     )
-pass_stops (tool.Stream f) form v k i r0 r1 r2 w0 w1 w2 piece out lt le bytes up read part fails wrote =
+pass_stops (tool.Stream f) form v k i from here to piece out lt le bytes up read part fails wrote =
     let all = AreBytes-append up.read piece up.bytes bytes in
     let stop = stop_of f form v piece [] out fails in
     let r = stop.stops up.read up.ms up.taken all (omega (arith, up.small, length-append up.read piece)) in (
       up.read ++ piece,
       up.out ++ stop.out,
       all,
-      Consumes-trans r0 r1 r2 up.read piece up.consumed read,
-      wrote_on w0 w1 w2 up.out stop.out out up.written stop.appended wrote,
+      Consumes-trans from.remaining here.remaining to.remaining up.read piece up.consumed read,
+      wrote_on from.contents here.contents to.contents up.out stop.out out up.written stop.appended wrote,
       (
         up.ms ++ stop.more,
         r.0,
@@ -187,25 +188,26 @@ pass_stops (tool.Stream f) form v k i r0 r1 r2 w0 w1 w2 piece out lt le bytes up
         (r.3, due_append form up.ms stop.more up.out stop.out up.due stop.due, r.4),
       ),
     )
-pass_stops tool.Read form v k i r0 r1 r2 w0 w1 w2 piece out lt le bytes up read part fails wrote = absurd fails
-pass_stops tool.Write form v k i r0 r1 r2 w0 w1 w2 piece out lt le bytes up read part fails wrote = absurd fails
-pass_stops (tool.Text f) form v k i r0 r1 r2 w0 w1 w2 piece out lt le bytes up read part fails wrote = absurd fails
-pass_stops tool.TextTooLong form v k i r0 r1 r2 w0 w1 w2 piece out lt le bytes up read part fails wrote = absurd fails
-pass_stops tool.NotHex form v k i r0 r1 r2 w0 w1 w2 piece out lt le bytes up read part fails wrote = absurd fails
-pass_stops (tool.Protocol rule) form v k i r0 r1 r2 w0 w1 w2 piece out lt le bytes up read part fails wrote = absurd fails
+pass_stops tool.Read form v k i from here to piece out lt le bytes up read part fails wrote = absurd fails
+pass_stops tool.Write form v k i from here to piece out lt le bytes up read part fails wrote = absurd fails
+pass_stops (tool.Text f) form v k i from here to piece out lt le bytes up read part fails wrote = absurd fails
+pass_stops tool.TextTooLong form v k i from here to piece out lt le bytes up read part fails wrote = absurd fails
+pass_stops tool.NotHex form v k i from here to piece out lt le bytes up read part fails wrote = absurd fails
+pass_stops (tool.Protocol rule) form v k i from here to piece out lt le bytes up read part fails wrote = absurd fails
 
-pub write_stops : (e : ToolFault) (form : Form) (v : Framing) (k : Counts) (i : ℕ) (r0 r1 r2 w0 w1 w2 : Option (List ℕ)) (piece out : List ℕ) → AreBytes piece →
-    WrittenUpTo form v k i (sides r0 w0) (sides r1 w1) → Consumes r1 r2 piece
-    → AppendedDue form v piece [] out → e ≡ tool.Write → WroteFront w1 w2 out → Answered r0 r2 w0 w2 (WritesUntil (IsDueOutput form) e)
-write_stops e form v k i r0 r1 r2 w0 w1 w2 piece out bytes up read part is front =
+pub write_stops : (e : ToolFault) (form : Form) (v : Framing) (k : Counts) (i : ℕ) (from here to : Sides) (piece out : List ℕ) → AreBytes piece →
+    WrittenUpTo form v k i from here → Consumes here.remaining to.remaining piece
+    → AppendedDue form v piece [] out → e ≡ tool.Write → WroteFront here.contents to.contents out → Answered from.remaining to.remaining from.contents
+    to.contents (WritesUntil (IsDueOutput form) e)
+write_stops e form v k i from here to piece out bytes up read part is front =
     let r = part.reaches up.read up.ms up.taken in
     let n = front.0 in
-    subst (λ (f : ToolFault). Answered r0 r2 w0 w2 (WritesUntil (IsDueOutput form) f)) (sym is) (
+    subst (λ (f : ToolFault). Answered from.remaining to.remaining from.contents to.contents (WritesUntil (IsDueOutput form) f)) (sym is) (
       up.read ++ piece,
       up.out ++ take n out,
       AreBytes-append up.read piece up.bytes bytes,
-      Consumes-trans r0 r1 r2 up.read piece up.consumed read,
-      Appends-trans w0 w1 w2 up.out (take n out) up.written front.1,
+      Consumes-trans from.remaining here.remaining to.remaining up.read piece up.consumed read,
+      Appends-trans from.contents here.contents to.contents up.out (take n out) up.written front.1,
       (
         up.ms ++ part.more,
         r.0,
@@ -220,20 +222,20 @@ write_stops e form v k i r0 r1 r2 w0 w1 w2 piece out bytes up read part is front
       ),
     )
 
-pub read_more : (form : Form) (v w : Framing) (k n : Counts) (i sum : ℕ) (r0 r1 r2 w0 w1 w2 : Option (List ℕ)) (piece out : List ℕ) (more : List Message) → i
-    < 16777216 → length piece ≤ 4096 → AreBytes piece → WrittenUpTo form v k i (sides r0 w0) (sides r1 w1) → Consumes r1 r2 piece
+pub read_more : (form : Form) (v : Framing) (done : PassingProgress) (k : Counts) (i sum : ℕ) (from here to : Sides) (piece : List ℕ) (more : List Message) → i
+    < 16777216 → length piece ≤ 4096 → AreBytes piece → WrittenUpTo form v k i from here → Consumes here.remaining to.remaining piece
     → sum ≡ min (k.bytes_in + length piece) (2 ^ 64 - 1)
-    → (let m : Counts = record k { bytes_in = sum } in PassesOn form (passing_progress v [] m) (passing_progress w out n) piece more) →
-    Appends w1 w2 out → WrittenUpTo form w n (i + 1) (sides r0 w0) (sides r2 w2)
-read_more form v w k n i sum r0 r1 r2 w0 w1 w2 piece out more lt le bytes up read sum-is passes wrote =
+    → (let m : Counts = record k { bytes_in = sum } in PassesOn form (passing_progress v [] m) done piece more) →
+    Appends here.contents to.contents done.appended → WrittenUpTo form done.framing done.counts (i + 1) from to
+read_more form v done k i sum from here to piece more lt le bytes up read sum-is passes wrote =
     let taken = passes.moves up.read up.ms up.taken in
     let all = AreBytes-append up.read piece up.bytes bytes in
     let front = AreBytes-front taken.given taken.rest (subst AreBytes taken.whole all) in
     let due = due_append form up.ms more up.out passes.out up.due passes.due in
     let len = length-append up.read piece in
     let given : length taken.given ≤ length (up.read ++ piece) = omega (arith, ap length taken.whole, length-append taken.given taken.rest) in
-    let short = due_short form w.limit no_login taken.given (up.ms ++ more) (up.out ++ passes.out) front taken.reads due in
-    let fewer = count-shorter w.limit no_login taken.given (up.ms ++ more) taken.reads in
+    let short = due_short form done.framing.limit no_login taken.given (up.ms ++ more) (up.out ++ passes.out) front taken.reads due in
+    let fewer = count-shorter done.framing.limit no_login taken.given (up.ms ++ more) taken.reads in
     let count : length (up.ms ++ more) ≡ length up.ms + length more = length-append up.ms more in
     let size : length (up.out ++ passes.out) ≡ length up.out + length passes.out = length-append up.out passes.out in
     record {
@@ -245,8 +247,8 @@ read_more form v w k n i sum r0 r1 r2 w0 w1 w2 piece out more lt le bytes up rea
       limit = passes.limit ∙ up.limit;
       unready = passes.unready;
       due = due;
-      consumed = Consumes-trans r0 r1 r2 up.read piece up.consumed read;
-      written = wrote_on w0 w1 w2 up.out passes.out out up.written passes.appended wrote;
+      consumed = Consumes-trans from.remaining here.remaining to.remaining up.read piece up.consumed read;
+      written = wrote_on from.contents here.contents to.contents up.out passes.out done.appended up.written passes.appended wrote;
       small = omega (arith, up.small, len);
       pdus = (let one = passes.counted.pdus (omega (arith, up.pdus, up.small)) in omega (arith, one, up.pdus));
       bytes_in = omega (arith, passes.counted.bytes_in, sum-is, up.bytes_in, up.small, len);

@@ -17,7 +17,7 @@ use Rattle.iscsi_stream.specs.Stream.{Message, pdu_len, longest_segment, SplitsS
 use Rattle.iscsi_stream.specs.declared.normalising.Form.{Form}
 use Rattle.iscsi_stream.specs.Framing.{Framing, holding, length_at, begun_len, is_whole_pdu, is_ready, settled, FramerTakes, FramerFeedFails, HasTaken, FramerMoves, pdu_given_up, message_of, last_place}
 use Rattle.iscsi_stream.specs.Headers.{skipped}
-use Rattle.iscsi_stream.specs.inner.Passing.{IsDueOutput, passing_progress, PassesOn, CountedMore, AppendedDue, PassFails}
+use Rattle.iscsi_stream.specs.inner.Passing.{PassingProgress, IsDueOutput, passing_progress, PassesOn, CountedMore, AppendedDue, PassFails}
 use Rattle.iscsi_stream.proofs.GatheringLemmas.{begun_len-long, is_full}
 use Rattle.iscsi_stream.proofs.HeadLemmas.{AreBytes-take, header-length, means-length, means_of}
 use Rattle.iscsi_stream.proofs.SettledBytesLemmas.{settled-short, length-settled, is_whole-settled}
@@ -114,33 +114,34 @@ counted_then k m n xs ys a b p q =
       bytes_out = λ lt. (let one = p.bytes_out (omega arith) in let two = q.bytes_out (omega arith) in omega arith);
     }
 
-passes_then : (form : Form) (u v w : Framing) (x y : List ℕ) (ms ns : List Message) (a b c : List ℕ) (k m n : Counts) →
-    PassesOn form (passing_progress u a k) (passing_progress v b m) x ms →
-    PassesOn form (passing_progress v b m) (passing_progress w c n) y ns → PassesOn form (passing_progress u a k) (passing_progress w c n) (x ++ y) (ms ++ ns)
-passes_then form u v w x y ms ns a b c k m n p q = record {
-  moves = moves_then u v w x y ms ns p.moves q.moves;
+passes_then : (form : Form) (first second third : PassingProgress) (x y : List ℕ) (ms ns : List Message) →
+    PassesOn form first second x ms →
+    PassesOn form second third y ns → PassesOn form first third (x ++ y) (ms ++ ns)
+passes_then form first second third x y ms ns p q = record {
+  moves = moves_then first.framing second.framing third.framing x y ms ns p.moves q.moves;
   limit = q.limit ∙ p.limit;
   unready = q.unready;
   out = p.out ++ q.out;
   due = due_append form ms ns p.out q.out p.due q.due;
-  appended = q.appended ∙ ap (λ (z : List ℕ). z ++ q.out) p.appended ∙ append_assoc a p.out q.out;
-  counted = counted_then k m n ms ns p.out q.out p.counted q.counted;
+  appended = q.appended ∙ ap (λ (z : List ℕ). z ++ q.out) p.appended ∙ append_assoc first.appended p.out q.out;
+  counted = counted_then first.counts second.counts third.counts ms ns p.out q.out p.counted q.counted;
 }
 
 -- feed and then the ready PDU
-pub passed_more : (form : Form) (piece rest : List ℕ) (old v u w : Framing) (a b c : List ℕ) (k m n : Counts) (taken : ℕ) (more : List Message) →
-    PassedUpTo form piece rest (passing_progress old a k) (passing_progress v b m) → FramerTakes v rest taken u
-    → PassesOn form (passing_progress u b m) (passing_progress w c n) [] more
-    → PassedUpTo form piece (take (length rest - taken) (drop taken rest)) (passing_progress old a k) (passing_progress w c n)
-passed_more form piece rest old v u w a b c k m n taken more upto takes one = record {
+pub passed_more : (form : Form) (piece rest : List ℕ) (from here : PassingProgress) (u : Framing) (to : PassingProgress) (taken : ℕ) (more : List Message) →
+    PassedUpTo form piece rest from here → FramerTakes here.framing rest taken u
+    → PassesOn form (passing_progress u here.appended here.counts) to [] more
+    → PassedUpTo form piece (take (length rest - taken) (drop taken rest)) from to
+passed_more form piece rest from here u to taken more upto takes one = record {
   before = upto.before ++ take taken rest;
   more = upto.more ++ more;
   parts = upto.parts ∙ ap (λ (x : List ℕ). upto.before ++ x) (sym (take-append-drop taken rest)
       ∙ ap (λ (x : List ℕ). take taken rest ++ x) (sym (take_rest rest taken))) ∙
       sym (append_assoc upto.before (take taken rest) (take (length rest - taken) (drop taken rest)));
-  passes = passes_then form old v w upto.before (take taken rest) upto.more more a b c k m n upto.passes (record {
-    moves = λ s ms t. taken_at ((s ++ take taken rest) ++ []) (s ++ take taken rest) ((ms ++ []) ++ more) (ms ++ more) w (append-nil (s ++ take taken rest))
-        (ap (λ (x : List Message). x ++ more) (append-nil ms)) (one.moves (s ++ take taken rest) (ms ++ []) (moves_fed v rest taken u takes s ms t));
+  passes = passes_then form from here to upto.before (take taken rest) upto.more more upto.passes (record {
+    moves = λ s ms t. taken_at ((s ++ take taken rest) ++ []) (s ++ take taken rest) ((ms ++ []) ++ more) (ms ++ more) to.framing
+        (append-nil (s ++ take taken rest))
+        (ap (λ (x : List Message). x ++ more) (append-nil ms)) (one.moves (s ++ take taken rest) (ms ++ []) (moves_fed here.framing rest taken u takes s ms t));
     limit = one.limit ∙ ap (λ (x : Framing). x.limit) takes.gathered;
     unready = one.unready;
     out = one.out;
@@ -176,10 +177,10 @@ passed_all form piece rest old v a b k m none upto =
 
 -- ---- where it stops
 
-whole_is : (form : Form) (piece rest : List ℕ) (old v : Framing) (a b : List ℕ) (k m : Counts)
-    (upto : PassedUpTo form piece rest (passing_progress old a k) (passing_progress v b m)) (s : List ℕ)
-    (ms : List Message) (now : HasTaken (s ++ upto.before) ms v) → s ++ piece ≡ now.given ++ (now.rest ++ rest)
-whole_is form piece rest old v a b k m upto s ms now =
+whole_is : (form : Form) (piece rest : List ℕ) (from here : PassingProgress)
+    (upto : PassedUpTo form piece rest from here) (s : List ℕ)
+    (ms : List Message) (now : HasTaken (s ++ upto.before) ms here.framing) → s ++ piece ≡ now.given ++ (now.rest ++ rest)
+whole_is form piece rest from here upto s ms now =
     ap (λ (x : List ℕ). s ++ x) upto.parts ∙ sym (append_assoc s upto.before rest) ∙ ap (λ (x : List ℕ). x ++ rest) now.whole
     ∙ append_assoc now.given now.rest rest
 
@@ -199,7 +200,7 @@ passed_part form piece rest old v a b c k m upto limit same = record {
     now.given,
     now.rest ++ rest,
     record {
-      whole = whole_is form piece rest old v a b k m upto s (ms ++ upto.more) now;
+      whole = whole_is form piece rest (passing_progress old a k) (passing_progress v b m) upto s (ms ++ upto.more) now;
       reads = now_reads (s ++ upto.before) (ms ++ upto.more) v now (upto.passes.limit ∙ limit);
     },
   ));
@@ -261,12 +262,12 @@ limit_splits s p ms place v t fails =
     )
 
 -- no segment is longer than a header can say
-never_over : (form : Form) (piece rest : List ℕ) (old v : Framing) (a b : List ℕ) (k m : Counts)
-    (upto : PassedUpTo form piece rest (passing_progress old a k) (passing_progress v b m)) (s : List ℕ)
-    (ms : List Message) (now : HasTaken (s ++ upto.before) ms v) (h : Head) (n : ℕ)
+never_over : (form : Form) (piece rest : List ℕ) (from here : PassingProgress)
+    (upto : PassedUpTo form piece rest from here) (s : List ℕ)
+    (ms : List Message) (now : HasTaken (s ++ upto.before) ms here.framing) (h : Head) (n : ℕ)
     → AreBytes (s ++ piece) → IsHeader (take 48 (now.rest ++ rest)) h n → longest_segment < n → ⊥
-never_over form piece rest old v a b k m upto s ms now h n bytes r lt =
-    let behind = AreBytes-back now.given (now.rest ++ rest) (subst AreBytes (whole_is form piece rest old v a b k m upto s ms now) bytes) in
+never_over form piece rest from here upto s ms now h n bytes r lt =
+    let behind = AreBytes-back now.given (now.rest ++ rest) (subst AreBytes (whole_is form piece rest from here upto s ms now) bytes) in
     omega (arith, lt, IsHeader-short (take 48 (now.rest ++ rest)) h n (AreBytes-take 48 (now.rest ++ rest) behind) r)
 
 pub feed_stops : (e : StreamFault) (form : Form) (piece rest : List ℕ) (old v : Framing) (a b : List ℕ) (k m : Counts) →
@@ -281,7 +282,7 @@ feed_stops (stream.Head f p) form piece rest old v a b k m upto limit fails = re
   stops = λ s ms t bytes lt. (
       let now = upto.passes.moves s ms t in
       let front = refused v rest (s ++ upto.before) (ms ++ upto.more) now fails.1.before in
-      let whole = whole_is form piece rest old v a b k m upto s (ms ++ upto.more) now in
+      let whole = whole_is form piece rest (passing_progress old a k) (passing_progress v b m) upto s (ms ++ upto.more) now in
       let bad = ap head_fault (sym front) ∙ fails.2 in (
         now.given,
         now.rest ++ rest,
@@ -303,7 +304,7 @@ feed_stops (stream.OverLimit p) form piece rest old v a b k m upto limit fails =
       let now = upto.passes.moves s ms t in
       let over = fails.1 in
       let front = refused v rest (s ++ upto.before) (ms ++ upto.more) now over.2.reaches.before in
-      absurd (never_over form piece rest old v a b k m upto s (ms ++ upto.more) now over.0 over.1 bytes
+      absurd (never_over form piece rest (passing_progress old a k) (passing_progress v b m) upto s (ms ++ upto.more) now over.0 over.1 bytes
       (subst (λ (x : List ℕ). IsHeader x over.0 over.1) front over.2.header) (omega (arith, over.3, upto.passes.limit, limit))));
 }
 feed_stops (stream.Truncated p) form piece rest old v a b k m upto limit fails = absurd fails

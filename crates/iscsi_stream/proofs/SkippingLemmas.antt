@@ -121,7 +121,8 @@ takes_both old mid new piece rest n m is h t =
     }
 
 -- behind a header that was taken no byte is refused
-pub none_fails : (old mid : Framing) (piece rest : List ℕ) (n : ℕ) (e : StreamFault) → rest ≡ drop n piece → TakesHeader old piece n mid → FramerFeedFails mid rest e → ⊥
+pub none_fails : (old mid : Framing) (piece rest : List ℕ) (n : ℕ) (e : StreamFault) → rest ≡ drop n piece → TakesHeader old piece n mid → FramerFeedFails
+    mid rest e → ⊥
 none_fails old mid piece rest n e is h f = at e f
   where
     size : length rest ≡ length piece - n
@@ -138,11 +139,13 @@ none_fails old mid piece rest n e is h f = at e f
     at (faults.Head fault place) f = never f.1
     at (faults.OverLimit place) f = never f.1.2.reaches
     at (faults.Truncated place) f = f
-    at faults.Failed f = absurd (let failed : mid.failed ≡ true = f in let live : mid.failed ≡ false = ap (λ (x : Framing). x.failed) h.takes.gathered ∙ h.takes.live in cc)
+    at faults.Failed f = absurd (let failed : mid.failed ≡ true = f in let live : mid.failed ≡ false = ap (λ (x : Framing). x.failed) h.takes.gathered ∙
+        h.takes.live in cc)
 
 -- ---- a PDU that is given up at its header
 
-pub skipped_is : (v : Framing) (limit place : ℕ) (logins : Logins) (room : ℕ) (h : Head) (len : ℕ) → limit ≡ v.limit → place ≡ min (v.place + pdu_len len) last_place →
+pub skipped_is : (v : Framing) (limit place : ℕ) (logins : Logins) (room : ℕ) (h : Head) (len : ℕ) → limit ≡ v.limit → place ≡ min (v.place + pdu_len len)
+    last_place →
     logins ≡ logins_after v.logins h → room ≡ v.room → v.failed ≡ false
     → (let w : Framing = record { limit = limit; place = place; logins = logins; held = []; room = room; failed = false } in w ≡ skipped v h len)
 skipped_is v limit place logins room h len a b c d e = rw (a, b, c, d, e) refl
@@ -151,7 +154,8 @@ skipped_is v limit place logins room h len a b c d e = rw (a, b, c, d, e) refl
 
 -- bytes that go to it are taken as the framer takes them
 pub fills : (v : Framing) (segment : List ℕ) (padded : ℕ) (h : Head) (len : ℕ) (piece : List ℕ) (n : ℕ) (segment_new : List ℕ) (padded_new : ℕ) →
-    v.failed ≡ false → IsBody v.limit v.held (filling segment padded) v.room h len → FillsBody len (filling segment padded) piece n (filling segment_new padded_new) →
+    v.failed ≡ false → IsBody v.limit v.held (filling segment padded) v.room h len → FillsBody len (filling segment padded) piece n
+    (filling segment_new padded_new) →
     FramerTakes (with_body v segment padded) piece n (with_body v segment_new padded_new) × IsBody v.limit v.held (filling segment_new padded_new) v.room h len
 fills v segment padded h len piece n segment_new padded_new live body f =
     let both = gathers_body v.limit v.held segment v.room h len padded piece n segment_new v.room padded_new body.says.size body f body.has_room in
@@ -170,7 +174,8 @@ fills v segment padded h len piece n segment_new padded_new live body f =
       both.1,
     )
 
-pub body_ready : (v : Framing) (segment : List ℕ) (padded : ℕ) (h : Head) (len : ℕ) → v.failed ≡ false → IsBody v.limit v.held (filling segment padded) v.room h len →
+pub body_ready : (v : Framing) (segment : List ℕ) (padded : ℕ) (h : Head) (len : ℕ) → v.failed ≡ false → IsBody v.limit v.held (filling segment padded)
+    v.room h len →
     len ≤ length segment → padding len ≤ padded → is_ready (with_body v segment padded) ≡ true
 body_ready v segment padded h len live body full all =
     ready_of v.failed (v.held ++ (segment ++ replicate padded 0)) live (body_whole v.limit v.held segment v.room h len padded body.says.size body full all)

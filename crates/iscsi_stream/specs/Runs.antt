@@ -4,8 +4,8 @@ use Rattle.std.specs.Prelude.{◌≡◌, ℕ, List, [], ◌∷◌, ◌++◌, tak
 use Rattle.iscsi_pdu.specs.declared.head.Head.{Head}
 use Rattle.iscsi_pdu.specs.Meaning.{Means}
 use Rattle.iscsi_stream.specs.declared.logins.Logins.{Logins}
-use Rattle.iscsi_stream.specs.Segment.{continues, logins_after, segment_of}
-use Rattle.iscsi_stream.specs.Stream.{Message}
+use Rattle.iscsi_stream.specs.Segment.{continues, logins_after}
+use Rattle.iscsi_stream.specs.Stream.{Message, message}
 use Rattle.iscsi_stream.specs.Framing.{Framing, FramerTakes, pdu_given_up, is_ready}
 use Rattle.std.specs.Bool.{IsTrue}
 
@@ -33,5 +33,4 @@ unfoldable pub messages_of : Logins → List Call → List Message
 messages_of logins [] = []
 messages_of logins (Feed piece taken ∷ calls) = messages_of logins calls
 messages_of logins (Take head segment ∷ calls) =
-    (record { head = head; segment = segment_of (continues logins head) head segment }) ∷
-    messages_of (logins_after logins head) calls
+    message (continues logins head) head segment ∷ messages_of (logins_after logins head) calls

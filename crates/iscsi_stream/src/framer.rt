@@ -8,9 +8,9 @@ ghost use Rattle.iscsi_stream.specs.Framing.{opening_framing, is_ready, FramerTa
 ghost use Rattle.iscsi_stream.specs.Headers.{TakesHeader, skipped};
 
 use crate::fault::StreamFault;
-use crate::gathering::{Buffer, HEADER, Stage, gather};
+use crate::gathering::{Buffer, Stage, gather};
 use crate::logins::Logins;
-use iscsi_pdu::{Head, Pdu, pad};
+use iscsi_pdu::{HEADER_LEN, Head, Pdu, pad};
 use std::alloc::Global;
 use std::marker::Model;
 
@@ -113,7 +113,7 @@ impl Framer {
         ensures err { IfErr result (FramerFeedFails self.old piece.now) }
         ensures stopped { OnErr result (self.new ≡ stopped self.old) }
     {
-        let lacking = HEADER.saturating_sub(self.held());
+        let lacking = HEADER_LEN.saturating_sub(self.held());
         self.feed(&piece[..piece.len().min(lacking)])
     }
 
@@ -151,7 +151,7 @@ impl Framer {
             return;
         };
         let logins = self.logins.after(head);
-        let length = HEADER as u64 + u64::from(len) + u64::from(pad(len));
+        let length = HEADER_LEN as u64 + u64::from(len) + u64::from(pad(len));
         self.place = self.place.saturating_add(length);
         self.logins = logins;
         self.stage = Stage::Header(0);
@@ -178,7 +178,7 @@ impl Framer {
         ensures { self.old.held ≡ [] → self.new ≡ skipped self.old head.now 0 }
     {
         self.logins = self.logins.after(head);
-        self.place = self.place.saturating_add(HEADER as u64);
+        self.place = self.place.saturating_add(HEADER_LEN as u64);
     }
 
     /// Whether a PDU with this head, which is the next one, continues another login PDU.
@@ -251,7 +251,7 @@ impl Framer {
         }
         match self.stage {
             Stage::Header(filled) => filled,
-            Stage::Body { padded, .. } => HEADER + self.buffer.segment.len() + padded as usize,
+            Stage::Body { padded, .. } => HEADER_LEN + self.buffer.segment.len() + padded as usize,
         }
     }
 

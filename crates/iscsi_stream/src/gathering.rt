@@ -8,10 +8,7 @@ ghost use Rattle.iscsi_stream.specs.Gathering.{gathered};
 ghost use Rattle.iscsi_stream.specs.inner.Gathering.{HasSegmentRoom, filling, IsBody, FramerInv, GathersPdu, FillsBody, HeaderFails, GatherFails};
 
 use crate::fault::StreamFault;
-use iscsi_pdu::{Head, pad, read_head};
-
-/// How many bytes the basic header segment has (RFC 7143, section 11.2.1).
-pub(crate) const HEADER: usize = 48;
+use iscsi_pdu::{HEADER_LEN, Head, pad, read_head};
 
 /// How much of a PDU is gathered.
 #[derive(Clone, Copy)]
@@ -40,7 +37,7 @@ fn fill_header(header: &mut [u8; 48], filled: usize, piece: &[u8]) -> usize
     ensures room { filled + result ≤ 48 }
     ensures stops { result < length piece.now → filled + result ≡ 48 }
 {
-    let taken = piece.len().min(HEADER - filled);
+    let taken = piece.len().min(HEADER_LEN - filled);
     header[filled..filled + taken].copy_from_slice(&piece[..taken]);
     taken
 }
@@ -132,7 +129,7 @@ pub(crate) fn gather(
         Stage::Header(filled) => {
             let filled = *filled;
             let taken = fill_header(header, filled, piece);
-            if filled + taken < HEADER {
+            if filled + taken < HEADER_LEN {
                 *stage = Stage::Header(filled + taken);
                 return Ok(taken);
             }

@@ -13,10 +13,9 @@ use crate::canonical_form::canonical_of;
 use crate::counts::Counts;
 use crate::fault::ToolFault;
 use crate::framer::Framer;
-use crate::gathering::HEADER;
 use crate::io::{PIECE, Reads, write_fully};
 use crate::lines::show_line;
-use iscsi_pdu::{Head, Pdu, read_bare_head};
+use iscsi_pdu::{HEADER_LEN, Head, Pdu, read_bare_head};
 use std::alloc::{AllocError, Global};
 use std::io::{Read, Write};
 
@@ -156,7 +155,7 @@ fn pass_on(
             let bare = read_bare_head(header);
             if let Some(head) = &bare {
                 append_bare(form, framer, head, out, counts)?;
-                rest = &rest[HEADER..];
+                rest = &rest[HEADER_LEN..];
                 continue;
             }
         }

@@ -1,7 +1,9 @@
 pub mod ArrivalLemmas
 pub mod NotingLemmas
 pub mod PrefixLemmas
+pub mod FedStreamLemmas
 pub mod FeedingLemmas
+pub mod FeedStepLemmas
 pub mod FeedInvariant
 pub mod HeldStaysLaw
 pub mod StreamingLemmas

@@ -1,4 +1,5 @@
--- What the calls of a target do: a stream that comes in pieces (RFC 7143, section 11).
+-- What the calls of a target do: a stream that comes in pieces (RFC 7143, section 11). One file, since each
+-- call is told by the ones before it.
 --
 -- `protected` says of the store that it refuses each write.
 use Rattle.std.specs.Prelude.{◌≡◌, ◌≢◌, ◌≤◌, ◌<◌, ◌⊎◌, ℕ, Bool, true, false, List, [], ◌∷◌, ◌++◌, length, take, drop, Some, None, Result, Ok, Err}

@@ -93,25 +93,25 @@ pub record HasCmdSn (m : Message) : Type 0 where
 -- ---- one disk
 
 -- A command by its tag and what it orders (section 11.3).
-abbrev pub Command : Type 0
-Command = ℕ × Order
+abbrev pub TaggedOrder : Type 0
+TaggedOrder = ℕ × Order
 
 -- The command of a request, if it is one, to a disk that may tell more of itself (section 11.3).
-abbrev pub task_in : Option LogicalUnit → Head → List Command
-task_in unit (heads.ScsiCommand h) = (h.initiator_task_tag, order_of unit h) ∷ []
-task_in unit _ = []
+abbrev pub order_asked : Option LogicalUnit → Head → List TaggedOrder
+order_asked unit (heads.ScsiCommand h) = (h.initiator_task_tag, order_of unit h) ∷ []
+order_asked unit _ = []
 
 -- The commands among requests (section 11.3).
-abbrev pub tasks_in : Option LogicalUnit → List Message → List Command
-tasks_in unit ms = flat_map (λ m. task_in unit m.head) ms
+abbrev pub orders_asked : Option LogicalUnit → List Message → List TaggedOrder
+orders_asked unit ms = flat_map (λ m. order_asked unit m.head) ms
 
 -- The command that was executed (section 11.3).
-abbrev pub task_of : Execution → Command
-task_of e = (e.initiator_task_tag, e.order)
+abbrev pub order_done : Execution → TaggedOrder
+order_done e = (e.initiator_task_tag, e.order)
 
 -- The commands that were executed (section 11.3).
-abbrev pub tasks_done : List Execution → List Command
-tasks_done es = map task_of es
+abbrev pub orders_done : List Execution → List TaggedOrder
+orders_done es = map order_done es
 
 -- An order that was executed, with its data (section 11.3).
 abbrev pub supplied : Execution → Supplied
@@ -134,14 +134,14 @@ ExecutionsLead protected disk (e ∷ es) last =
     × ExecutionsLead protected after.disk es last
 
 -- The command of a task, if it is one (section 11.3).
-abbrev pub task_open : Task → List Command
-task_open (kinds.Command tag order) = (tag, order) ∷ []
-task_open (kinds.Data w) = (w.initiator_task_tag, w.order) ∷ []
-task_open (kinds.Request kept) = []
+abbrev pub order_waiting : Task → List TaggedOrder
+order_waiting (kinds.Command tag order) = (tag, order) ∷ []
+order_waiting (kinds.Data w) = (w.initiator_task_tag, w.order) ∷ []
+order_waiting (kinds.Request kept) = []
 
 -- The commands among tasks (section 11.3).
-abbrev pub tasks_open : List Task → List Command
-tasks_open tasks = flat_map task_open tasks
+abbrev pub orders_waiting : List Task → List TaggedOrder
+orders_waiting tasks = flat_map order_waiting tasks
 
 -- The tag of the command that an answer is the response to (section 11.4).
 abbrev pub response_tag : Head → List ℕ
@@ -196,10 +196,10 @@ due_for protected e = told_of e.initiator_task_tag (effect_of protected e).outco
 -- The commands that were accepted are those that were executed, in their order, and then those of
 -- the tasks that there are, unless the session is closed (section 4.2.2.1).
 pub record AreInOrder (r : TargetStep) : Type 0 where
-  pub more : List Command
-  pub order : tasks_in (unit_of r.machine.session) r.accepted ≡ tasks_done r.executed ++ more
+  pub more : List TaggedOrder
+  pub order : orders_asked (unit_of r.machine.session) r.accepted ≡ orders_done r.executed ++ more
   pub open_ : is_machine_closed r.machine ≡ false
-      → more ≡ tasks_open r.machine.tasks
+      → more ≡ orders_waiting r.machine.tasks
 
 -- ---- tasks in their turn
 

@@ -1,4 +1,5 @@
--- The target machine: what each PDU leads to, over whole messages (RFC 7143, sections 4 to 11).
+-- The target machine: what each PDU leads to, over whole messages (RFC 7143, sections 4 to 11). One file,
+-- since it is one step, from the PDU to its answers.
 --
 -- `target_step` is one message, and `answers` any number of them. What comes of a PDU in full feature phase
 -- (`full_met`) is apart from the tasks that are done (`done_in_turn`). A login stands in `Login`,

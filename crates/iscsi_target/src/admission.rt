@@ -1,9 +1,9 @@
-//! What is judged of a PDU.
+//! The checks on a PDU before it is accepted.
 
 use iscsi_pdu::DataOut;
 use iscsi_target_session::InboundRequest;
 
-/// What is judged of a PDU in full feature phase (RFC 7143, section 4.2).
+/// What the checks on a PDU in full feature phase find (RFC 7143, section 4.2).
 #[derive(Clone, Copy)]
 pub enum Admission {
     /// A request outside the window, which is dropped.

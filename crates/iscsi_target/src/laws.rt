@@ -1,5 +1,6 @@
 //! Laws of the target machine: functions that do nothing, whose contracts are the theorems. They
-//! speak of the definitions in `specs`, which the contracts of the working functions cite too.
+//! speak of the definitions in `specs`, which the contracts of the working functions cite too. One
+//! file, since it has nothing but contracts.
 
 ghost use Rattle.std.specs.Prelude.{Bool, ◌≡◌, ◌≢◌, ◌≤◌, ◌<◌, ◌+◌, ◌%◌, ◌^◌, ◌++◌, ◌∷◌, [], ℕ, false, true, List, Result, Some, length, map};
 ghost use Rattle.std.specs.List.{AllByRecursion};
@@ -34,7 +35,7 @@ ghost use Rattle.iscsi_login.specs.declared.stage.Stage.TheVariants as stages;
 ghost use Rattle.iscsi_target.specs.Feed.{TargetsAlike, TargetConnection, TargetFeedPost, CallsAlike, FeedsAllPieces, GoesWell, TargetReachesOrClosed, TargetReaches, SameSession, Store, StoreAndOutputReached, beginning, opening_target, scene, stream_of};
 ghost use Rattle.iscsi_target.specs.Tiles.{TilesDataIn, IsTiled, IsModest, total_of, r2t_ranges, r2ts_answered};
 ghost use Rattle.iscsi_target.specs.Sessions.{LoginIsAnswered, LoginLeads, WriteIsAnswered};
-ghost use Rattle.iscsi_target.specs.Laws.{BeginsAs, CountOn, stat_sns, cmd_sns, HasCmdSn, supplied, due_for, told_in, ExecutionsLead, tasks_done, response_tags, AreInOrder, IsOutside, joined_stepped};
+ghost use Rattle.iscsi_target.specs.Laws.{BeginsAs, CountOn, stat_sns, cmd_sns, HasCmdSn, supplied, due_for, told_in, ExecutionsLead, orders_done, response_tags, AreInOrder, IsOutside, joined_stepped};
 
 /// Worked sessions: a login, where it leads, and a write, to the last byte. Others are computed
 /// where this is proved.
@@ -58,7 +59,7 @@ pub fn one_disk()
         → ExecutionsLead protected disk r.executed r.disk }
     ensures answered { (protected : Bool) (s : Machine) (disk : Disk) (ms : List Message)
         → response_tags (answers protected s disk ms).answers
-        ≡ map (λ task. task.0) (tasks_done (answers protected s disk ms).executed) }
+        ≡ map (λ task. task.0) (orders_done (answers protected s disk ms).executed) }
     // A response says of its command what came of it: status, residual and sense data.
     ensures told { (protected : Bool) (s : Machine) (disk : Disk) (ms : List Message)
         → told_in (answers protected s disk ms).answers

@@ -21,4 +21,4 @@ pub use alike::{Answered, answer_pieces, answers_alike};
 pub use due::Due;
 pub use fault::TargetFault;
 pub use iscsi_target_session::{Config, Status};
-pub use target::Target;
+pub use target::{FIRST_STAT_SN, Target};

@@ -15,13 +15,14 @@ mod arriving;
 mod checks;
 mod data_in;
 mod dispatch;
+mod queue;
 mod reads;
 mod scsi_command;
 mod source;
 mod writes;
 
 use crate::tasks::{Tasks, asks_head};
-use iscsi_login::{Params, Phase, Session as SessionType, Stage};
+use iscsi_login::Phase;
 use iscsi_pdu::Head;
 use iscsi_target_session::{Config, Numbers, Received, Session};
 use std::alloc::{AllocError, Global};
@@ -54,11 +55,11 @@ impl Machine {
         }
     }
 
-    /// What is held of each key.
-    pub fn params(&self) -> &Params
-        ensures { result.now ≡ self.now.session.held }
+    /// Its session.
+    pub fn session(&self) -> &Session
+        ensures { result.now ≡ self.now.session }
     {
-        self.session.held()
+        &self.session
     }
 
     /// What the session is doing.
@@ -77,34 +78,6 @@ impl Machine {
         ensures { result ≡ is_machine_closed self.now }
     {
         self.session.is_closed()
-    }
-
-    /// The initiator's name, once it gave one.
-    pub fn initiator_name(&self) -> &[u8]
-        ensures { result.now ≡ self.now.session.initiator_name }
-    {
-        self.session.initiator_name()
-    }
-
-    /// The ISID of the first Login Request.
-    pub fn isid(&self) -> [u8; 6]
-        ensures { result ≡ self.now.session.isid }
-    {
-        self.session.isid()
-    }
-
-    /// Whether the session is normal or of discovery.
-    pub fn session_type(&self) -> SessionType
-        ensures { result ≡ self.now.session.session_type }
-    {
-        self.session.session_type()
-    }
-
-    /// The stage of the login.
-    pub fn stage(&self) -> Stage
-        ensures { result ≡ self.now.session.stage }
-    {
-        self.session.stage()
     }
 
     /// Whether the disk has a write cache.

@@ -26,6 +26,9 @@ use scsi_disk::BlockStore;
 use std::alloc::Global;
 use std::marker::Model;
 
+/// The StatSN of the first answer of a session of the programs.
+pub const FIRST_STAT_SN: u32 = 1;
+
 /// A target's session: it takes the bytes of an initiator and appends its answers.
 ///
 /// | Phase | What holds |
@@ -187,7 +190,7 @@ impl Target {
     pub fn params(&self) -> &Params
         ensures held { result.now ≡ self.now.machine.session.held }
     {
-        self.intake.machine().params()
+        self.intake.machine().session().held()
     }
 
     /// What the session is doing.
@@ -202,7 +205,7 @@ impl Target {
     pub fn initiator_name(&self) -> &[u8]
         ensures name { result.now ≡ self.now.machine.session.initiator_name }
     {
-        self.intake.machine().initiator_name()
+        self.intake.machine().session().initiator_name()
     }
 
     /// The CmdSN that the next numbered request is to have (ExpCmdSN; RFC 7143, section 4.2.2.1). It
@@ -217,7 +220,7 @@ impl Target {
     pub fn isid(&self) -> [u8; 6]
         ensures isid { result ≡ self.now.machine.session.isid }
     {
-        self.intake.machine().isid()
+        self.intake.machine().session().isid()
     }
 
     /// Whether the session is normal, as it is until the first text of the login says otherwise, or
@@ -225,7 +228,7 @@ impl Target {
     pub fn session_type(&self) -> SessionType
         ensures session_type { result ≡ self.now.machine.session.session_type }
     {
-        self.intake.machine().session_type()
+        self.intake.machine().session().session_type()
     }
 
     /// Where the login is: security at first, then the stage of the first request that isn't
@@ -234,7 +237,7 @@ impl Target {
     pub fn stage(&self) -> Stage
         ensures stage { result ≡ self.now.machine.session.stage }
     {
-        self.intake.machine().stage()
+        self.intake.machine().session().stage()
     }
 
     /// Ends the stream. Returns `Stream` with `Truncated` where it ends within a PDU, which closes

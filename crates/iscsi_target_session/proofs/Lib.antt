@@ -1,4 +1,5 @@
 pub mod CaseLemmas
+pub mod RefusalLemmas
 pub mod ReplyBytesLemmas
 pub mod LoginTextLemmas
 pub mod TextReadingLemmas

@@ -31,12 +31,14 @@ again_by : (keys : List (List ℕ)) (seen : List Bool) (n : ℕ) (ps : Pairs) �
     || repeats_key (drop (n + 1) keys) (drop (n + 1) seen) ps
 again_by keys seen n ps lt lt' = λ i. repeats_key (drop_more keys n [] lt i) (drop_more seen n false lt' i) ps
 
-pub again_found : (seen : List Bool) (n : ℕ) (ps : Pairs) → n < length known_keys → length seen ≡ length known_keys → repeated (get_or seen n false) (get_or known_keys n []) ps ≡ true
+pub again_found : (seen : List Bool) (n : ℕ) (ps : Pairs) → n < length known_keys → length seen ≡ length known_keys → repeated (get_or seen n false)
+    (get_or known_keys n []) ps ≡ true
     → repeats_key (drop n known_keys) (drop n seen) ps ≡ true
 again_found seen n ps lt size found = again_by known_keys seen n ps lt (omega (arith, lt, size))
     ∙ ap (λ (b : Bool). b || repeats_key (drop (n + 1) known_keys) (drop (n + 1) seen) ps) found
 
-pub again_more : (seen : List Bool) (n : ℕ) (ps : Pairs) → n < length known_keys → length seen ≡ length known_keys → repeated (get_or seen n false) (get_or known_keys n []) ps ≡ false
+pub again_more : (seen : List Bool) (n : ℕ) (ps : Pairs) → n < length known_keys → length seen ≡ length known_keys → repeated (get_or seen n false)
+    (get_or known_keys n []) ps ≡ false
     → repeats_key (drop (n + 1) known_keys) (drop (n + 1) seen) ps ≡ repeats_key (drop n known_keys) (drop n seen) ps
 again_more seen n ps lt size not_found = sym (again_by known_keys seen n ps lt (omega (arith, lt, size))
     ∙ ap (λ (b : Bool). b || repeats_key (drop (n + 1) known_keys) (drop (n + 1) seen) ps) not_found)
@@ -45,7 +47,8 @@ seen_by : (keys : List (List ℕ)) (seen : List Bool) (n : ℕ) (ps : Pairs) →
     → seen_with (drop n keys) (drop n seen) ps ≡ (get_or seen n false || has_key (get_or keys n []) ps) ∷ seen_with (drop (n + 1) keys) (drop (n + 1) seen) ps
 seen_by keys seen n ps lt lt' = λ i. seen_with (drop_more keys n [] lt i) (drop_more seen n false lt' i) ps
 
-pub seen_more : (seen now next : List Bool) (n : ℕ) (ps : Pairs) (b : Bool) → n < length known_keys → length seen ≡ length known_keys → length now ≡ length known_keys → b
+pub seen_more : (seen now next : List Bool) (n : ℕ) (ps : Pairs) (b : Bool) → n < length known_keys → length seen ≡ length known_keys → length now ≡ length
+    known_keys → b
     ≡ (get_or seen n false || has_key (get_or known_keys n []) ps)
     → take n now ++ seen_with (drop n known_keys) (drop n seen) ps ≡ seen_with known_keys seen ps
     → take (n + 1) (slice_set now n b) ++ seen_with (drop (n + 1) known_keys) (drop (n + 1) seen) ps ≡ seen_with known_keys seen ps
@@ -55,7 +58,8 @@ seen_more seen now next n ps b lt size size' is before =
     ∙ ap (λ (x : Bool). take n now ++ x ∷ seen_with (drop (n + 1) known_keys) (drop (n + 1) seen) ps) is
     ∙ ap (λ (x : List Bool). take n now ++ x) (sym (seen_by known_keys seen n ps lt (omega (arith, lt, size)))) ∙ before
 
-pub seen_all : (seen now : List Bool) (n : ℕ) (ps : Pairs) → length known_keys ≤ n → length now ≡ length known_keys → take n now ++ seen_with (drop n known_keys) (drop n seen) ps
+pub seen_all : (seen now : List Bool) (n : ℕ) (ps : Pairs) → length known_keys ≤ n → length now ≡ length known_keys → take n now ++ seen_with
+    (drop n known_keys) (drop n seen) ps
     ≡ seen_with known_keys seen ps → now ≡ seen_with known_keys seen ps
 seen_all seen now n ps le size h =
     sym (append-nil now) ∙ ap (λ (x : List Bool). x ++ []) (sym (take_all n now (omega (arith, le, size))))

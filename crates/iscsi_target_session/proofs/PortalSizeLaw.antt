@@ -42,7 +42,8 @@ address_short (Some portal) group p lt =
     let all = one_pair (codes "TargetAddress") (portal ++ codes "," ++ canonical_number group) in
     omega (arith, tag, few, one, two, all)
 
-pub told_short : (settings : TargetSettings) → IsName settings.name → IfSome settings.extras.portal IsPortal → settings.group < 2 ^ 16 → length (announced settings) ≤ 511
+pub told_short : (settings : TargetSettings) → IsName settings.name → IfSome settings.extras.portal IsPortal → settings.group < 2 ^ 16 → length
+    (announced settings) ≤ 511
 told_short settings name portal group =
     let few = name.few in
     let front = one_pair (codes "TargetName") settings.name in

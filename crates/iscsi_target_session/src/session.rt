@@ -19,7 +19,7 @@ use crate::config::Config;
 use crate::numbers::Numbers;
 use crate::received::Received;
 use iscsi_access::Progress;
-use iscsi_login::{Params, Phase, Stage};
+use iscsi_login::{Params, Phase, Session as SessionType, Stage};
 use iscsi_pdu::rule::PROTOCOL_ERROR;
 use iscsi_pdu::{Head, Reject};
 use iscsi_stream::{canonical_head, write_pdu};
@@ -47,7 +47,7 @@ pub struct Session {
     progress: Progress,
     initiator_name: Vec<u8>,
     isid: [u8; 6],
-    session_type: iscsi_login::Session,
+    session_type: SessionType,
     held: Params,
     exp_cmd_sn: u32,
     stat_sn: u32,
@@ -94,7 +94,7 @@ impl Session {
             progress: Progress::Unasked,
             initiator_name: Vec::new(alloc),
             isid: [0; 6],
-            session_type: iscsi_login::Session::Normal,
+            session_type: SessionType::Normal,
             held: Params::defaults(),
             exp_cmd_sn: 0,
             stat_sn: first_statsn,
@@ -144,7 +144,7 @@ impl Session {
     }
 
     /// Whether the session is normal or of discovery.
-    pub fn session_type(&self) -> iscsi_login::Session
+    pub fn session_type(&self) -> SessionType
         ensures { result ≡ self.now.session_type }
     {
         self.session_type

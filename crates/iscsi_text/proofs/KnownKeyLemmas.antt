@@ -32,9 +32,11 @@ found_in : (xs : List NegKey) (rest : List (List ℕ × KeyKind)) (name : List �
 found_in [] rest name = refl
 found_in (x ∷ xs) rest name = by (found_in xs rest name) (bytes_eq (name_of x) name)
   where
-    by : kind_in (map (λ key. (name_of key, kind_by (rule_of key))) xs ++ rest) name ≡ kind_or (find (λ key. bytes_eq (name_of key) name) xs) (kind_in rest name) →
+    by : kind_in (map (λ key. (name_of key, kind_by (rule_of key))) xs ++ rest) name ≡ kind_or (find (λ key. bytes_eq (name_of key) name) xs)
+        (kind_in rest name) →
         (t : Bool) → option_map (λ k. k.1) (cond t (Some (name_of x, kind_by (rule_of x))) (find (λ k. bytes_eq k.0 name)
-        (map (λ key. (name_of key, kind_by (rule_of key))) xs ++ rest))) ≡ kind_or (cond t (Some x) (find (λ key. bytes_eq (name_of key) name) xs)) (kind_in rest name)
+        (map (λ key. (name_of key, kind_by (rule_of key))) xs ++ rest))) ≡ kind_or (cond t (Some x) (find (λ key. bytes_eq (name_of key) name) xs))
+        (kind_in rest name)
     by more true = refl
     by more false = more
 

@@ -14,7 +14,9 @@ use Rattle.iscsi_serve.specs.Session.{target_settings, ServesAllPdus, SessionSer
 use Rattle.iscsi_tool.specs.Answering.{AnswersAllPdus, AnswersFirstPdus, AnswersBytes, AnswersHex, SpellsAnswers, line_end}
 use Rattle.iscsi_tool.specs.inner.Answering.{filter_fault}
 use Rattle.iscsi_tool.specs.inner.Spelling.{LineEndWritten}
+use Rattle.iscsi_filters.specs.Filters.{CutAtEnd}
 use Rattle.iscsi_filters.specs.HexText.{BytesOf, HexTextFails}
+use Rattle.std.specs.Io.KnownBytes.{IsAtEnd}
 use Rattle.iscsi_tool.proofs.SpellingLemmas.{lent_took}
 
 all_answered : (blocks : ℕ) (read : List ℕ) (disk_now : Disk) (written : List ℕ) → ServesAllPdus false target_settings (zeros blocks) read disk_now written →
@@ -61,12 +63,13 @@ none_answered blocks = (
 -- the answers that a writer of digits took, and what was written behind them
 pub spells : (blocks : ℕ) (bytes taken rest answered ending : List ℕ) (outcome result : Result (Unit {0}) ToolFault) (is_cut : Bool) (held : Option (List ℕ))
     → bytes ≡ taken ++ rest → AnswersBytes blocks outcome taken answered
-    → OnOk outcome (EndsWell false target_settings (zeros blocks) (Some bytes) (Some rest)) → LineEndWritten outcome is_cut result ending
+    → OnOk outcome (EndsWell false target_settings (zeros blocks) (Some bytes) (Some rest)) → CutAtEnd outcome (IsAtEnd (Some rest))
+    → LineEndWritten outcome is_cut result ending
     → (result ≡ Err tool.Write) ⊎ SpellsAnswers blocks result bytes (lent_took is_cut held (encode_lower answered) ++ ending)
-spells blocks bytes taken rest answered ending outcome result is_cut held whole answers ends (inl failed) = inl failed
-spells blocks bytes taken rest answered ending outcome result is_cut held whole answers ends (inr f) =
+spells blocks bytes taken rest answered ending outcome result is_cut held whole answers ends cut (inl failed) = inl failed
+spells blocks bytes taken rest answered ending outcome result is_cut held whole answers ends cut (inr f) =
     let done : SpellsAnswers blocks outcome bytes (encode_lower answered ++ line_end outcome) =
-    record { taken = taken; rest = rest; whole = whole; answered = answered; answers = answers; ends = ends; spelled = refl } in
+    record { taken = taken; rest = rest; whole = whole; answered = answered; answers = answers; ends = ends; cut = cut; spelled = refl } in
     inr (rw (f.0, f.1, f.2) done)
 
 unless : {P : Type 0} (outcome : Result (Unit {0}) ToolFault) → (outcome ≡ Err tool.Write → ⊥) → (outcome ≡ Err tool.Write) ⊎ P → P

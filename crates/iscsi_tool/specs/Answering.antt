@@ -1,5 +1,6 @@
 -- What `answer` writes for what it has read (RFC 7143, sections 6 and 11).
 use Rattle.std.specs.Prelude.{false, ◌≡◌, ◌⊎◌, ℕ, List, [], ◌∷◌, ◌++◌, Some, Result, Ok, Err, OnOk}
+use Rattle.std.specs.Io.KnownBytes.{IsAtEnd}
 use Rattle.hex.specs.Hex.{encode_lower}
 use Rattle.scsi_disk.specs.Disk.{Disk, zeros}
 use Rattle.iscsi_stream.specs.declared.fault.ToolFault.{ToolFault}
@@ -11,6 +12,7 @@ use Rattle.iscsi_target.specs.State.{opening_machine}
 use Rattle.iscsi_target.specs.Machine.{answers}
 use Rattle.iscsi_serve.specs.declared.session_fault.SessionFault.TheVariants as session
 use Rattle.iscsi_serve.specs.Session.{target_settings, ServesFirstPdus, ServesFront, SessionEndsBy, EndsWell}
+use Rattle.iscsi_filters.specs.Filters.{CutAtEnd}
 use Rattle.iscsi_filters.specs.HexText.{BytesOf, IsNotHex}
 
 -- The answers of the target to all PDUs of what was read are written, of its longest prefix in the
@@ -61,7 +63,7 @@ line_end (Err (tool.Protocol rule)) = 0x0a ∷ []
 line_end (Err fault) = []
 
 -- The target has taken a front of these bytes; its answers are written as lower hex, with the line
--- end that is due.
+-- end that is due. Where the stream is called cut within a PDU, it has taken all of them.
 pub record SpellsAnswers (blocks : ℕ) (outcome : Result (Unit {0}) ToolFault) (bytes written : List ℕ)
     : Type 0 where
   pub taken : List ℕ
@@ -70,6 +72,7 @@ pub record SpellsAnswers (blocks : ℕ) (outcome : Result (Unit {0}) ToolFault) 
   pub answered : List ℕ
   pub answers : AnswersBytes blocks outcome taken answered
   pub ends : OnOk outcome (EndsWell false target_settings (zeros blocks) (Some bytes) (Some rest))
+  pub cut : CutAtEnd outcome (IsAtEnd (Some rest))
   pub spelled : written ≡ encode_lower answered ++ line_end outcome
 
 -- The answers to the bytes that hex text means are written so.

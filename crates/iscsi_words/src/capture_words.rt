@@ -1,4 +1,4 @@
-//! The jobs over capture files, and their words.
+//! The jobs over capture files, and their words. One file, since the jobs share most words.
 
 ghost use Rattle.std.specs.Prelude.{◌<◌, ◌≤◌, IfOk, IfSome};
 ghost use Rattle.iscsi_words.specs.Jobs.{CanWork, IsJob};
@@ -10,6 +10,7 @@ use clap::{ArgMatches, Command};
 use iscsi_captures::{CapturesFault, End, Wanted};
 use iscsi_comparison::Sameness;
 use iscsi_explain::Form;
+use iscsi_options::number_of;
 use iscsi_serve_words::{
     LineFault, bad_number, bad_size, file, flag, needed_blocks, valued, with_word,
 };
@@ -192,7 +193,7 @@ fn shown_work(asked: &ArgMatches<'_>) -> Option<CaptureWork>
         });
     }
     let only = match asked.get_str("connection") {
-        Some(digits) => Some(number_of(digits)?),
+        Some(digits) => Some(connection_number(digits)?),
         None => None,
     };
     Some(CaptureWork::ShowAll { form, only })
@@ -231,7 +232,7 @@ pub(crate) fn answered_job<'a>(
     ensures job { IfOk result IsJob }
 {
     let number = match asked.get_str("connection") {
-        Some(digits) => number_of(digits),
+        Some(digits) => connection_number(digits),
         None => None,
     };
     match (asked.get_str("capture"), number, needed_blocks(asked)) {
@@ -299,23 +300,17 @@ fn capture_job<'a>(file: &'a str, work: CaptureWork) -> Result<Job<'a>, LineFaul
 fn both_numbers(asked: &ArgMatches<'_>) -> Option<(usize, usize)> {
     let digits = asked.get_str("connection")?;
     match digits.split_once(',') {
-        Some((first, second)) => Some((number_of(first)?, number_of(second)?)),
+        Some((first, second)) => Some((connection_number(first)?, connection_number(second)?)),
         None => {
-            let number = number_of(digits)?;
+            let number = connection_number(digits)?;
             Some((number, number))
         }
     }
 }
 
-// The number that digits spell.
-fn number_of(digits: &str) -> Option<usize> {
-    if !digits.bytes().all(|c| c.is_ascii_digit()) {
-        return None;
-    }
-    match digits.parse::<u32>() {
-        Ok(number) => Some(number as usize),
-        Err(_) => None,
-    }
+// The number of a connection that digits spell.
+fn connection_number(digits: &str) -> Option<usize> {
+    Some(number_of(digits, u64::from(u32::MAX))? as usize)
 }
 
 // The end that words name.
@@ -330,6 +325,6 @@ fn end_of(asked: &ArgMatches<'_>) -> Option<End> {
 // The direction that words name.
 fn wanted_of(asked: &ArgMatches<'_>) -> Option<Wanted> {
     let end = end_of(asked)?;
-    let connection = number_of(asked.get_str("connection")?)?;
+    let connection = connection_number(asked.get_str("connection")?)?;
     Some(Wanted { connection, end })
 }

@@ -43,15 +43,20 @@ may_asked r asked lba place counted count head bytes disk new kept left few is p
     subst (λ (s : Request). MayDo s.command place bytes disk kept new left) (sym same)
     (subst (λ (n : ℕ). MayDo r.command n bytes disk kept new left) (sym there) m)
 
-pub answers_asked : (r asked : Request) (lba place counted count : ℕ) (head bytes : List ℕ) (disk new : Disk) (left : ℕ → List ℕ → Type 0)
+-- a place in blocks, and how many
+pub record Span : Type 0 where
+  pub place : ℕ
+  pub count : ℕ
+
+pub answers_asked : (r asked : Request) (at of : Span) (head bytes : List ℕ) (disk new : Disk) (left : ℕ → List ℕ → Type 0)
     (error : ℕ) (rest sent : List ℕ)
-    → count ≤ most_blocks → request_at head ≡ Ok r → IsPlaced r lba counted bytes → AreRequestBytes asked place count head bytes
+    → of.count ≤ most_blocks → request_at head ≡ Ok r → IsPlaced r at.place at.count bytes → AreRequestBytes asked of.place of.count head bytes
     → error < 2 ^ 32 → sent ≡ reply_bytes (record { error = error; cookie = r.cookie }) ++ rest
-    → (error ≡ 0 → IsCommandDone r.command lba r.length bytes disk new left rest)
-    → ServerReply asked place bytes disk new left sent
-answers_asked r asked lba place counted count head bytes disk new left error rest sent few is p a fits spelled done =
-    let same : asked ≡ r = same_request r asked lba place count head bytes few is a in
-    let there : place ≡ lba = same_place r asked lba place counted count bytes same p a.placed in
-    subst (λ (s : Request). ServerReply s place bytes disk new left sent) (sym same)
+    → (error ≡ 0 → IsCommandDone r.command at.place r.length bytes disk new left rest)
+    → ServerReply asked of.place bytes disk new left sent
+answers_asked r asked at of head bytes disk new left error rest sent few is p a fits spelled done =
+    let same : asked ≡ r = same_request r asked at.place of.place of.count head bytes few is a in
+    let there : of.place ≡ at.place = same_place r asked at.place of.place at.count of.count bytes same p a.placed in
+    subst (λ (s : Request). ServerReply s of.place bytes disk new left sent) (sym same)
     (subst (λ (n : ℕ). ServerReply r n bytes disk new left sent) (sym there)
     (record { error = error; fits = fits; rest = rest; spelled = spelled; done = done }))

@@ -10,9 +10,24 @@ use Rattle.nbd_wire.specs.Transmission.{nbd_command, reply_bytes, request_at, re
 request_of : (command : Command) (cookie offset size : ℕ) → cookie < 2 ^ 64 → offset < 2 ^ 64 → size < 2 ^ 32
     → (let r : Request = record { command = command; cookie = cookie; offset = offset; length = size } in request_at (request_bytes r) ≡ Ok r)
 unfolding request_bytes request_at nbd_command
-request_of Read cookie offset size c o n = rw (from_be_bytes-to_be_bytes_8 cookie c, from_be_bytes-to_be_bytes_8 offset o, from_be_bytes-to_be_bytes_4 size n) refl
-request_of Write cookie offset size c o n = rw (from_be_bytes-to_be_bytes_8 cookie c, from_be_bytes-to_be_bytes_8 offset o, from_be_bytes-to_be_bytes_4 size n) refl
-request_of Flush cookie offset size c o n = rw (from_be_bytes-to_be_bytes_8 cookie c, from_be_bytes-to_be_bytes_8 offset o, from_be_bytes-to_be_bytes_4 size n) refl
+request_of Read cookie offset size c o n = rw (
+  from_be_bytes-to_be_bytes_8 cookie c,
+  from_be_bytes-to_be_bytes_8 offset o,
+  from_be_bytes-to_be_bytes_4 size
+      n,
+) refl
+request_of Write cookie offset size c o n = rw (
+  from_be_bytes-to_be_bytes_8 cookie c,
+  from_be_bytes-to_be_bytes_8 offset o,
+  from_be_bytes-to_be_bytes_4 size
+      n,
+) refl
+request_of Flush cookie offset size c o n = rw (
+  from_be_bytes-to_be_bytes_8 cookie c,
+  from_be_bytes-to_be_bytes_8 offset o,
+  from_be_bytes-to_be_bytes_4 size
+      n,
+) refl
 
 pub request_again : (r : Request) → r.cookie < 2 ^ 64 → r.offset < 2 ^ 64 → r.length < 2 ^ 32 → request_at (request_bytes r) ≡ Ok r
 request_again r = request_of r.command r.cookie r.offset r.length

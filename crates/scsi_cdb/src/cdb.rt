@@ -215,6 +215,7 @@ impl Cdb {
         Cdb::record_of(block)
     }
 
+    /// `read` with the one fact from which its others follow: so these are proved once, and not in each arm.
     #[tactic(auto, using(crate::proofs::RecordLemmas::is_unknown))]
     fn record_of(block: &[u8; 16]) -> Cdb
         ensures { IsRecord block.now result }
@@ -276,6 +277,7 @@ impl Cdb {
         self.canonical()
     }
 
+    /// `write` with the facts from which its last clause follows: so that is proved once, and not in each arm.
     fn canonical(&self) -> [u8; 16]
         requires { CdbFits self.now }
         ensures written { result ≡ canonical self.now }

@@ -1,7 +1,7 @@
 //! Fields at their places in bytes: each is read from and written to a byte list by its place and
 //! mask. Numbers of several bytes have the highest byte first.
 
-ghost use Rattle.std.specs.Prelude.{◌≡◌, ◌+◌, ◌*◌, ◌/◌, ◌<◌, ◌≤◌, ◌^◌, length, Some, IfSome};
+ghost use Rattle.std.specs.Prelude.{◌≡◌, ◌+◌, ◌-◌, ◌*◌, ◌/◌, ◌<◌, ◌≤◌, ◌^◌, length, Some, IfSome};
 ghost use Rattle.std.specs.Option.{ForSome};
 ghost use Rattle.scsi_cdb.specs.Layout.{is_set, bits_at, number_at, part, unit, put_bit, put_number, put_bytes, put_raw, put_part};
 
@@ -78,26 +78,16 @@ pub fn u64_at(bytes: &[u8], at: usize) -> u64
     BigEndian::read_u64(&bytes[at..])
 }
 
-/// The six bytes from `at`, as they are.
+/// The `N` bytes from `at`, as they are.
 #[tactic(auto, unfolding(crate::specs::Layout::part))]
-pub fn six_at(bytes: &[u8], at: usize) -> [u8; 6]
-    requires { at + 6 ≤ length bytes.now }
-    ensures { result ≡ part at (at + 5) bytes.now }
+pub fn array_at<const N: usize>(bytes: &[u8], at: usize) -> [u8; N]
+    requires some { 0 < N }
+    requires within { at + N ≤ length bytes.now }
+    ensures { result ≡ part at (at + N - 1) bytes.now }
 {
-    let mut six = [0; 6];
-    six.copy_from_slice(&bytes[at..at + 6]);
-    six
-}
-
-/// The sixteen bytes from `at`, as they are.
-#[tactic(auto, unfolding(crate::specs::Layout::part))]
-pub fn sixteen_at(bytes: &[u8], at: usize) -> [u8; 16]
-    requires { at + 16 ≤ length bytes.now }
-    ensures { result ≡ part at (at + 15) bytes.now }
-{
-    let mut sixteen = [0; 16];
-    sixteen.copy_from_slice(&bytes[at..at + 16]);
-    sixteen
+    let mut array = [0; N];
+    array.copy_from_slice(&bytes[at..at + N]);
+    array
 }
 
 /// Writes the bit of the mask in byte `at`, where there is a value. All other bits stay.
@@ -123,14 +113,6 @@ pub fn put_number(out: &mut [u8], at: usize, mask: u8, value: u8)
     ensures { out.new ≡ put_number at mask (Some value) out.old }
 {
     out[at] = out[at] & !mask | value * unit(mask);
-}
-
-/// Writes bytes from `at` on.
-fn put_slice(out: &mut [u8], at: usize, bytes: &[u8])
-    requires { at + length bytes.now ≤ length out.old }
-    ensures { out.new ≡ put_part at bytes.now out.old }
-{
-    out[at..at + bytes.len()].copy_from_slice(bytes);
 }
 
 /// Writes the bit of the mask in byte `at`. All other bits stay.
@@ -159,9 +141,10 @@ pub fn put_number_if(out: &mut [u8], at: usize, mask: u8, value: Option<u8>)
 #[tactic(auto, unfolding(crate::specs::Layout::put_raw))]
 pub fn put_raw(out: &mut [u8], at: usize, bytes: &[u8])
     requires { at + length bytes.now ≤ length out.old }
-    ensures { out.new ≡ put_raw at (Some bytes.now) out.old }
+    ensures raw { out.new ≡ put_raw at (Some bytes.now) out.old }
+    ensures part { out.new ≡ put_part at bytes.now out.old }
 {
-    put_slice(out, at, bytes);
+    out[at..at + bytes.len()].copy_from_slice(bytes);
 }
 
 /// Writes a number into byte `at`.
@@ -171,7 +154,7 @@ pub fn put_u8(out: &mut [u8], at: usize, value: u8)
     ensures written { out.new ≡ put_bytes at at (Some value) out.old }
     ensures room { value < 256 ^ 1 }
 {
-    put_slice(out, at, &[value]);
+    put_raw(out, at, &[value]);
 }
 
 /// Writes a number into byte `at`, where there is one.
@@ -193,7 +176,7 @@ pub fn put_u16(out: &mut [u8], at: usize, value: u16)
     ensures written { out.new ≡ put_bytes at (at + 1) (Some value) out.old }
     ensures room { value < 256 ^ 2 }
 {
-    put_slice(out, at, &u16::to_be_bytes(value));
+    put_raw(out, at, &u16::to_be_bytes(value));
 }
 
 /// Writes a number into the two bytes from `at`, where there is one.
@@ -217,7 +200,7 @@ pub fn put_u24(out: &mut [u8], at: usize, value: u32)
     ensures { out.new ≡ put_bytes at (at + 2) (Some value) out.old }
 {
     let [_, high, middle, low] = value.to_be_bytes();
-    put_slice(out, at, &[high, middle, low]);
+    put_raw(out, at, &[high, middle, low]);
 }
 
 /// Writes a number into the four bytes from `at`.
@@ -227,7 +210,7 @@ pub fn put_u32(out: &mut [u8], at: usize, value: u32)
     ensures written { out.new ≡ put_bytes at (at + 3) (Some value) out.old }
     ensures room { value < 256 ^ 4 }
 {
-    put_slice(out, at, &u32::to_be_bytes(value));
+    put_raw(out, at, &u32::to_be_bytes(value));
 }
 
 /// Writes a number into the four bytes from `at`, where there is one.
@@ -249,7 +232,7 @@ pub fn put_u64(out: &mut [u8], at: usize, value: u64)
     ensures written { out.new ≡ put_bytes at (at + 7) (Some value) out.old }
     ensures room { value < 256 ^ 8 }
 {
-    put_slice(out, at, &u64::to_be_bytes(value));
+    put_raw(out, at, &u64::to_be_bytes(value));
 }
 
 /// Writes a number into the eight bytes from `at`, where there is one.

@@ -3,6 +3,7 @@ use Rattle.std.proofs.Common.{◌≡◌, ℕ, zero, suc, ◌+◌, ◌-◌, ◌*�
 use Rattle.std.proofs.Common.{None, refl, sym, ◌∙◌, ap, arith, zero-add, add-zero}
 use Rattle.std.proofs.lemmas.List.{append_assoc, take-append-le, length-append, length-take}
 use Rattle.std.specs.List.{AllByRecursion}
+use Rattle.std.specs.Prelude.{not, ◌==◌, ◌&&◌, ◌||◌, nat_lt, bit_and, is_none}
 use borrow.Author.Tests.{ltb-false}
 use Rattle.scsi_cdb.specs.declared.sense.Sense.{Sense}
 use Rattle.scsi_disk.specs.declared.order.Order.{Order}
@@ -12,7 +13,7 @@ use Rattle.scsi_disk.specs.declared.order.Plan.{Plan}
 use Rattle.scsi_disk.specs.declared.reading.BlockRange.{BlockRange}
 use Rattle.scsi_disk.specs.Effect.{good_outcome, outcome_by, wanted_data}
 use Rattle.scsi_disk.specs.Found.{NamesFewBlocks}
-use Rattle.scsi_disk.specs.Plan.{named_transfer, taken_length, is_write, is_read, first_reason, refusals, first_refusal, plan_by, plan_of, wanted_length, expected_length}
+use Rattle.scsi_disk.specs.Plan.{named_transfer, synchronized, parameter_data, taken_length, is_unknown, is_standard_inquiry, is_write, is_read, first_reason, refusals, first_refusal, plan_by, plan_of, wanted_length, expected_length}
 
 -- where nothing is refused, each test was false
 pub all_false : {A : Type 0} (rows : List (Bool × A)) → first_reason rows ≡ None → AllByRecursion (λ row. row.0 ≡ false) rows
@@ -25,10 +26,42 @@ pub record NamesBlocks (order : Order) (blocks : ℕ) : Type 0 where
   pub few : (named_transfer order.cdb).count ≤ 8192
   pub inside : (named_transfer order.cdb).first + (named_transfer order.cdb).count ≤ blocks
 
+-- no reason to refuse an order holds
+pub record NotRefused (order : Order) (blocks : ℕ) : Type 0 where
+  pub known : is_unknown order.cdb ≡ false
+  pub has_unit : (not (order.lun == 0) && not (is_standard_inquiry order.cdb)) ≡ false
+  pub one_way : (order.read && order.write) ≡ false
+  pub takes_data : (order.write && not (is_write order.cdb)) ≡ false
+  pub unprotected : not (bit_and (named_transfer order.cdb).options 0xe0 == 0) ≡ false
+  pub has_data : is_none (parameter_data order blocks) ≡ false
+  pub few : nat_lt 8192 (named_transfer order.cdb).count ≡ false
+  pub inside : nat_lt blocks ((named_transfer order.cdb).first + (named_transfer order.cdb).count) ≡ false
+  pub expects_all : (is_write order.cdb && not (order.expected == taken_length order)) ≡ false
+  pub sends_some : (is_write order.cdb && not order.write && (order.same || nat_lt 0 (named_transfer order.cdb).count)) ≡ false
+  pub flushes_inside : nat_lt blocks ((synchronized order.cdb).first + (synchronized order.cdb).count) ≡ false
+
+pub none_refused : (order : Order) (blocks : ℕ) → first_refusal order blocks ≡ None → NotRefused order blocks
+none_refused order blocks none =
+    let t = all_false (refusals order blocks) none in
+    let later = t.1.1.1.1.1 in
+    record {
+      known = t.0;
+      has_unit = t.1.0;
+      one_way = t.1.1.0;
+      takes_data = t.1.1.1.0;
+      unprotected = t.1.1.1.1.0;
+      has_data = later.0;
+      few = later.1.0;
+      inside = later.1.1.0;
+      expects_all = later.1.1.1.0;
+      sends_some = later.1.1.1.1.0;
+      flushes_inside = later.1.1.1.1.1.0;
+    }
+
 unrefused : (order : Order) (blocks : ℕ) → first_refusal order blocks ≡ None → NamesBlocks order blocks
 unrefused order blocks e =
-    let tests = all_false (refusals order blocks) e in
-    record { few = ltb-false _ _ tests.1.1.1.1.1.1.0; inside = ltb-false _ _ tests.1.1.1.1.1.1.1.0 }
+    let none = none_refused order blocks e in
+    record { few = ltb-false _ _ none.few; inside = ltb-false _ _ none.inside }
 
 pub record IsTaken (order : Order) (blocks n : ℕ) : Type 0 where
   pub names : NamesBlocks order blocks
@@ -74,7 +107,8 @@ given_by order blocks n None e p = record {
 pub given : (order : Order) (blocks n : ℕ) → plan_of order blocks ≡ Give n → IsGiven order blocks n
 given order blocks n p = given_by order blocks n (first_refusal order blocks) refl p
 
-none_if : (order : Order) (blocks : ℕ) (r : Option Sense) → first_refusal order blocks ≡ r → ((sense : Sense) → plan_of order blocks ≡ Refuse sense → ⊥) → r ≡ None
+none_if : (order : Order) (blocks : ℕ) (r : Option Sense) → first_refusal order blocks ≡ r → ((sense : Sense) → plan_of order blocks ≡ Refuse sense → ⊥) → r
+    ≡ None
 none_if order blocks None e none = refl
 none_if order blocks (Some sense) e none = absurd (none sense (ap (λ (r : Option Sense). plan_by r order blocks) e))
 
@@ -105,7 +139,8 @@ length-joined size block first (suc c) h =
     ≡ size * suc c = omega arith in e)
 
 -- a front needs only the blocks that have it
-front_of : (block : ℕ → List ℕ) (first few count n : ℕ) → few ≤ count → n ≤ length (joined_blocks block first few) → take n (joined_blocks block first few) ≡ take n (joined_blocks block first count)
+front_of : (block : ℕ → List ℕ) (first few count n : ℕ) → few ≤ count → n ≤ length (joined_blocks block first few) → take n (joined_blocks block first few)
+    ≡ take n (joined_blocks block first count)
 front_of block first few count n less covers =
     let all : few + (count - few) ≡ count = omega (arith, less) in
     sym (ap (λ k. take n (joined_blocks block first k)) (sym all) ∙ ap (take n) (joined-add block first few (count - few))
@@ -129,11 +164,13 @@ read_gives disk order n is p reads =
     rw reads (front-joined disk (named_transfer order.cdb).first (named_transfer order.cdb).count n is facts.names.inside most)
 
 -- a READ of these blocks would give them
-pub read_wants : (order : Order) (blocks : ℕ) (range : BlockRange) → is_read order.cdb ≡ true → NamesFewBlocks order blocks range → wanted_length order blocks ≡ 512 * range.count
+pub read_wants : (order : Order) (blocks : ℕ) (range : BlockRange) → is_read order.cdb ≡ true → NamesFewBlocks order blocks range → wanted_length order
+    blocks ≡ 512 * range.count
 read_wants order blocks range reads names = rw reads (ap (λ n. 512 * n) (sym names.count))
 
 -- and the front of them is what it gives
-pub gives_front : (disk : Disk) (order : Order) (range : BlockRange) (n : ℕ) (bytes : List ℕ) → is_read order.cdb ≡ true → NamesFewBlocks order disk.count range → n ≤ 512 * range.count
+pub gives_front : (disk : Disk) (order : Order) (range : BlockRange) (n : ℕ) (bytes : List ℕ) → is_read order.cdb ≡ true → NamesFewBlocks order disk.count
+    range → n ≤ 512 * range.count
     → length bytes ≡ n → bytes ≡ take n (blocks_from disk range.first ((n + 511) / 512)) → good_outcome order (512 * range.count) bytes
     ≡ outcome_by (Give n) disk order
 gives_front disk order range n bytes reads names most size is =

@@ -215,7 +215,8 @@ not_at k q (inl low) = grind (arith, nat_tests)
 not_at k q (inr high) = grind (arith, nat_tests)
 
 -- what the extents are after a removal
-pub get_removed : (es fs : List (ℕ × List ℕ)) (k : ℕ) → ((q : ℕ) → lookup (is_at (nat_cmp q)) fs ≡ cond (is_at (nat_cmp k) q) None (lookup (is_at (nat_cmp q)) es))
+pub get_removed : (es fs : List (ℕ × List ℕ)) (k : ℕ) → ((q : ℕ) → lookup (is_at (nat_cmp q)) fs ≡ cond (is_at (nat_cmp k) q) None
+    (lookup (is_at (nat_cmp q)) es))
     → (q : ℕ) → get (from_entries {R = nat_cmp} fs) q ≡ cond (is_at (nat_cmp k) q) None (get (from_entries {R = nat_cmp} es) q)
 get_removed es fs k h q = get_at fs q ∙ h q ∙ ap (cond (is_at (nat_cmp k) q) None) (sym (get_at es q))
 

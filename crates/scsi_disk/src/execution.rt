@@ -1,4 +1,4 @@
-//! What an order does to a store, and its answer.
+//! What an order does to a store, and its answer. One file, half of which is contracts.
 
 ghost use Rattle.std.specs.Prelude.{◌≡◌, ◌+◌, ◌*◌, ◌/◌, ◌<◌, ◌≤◌, ◌^◌, length as size, min, true, take as front, OnOk, OnErr, IfOk, IsOk, IsErr, IsErrOf};
 ghost use Rattle.std.specs.List.{repeat};

@@ -62,7 +62,7 @@ fn refusal(order: &Order, command: &Command, blocks: u64) -> Option<Sense>
     if order.lun != 0 && !is_standard_inquiry(cdb) {
         return Some(Sense::NoUnit);
     }
-    if order.read && order.write || order.write && !is_write(cdb) {
+    if order.write && (order.read || !is_write(cdb)) {
         return Some(Sense::InvalidField);
     }
     // A command that names no blocks has no reason of these.

@@ -1,4 +1,4 @@
-//! A file of the operating system as a medium.
+//! A file of the operating system as a medium. One file, since it is one type with its calls.
 //!
 //! No contract says what a file keeps. So each call of a file counts as one that may have done
 //! something else than it said, and a crash may leave anything. What is proved of a store on a file

@@ -1,4 +1,5 @@
-//! Texts that libiscsi 1.19 and open-iscsi 2.1.8 sent, others like them, and what they lead to.
+//! Texts that libiscsi 1.19 and open-iscsi 2.1.8 sent, others like them, and what they lead to. One
+//! file, since it is one table.
 
 use super::{HOST, demand};
 use crate::asserts::same;

@@ -1,19 +1,7 @@
 -- More of `Serving`, of which no public contract speaks.
 use Rattle.std.specs.Prelude.{ℕ, List, Option, None, Some}
-use Rattle.iscsi_login.specs.declared.preferences.Preferences.{Preferences}
-use Rattle.iscsi_target_session.specs.Configured.{TargetSettings, no_extras}
+use Rattle.iscsi_target_session.specs.Configured.{TargetSettings}
 use Rattle.iscsi_options.specs.declared.options.UnitOptions.{UnitOptions}
-
--- What the target is configured with for the session of a number: portal group 1, and the number as
--- its TSIH (RFC 7143, section 11.12.6; own rule). It is told no more.
-abbrev pub settings_of : List ℕ → ℕ → Preferences → TargetSettings
-settings_of name number preferences = record {
-  name = name;
-  group = 1;
-  tsih = number;
-  preferences = preferences;
-  extras = no_extras;
-}
 
 -- The settings with the address of this portal, where one is told (RFC 7143, section 13.8).
 abbrev pub settings_with_portal : Option (List ℕ) → TargetSettings → TargetSettings

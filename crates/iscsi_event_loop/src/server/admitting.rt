@@ -6,13 +6,13 @@ ghost use Rattle.iscsi_event_loop.specs.Serving.{has_all};
 
 use super::Server;
 use crate::accepting::AcceptError;
-use crate::configuration::{configuration, with_address, with_unit};
+use crate::configuration::{with_address, with_unit};
 use crate::connection::Connection;
 use crate::numbers::next_number;
 use crate::peer::Peer;
 use crate::room::makes_room;
 use crate::system::watch;
-use iscsi_serving::{AccessFault, SessionEnd};
+use iscsi_serving::{AccessFault, SessionEnd, configuration};
 use iscsi_target::Config;
 use mio::net::TcpStream;
 use std::alloc::Global;

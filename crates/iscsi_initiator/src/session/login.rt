@@ -99,7 +99,7 @@ impl Session {
         if !self.goes_on(response, text, bytes) {
             return Ok(self.protocol_error(LOGIN_OUT_OF_TURN));
         }
-        self.count(response);
+        self.count_answer(response);
         self.send_more(out)?;
         Ok(None)
     }
@@ -140,14 +140,14 @@ impl Session {
             return Ok(self.fails(InitiatorFault::BadAnswer(key)));
         }
         let next = following_stage(self.stage);
-        self.count(response);
+        self.count_answer(response);
         self.begin_stage(next, out)?;
-        self.hold(answer);
+        self.apply_answer(answer);
         Ok(None)
     }
 
     // Holds what an answer settles.
-    fn hold(&mut self, answer: &Text<'_>)
+    fn apply_answer(&mut self, answer: &Text<'_>)
         requires { DeclaresWell answer.now }
         ensures { self.new
             ≡ record self.old { held = initiator_holds None answer.now self.old.held } }
@@ -175,7 +175,7 @@ impl Session {
     }
 
     // The StatSN and the window of an answer are counted.
-    fn count(&mut self, response: &LoginResponse)
+    fn count_answer(&mut self, response: &LoginResponse)
         ensures { self.new ≡ login_counted self.old response.now }
     {
         self.update_counters(Counters {

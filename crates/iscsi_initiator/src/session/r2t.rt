@@ -83,7 +83,7 @@ impl Session {
             self.outstanding = Some(Outstanding::Out(writing));
             return Err(error);
         }
-        writing.count(head);
+        writing.count_r2t(head);
         self.outstanding = Some(Outstanding::Out(writing));
         Ok(None)
     }

@@ -8,7 +8,7 @@ use Rattle.iscsi_initiator.specs.declared.request.Request.{Request}
 use Rattle.iscsi_initiator.specs.declared.request.SubmitFault.{SubmitFault}
 use Rattle.iscsi_initiator.specs.declared.request.SubmitFault.TheVariants as refusals
 use Rattle.iscsi_initiator.specs.State.{InitiatorSession}
-use Rattle.iscsi_initiator.specs.Laws.{InitiatorEvent, run, accepted, outcomes_given}
+use Rattle.iscsi_initiator.specs.Laws.{InitiatorEvent, run, accepted_requests, outcomes_given}
 use Rattle.iscsi_loop.specs.declared.command.Command.{Command}
 use Rattle.iscsi_serving.specs.declared.fault.ServeFault.{ServeFault}
 use Rattle.iscsi_serving.specs.declared.fault.ServeFault.TheVariants as serve
@@ -61,7 +61,7 @@ pub record InitiatorContinues (old : InitiatorSession) (asked : List Request) (t
     : Type 0 where
   pub events : List InitiatorEvent
   pub reached : new ≡ run old events
-  pub requests : accepted old events ≡ asked
+  pub requests : accepted_requests old events ≡ asked
   pub outcomes : outcomes_given old events ≡ taken
 
 -- A command's fault: one of the session comes before its line is written, and a failed write leaves

@@ -28,8 +28,10 @@ use Rattle.iscsi_initiator.specs.Laws as inputs
 use Rattle.iscsi_pair.specs.Traffic.{Traffic, first_traffic, bytes_behind, traffic_after, TracesTraffic}
 use Rattle.iscsi_pair.proofs.Ends.TargetRun.{TargetSide, target_received, opening_side as target_opening, front_drops as target_drops}
 use Rattle.iscsi_pair.proofs.Ends.TargetRun.{failed_drops as target_failed}
-use Rattle.iscsi_pair.proofs.Ends.InitiatorRun.{InitiatorSide, streams, initiator_received, initiator_asked, initiator_took_outcome, failed_drops, fault_drops}
-use Rattle.iscsi_pair.proofs.Ends.InitiatorRun.{opening_side as initiator_opening, front_drops as initiator_drops}
+use Rattle.iscsi_pair.proofs.Ends.InitiatorEnds.{InitiatorSide, streams, fault_drops}
+use Rattle.iscsi_pair.proofs.Ends.InitiatorPieces.{initiator_received}
+use Rattle.iscsi_pair.proofs.Ends.InitiatorRun.{initiator_asked, initiator_took_outcome, failed_drops}
+use Rattle.iscsi_pair.proofs.Ends.InitiatorEnds.{opening_side as initiator_opening, front_drops as initiator_drops}
 
 -- what holds of a world and of what went between its ends, where the initiator met these inputs first
 pub record SidesFrom (past : List inputs.SessionInput) (c : Opening) (t : Traffic) (w : World) : Type 0 where

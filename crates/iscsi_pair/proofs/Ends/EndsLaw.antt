@@ -12,7 +12,7 @@ use Rattle.iscsi_initiator.specs.Laws.{SessionInput}
 use Rattle.iscsi_pair.specs.World.{World, Opening, PairEvent, new_pair}
 use Rattle.iscsi_pair.specs.Traffic.{Traffic, TracesTraffic, TargetStands, InitiatorStands, coming, first_traffic, sent}
 use Rattle.iscsi_pair.proofs.Ends.TargetRun.{TargetSide, TargetLives, TargetOver}
-use Rattle.iscsi_pair.proofs.Ends.InitiatorRun.{InitiatorSide, streams, InitiatorLives, InitiatorOver, Follows, all_sent, begun}
+use Rattle.iscsi_pair.proofs.Ends.InitiatorEnds.{InitiatorSide, streams, InitiatorLives, InitiatorOver, Follows, all_sent, begun}
 use Rattle.iscsi_pair.proofs.Ends.BothRuns.{Sides, SidesFrom, reached_sides, traced_sides}
 use Rattle.iscsi_stream.proofs.WritingLemmas.{canon_append}
 

@@ -28,6 +28,7 @@ use Rattle.iscsi_pair.specs.World.{MovesToTarget, MovesToInitiator, RequestHande
 use Rattle.iscsi_pair.specs.World.{target_ran_out, initiator_ran_out, keeps_no_memory}
 use Rattle.iscsi_pair.specs.Traffic.{Traffic, coming, first_traffic, traffic_after}
 use Rattle.iscsi_pair.proofs.Ends.BothRuns.{Sides, happens_sides, opening_sides}
+use Rattle.iscsi_target.specs.Feed.{scene}
 
 -- what it was is what it is
 same_worlds : (old same new now : World) → LooksAlike old same → new ≡ old → now ≡ same → LooksAlike new now
@@ -56,8 +57,9 @@ target_receives c t old same new now moved s l none a b calm calm' =
     let took : TargetTook t.moved_to_target old.target = target_took (target_machine.is_machine_closed old.target.machine) c t old s refl none in
     let x : target.CallsAlike a.result b.result (target.scene new.target (reliable_store new.blocks) new.to_initiator)
     (target.scene now.target (reliable_store now.blocks) now.to_initiator) =
-    one_outcome false t.moved_to_target moved old.to_initiator new.to_initiator now.to_initiator took.messages old.target same.target new.target now.target
-    (reliable_store old.blocks) (reliable_store same.blocks) (reliable_store new.blocks) (reliable_store now.blocks) a.result b.result took.taken l.target
+    one_outcome false t.moved_to_target moved (scene old.target (reliable_store old.blocks) old.to_initiator)
+    (scene new.target (reliable_store new.blocks) new.to_initiator) (scene now.target (reliable_store now.blocks) now.to_initiator) took.messages
+    same.target (reliable_store same.blocks) a.result b.result took.taken l.target
     l.disk a.fed
     (record { memory = target_memory a.result (ap target_ran_out (sym a.fault) ∙ calm); device = refl })
     (subst (λ (out : List ℕ). target.TargetFeedPost false (target.scene same.target (reliable_store same.blocks) out) moved b.result

@@ -21,9 +21,9 @@ use Rattle.iscsi_target_session.specs.Session.{target_limit}
 use Rattle.iscsi_target.specs.State.{Machine, TargetStep}
 use Rattle.iscsi_target.specs.State.{writes_joined}
 use Rattle.iscsi_target.specs.Machine.{answers, is_machine_closed}
-use Rattle.iscsi_target.specs.Feed.{TargetConnection, Store, FeedsFirstBytes, TargetFeedPost, FeedPostIfClosed, CallEnds, IsShut, CallLeaves, OutputStands, StopsForMemory, HasAnswered, opening_target, scene}
+use Rattle.iscsi_target.specs.Feed.{Remainder, TargetConnection, Store, FeedsFirstBytes, TargetFeedPost, FeedPostIfClosed, CallEnds, IsShut, CallLeaves, OutputStands, StopsForMemory, HasAnswered, opening_target, scene}
 use Rattle.iscsi_target.specs.Feed.{remainder, beginning}
-use Rattle.iscsi_target.proofs.Feed.FeedingLemmas.{Told, told, stands}
+use Rattle.iscsi_target.proofs.Feed.FedStreamLemmas.{Told, told, stands}
 use Rattle.iscsi_target.proofs.Steps.ClosingLemmas.{answers_close}
 use Rattle.iscsi_target.proofs.Steps.KeepingLemmas.{Stays, stop_stays}
 use Rattle.iscsi_target.proofs.Feed.StreamingLemmas.{goes_on}
@@ -325,21 +325,20 @@ left_short c ms out framing rest r counted new after written t l =
           })
     ]
 
-left_by : (result : Result Phase TargetFault) (c : Opening) (ms : List Message) (out : List ℕ) (framing : Framing) (piece rest : List ℕ) (n : ℕ)
-    (r : TargetStep)
-    (counted : ℕ) (new : TargetConnection) (after : Store) (written : List ℕ)
-    → Told false (beginning c.target c.first_stat_sn (disk_of c.blocks)) ms r r.disk (out ++ canon r.answers)
-    → CallLeaves false result out (remainder framing rest r counted) new.machine after written → CallEnds piece result framing n r new
+left_by : (result : Result Phase TargetFault) (c : Opening) (ms : List Message) (out : List ℕ) (left : Remainder) (piece : List ℕ) (n : ℕ)
+    (new : TargetConnection) (after : Store) (written : List ℕ)
+    → Told false (beginning c.target c.first_stat_sn (disk_of c.blocks)) ms left.stepped left.stepped.disk (out ++ canon left.stepped.answers)
+    → CallLeaves false result out left new.machine after written → CallEnds piece result left.framing n left.stepped new
     → Left c ms written new.machine (result_err result)
-left_by (Ok phase) c ms out framing piece rest n r counted new after written t l e = left_whole c ms out r counted new.machine after written None t l
-    (kept_joined new.machine r.machine e.1)
-left_by (Err faults.NoMemory) c ms out framing piece rest n r counted new after written t l e =
-    left_short c ms out framing rest r counted new.machine after written t l
-left_by (Err (faults.Stream fault)) c ms out framing piece rest n r counted new after written t l e =
-    left_whole c ms out r counted new.machine after written (Some (faults.Stream fault)) t l (kept_shut new.machine r.machine e.3)
-left_by (Err (faults.Protocol rule)) c ms out framing piece rest n r counted new after written t l e =
-    left_whole c ms out r counted new.machine after written (Some (faults.Protocol rule)) t l (kept_joined new.machine r.machine e.1)
-left_by (Err faults.Closed) c ms out framing piece rest n r counted new after written t l e = absurd e
+left_by (Ok phase) c ms out left piece n new after written t l e = left_whole c ms out left.stepped left.counted new.machine after written None t l
+    (kept_joined new.machine left.stepped.machine e.1)
+left_by (Err faults.NoMemory) c ms out left piece n new after written t l e =
+    left_short c ms out left.framing left.rest left.stepped left.counted new.machine after written t l
+left_by (Err (faults.Stream fault)) c ms out left piece n new after written t l e =
+    left_whole c ms out left.stepped left.counted new.machine after written (Some (faults.Stream fault)) t l (kept_shut new.machine left.stepped.machine e.3)
+left_by (Err (faults.Protocol rule)) c ms out left piece n new after written t l e =
+    left_whole c ms out left.stepped left.counted new.machine after written (Some (faults.Protocol rule)) t l (kept_joined new.machine left.stepped.machine e.1)
+left_by (Err faults.Closed) c ms out left piece n new after written t l e = absurd e
 
 ends_limit : (piece : List ℕ) (result : Result Phase TargetFault) (v : Framing) (n : ℕ) (r : TargetStep) (new : TargetConnection)
     → CallEnds piece result v n r new
@@ -421,7 +420,8 @@ feeds_side : (c : Opening) (moved out bytes : List ℕ) (old : TargetConnection)
 feeds_side c moved out bytes old blocks result new after written l f =
     let t : Told false (beginning c.target c.first_stat_sn (disk_of c.blocks)) (l.has.messages ++ f.messages) f.stepped f.stepped.disk
     (out ++ canon f.stepped.answers) =
-    told false c.target c.first_stat_sn (disk_of c.blocks) moved old (reliable_store blocks) out (take f.count bytes) f.framing f.messages f.stepped 0
+    told false (beginning c.target c.first_stat_sn (disk_of c.blocks)) moved (scene old (reliable_store blocks) out) (take f.count bytes) f.framing
+    f.messages f.stepped 0
     (record { disk = f.stepped.disk; failures = 0 }) (out ++ canon f.stepped.answers) l.has
     (record {
       taken = f.answered.taken;
@@ -433,7 +433,8 @@ feeds_side c moved out bytes old blocks result new after written l f =
     }) (record { failures = refl; disk = refl; output_is = refl }) refl in
     let h : HasTaken (moved ++ take f.count bytes) (l.has.messages ++ f.messages) f.framing = f.answered.taken moved l.has.messages l.has.taken in
     let left : Left c (l.has.messages ++ f.messages) written new.machine (result_err result) =
-    left_by result c (l.has.messages ++ f.messages) out f.framing bytes (drop f.count bytes) f.count f.stepped f.answered.failures new (reliable_store after)
+    left_by result c (l.has.messages ++ f.messages) out (remainder f.framing (drop f.count bytes) f.stepped f.answered.failures) bytes f.count new
+    (reliable_store after)
     written
     t f.leaves f.ends in
     let stood : result_err result ≡ None → OutputStands out f.stepped f.answered.failures (reliable_store after) written =
@@ -459,8 +460,8 @@ feeds_side c moved out bytes old blocks result new after written l f =
       };
       lives = λ none live. record {
         limit = ap (λ (v : Framing). v.limit) (ends_limit bytes result f.framing f.count f.stepped new f.ends none live) ∙ f.answered.limit ∙ l.limit;
-        has = goes_on false c.target c.first_stat_sn (disk_of c.blocks) moved old (reliable_store blocks) out bytes result new (reliable_store after)
-            written f refl live l.has;
+        has = goes_on false (beginning c.target c.first_stat_sn (disk_of c.blocks)) moved (scene old (reliable_store blocks) out) bytes result
+            (scene new (reliable_store after) written) f refl live l.has;
         unready = ends_unready bytes result f.framing f.count f.stepped new f.ends f.answered.ready none live;
       };
     }

@@ -20,10 +20,11 @@ use Rattle.iscsi_pair.proofs.Lists.StepLemmas.{first_spot}
 use Rattle.iscsi_pair.specs.World.{Opening}
 use Rattle.iscsi_pair.specs.Served.{IsNormal, RunsServed}
 use Rattle.iscsi_pair.proofs.Login.RoundAgrees.{Asking, Asks_on, Round, first_asks, round}
-use Rattle.iscsi_pair.proofs.Login.RoundProgress.{Suited, Well, first_suited, goes_well}
+use Rattle.iscsi_pair.proofs.Login.RoundBegins.{Suited}
+use Rattle.iscsi_pair.proofs.Login.RoundProgress.{Well, first_suited, goes_well}
 use Rattle.iscsi_pair.proofs.Login.LoginEndsInStep.{HasMet, Meets, Numbered, first_numbered, meets}
 use Rattle.iscsi_pair.proofs.Login.NearerLemmas.{IsNearer, nearer}
-use Rattle.iscsi_pair.proofs.Ends.InitiatorRun.{begun}
+use Rattle.iscsi_pair.proofs.Ends.InitiatorEnds.{begun}
 use Rattle.iscsi_pair.proofs.Request.Invariant.{Sends, between, so_far, limits_of}
 use Rattle.iscsi_pair.proofs.Run.DiskInvariant.{Serves, login_sends, none_asked}
 use Rattle.iscsi_pair.proofs.Lists.RoundLemmas.{Stays, received_all, received_one}

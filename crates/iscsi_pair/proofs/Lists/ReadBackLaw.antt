@@ -46,18 +46,36 @@ not_none n some = ap not (ne_eqb (512 * n) 0 (λ none. omega (arith, some, none)
 
 write_order : (c : Opening) (write_cdb read_cdb bytes : List ℕ) → (p : NameSame c write_cdb read_cdb bytes) → writing_order 0 write_cdb bytes ≡ a_write p.named
 write_order c write_cdb read_cdb bytes p =
-    ap (λ (x : Cdb). (let order : Order = record { cdb = x; lun = 0; read = false; write = not (length bytes == 0); expected = length bytes; same = false } in order))
+    ap (λ (x : Cdb). (let order : Order = record { cdb = x; lun = 0; read = false; write = not (length bytes == 0); expected = length bytes; same = false }
+    in order))
     p.writes
-    ∙ ap (λ (n : ℕ). (let order : Order = record { cdb = Write10 p.named; lun = 0; read = false; write = not (n == 0); expected = n; same = false } in order)) p.size
-    ∙ ap (λ (b : Bool). (let order : Order = record { cdb = Write10 p.named; lun = 0; read = false; write = b; expected = 512 * p.named.blocks; same = false } in order))
+    ∙ ap (λ (n : ℕ). (let order : Order = record { cdb = Write10 p.named; lun = 0; read = false; write = not (n == 0); expected = n; same = false }
+    in order)) p.size
+    ∙ ap (λ (b : Bool). (let order : Order = record {
+      cdb = Write10 p.named;
+      lun = 0;
+      read = false;
+      write = b;
+      expected = 512 * p.named.blocks;
+      same = false;
+    } in order))
     (not_none p.named.blocks p.some)
 
 read_order : (c : Opening) (write_cdb read_cdb bytes : List ℕ) → (p : NameSame c write_cdb read_cdb bytes)
     → reading_order 0 read_cdb (length bytes) ≡ a_read p.named
 read_order c write_cdb read_cdb bytes p =
-    ap (λ (x : Cdb). (let order : Order = record { cdb = x; lun = 0; read = not (length bytes == 0); write = false; expected = length bytes; same = false } in order)) p.reads
-    ∙ ap (λ (n : ℕ). (let order : Order = record { cdb = Read10 p.named; lun = 0; read = not (n == 0); write = false; expected = n; same = false } in order)) p.size
-    ∙ ap (λ (b : Bool). (let order : Order = record { cdb = Read10 p.named; lun = 0; read = b; write = false; expected = 512 * p.named.blocks; same = false } in order))
+    ap (λ (x : Cdb). (let order : Order = record { cdb = x; lun = 0; read = not (length bytes == 0); write = false; expected = length bytes; same = false }
+    in order)) p.reads
+    ∙ ap (λ (n : ℕ). (let order : Order = record { cdb = Read10 p.named; lun = 0; read = not (n == 0); write = false; expected = n; same = false }
+    in order)) p.size
+    ∙ ap (λ (b : Bool). (let order : Order = record {
+      cdb = Read10 p.named;
+      lun = 0;
+      read = b;
+      write = false;
+      expected = 512 * p.named.blocks;
+      same = false;
+    } in order))
     (not_none p.named.blocks p.some)
 
 -- what no disk of n blocks refuses

@@ -44,33 +44,39 @@ pub record Stays (c : Opening) (x : DiskExchange) (out : List Message) (s : SoFa
 
 -- ---- the target receives what was sent
 
+-- how far each direction got
+pub record Spots : Type 0 where
+  pub out : Spot
+  pub back : Spot
+
 some_received : (c : Opening) (h : History) (i : initiator.InitiatorSession) (t : target.Machine) (m : Message) (ms back : List Message) (there here : Logins)
-    (events : List PairEvent) (blocks : List ℕ) (place place_back : Spot)
-    → requests_of events ≡ h.requests → RunsServed (new_pair c) events (level c i t blocks place place_back there here (canon (m ∷ ms)) (canon back)) h.outcomes
+    (events : List PairEvent) (blocks : List ℕ) (spots : Spots)
+    → requests_of events ≡ h.requests → RunsServed (new_pair c) events (level c i t blocks spots.out spots.back there here (canon (m ∷ ms)) (canon back))
+    h.outcomes
     → IsSound (disk_of blocks).count t.tasks → AreWritten (most_back c) here back
     → AreWritten (most_out c) there (m ∷ ms) → ReceivesWell (most_back c) t (disk_of blocks) (logins_after_all here back) (m ∷ ms)
     → (let r = answers false t (disk_of blocks) (m ∷ ms) in Stays c (between i r.machine r.disk (back ++ r.answers)) []
     (so_far (logins_after_all there (m ∷ ms)) here h))
-some_received c h i t m ms back there here events blocks place place_back requests_are runs sound written sent received =
+some_received c h i t m ms back there here events blocks spots requests_are runs sound written sent received =
     let out : List Message = m ∷ ms in
     let d : Disk = disk_of blocks in
     let r : target.TargetStep = answers false t d out in
     let b : HasBlocks r.disk = answers_blocks t d out sound (record { bytes = blocks; is = refl }) in
     let event : PairEvent = ToTarget (length (canon out)) in
-    let old : World = level c i t blocks place place_back there here (canon out) (canon back) in
-    let new : World = level c i r.machine b.bytes (spot_after place out) place_back (logins_after_all there out) here [] (canon back ++ canon r.answers) in
+    let old : World = level c i t blocks spots.out spots.back there here (canon out) (canon back) in
+    let new : World = level c i r.machine b.bytes (spot_after spots.out out) spots.back (logins_after_all there out) here [] (canon back ++ canon r.answers) in
     let on : RunsServed (new_pair c) (events ++ event ∷ []) new (h.outcomes ++ []) =
     served_more (new_pair c) events old h.outcomes event new runs
-    (target_receives c i t blocks place place_back there here m ms (canon back) b.bytes received.open_.0 sent received.rule b.is) tt refl in
+    (target_receives c i t blocks spots.out spots.back there here m ms (canon back) b.bytes received.open_.0 sent received.rule b.is) tt refl in
     record {
       events = events ++ event ∷ [];
       blocks = b.bytes;
-      place = spot_after place out;
-      place_back = place_back;
+      place = spot_after spots.out out;
+      place_back = spots.back;
       requests_are = requests_append events (event ∷ []) ∙ append-nil (requests_of events) ∙ requests_are;
       runs = subst
           (λ (x : List ℕ). RunsServed (new_pair c) (events ++ event ∷ [])
-          (level c i r.machine b.bytes (spot_after place out) place_back (logins_after_all there out) here [] x) h.outcomes)
+          (level c i r.machine b.bytes (spot_after spots.out out) spots.back (logins_after_all there out) here [] x) h.outcomes)
           (sym (canon_append back r.answers))
           (subst (λ (x : List Done). RunsServed (new_pair c) (events ++ event ∷ []) new x) (append-nil h.outcomes) on);
       disk_is = b.is;
@@ -88,7 +94,7 @@ received_all [] c h i t disk back there here s sent received =
 received_all (m ∷ ms) c h i t disk back there here s sent received =
     subst (λ (d : Disk). (let r = answers false t d (m ∷ ms) in Stays c (between i r.machine r.disk (back ++ r.answers)) []
     (so_far (logins_after_all there (m ∷ ms)) here h))) s.disk_is
-    (some_received c h i t m ms back there here s.events s.blocks s.place s.place_back s.requests_are s.runs
+    (some_received c h i t m ms back there here s.events s.blocks (record { out = s.place; back = s.place_back }) s.requests_are s.runs
     (subst (λ (d : Disk). IsSound d.count t.tasks) (sym s.disk_is) s.sound) s.written sent
     (subst (λ (d : Disk). ReceivesWell (most_back c) t d (logins_after_all here back) (m ∷ ms)) (sym s.disk_is) received))
 

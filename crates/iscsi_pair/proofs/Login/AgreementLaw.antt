@@ -12,7 +12,7 @@ use Rattle.iscsi_initiator.specs.Login.{start_step}
 use Rattle.iscsi_initiator.proofs.HeldLaws.{start_not_full}
 use Rattle.iscsi_pair.specs.World.{World, Opening, IsOpening}
 use Rattle.iscsi_pair.specs.Traffic.{Traffic, session_after_all, sent}
-use Rattle.iscsi_pair.proofs.Ends.InitiatorRun.{begun}
+use Rattle.iscsi_pair.proofs.Ends.InitiatorEnds.{begun}
 use Rattle.iscsi_pair.proofs.Ends.BothRuns.{Sides}
 use Rattle.iscsi_pair.proofs.Login.RoundAgrees.{Asks_on, first_asks}
 use Rattle.iscsi_pair.proofs.Login.Exchange.{Ended, OnlyLater, Way, Waiting, Closing, Agreeing, any_turns, anything, exchange_ends, first_reached}

@@ -31,6 +31,7 @@ use Rattle.iscsi_target_session.specs.Session.{Session as TargetSession}
 use Rattle.scsi_disk.specs.Plan.{first_reason}
 use Rattle.iscsi_text.specs.Key.{known_keys}
 use Rattle.iscsi_target_session.specs.Session.{none_seen}
+use Rattle.iscsi_target_session.proofs.RefusalLemmas.{text_unrefused}
 use Rattle.iscsi_target_session.specs.LoginText.{answer_pairs, is_normal, session_for, text_refusals, repeats_key, seen_with, login_value, is_given_name}
 use Rattle.iscsi_target_session.specs.LoginText.{session_in, names_target, demands_authentication, is_bad_length, name_in}
 
@@ -155,10 +156,6 @@ few_fits pairs f = (let a = text_short pairs f.short in let b = f.few in omega (
 
 -- ---- no reason to refuse a text
 
-pub none_of : (rows : List (Bool × Status)) → AllByRecursion (λ row. row.0 ≡ false) rows → first_reason rows ≡ None
-none_of [] a = refl
-none_of (row ∷ rows) a = rw a.0 (none_of rows a.1)
-
 off : (t b : Bool) → t ≡ true → (not t && b) ≡ false
 off true b e = refl
 off false b e = absurd (cc e)
@@ -216,39 +213,31 @@ pub first_text : (e : TargetSession) (o : Proposal) (pairs : Pairs) → e.has_te
     → first_reason (text_refusals e pairs) ≡ None
 first_text e o pairs t g i s name auth len size allowed =
     let a = asks_for o.session e o pairs refl t s name in
-    none_of (text_refusals e pairs) (
-      ap (λ (x : List Bool). repeats_key known_keys x pairs) g ∙ first_gives pairs,
-      (
-        on e.has_text _ (ap (λ (x : Option Typed). not (is_given_name x)) s.initiator ∙ not_empty o.initiator i),
-        (
-          on e.has_text _ (ap is_none s.session),
-          (
-            on_both e.has_text _ _ a.0,
-            (
-              on_both e.has_text _ _ a.1,
-              (
-                auth,
-                (
-                  len,
-                  (
-                    size,
-                    (
-                      on e.has_text _ (ap (λ (x : Option Typed). not (is_allowed e.settings.extras (name_in x))) s.initiator ∙ ap not allowed),
-                      tt,
-                    ),
-                  ),
-                ),
-              ),
-            ),
-          ),
-        ),
-      ),
-    )
+    text_unrefused e pairs (record {
+      keys_once = ap (λ (x : List Bool). repeats_key known_keys x pairs) g ∙ first_gives pairs;
+      says_initiator = on e.has_text _ (ap (λ (x : Option Typed). not (is_given_name x)) s.initiator ∙ not_empty o.initiator i);
+      says_session = on e.has_text _ (ap is_none s.session);
+      says_target = on_both e.has_text _ _ a.0;
+      finds_target = on_both e.has_text _ _ a.1;
+      authentication = auth;
+      declares_well = len;
+      is_short = size;
+      is_let_in = on e.has_text _ (ap (λ (x : Option Typed). not (is_allowed e.settings.extras (name_in x))) s.initiator ∙ ap not allowed);
+    })
 
 pub second_text : (e : TargetSession) (pairs : Pairs) → e.has_text ≡ true → repeats_key known_keys e.seen_keys pairs ≡ false
     → demands_authentication e.settings.preferences (login_value (codes "AuthMethod") pairs) ≡ false
     → is_bad_length (login_value max_recv_key pairs) ≡ false → nat_lt 8192 (length (canonical_text (answer_pairs e pairs))) ≡ false
     → first_reason (text_refusals e pairs) ≡ None
 second_text e pairs t g auth len size =
-    none_of (text_refusals e pairs)
-    (g, (off e.has_text _ t, (off e.has_text _ t, (off_both e.has_text _ _ t, (off_both e.has_text _ _ t, (auth, (len, (size, (off e.has_text _ t, tt)))))))))
+    text_unrefused e pairs (record {
+      keys_once = g;
+      says_initiator = off e.has_text _ t;
+      says_session = off e.has_text _ t;
+      says_target = off_both e.has_text _ _ t;
+      finds_target = off_both e.has_text _ _ t;
+      authentication = auth;
+      declares_well = len;
+      is_short = size;
+      is_let_in = off e.has_text _ t;
+    })

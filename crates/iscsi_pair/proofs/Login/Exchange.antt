@@ -27,7 +27,7 @@ use Rattle.iscsi_initiator.proofs.OneOutcomeLaw.{closed_step}
 use Rattle.iscsi_pair.specs.World.{Opening, IsOpening}
 use Rattle.iscsi_pair.specs.Traffic.{session_after_all, sent, coming}
 use Rattle.iscsi_initiator.specs.Laws.{SessionInput, Comes, Asks, Takes, met}
-use Rattle.iscsi_pair.proofs.Ends.InitiatorRun.{begun}
+use Rattle.iscsi_pair.proofs.Ends.InitiatorEnds.{begun}
 use Rattle.iscsi_pair.proofs.Wire.PrefixLemmas.{IsFirst, first_is}
 use Rattle.iscsi_pair.proofs.Login.InitiatorStep.{Closes}
 use Rattle.iscsi_pair.proofs.Login.RoundAgrees.{Agreed, Asking, Asks_on, Round, asking_readable, round}

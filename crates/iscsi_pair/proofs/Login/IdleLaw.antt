@@ -20,7 +20,7 @@ use Rattle.iscsi_login.specs.Stage.{is_closed_phase}
 use Rattle.iscsi_initiator.specs.Login.{start_step}
 use Rattle.iscsi_pair.specs.World.{World, Opening, IsOpening}
 use Rattle.iscsi_pair.specs.Traffic.{Traffic, target_said, session_after_all, sent, coming}
-use Rattle.iscsi_pair.proofs.Ends.InitiatorRun.{InitiatorLives, begun}
+use Rattle.iscsi_pair.proofs.Ends.InitiatorEnds.{InitiatorLives, begun}
 use Rattle.iscsi_pair.proofs.Ends.TargetRun.{TargetLives, TargetOver}
 use Rattle.iscsi_pair.proofs.Ends.BothRuns.{Sides}
 use Rattle.iscsi_pair.proofs.Wire.PrefixLemmas.{Readable, IsFirst, first_is}

@@ -45,7 +45,8 @@ use Rattle.iscsi_pair.proofs.Login.InitiatorStep.{with_answer}
 use Rattle.iscsi_pair.proofs.Login.RoundAgrees.{Agreed, Asking, Asks_on, Round}
 use Rattle.iscsi_pair.proofs.Login.Compatible.{says_security, says_single, session_is}
 use Rattle.iscsi_pair.proofs.Wire.WindowLemmas.{IsNear, near_now, tells_eight}
-use Rattle.iscsi_pair.proofs.Login.RoundProgress.{HasNone, HasFirst, Suited, SameState, TextKeeps, LastTurn, PartTurn, emptied, entered_same, part_head}
+use Rattle.iscsi_pair.proofs.Login.RoundBegins.{HasNone, HasFirst, Suited, SameState, entered_same}
+use Rattle.iscsi_pair.proofs.Login.RoundProgress.{TextKeeps, LastTurn, PartTurn, emptied, part_head}
 use Rattle.iscsi_pair.proofs.Login.RoundProgress.{text_head, text_keeps, turns}
 
 -- ---- what is counted

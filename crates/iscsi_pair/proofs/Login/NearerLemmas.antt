@@ -19,7 +19,8 @@ use Rattle.iscsi_initiator.specs.Login.{following_stage, begins_stage, login_req
 use Rattle.iscsi_initiator.specs.Machine.{initiator_step}
 use Rattle.iscsi_pair.specs.World.{Opening, IsOpening, SuitEachOther}
 use Rattle.iscsi_pair.proofs.Login.RoundAgrees.{Asking, Round}
-use Rattle.iscsi_pair.proofs.Login.RoundProgress.{PartTurn, Suited, TextKeeps, emptied, text_fits, text_head, text_keeps, turns}
+use Rattle.iscsi_pair.proofs.Login.RoundProgress.{PartTurn, TextKeeps, emptied, text_fits, text_head, text_keeps, turns}
+use Rattle.iscsi_pair.proofs.Login.RoundBegins.{Suited}
 use Rattle.iscsi_pair.proofs.Login.InitiatorStep.{with_answer}
 
 -- the login has gone on: with less of the text left, or with the text of the second stage

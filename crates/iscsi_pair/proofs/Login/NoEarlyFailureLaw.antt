@@ -38,7 +38,7 @@ use Rattle.iscsi_pair.specs.World.{PairRuns, RunsInTime, MovesToTarget, MovesToI
 use Rattle.iscsi_pair.specs.Traffic.{Traffic, target_said, session_after_all, sent, coming}
 use Rattle.iscsi_initiator.specs.Laws.{SessionInput}
 use Rattle.iscsi_pair.proofs.Ends.TargetRun.{TargetFront, front_output, TargetEnded, TargetBroken, TargetFailed}
-use Rattle.iscsi_pair.proofs.Ends.InitiatorRun.{InitiatorFront, InitiatorEnded, InitiatorBroken, InitiatorFailed, begun, all_sent}
+use Rattle.iscsi_pair.proofs.Ends.InitiatorEnds.{InitiatorFront, InitiatorEnded, InitiatorBroken, InitiatorFailed, begun, all_sent}
 use Rattle.iscsi_pair.proofs.Ends.BothRuns.{Sides}
 use Rattle.iscsi_pair.proofs.Login.RoundAgrees.{Asks_on, first_asks}
 use Rattle.iscsi_pair.proofs.Login.Exchange.{Way, first_reached}

@@ -19,7 +19,8 @@ use Rattle.iscsi_pair.specs.Traffic.{session_after_all}
 use Rattle.iscsi_initiator.specs.Laws.{SessionInput}
 use Rattle.iscsi_pair.proofs.Wire.PrefixLemmas.{Readable, IsFirst, first_is}
 use Rattle.iscsi_pair.proofs.Login.RoundAgrees.{Asking, Round, asking_readable, asking_short, round}
-use Rattle.iscsi_pair.proofs.Login.RoundProgress.{Suited, Well, goes_well}
+use Rattle.iscsi_pair.proofs.Login.RoundBegins.{Suited}
+use Rattle.iscsi_pair.proofs.Login.RoundProgress.{Well, goes_well}
 use Rattle.iscsi_pair.proofs.Login.Exchange.{Ended, LoginExchange, Turns, Way, Waiting, Closing, Agreeing, exchange_ends, not_empty, nothing_read}
 
 -- a message stands at the front of these bytes as it was written

@@ -29,6 +29,7 @@ use Rattle.iscsi_target_session.specs.Session.{Session, Reply}
 use Rattle.iscsi_target.specs.State.{Machine, on}
 use Rattle.scsi_disk.specs.Plan.{first_reason}
 use Rattle.iscsi_target_session.specs.LoginText.{out_of_resources, text_refusals, is_operational, initiator_for, negotiated_as, declared_tag, declared_length, answer_pairs}
+use Rattle.iscsi_target_session.proofs.RefusalLemmas.{text_accepted}
 use Rattle.iscsi_target_session.specs.Login.{on_login_request, request_refusals, refuse, refuse_or, login_response_to, login_response_message, numbers_settled, entered, segment_taken}
 use Rattle.iscsi_target_session.specs.Login.{rest_of, has_passed, verdict_for, held_back, allowed_move, exchange_pairs, exchange_answered}
 use Rattle.iscsi_target_session.specs.Login.{gather, whole_text, text_ending, pairs_answered, login_text_response, stage_asked, stage_after, phase_at, tsih_at}
@@ -111,17 +112,6 @@ text_refusal s pairs why e =
         ),
       ),
     ) e
-
--- where there is no reason, none of them holds
-none_if : (b : Bool) (row : Bool × Status) (o : Option Status) → (if b then Some row.1 else o) ≡ None → (b ≡ false) × (o ≡ None)
-none_if true row o e = absurd (cc e)
-none_if false row o e = (refl, e)
-
-none_holds : (rows : List (Bool × Status)) → first_reason rows ≡ None → AllByRecursion (λ row. row.0 ≡ false) rows
-none_holds [] e = tt
-none_holds (row ∷ rows) e =
-    let n = none_if row.0 row (first_reason rows) e in
-    (n.0, none_holds rows n.1)
 
 -- ---- what is sent
 
@@ -391,7 +381,7 @@ tells_text s h segment pairs fit l f last means read =
     told given same none =
         let e : Session = record (entered s h) { gathered = [] } in
         subst (λ (g : Pairs). Tells s h g (pairs_answered e h given)) same
-        (tells s (entered s h) h given (entered_keeps s h l.cmd_sn f) fit l f (none_holds (text_refusals e given) none).1.1.1.1.1.1.1.0)
+        (tells s (entered s h) h given (entered_keeps s h l.cmd_sn f) fit l f (text_accepted e given none).is_short)
 
     chosen : (c : Chap) (p : Progress) (said : Said) (given : Pairs) → given ≡ pairs
         → verdict_for c (record (entered s h) { gathered = [] }) given ≡ Goes p said

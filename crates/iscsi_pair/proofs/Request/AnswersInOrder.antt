@@ -117,7 +117,8 @@ pub leads_less : (low most : ℕ) (held : Held) (from x : DiskExchange) → low 
 leads_less low most held from x le l = (let few = l.1 in (l.0, omega (arith, few, le), l.2))
 
 -- an answer that is received, and to which nothing is said
-pub receives_quiet : (low most : ℕ) → low + 1 ≤ most → (held : Held) (i n : initiator.InitiatorSession) (t : target.Machine) (disk : Disk) (m : Message) (more : List Message) (x : DiskExchange)
+pub receives_quiet : (low most : ℕ) → low + 1 ≤ most → (held : Held) (i n : initiator.InitiatorSession) (t : target.Machine) (disk : Disk) (m : Message)
+    (more : List Message) (x : DiskExchange)
     → initiator_step i m ≡ quiet n → i.phase ≡ phases.Full → is_some i.outstanding ≡ true → i.done ≡ None
     → LeadsWithin low held (between n t disk more) x → LeadsWithin most held (between i t disk (m ∷ more)) x
 unfolding answers
@@ -138,7 +139,8 @@ receives_quiet low most le held i n t disk m more x e full busy none l = (
 )
 
 -- the last answer on its way, to which these are said
-pub receives_sends : (low most : ℕ) → low + 1 ≤ most → (held : Held) (i n : initiator.InitiatorSession) (t : target.Machine) (disk : Disk) (m : Message) (out : List Message) (r : target.TargetStep)
+pub receives_sends : (low most : ℕ) → low + 1 ≤ most → (held : Held) (i n : initiator.InitiatorSession) (t : target.Machine) (disk : Disk) (m : Message)
+    (out : List Message) (r : target.TargetStep)
     (x : DiskExchange)
     → initiator_step i m ≡ step_sending n out → i.phase ≡ phases.Full → is_some i.outstanding ≡ true
     → i.done ≡ None → AreReceived held t disk out → answers false t disk out ≡ r → LeadsWithin low held (between n r.machine r.disk r.answers) x

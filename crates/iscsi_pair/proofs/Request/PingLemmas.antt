@@ -35,7 +35,8 @@ use Rattle.iscsi_pair.proofs.Wire.WindowLemmas.{near_next, tells_eight, tag_afte
 use Rattle.iscsi_pair.proofs.Wire.WrittenPdus.{left_readable, logout_readable, ping_readable, pong_readable}
 use Rattle.iscsi_pair.proofs.Request.Invariant.{IsOpenFor}
 use Rattle.iscsi_pair.proofs.Request.AnswersInOrder.{ArePlain, Begins, Ends, most_answers, received_by, receives_quiet, plain_one, short_message}
-use Rattle.iscsi_pair.proofs.Request.ReadLemmas.{counted_on, in_step_again, not_long, ready, stat_sn_sent, submitted_is, told_window, unrefused, window_now}
+use Rattle.iscsi_pair.proofs.Request.ReadLemmas.{counted_on, in_step_again, not_long, ready, stat_sn_sent, submitted_is, unrefused, window_now}
+use Rattle.iscsi_pair.proofs.Request.DataInLemmas.{told_window}
 use Rattle.iscsi_target.specs.Execution.{reliable}
 use Rattle.iscsi_login.specs.Stage.{is_closed_phase}
 
@@ -151,7 +152,8 @@ local_ping m t disk bytes a e =
     let last : DiskExchange = record { initiator = pinged begun_ t' m.window given; target = counted_on t'; disk = disk; answers = [] } in
     let ends_ : Ends most_answers m.held (pinging begun_ m.window) executed (record { outcome = done.Ping given; disk = disk }) = record {
       last = last;
-      leads = receives_quiet 0 most_answers (omega arith) m.held (pinging begun_ m.window) (pinged begun_ t' m.window given) (counted_on t') disk answer [] last one refl refl a.none_done
+      leads = receives_quiet 0 most_answers (omega arith) m.held (pinging begun_ m.window) (pinged begun_ t' m.window given) (counted_on t') disk answer []
+          last one refl refl a.none_done
           (0, omega arith, refl);
       ended = record {
         done_is = refl;
@@ -177,7 +179,8 @@ local_ping m t disk bytes a e =
           (subst (λ (x : initiator.InitiatorSession). Ends most_answers m.held x (answers false t disk (submitted m request).output)
           (record { outcome = done.Ping given; disk = disk }))
           (sym is_m)
-          (subst (λ (x : target.TargetStep). Ends most_answers m.held (pinging begun_ m.window) x (record { outcome = done.Ping given; disk = disk })) (sym r) ends_));
+          (subst (λ (x : target.TargetStep). Ends most_answers m.held (pinging begun_ m.window) x (record { outcome = done.Ping given; disk = disk }))
+          (sym r) ends_));
     }
 
 -- ---- a logout

@@ -25,7 +25,7 @@ use Rattle.iscsi_target.specs.Laws.{joined_stepped}
 use Rattle.iscsi_target.specs.Feed as target_calls
 use Rattle.iscsi_target.proofs.Steps.AppendLemmas.{answers_append}
 use Rattle.iscsi_target.proofs.Writes.JoiningLemmas.{answers_joined}
-use Rattle.iscsi_target.proofs.Feed.FeedingLemmas.{stands}
+use Rattle.iscsi_target.proofs.Feed.FedStreamLemmas.{stands}
 use Rattle.iscsi_initiator.specs.State as initiator
 use Rattle.iscsi_initiator.specs.State.{is_session_closed}
 use Rattle.iscsi_initiator.specs.Steps as initiator_steps
@@ -160,37 +160,37 @@ pub record ReceivesOn (most : Limits) (P : Relation) (x : DiskExchange) (r : ini
   pub talks : Talks most.back P (record x { initiator = r.machine }) (out ++ r.output) (record s { there = logins_after_all s.there r.output })
 
 -- one message more in front, by whether it closes the session
-receives_if : (over : Bool) (most_out most : ℕ) (P : Relation) → IsKept (limits most_out most) P
-    → (i : initiator.InitiatorSession) (t : target.Machine) (disk : Disk) (out : List Message) (m : Message) (new left : List Message) (there here : Logins)
-    (h : History)
-    → is_session_closed (initiator_step i m).machine ≡ over → (initiator_step i m).fault ≡ None → AreWritten most_out there (initiator_step i m).output
-    → Talks most P (between (initiator_step i m).machine t disk (new ++ left)) (out ++ (initiator_step i m).output)
-    (so_far (logins_after_all there (initiator_step i m).output) here h)
-    → ReceivesOn (limits most_out most) P (between (initiator_step i m).machine t disk left) (steps (initiator_step i m).machine new)
+receives_if : (over : Bool) (most : Limits) (P : Relation) → IsKept most P
+    → (i : initiator.InitiatorSession) (t : target.Machine) (disk : Disk) (out : List Message) (m : Message) (new left : List Message) (so : SoFar)
+    → is_session_closed (initiator_step i m).machine ≡ over → (initiator_step i m).fault ≡ None → AreWritten most.out so.there (initiator_step i m).output
+    → Talks most.back P (between (initiator_step i m).machine t disk (new ++ left)) (out ++ (initiator_step i m).output)
+    (so_far (logins_after_all so.there (initiator_step i m).output) so.here so.history)
+    → ReceivesOn most P (between (initiator_step i m).machine t disk left) (steps (initiator_step i m).machine new)
     (out ++ (initiator_step i m).output)
-    (so_far (logins_after_all there (initiator_step i m).output) here h)
-    → ReceivesOn (limits most_out most) P (between i t disk left) (steps i (m ∷ new)) out (so_far there here h)
+    (so_far (logins_after_all so.there (initiator_step i m).output) so.here so.history)
+    → ReceivesOn most P (between i t disk left) (steps i (m ∷ new)) out so
 unfolding steps
-receives_if true most_out most P k i t disk out m new left there here h is fault written one r =
-    let none : new ++ left ≡ [] = over_none most_out most P k (initiator_step i m).machine t disk (out ++ (initiator_step i m).output) (new ++ left)
-    (logins_after_all there (initiator_step i m).output) here h one is in
+receives_if true most P k i t disk out m new left so is fault written one r =
+    let none : new ++ left ≡ [] = over_none most.out most.back P k (initiator_step i m).machine t disk (out ++ (initiator_step i m).output) (new ++ left)
+    (logins_after_all so.there (initiator_step i m).output) so.here so.history one is in
     rw is (record {
       fault = fault;
       written = written;
-      talks = subst (λ (x : List Message). Talks most P (between (initiator_step i m).machine t disk x) (out ++ (initiator_step i m).output)
-          (so_far (logins_after_all there (initiator_step i m).output) here h))
+      talks = subst (λ (x : List Message). Talks most.back P (between (initiator_step i m).machine t disk x) (out ++ (initiator_step i m).output)
+          (so_far (logins_after_all so.there (initiator_step i m).output) so.here so.history))
           (none ∙ sym (both_none new left none).1) one;
     })
-receives_if false most_out most P k i t disk out m new left there here h is fault written one r =
+receives_if false most P k i t disk out m new left so is fault written one r =
     let first : List Message = (initiator_step i m).output in
     let s : initiator_steps.InitiatorStep = steps (initiator_step i m).machine new in
     rw is (record {
       fault = r.fault;
-      written = written_append most_out there first s.output written r.written;
-      talks = subst (λ (x : List Message). Talks most P (between s.machine t disk left) x (so_far (logins_after_all there (first ++ s.output)) here h))
+      written = written_append most.out so.there first s.output written r.written;
+      talks = subst (λ (x : List Message). Talks most.back P (between s.machine t disk left) x
+          (so_far (logins_after_all so.there (first ++ s.output)) so.here so.history))
           (append_assoc out first s.output)
-          (subst (λ (l : Logins). Talks most P (between s.machine t disk left) ((out ++ first) ++ s.output) (so_far l here h))
-          (sym (after_all_append there first s.output))
+          (subst (λ (l : Logins). Talks most.back P (between s.machine t disk left) ((out ++ first) ++ s.output) (so_far l so.here so.history))
+          (sym (after_all_append so.there first s.output))
           r.talks);
     })
 
@@ -214,7 +214,8 @@ initiator_received most_out most P k i t disk out (m ∷ new) left there here h 
     let one : Talks most P (between (initiator_step i m).machine t disk (new ++ left)) (out ++ (initiator_step i m).output)
     (so_far (logins_after_all there (initiator_step i m).output) here h) =
     talk_on most_out most P (initiator_step i m).machine t disk out (initiator_step i m).output (new ++ left) there here h s.received g.sends in
-    receives_if (is_session_closed (initiator_step i m).machine) most_out most P k i t disk out m new left there here h refl g.fault g.sends.written one
+    receives_if (is_session_closed (initiator_step i m).machine) (limits most_out most) P k i t disk out m new left (so_far there here h) refl g.fault
+    g.sends.written one
     (initiator_received most_out most P k (initiator_step i m).machine t disk (out ++ (initiator_step i m).output) new left
     (logins_after_all there (initiator_step i m).output) here h one)
 
@@ -224,21 +225,21 @@ Improves most P Q = (i : initiator.InitiatorSession) (t : target.Machine) (disk 
     → P (between i t disk (m ∷ back)) (so_far there here h) → Goes most Q (between i t disk back) m (so_far there here h)
 
 -- the initiator receives the first of them, and holds by another relation then
-pub initiator_received_first : (most_out most : ℕ) (P Q : Relation) → IsKept (limits most_out most) Q → Improves (limits most_out most) P Q
-    → (i : initiator.InitiatorSession) (t : target.Machine) (disk : Disk) (out : List Message) (m : Message) (new left : List Message) (there here : Logins)
-    (h : History)
-    → Talks most P (between i t disk ((m ∷ new) ++ left)) out (so_far there here h)
-    → ReceivesOn (limits most_out most) Q (between i t disk left) (steps i (m ∷ new)) out (so_far there here h)
-initiator_received_first most_out most P Q k better i t disk out m new left there here h s =
+pub initiator_received_first : (most : Limits) (P Q : Relation) → IsKept most Q → Improves most P Q
+    → (i : initiator.InitiatorSession) (t : target.Machine) (disk : Disk) (out : List Message) (m : Message) (new left : List Message) (so : SoFar)
+    → Talks most.back P (between i t disk ((m ∷ new) ++ left)) out so
+    → ReceivesOn most Q (between i t disk left) (steps i (m ∷ new)) out so
+initiator_received_first most P Q k better i t disk out m new left so s =
     let a : target.TargetStep = answers false t disk out in
-    let g : Goes (limits most_out most) Q (between i a.machine a.disk ((new ++ left) ++ a.answers)) m (so_far there (logins_after_all here a.answers) h) =
-    better i a.machine a.disk m ((new ++ left) ++ a.answers) there (logins_after_all here a.answers) h s.kept in
-    let one : Talks most Q (between (initiator_step i m).machine t disk (new ++ left)) (out ++ (initiator_step i m).output)
-    (so_far (logins_after_all there (initiator_step i m).output) here h) =
-    talk_on most_out most Q (initiator_step i m).machine t disk out (initiator_step i m).output (new ++ left) there here h s.received g.sends in
-    receives_if (is_session_closed (initiator_step i m).machine) most_out most Q k i t disk out m new left there here h refl g.fault g.sends.written one
-    (initiator_received most_out most Q k (initiator_step i m).machine t disk (out ++ (initiator_step i m).output) new left
-    (logins_after_all there (initiator_step i m).output) here h one)
+    let g : Goes most Q (between i a.machine a.disk ((new ++ left) ++ a.answers)) m (so_far so.there (logins_after_all so.here a.answers) so.history) =
+    better i a.machine a.disk m ((new ++ left) ++ a.answers) so.there (logins_after_all so.here a.answers) so.history s.kept in
+    let one : Talks most.back Q (between (initiator_step i m).machine t disk (new ++ left)) (out ++ (initiator_step i m).output)
+    (so_far (logins_after_all so.there (initiator_step i m).output) so.here so.history) =
+    talk_on most.out most.back Q (initiator_step i m).machine t disk out (initiator_step i m).output (new ++ left) so.there so.here so.history s.received
+    g.sends in
+    receives_if (is_session_closed (initiator_step i m).machine) most Q k i t disk out m new left so refl g.fault g.sends.written one
+    (initiator_received most.out most.back Q k (initiator_step i m).machine t disk (out ++ (initiator_step i m).output) new left
+    (logins_after_all so.there (initiator_step i m).output) so.here so.history one)
 
 -- ---- worlds
 

@@ -31,9 +31,10 @@ use Rattle.iscsi_pair.specs.World.{Opening}
 use Rattle.iscsi_pair.specs.LocalDisk.{AreAtRest, AreInStep, RequestHasEnded, HaveParted, Local, DiskExchange, local, local_disk, local_outcomes}
 use Rattle.iscsi_pair.specs.Served.{EndsInLogout, IsNormal, IsServed, local_disk_after, disk_outcomes}
 use Rattle.iscsi_pair.proofs.Login.RoundAgrees.{Asking, Asks_on, Round, asking_readable, asking_short, first_asks, round}
-use Rattle.iscsi_pair.proofs.Login.RoundProgress.{Suited, Well, first_suited, goes_well}
+use Rattle.iscsi_pair.proofs.Login.RoundBegins.{Suited}
+use Rattle.iscsi_pair.proofs.Login.RoundProgress.{Well, first_suited, goes_well}
 use Rattle.iscsi_pair.proofs.Login.LoginEndsInStep.{HasMet, Meets, Numbered, first_numbered, meets}
-use Rattle.iscsi_pair.proofs.Ends.InitiatorRun.{begun}
+use Rattle.iscsi_pair.proofs.Ends.InitiatorEnds.{begun}
 use Rattle.iscsi_pair.proofs.Request.Invariant.{AreWritten, Goes, ReceivesWell, History, IsKept, Sends, between, so_far, SoFar, limits_of}
 use Rattle.iscsi_pair.proofs.Request.AnswersInOrder.{AreReceived, Begins, Leads, LeadsWithin, most_answers}
 use Rattle.iscsi_pair.proofs.Request.OneRequestLaw.{begins, disk_more, is_free, outcomes_more}
@@ -215,7 +216,8 @@ full_sends c i out t there here o is met =
     })
 
 -- the answer to a login request comes
-pub login_goes : (c : Opening) (i : initiator.InitiatorSession) (t : target.Machine) (disk : Disk) (m : Message) (back : List Message) (there here : Logins) (h : History)
+pub login_goes : (c : Opening) (i : initiator.InitiatorSession) (t : target.Machine) (disk : Disk) (m : Message) (back : List Message) (there here : Logins)
+    (h : History)
     → IsNormal c → LogsOn c (between i t disk (m ∷ back)) (so_far there here h)
     → Goes (limits_of c) (Serves c) (between i t disk back) m (so_far there here h)
 login_goes c i t disk m back there here h o l =
@@ -243,7 +245,8 @@ login_goes c i t disk m back there here h o l =
 -- ---- requests
 
 -- an answer comes while a request is served
-serving_goes : (n : ℕ) → n ≤ most_answers → (c : Opening) (i : initiator.InitiatorSession) (t : target.Machine) (disk : Disk) (m : Message) (back : List Message) (there here : Logins)
+serving_goes : (n : ℕ) → n ≤ most_answers → (c : Opening) (i : initiator.InitiatorSession) (t : target.Machine) (disk : Disk) (m : Message)
+    (back : List Message) (there here : Logins)
     (h : History) (v : IsServing c (between i t disk (m ∷ back)) h) → Leads v.held n (between i t disk (m ∷ back)) v.last
     → Goes (limits_of c) (Serves c) (between i t disk back) m (so_far there here h)
 serving_goes zero few c i t disk m back there here h v l = absurd (let bad : m ∷ back ≡ [] = ap (λ (x : DiskExchange). x.answers) l ∙ v.ended.silent in cc)

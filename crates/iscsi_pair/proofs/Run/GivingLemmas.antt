@@ -125,7 +125,8 @@ given_on_disk c taken w outcomes o gives left idle suits normal plain served =
     let none : w.initiator.machine.done ≡ None = left (first_asks c o).asking.no_outcome in
     let well : keeps_no_memory w ≡ false =
     or_from (target_ran_out w.target_fault) (initiator_ran_out w.initiator_fault) (ap target_ran_out idle.0) (ap initiator_ran_out idle.1) in
-    let runs = served_giving (new_pair c) (step_events taken) w outcomes gives (subst (λ (x : List Request). AllByRecursion IsServed x) (sym (requests_taking taken)) served) well
+    let runs = served_giving (new_pair c) (step_events taken) w outcomes gives
+    (subst (λ (x : List Request). AllByRecursion IsServed x) (sym (requests_taking taken)) served) well
     idle.1 in
     let whole = idle_whole c (step_events taken) w outcomes n runs idle.2 idle.3 in
     record {

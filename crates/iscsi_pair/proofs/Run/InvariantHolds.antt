@@ -43,8 +43,8 @@ use Rattle.iscsi_pair.specs.World.{World, Opening, PairEvent, ToTarget, ToInitia
 use Rattle.iscsi_pair.specs.World.{feed_fault, submit_fault, target_ran_out, initiator_ran_out, keeps_no_memory}
 use Rattle.iscsi_pair.specs.Served.{IsServed, IsAccepted, RunsServed, requests_of, requests_in, pair_outcome_in}
 use Rattle.iscsi_pair.proofs.Login.NoFailure.{both_none}
-use Rattle.iscsi_pair.proofs.Ends.InitiatorRun.{begun, begun_open}
-use Rattle.iscsi_pair.proofs.Request.Invariant.{AreWritten, History, Relation, Sends, IsKept, between, so_far, limits_of}
+use Rattle.iscsi_pair.proofs.Ends.InitiatorEnds.{begun, begun_open}
+use Rattle.iscsi_pair.proofs.Request.Invariant.{SoFar, limits, AreWritten, History, Relation, Sends, IsKept, between, so_far, limits_of}
 use Rattle.iscsi_pair.proofs.Run.QueueReading.{written_reads, refuses_nothing, Unread, Way, MovesOn, moves_on, still_unread, none_more, way_sends, way_none}
 use Rattle.iscsi_pair.proofs.Run.CarriedBytes.{open_none, Talks, talk_on, ReceivesOn, Improves, initiator_received, initiator_received_first}
 use Rattle.iscsi_pair.proofs.Run.CarriedBytes.{over_none, Stands, Keeps, talks_of, no_bytes, front_moves}
@@ -69,11 +69,11 @@ record InitiatorTurn {c : Opening} {P : Relation} {h : History} {old : World} (Q
 -- what the target's side has on its way where more is sent
 target_way : (c : Opening) (P Q : Relation) (h : History) (old : World) (s : Stands c P h old) (most : ℕ) (i : initiator.InitiatorSession)
     (more back : List Message)
-    (there here : Logins) (g : History)
-    → Talks most Q (between i s.session s.disk back) (s.out ++ more) (so_far there here g) → AreWritten (target_session.target_limit c.target) s.there more
+    (so : SoFar)
+    → Talks most Q (between i s.session s.disk back) (s.out ++ more) so → AreWritten (target_session.target_limit c.target) s.there more
     → Way (target_machine.is_machine_closed s.session) (target_session.target_limit c.target) old.target.framing (old.to_target ++ canon more) (s.out ++ more)
     (logins_after_all s.there more)
-target_way c P Q h old s most i more back there here g talks written =
+target_way c P Q h old s most i more back so talks written =
     way_sends (target_machine.is_machine_closed s.session) (target_session.target_limit c.target) old.target.framing old.to_target s.out s.there more
     s.to_target written
     (λ over. (both_none s.out more (open_none s.session s.disk (s.out ++ more) talks.received.open_ over)).1)
@@ -121,7 +121,8 @@ initiator_turn c P Q h old k moved kept s u m f receives =
           (drop (length moved) old.to_initiator)
           (logins_after_all no_login (u.received ++ f.messages)) on.left t some fails refl
           (subst (λ (n : ℕ). ReadsAs n (logins_after_all no_login (u.received ++ f.messages)) (t.rest ++ more) on.left) (sym bound) on.reads);
-      to_target = target_way c P Q h old s (calls.initiator_limit c.initiator) r.machine r.output on.left (logins_after_all s.there r.output) s.here h has.talks
+      to_target = target_way c P Q h old s (calls.initiator_limit c.initiator) r.machine r.output on.left
+          (so_far (logins_after_all s.there r.output) s.here h) has.talks
           has.written;
     }
 
@@ -277,9 +278,8 @@ receives_first : (ms : List Message) (c : Opening) (P Q : Relation) (h : History
     → (s : Stands c P h old) → (ms ≡ [] → ⊥) → Receives c P Q h old s ms
 receives_first [] c P Q h old kept better s some = λ left talks. absurd (some refl)
 receives_first (m ∷ ms) c P Q h old kept better s some = λ left talks.
-    initiator_received_first (target_session.target_limit c.target) (calls.initiator_limit c.initiator) P Q kept better old.initiator.machine s.session s.disk
-    s.out m ms left
-    s.there s.here h talks
+    initiator_received_first (limits (target_session.target_limit c.target) (calls.initiator_limit c.initiator)) P Q kept better old.initiator.machine
+    s.session s.disk s.out m ms left (so_far s.there s.here h) talks
 
 -- where no message was received nothing changed
 none_steps : (i : initiator.InitiatorSession) (ms : List Message) → ms ≡ [] → (steps i ms).machine ≡ i
@@ -301,7 +301,8 @@ none_waits_more c P h old k moved s u m none f all ready nil =
     let on : MovesOn (calls.initiator_limit c.initiator) u.received s.back f.messages t.rest more =
     moves_on (calls.initiator_limit c.initiator) old.initiator.framing old.to_initiator s.back s.here piece more f.messages f.framing u q t bound in
     let unread : Unread (calls.initiator_limit c.initiator) f.framing more on.left s.here =
-    still_unread (calls.initiator_limit c.initiator) old.initiator.framing old.to_initiator s.back s.here piece more f.messages on.left f.framing u q t bound ready on.whole in
+    still_unread (calls.initiator_limit c.initiator) old.initiator.framing old.to_initiator s.back s.here piece more f.messages on.left f.framing u q t
+    bound ready on.whole in
     let left : on.left ≡ [] = way_none false (calls.initiator_limit c.initiator) f.framing more on.left s.here (inl (refl, unread))
     (no_bytes f.count moved (drop (length moved) old.to_initiator) all ∙ none) in
     on.whole ∙ ap (λ (x : List Message). x ++ on.left) nil ∙ left
@@ -397,8 +398,8 @@ accepts c P h old new request kept s served e there well target_ blocks queue =
       initiator = ap (λ (x : calls.InitiatorConnection). x.machine) e.connection;
       queue = e.output;
     }) talks
-    (target_way c P P h old s (calls.initiator_limit c.initiator) (submitted i request).machine out s.back (logins_after_all s.there out) s.here
-    (requested h request) talks
+    (target_way c P P h old s (calls.initiator_limit c.initiator) (submitted i request).machine out s.back
+    (so_far (logins_after_all s.there out) s.here (requested h request)) talks
     sends.written)
     (subst (λ (x : calls.InitiatorConnection). Way (is_session_closed x.machine) (calls.initiator_limit c.initiator) x.framing new.to_initiator s.back s.here)
     (sym e.connection)

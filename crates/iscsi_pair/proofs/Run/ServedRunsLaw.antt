@@ -58,7 +58,8 @@ accepted_so : (fault : Option EndFault) (request : Request) (old new : World) �
 accepted_so None request old new is e none = accepted_by e.result request old new e.submitted e.fault none
 accepted_so (Some fault) request old new is e none = absurd (let bad : None ≡ Some fault = sym none ∙ ap (λ (w : World). w.initiator_fault) e ∙ is in cc)
 
-pub was_accepted : (old : World) (event : PairEvent) (new : World) → PairEventStep old event new → AllByRecursion IsServed (requests_in event) → new.initiator_fault ≡ None
+pub was_accepted : (old : World) (event : PairEvent) (new : World) → PairEventStep old event new → AllByRecursion IsServed (requests_in event) →
+    new.initiator_fault ≡ None
     → IsAccepted event old
 was_accepted old (ToTarget k) new e served none = tt
 was_accepted old (ToInitiator k) new e served none = tt

@@ -38,7 +38,7 @@ pub struct DataIn {
     pub max_cmd_sn: u32,
     /// DataSN: the number of this PDU in its command, from 0.
     pub data_sn: u32,
-    /// Where the data go, in bytes from the begin of the command's data.
+    /// Where the data go, in bytes from the start of the command's data.
     pub buffer_offset: u32,
     /// ResidualCount, bytes. It is there where `has_status` is set.
     pub residual: Option<u32>,

@@ -22,7 +22,7 @@ pub struct DataOut {
     pub exp_stat_sn: u32,
     /// DataSN: the number of this PDU in its sequence, from 0.
     pub data_sn: u32,
-    /// Where the data belong, in bytes from the begin of the command's data.
+    /// Where the data belong, in bytes from the start of the command's data.
     pub buffer_offset: u32,
 }
 

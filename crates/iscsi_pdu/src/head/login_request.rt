@@ -5,7 +5,7 @@ ghost use Rattle.scsi_cdb.specs.Layout.{RowsHold, AreFilled, HaveRoom, put_all};
 ghost use Rattle.iscsi_pdu.specs.Fields.{login_request};
 
 use scsi_cdb::layout::{
-    bit, bits, put_bit, put_number, put_number_if, put_raw, put_u8, put_u16, put_u32, six_at,
+    array_at, bit, bits, put_bit, put_number, put_number_if, put_raw, put_u8, put_u16, put_u32,
     u8_at, u16_at, u32_at,
 };
 
@@ -50,7 +50,7 @@ impl LoginRequest {
             next_stage: transits.then_some(bits(bytes, 1, 0x03)),
             version_max: u8_at(bytes, 2),
             version_min: u8_at(bytes, 3),
-            isid: six_at(bytes, 8),
+            isid: array_at(bytes, 8),
             tsih: u16_at(bytes, 14),
             initiator_task_tag: u32_at(bytes, 16),
             connection_id: u16_at(bytes, 20),

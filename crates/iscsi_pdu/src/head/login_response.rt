@@ -5,8 +5,8 @@ ghost use Rattle.scsi_cdb.specs.Layout.{RowsHold, AreFilled, HaveRoom, put_all};
 ghost use Rattle.iscsi_pdu.specs.Fields.{login_response};
 
 use scsi_cdb::layout::{
-    bit, bits, put_bit, put_number, put_number_if, put_raw, put_u8, put_u16, put_u32, put_u32_if,
-    six_at, u8_at, u16_at, u32_at,
+    array_at, bit, bits, put_bit, put_number, put_number_if, put_raw, put_u8, put_u16, put_u32,
+    put_u32_if, u8_at, u16_at, u32_at,
 };
 
 /// A Login Response, opcode 23, with a text in its segment (RFC 7143, section 11.13).
@@ -55,7 +55,7 @@ impl LoginResponse {
             next_stage: transits.then_some(bits(bytes, 1, 0x03)),
             version_max: u8_at(bytes, 2),
             version_active: u8_at(bytes, 3),
-            isid: six_at(bytes, 8),
+            isid: array_at(bytes, 8),
             tsih: u16_at(bytes, 14),
             initiator_task_tag: u32_at(bytes, 16),
             stat_sn: (status_class == 0).then_some(u32_at(bytes, 24)),

@@ -24,7 +24,7 @@ pub struct ReadyToTransfer {
     pub max_cmd_sn: u32,
     /// R2TSN: the number of this R2T in its command, from 0.
     pub r2t_sn: u32,
-    /// The first byte that is asked for, counted from the begin of the command's data.
+    /// The first byte that is asked for, counted from the start of the command's data.
     pub buffer_offset: u32,
     /// How many bytes are asked for.
     pub desired_data_transfer_length: u32,

@@ -7,7 +7,7 @@ ghost use Rattle.iscsi_pdu.specs.Fields.{scsi_command, block_rows};
 
 use scsi_cdb::Cdb;
 use scsi_cdb::layout::{
-    bit, bits, put_bit, put_number, put_raw, put_u32, put_u64, sixteen_at, u32_at, u64_at,
+    array_at, bit, bits, put_bit, put_number, put_raw, put_u32, put_u64, u32_at, u64_at,
 };
 
 /// A SCSI Command, opcode 01. Immediate data stand in its segment (RFC 7143, section 11.3).
@@ -53,7 +53,7 @@ impl ScsiCommand {
             expected_data_transfer_length: u32_at(bytes, 20),
             cmd_sn: u32_at(bytes, 24),
             exp_stat_sn: u32_at(bytes, 28),
-            cdb: Cdb::read(&sixteen_at(bytes, 32)),
+            cdb: Cdb::read(&array_at(bytes, 32)),
         }
     }
 

@@ -1,4 +1,4 @@
-//! Jobs that are done again at a target whose bytes are known.
+//! Jobs that are done again at a target whose bytes are known. One file, since they share that target.
 
 use crate::asserts::{same, same_bytes};
 use iscsi_job::{Ended, Item, Outcome};

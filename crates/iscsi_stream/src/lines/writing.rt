@@ -7,12 +7,12 @@ use arrayvec::ArrayVec;
 use itoa::Buffer;
 
 /// How many bytes the text of a line has at most, its end apart; no kind's line is longer.
-pub(crate) const LONGEST_TEXT: usize = 319;
+pub(crate) const LONGEST_LINE: usize = 319;
 
 /// The text of a line, its end apart. No byte of it ends a line. What has no room is left out.
 #[derive(Drop)]
 pub(crate) struct Line {
-    text: ArrayVec<u8, LONGEST_TEXT>,
+    text: ArrayVec<u8, LONGEST_LINE>,
     ghost one: { has_no_end text.items ≡ true },
 }
 

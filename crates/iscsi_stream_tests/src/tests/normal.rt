@@ -1,4 +1,4 @@
-//! Canonical streams, and the faults of streams with their places.
+//! Canonical streams, and the faults of streams with their places. One file, since it is one table.
 
 use super::rows::{
     COUNT, LOGIN_REQUEST, NOP_OUT, Row, WRITE_COMMAND, lines_of, parts_of, row_at, row_of, rows,

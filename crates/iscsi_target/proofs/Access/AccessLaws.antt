@@ -3,7 +3,7 @@ use Rattle.std.proofs.Common.{arith, leb-true, ◌≡◌, ◌⊎◌, inl, inr, �
 use Rattle.std.specs.Prelude.{nat_lt, nat_le, not, ◌&&◌, if◌then◌else◌, unwrap_or, codes}
 use Rattle.scsi_disk.specs.Disk.{Disk}
 use Rattle.scsi_disk.specs.Plan.{first_reason}
-use Rattle.scsi_disk.proofs.PlanLemmas.{all_false}
+use Rattle.iscsi_target_session.proofs.RefusalLemmas.{request_accepted}
 use Rattle.iscsi_text.specs.Text.{Pairs}
 use Rattle.iscsi_pdu.specs.declared.head.Head.{Head}
 use Rattle.iscsi_pdu.specs.declared.head.Head.TheVariants.{LoginRequest}
@@ -202,7 +202,7 @@ entered_stage s r = refl
 -- the stage that a request enters is full feature phase only where the session was there
 enters : (s : Session) (r : Request) → first_reason (request_refusals s r) ≡ None → (entered s r).stage ≡ stages.Full → s.stage ≡ stages.Full
 enters s r none e =
-    due_full s r s.begun (unnot (is_due_stage s r) (all_false (request_refusals s r) none).1.1.0) (sym (entered_stage s r) ∙ e)
+    due_full s r s.begun (unnot (is_due_stage s r) (request_accepted s r none).due_stage) (sym (entered_stage s r) ∙ e)
 
 by_none : (c : Chap) (s t : Session) (r : Request) (text : Option Pairs) (why : Option Status) (reply : Reply) → Same s t
     → (why ≡ None → Guards c s text reply.session) → Guards c s text (refuse_or why t r reply).session

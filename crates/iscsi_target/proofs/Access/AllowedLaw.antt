@@ -4,7 +4,7 @@ use Rattle.std.specs.Prelude.{nat_lt, not, ◌&&◌, if◌then◌else◌, map, c
 use Rattle.scsi_disk.specs.Disk.{Disk}
 use Rattle.scsi_disk.specs.Plan.{first_reason}
 use Rattle.scsi_disk.specs.Runs.{disk_after}
-use Rattle.scsi_disk.proofs.PlanLemmas.{all_false}
+use Rattle.iscsi_target_session.proofs.RefusalLemmas.{text_accepted}
 use Rattle.iscsi_text.specs.Key.{is_among}
 use Rattle.iscsi_text.specs.Text.{Pairs}
 use Rattle.iscsi_pdu.specs.declared.head.Head.{Head}
@@ -79,7 +79,7 @@ answered_admits s r pairs none = record {
   text = λ e. refl;
   admitted = λ a. record {
     listed = λ e. listed_for s.has_text s.settings.extras s.initiator_name (name_in (login_value (codes "InitiatorName") pairs))
-        (all_false (text_refusals s pairs) none).1.1.1.1.1.1.1.1.0 a.listed;
+        (text_accepted s pairs none).is_let_in a.listed;
     full = λ e. refl;
   };
 }

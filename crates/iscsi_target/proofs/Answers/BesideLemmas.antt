@@ -57,11 +57,13 @@ other_asks : (s : Machine) (m : Message) (asked : Asks) → ((q : SessionRequest
 other_asks s m (asks.Command h) none = refl
 other_asks s m (asks.Session q) none = absurd (none q refl)
 
-pub beside_command : (s : Machine) (m : Message) (r : InboundRequest) → has_task_room s r.initiator_task_tag ≡ true → ((q : SessionRequest) → r.asks ≡ asks.Session q → ⊥)
+pub beside_command : (s : Machine) (m : Message) (r : InboundRequest) → has_task_room s r.initiator_task_tag ≡ true →
+    ((q : SessionRequest) → r.asks ≡ asks.Session q → ⊥)
     → no_room s m ≡ beside s m r
 beside_command s m r room none = sym (rw room (other_asks s m r.asks none))
 
 -- what leaves this reply leaves the other
-pub leaves_by : {E : Type 0} (result : Result (Option ℕ) E) (disk : Disk) (tasks : List Task) (a b : Reply) (old new : Machine) (before after : List ℕ) → a ≡ b →
+pub leaves_by : {E : Type 0} (result : Result (Option ℕ) E) (disk : Disk) (tasks : List Task) (a b : Reply) (old new : Machine) (before after : List ℕ) → a
+    ≡ b →
     DisklessPost (on disk tasks a) result old new before after → DisklessPost (on disk tasks b) result old new before after
 leaves_by result disk tasks a b old new before after e h = subst (λ (r : Reply). DisklessPost (on disk tasks r) result old new before after) e h

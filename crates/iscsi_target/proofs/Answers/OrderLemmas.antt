@@ -204,7 +204,8 @@ told_leads protected unit order disk failures outcome no_take is few = record {
   given = (effect protected disk order []).outcome;
   executes = record {
     rises = omega arith;
-    works = λ same. (let kept = disk_kept (guarded protected (plan_of order disk.count)) disk order [] (takes_none protected (plan_of order disk.count) no_take) in
+    works = λ same. (let kept = disk_kept (guarded protected (plan_of order disk.count)) disk order []
+        (takes_none protected (plan_of order disk.count) no_take) in
         λ i. record { disk = sym kept i; outcome = (effect protected disk order []).outcome });
     fails = λ lt. absurd (omega (arith, lt));
   };

@@ -21,6 +21,7 @@ use Rattle.iscsi_pdu.specs.declared.head.Head.{Head}
 use Rattle.iscsi_stream.specs.Canonical.{canon}
 use Rattle.iscsi_login.specs.Held.{max_burst}
 use Rattle.iscsi_target.specs.State.{Machine, waiting_tasks}
+use Rattle.iscsi_target.specs.Feed.{Store}
 use Rattle.iscsi_target.specs.Advances.{store_of}
 use Rattle.iscsi_target.specs.Execution.{command_answers, data_in_head, data_in_parts, data_ins, response_head, sense_segment, sequence_parts}
 use Rattle.iscsi_target.specs.inner.Reads.{AnswersRead, CanBeCut, GivenSource, HasPart, IsGivenPart, IsPart, ReadReply, SendsAnswers, SendsData, SendsPart, SendsSequence, given_by_source, reply, source_len}
@@ -40,6 +41,18 @@ no_part (Blocks range) disk blocks n at left has = (has.0, refl, none_read disk 
 pub part_size : (source : Source) (disk : Disk) (before after at n : ℕ) (bytes : List ℕ) → IsPart source disk before after at n bytes → length bytes ≡ n
 part_size (Bytes all) disk before after at n bytes is = is.1
 part_size (Blocks range) disk before after at n bytes is = omega (arith, is.1, is.2.size)
+
+-- the bytes before, between and behind two steps
+pub record Outputs : Type 0 where
+  pub before : List ℕ
+  pub between : List ℕ
+  pub after : List ℕ
+
+-- how many failures were counted before, between and behind them
+pub record Counted : Type 0 where
+  pub before : ℕ
+  pub between : ℕ
+  pub after : ℕ
 
 -- one part behind another
 pub part_more : (source : Source) (disk : Disk) (before mid after at a b : ℕ) (x y : List ℕ) → before ≤ mid → mid ≤ after
@@ -107,9 +120,12 @@ bytes_sent (Ok x) head disk all source failures at n old new part is fits same o
 bytes_sent (Err f) head disk all source failures at n old new part is fits same out = tt
 
 -- blocks were read behind the head
-pub blocks_sent : {T : Type 0} (r : Result T StoreFault) (head : Head) (disk : Disk) (range : BlockRange) (before after ub ua at from n : ℕ) (old mid new : List ℕ)
-    → at % 512 ≡ 0 → n % 512 ≡ 0 → from ≡ at / 512 → mid ≡ old ++ header head n → OnOk r (after ≡ before → new ≡ mid ++ blocks_from disk (range.first + from) (n / 512))
-    → OnOk r (AppendsBytes (512 * (n / 512)) mid new) → StoreTellsFailures disk.tells before after ub ua r → OnOk r (SendsPart head (given_by_source (Blocks range) disk before after) at n old new)
+pub blocks_sent : {T : Type 0} (r : Result T StoreFault) (head : Head) (disk : Disk) (range : BlockRange) (before after ub ua at from n : ℕ)
+    (old mid new : List ℕ)
+    → at % 512 ≡ 0 → n % 512 ≡ 0 → from ≡ at / 512 → mid ≡ old ++ header head n → OnOk r
+    (after ≡ before → new ≡ mid ++ blocks_from disk (range.first + from) (n / 512))
+    → OnOk r (AppendsBytes (512 * (n / 512)) mid new) → StoreTellsFailures disk.tells before after ub ua r → OnOk r
+    (SendsPart head (given_by_source (Blocks range) disk before after) at n old new)
 blocks_sent (Ok x) head disk range before after ub ua at from n old mid new even cut is_from is works a tells =
     let size : length a.bytes ≡ n = omega (arith, a.size, cut) in
     record {
@@ -172,41 +188,47 @@ behind source disk fm fa start at n bytes low is =
     let same : at ≡ start + (at - start) = omega (arith, low) in subst (λ (k : ℕ). IsPart source disk fm fa k n bytes) same is
 
 -- and with them goes on to its own end
-joined : (source : Source) (disk : Disk) (fb fm fa start at n : ℕ) (x y : List ℕ) → start ≤ at → fb ≤ fm → fm ≤ fa → IsPart source disk fb fm start (at - start) x
+joined : (source : Source) (disk : Disk) (fb fm fa start at n : ℕ) (x y : List ℕ) → start ≤ at → fb ≤ fm → fm ≤ fa → IsPart source disk fb fm start
+    (at - start) x
     → IsPart source disk fm fa at n y → IsPart source disk fb fa start (at + n - start) (x ++ y)
 joined source disk fb fm fa start at n x y low up high p q =
     let sum : (at - start) + n ≡ at + n - start = omega (arith, low) in
     subst (λ (k : ℕ). IsPart source disk fb fa start k (x ++ y)) sum
     (part_more source disk fb fm fa start (at - start) n x y up high p (behind source disk fm fa start at n y low q))
 
-pub parts_next : (s : Machine) (tag : ℕ) (source : Source) (disk mid : Disk) (fb fm fa n end : ℕ) (before sent : Sent) (head : Head)
-    (old new now : List ℕ) → 0 < s.session.held.initiator_max_recv → sent.bytes < end → n ≡ min s.session.held.initiator_max_recv (end - sent.bytes)
+pub parts_next : (s : Machine) (tag : ℕ) (source : Source) (disk mid : Disk) (counted : Counted) (n end : ℕ) (before sent : Sent) (head : Head)
+    (bytes : Outputs) → 0 < s.session.held.initiator_max_recv → sent.bytes < end → n ≡ min s.session.held.initiator_max_recv (end - sent.bytes)
     → head ≡ data_in_head s.session (waiting_tasks s.tasks) tag sent.count sent.bytes (sent.bytes + n == end) → mid ≡ disk
-    → SendsPart head (given_by_source source mid fm fa) sent.bytes n new now → fb ≤ fm → fm ≤ fa
-    → PartsOut (reply s tag old new) (given_by_source source disk fb fm) before sent end
-    → PartsOut (reply s tag old now) (given_by_source source disk fb fa) before (record { count = sent.count + 1; bytes = sent.bytes + n }) end
-parts_next s tag source disk mid fb fm fa n end before sent head old new now some left is_n is_head same part up high g =
+    → SendsPart head (given_by_source source mid counted.between counted.after) sent.bytes n bytes.between bytes.after → counted.before ≤ counted.between →
+    counted.between ≤ counted.after
+    → PartsOut (reply s tag bytes.before bytes.between) (given_by_source source disk counted.before counted.between) before sent end
+    → PartsOut (reply s tag bytes.before bytes.after) (given_by_source source disk counted.before counted.after) before
+    (record { count = sent.count + 1; bytes = sent.bytes + n }) end
+parts_next s tag source disk mid counted n end before sent head bytes some left is_n is_head same part up high g =
     let x : List ℕ = part.bytes in
-    let size : length x ≡ n = part_size source mid fm fa sent.bytes n x part.is_of in
+    let size : length x ≡ n = part_size source mid counted.between counted.after sent.bytes n x part.is_of in
     record {
       bytes = g.bytes ++ x;
-      is_of = joined source disk fb fm fa before.bytes sent.bytes n g.bytes x g.low up high g.is_of (on_disk source disk mid fm fa sent.bytes n x same part.is_of);
+      is_of = joined source disk counted.before counted.between counted.after before.bytes sent.bytes n g.bytes x g.low up high g.is_of
+          (on_disk source disk mid counted.between counted.after sent.bytes n x same part.is_of);
       low = omega (arith, g.low);
       high = omega (arith, is_n, left);
       few = omega (arith, g.few, is_n, some, left);
-      front = front_kept old new (whole head x) now part.output g.front;
+      front = front_kept bytes.before bytes.between (whole head x) bytes.after part.output g.front;
       gave = λ more long.
           (let rest : List ℕ = x ++ more in
           let rest_long : length rest ≡ end - sent.bytes = omega (arith, length-append x more, size, long, is_n, left) in
           let test : (n == length rest) ≡ (sent.bytes + n == end) = same_test n sent.bytes end (length rest) (omega (arith, left)) rest_long in
           let front : take n rest ≡ x = take_at x more n size in
           let back : more ≡ drop n rest = sym (drop_at x more n size) in
-          let is_now : now ≡ new ++ whole (data_in_head s.session (waiting_tasks s.tasks) tag sent.count sent.bytes (n == length rest)) (take n rest) =
-          part.output ∙ ap (λ (h : Head). new ++ whole h x) is_head
-          ∙ (λ i. new ++ whole (data_in_head s.session (waiting_tasks s.tasks) tag sent.count sent.bytes (sym test i)) (sym front i)) in
+          let is_now : bytes.after ≡ bytes.between ++ whole (data_in_head s.session (waiting_tasks s.tasks) tag sent.count sent.bytes (n == length rest))
+          (take n rest) =
+          part.output ∙ ap (λ (h : Head). bytes.between ++ whole h x) is_head
+          ∙ (λ i. bytes.between ++ whole (data_in_head s.session (waiting_tasks s.tasks) tag sent.count sent.bytes (sym test i)) (sym front i)) in
           subst (λ (run_bytes : List ℕ). GaveUpTo s tag (unsent before run_bytes)
-          (unsent (record { count = sent.count + 1; bytes = sent.bytes + n }) more) old now) (sym (append_assoc g.bytes x more))
-          (gave_more s tag before (g.bytes ++ rest) rest sent old new n now more some (omega (arith, rest_long, left)) (omega (arith, is_n, rest_long))
+          (unsent (record { count = sent.count + 1; bytes = sent.bytes + n }) more) bytes.before bytes.after) (sym (append_assoc g.bytes x more))
+          (gave_more s tag before (g.bytes ++ rest) rest sent bytes.before bytes.between n bytes.after more some (omega (arith, rest_long, left))
+          (omega (arith, is_n, rest_long))
           is_now back (g.gave rest rest_long)));
     }
 
@@ -255,27 +277,32 @@ sequences_none s tag source disk blocks n old new has same = record {
   };
 }
 
-pub sequences_next : (s : Machine) (tag : ℕ) (source : Source) (disk mid : Disk) (fb fm fa n end : ℕ) (sent after : Sent) (old new now : List ℕ)
+pub sequences_next : (s : Machine) (tag : ℕ) (source : Source) (disk mid : Disk) (counted : Counted) (n end : ℕ) (sent after : Sent) (bytes : Outputs)
     → 0 < max_burst s.session.held → 0 < s.session.held.initiator_max_recv → sent.bytes < source_len source
     → n ≡ min (max_burst s.session.held) (source_len source - sent.bytes) → end ≡ sent.bytes + n → mid ≡ disk
-    → SendsSequence (reply s tag new now) (given_by_source source mid fm fa) sent after end → fb ≤ fm → fm ≤ fa
-    → SequencesOut (reply s tag old new) (given_by_source source disk fb fm) sent → SequencesOut (reply s tag old now) (given_by_source source disk fb fa) after
-sequences_next s tag source disk mid fb fm fa n end sent after old new now some takes left is_n is_end same run low high g =
+    → SendsSequence (reply s tag bytes.between bytes.after) (given_by_source source mid counted.between counted.after) sent after end → counted.before ≤
+    counted.between → counted.between ≤ counted.after
+    → SequencesOut (reply s tag bytes.before bytes.between) (given_by_source source disk counted.before counted.between) sent → SequencesOut
+    (reply s tag bytes.before bytes.after) (given_by_source source disk counted.before counted.after) after
+sequences_next s tag source disk mid counted n end sent after bytes some takes left is_n is_end same run low high g =
     let x : List ℕ = run.bytes in
     let k : end - sent.bytes ≡ n = omega (arith, is_end) in
-    let here : IsPart source disk fm fa sent.bytes n x =
-    on_disk source disk mid fm fa sent.bytes n x same (subst (λ (m : ℕ). IsPart source mid fm fa sent.bytes m x) k run.is_of) in
-    let size : length x ≡ n = part_size source disk fm fa sent.bytes n x here in
+    let here : IsPart source disk counted.between counted.after sent.bytes n x =
+    on_disk source disk mid counted.between counted.after sent.bytes n x same
+    (subst (λ (m : ℕ). IsPart source mid counted.between counted.after sent.bytes m x) k run.is_of) in
+    let size : length x ≡ n = part_size source disk counted.between counted.after sent.bytes n x here in
     let zero : sent.bytes ≡ 0 + sent.bytes = omega arith in
     let reached : sent.bytes + n ≡ after.bytes = sym is_end ∙ sym run.carried in
     let carried : after.bytes ≡ sent.bytes + n = sym reached in
     record {
       bytes = g.bytes ++ x;
-      is_of = subst (λ (m : ℕ). IsPart source disk fb fa 0 m (g.bytes ++ x)) reached
-          (part_more source disk fb fm fa 0 sent.bytes n g.bytes x low high g.is_of (subst (λ (m : ℕ). IsPart source disk fm fa m n x) zero here));
+      is_of = subst (λ (m : ℕ). IsPart source disk counted.before counted.after 0 m (g.bytes ++ x)) reached
+          (part_more source disk counted.before counted.between counted.after 0 sent.bytes n g.bytes x low high g.is_of
+          (subst (λ (m : ℕ). IsPart source disk counted.between counted.after m n x) zero here));
       high = omega (arith, carried, is_n, left);
       few = run.few;
-      front = front_kept old new (canon (data_ins s.session (waiting_tasks s.tasks) tag sent.count sent.bytes (sequence_parts s.session.held x))) now run.output
+      front = front_kept bytes.before bytes.between (canon (data_ins s.session (waiting_tasks s.tasks) tag sent.count sent.bytes
+          (sequence_parts s.session.held x))) bytes.after run.output
           g.front;
       gave = λ more long.
           (let rest : List ℕ = x ++ more in
@@ -286,12 +313,13 @@ sequences_next s tag source disk mid fb fm fa n end sent after old new now some 
           run.count ∙ ap (λ (b : List ℕ). sent.count + length (sequence_parts s.session.held b)) front in
           let is_bytes : after.bytes ≡ sent.bytes + length (take n rest) =
           carried ∙ ap (λ (m : ℕ). sent.bytes + m) (sym size ∙ ap length front) in
-          let is_now : now ≡ new ++ canon (data_ins s.session (waiting_tasks s.tasks) tag sent.count sent.bytes
+          let is_now : bytes.after ≡ bytes.between ++ canon (data_ins s.session (waiting_tasks s.tasks) tag sent.count sent.bytes
           (sequence_parts s.session.held (take n rest))) =
-          run.output ∙ ap (λ (b : List ℕ). new ++ canon (data_ins s.session (waiting_tasks s.tasks) tag sent.count sent.bytes
+          run.output ∙ ap (λ (b : List ℕ). bytes.between ++ canon (data_ins s.session (waiting_tasks s.tasks) tag sent.count sent.bytes
           (sequence_parts s.session.held b))) front in
-          subst (λ (all : List ℕ). GaveRuns s tag all (unsent after more) old now) (sym (append_assoc g.bytes x more))
-          (gave_run s tag (g.bytes ++ rest) rest sent after old new now more n takes some (omega (arith, rest_long, left)) (omega (arith, is_n, rest_long))
+          subst (λ (all : List ℕ). GaveRuns s tag all (unsent after more) bytes.before bytes.after) (sym (append_assoc g.bytes x more))
+          (gave_run s tag (g.bytes ++ rest) rest sent after bytes.before bytes.between bytes.after more n takes some (omega (arith, rest_long, left))
+          (omega (arith, is_n, rest_long))
           counted is_bytes run.few is_now back (g.gave rest rest_long)));
     }
 
@@ -351,15 +379,16 @@ answers_read protected s tag order disk now_disk range fb fa old now is is_disk 
     }
 
 -- a READ that failed
-pub answers_failed : (protected : Bool) (s : Machine) (tag : ℕ) (order : Order) (disk now_disk : Disk) (range : BlockRange) (fb fa : ℕ)
+pub answers_failed : (protected : Bool) (s : Machine) (tag : ℕ) (order : Order) (from to : Store) (range : BlockRange)
     (outcome : Outcome) (head : Head)
-    (old mid now : List ℕ) → IsWhole disk order range → now_disk ≡ disk → fb < fa → outcome ≡ check_condition order ReadError → mid ≡ old
+    (old mid now : List ℕ) → IsWhole from.disk order range → to.disk ≡ from.disk → from.failures < to.failures → outcome ≡ check_condition order ReadError →
+    mid ≡ old
     → head ≡ response_head s.session (waiting_tasks s.tasks) tag outcome 0 → now ≡ mid ++ whole head (sense_segment outcome.sense)
-    → AnswersRead protected (reply s tag old now) order (store_of disk fb) (store_of now_disk fa)
-answers_failed protected s tag order disk now_disk range fb fa outcome head old mid now is same rose told is_mid is_head is_now =
+    → AnswersRead protected (reply s tag old now) order from to
+answers_failed protected s tag order from to range outcome head old mid now is same rose told is_mid is_head is_now =
     let none : [] ≡ outcome.bytes = ap (λ (o : Outcome). o.bytes) (sym told) in
     record {
       outcome = outcome;
-      executes = not_executed protected disk now_disk order range fb fa outcome is same rose told;
+      executes = not_executed protected from.disk to.disk order range from.failures to.failures outcome is same rose told;
       output = told_order s tag outcome [] 0 head old mid now none (omega arith) (is_mid ∙ sym (append-nil old)) is_head is_now;
     }

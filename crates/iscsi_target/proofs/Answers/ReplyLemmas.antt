@@ -46,7 +46,7 @@ use Rattle.iscsi_target.specs.Laws.{stat_sns, response_tags}
 use Rattle.iscsi_target_session.proofs.CaseLemmas.{by_cases}
 use Rattle.iscsi_target_session.proofs.ExchangeLemmas.{text_cases}
 use Rattle.iscsi_target_session.proofs.DeclaredLengthLemmas.{declares_well, holds}
-use Rattle.scsi_disk.proofs.PlanLemmas.{all_false}
+use Rattle.iscsi_target_session.proofs.RefusalLemmas.{text_accepted}
 
 -- each is the one after the one before, from the first on; the last argument is what comes then
 abbrev pub Count : ℕ → List ℕ → ℕ → Type 0
@@ -213,9 +213,9 @@ refused_reply : (A : Type 0) (s : Session) (r : LoginPdu) (why : Option Status) 
 refused_reply A s r None reply c = c refl
 refused_reply A s r (Some why) reply c = refuse_reply s r why
 
--- the seventh reason doesn't hold where none does
+-- the length that a text declares may be, where no reason holds
 no_bad_length : (s : Session) (pairs : Pairs) → first_reason (text_refusals s pairs) ≡ None → is_bad_length (login_value max_recv_key pairs) ≡ false
-no_bad_length s pairs e = (all_false (text_refusals s pairs) e).1.1.1.1.1.1.0
+no_bad_length s pairs e = (text_accepted s pairs e).declares_well
 
 declared_in : (s : Session) → ArePreferencesInRange s.settings.preferences → IfSome (declared_length s) (IsWithin max_recv_range)
 declared_in s p = by_cases (is_operational s.stage && not s.has_operational_text) (λ e. rw e p.max_recv) (λ e. rw e tt)

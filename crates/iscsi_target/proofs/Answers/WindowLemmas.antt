@@ -1,7 +1,7 @@
 -- Room in a window of eight commands.
 use Rattle.std.proofs.Common.{◌≡◌, ◌<◌, ◌≤◌, ℕ, suc, ◌+◌, ◌-◌, ◌^◌, ◌%◌, List, [], ◌∷◌, length, Bool, true, false, refl, ap, arith, rules}
-use Rattle.std.specs.Prelude.{◌↔◌, IsTrue, not, filter}
-use Rattle.iscsi_pdu.specs.Serial.{distance}
+use Rattle.std.specs.Prelude.{not, filter}
+use Rattle.iscsi_pdu.specs.Serial.{distance, is_within}
 use Rattle.iscsi_target.specs.declared.tasks.Task.{Task}
 use Rattle.iscsi_target.specs.State.{Machine, takes_place, waiting_tasks, max_cmd_sn}
 use Rattle.iscsi_target.specs.Machine.{is_busy}
@@ -30,8 +30,7 @@ few_more (task ∷ more) p = by_place task more (takes_place task) refl p
     by_place task more false e p = rw e (let f = all_wait more p in omega (arith, f))
 
 -- the same of a target, of which a number lies within the window
-pub room_within : (s : Machine) (n : ℕ) (b : Bool) → IsTrue b ↔ ((distance s.session.exp_cmd_sn (max_cmd_sn s) < 2 ^ 31)
-    × (distance s.session.exp_cmd_sn n ≤ distance s.session.exp_cmd_sn (max_cmd_sn s)))
+pub room_within : (s : Machine) (n : ℕ) (b : Bool) → b ≡ is_within n s.session.exp_cmd_sn (max_cmd_sn s)
     → b ≡ true → s.session.exp_cmd_sn < 2 ^ 32 → waiting_tasks s.tasks ≤ 9 → waiting_tasks s.tasks ≤ 7
 room_within s n b is e fits few =
     let near : (distance s.session.exp_cmd_sn (max_cmd_sn s) < 2 ^ 31) × (distance s.session.exp_cmd_sn n ≤ distance s.session.exp_cmd_sn (max_cmd_sn s)) =

@@ -14,7 +14,8 @@ use Rattle.iscsi_target.specs.Machine.{is_machine_closed}
 use Rattle.iscsi_target.specs.Feed.{Scene, scene, beginning, TargetConnection, Store, TargetFeedPost, FeedPostIfClosed, FeedsAllPieces, GoesWell, TargetReaches, StoreAndOutputReached, TargetReachesOrClosed, RefusesHeader, opening_target, stream_of}
 use Rattle.iscsi_target.specs.inner.Alike.{ran_out}
 use Rattle.iscsi_target.proofs.Feed.FeedInvariant.{may_rise}
-use Rattle.iscsi_target.proofs.Feed.FeedingLemmas.{stands, fed_stream, fed_any, fed_holds, same_session, same_values}
+use Rattle.iscsi_target.proofs.Feed.FedStreamLemmas.{stands, fed_stream}
+use Rattle.iscsi_target.proofs.Feed.FeedingLemmas.{fed_any, fed_holds, same_session, same_values}
 
 -- the first so many, mapped
 pub mapped_more : {X Y : Type 0} (f : X → Y) (xs : List X) (i : ℕ) (x : X) → i < length xs → get_or xs i x ≡ x
@@ -41,25 +42,25 @@ unfolding FeedsAllPieces
 fed_nothing protected a s w = (refl, refl, refl)
 
 -- one piece more
-pub fed_more : (protected : Bool) (a : TargetConnection) (s : Store) (w : List ℕ) (pieces : List (List ℕ)) (b : TargetConnection) (t : Store) (v : List ℕ)
+pub fed_more : (protected : Bool) (from : Scene) (pieces : List (List ℕ)) (here : Scene)
     (piece : List ℕ)
-    (result : Result Phase TargetFault) (c : TargetConnection) (u : Store) (x : List ℕ) → FeedsAllPieces protected (scene a s w) pieces (scene b t v)
-    → TargetFeedPost protected (scene b t v) piece result (scene c u x) → GoesWell result t u
-    → FeedsAllPieces protected (scene a s w) (pieces ++ piece ∷ []) (scene c u x)
+    (result : Result Phase TargetFault) (to : Scene) → FeedsAllPieces protected from pieces here
+    → TargetFeedPost protected here piece result to → GoesWell result here.store to.store
+    → FeedsAllPieces protected from (pieces ++ piece ∷ []) to
 unfolding FeedsAllPieces
-fed_more protected a s w [] b t v piece result c u x f e g = (
+fed_more protected from [] here piece result to f e g = (
   result,
-  c,
-  u,
-  x,
-  subst (λ (y : TargetConnection). TargetFeedPost protected (scene y s w) piece result (scene c u x)) f.0
-      (subst (λ (y : Store). TargetFeedPost protected (scene b y w) piece result (scene c u x)) f.1
-      (subst (λ (y : List ℕ). TargetFeedPost protected (scene b t y) piece result (scene c u x)) f.2 e)),
-  subst (λ (y : Store). GoesWell result y u) f.1 g,
+  to.connection,
+  to.store,
+  to.output,
+  subst (λ (y : TargetConnection). TargetFeedPost protected (scene y from.store from.output) piece result to) f.0
+      (subst (λ (y : Store). TargetFeedPost protected (scene here.connection y from.output) piece result to) f.1
+      (subst (λ (y : List ℕ). TargetFeedPost protected (scene here.connection here.store y) piece result to) f.2 e)),
+  subst (λ (y : Store). GoesWell result y to.store) f.1 g,
   (refl, refl, refl),
 )
-fed_more protected a s w (p ∷ pieces) b t v piece result c u x f e g =
-    (f.0, f.1, f.2, f.3, f.4, f.5, fed_more protected f.1 f.2 f.3 pieces b t v piece result c u x f.6 e g)
+fed_more protected from (p ∷ pieces) here piece result to f e g =
+    (f.0, f.1, f.2, f.3, f.4, f.5, fed_more protected (scene f.1 f.2 f.3) pieces here piece result to f.6 e g)
 
 -- memory was there
 pub has_memory : (result : Result Phase TargetFault) → ran_out result ≡ false → result ≡ Err faults.NoMemory → ⊥
@@ -71,18 +72,18 @@ pub record DoneAlike (a b : TargetConnection) (first second : Disk) (written rew
   pub disk : second ≡ first
   pub machine : b.machine ≡ a.machine
 
-pub done_alike : (protected : Bool) (settings : TargetSettings) (n : ℕ) (store other first second : Store) (pieces others : List (List ℕ))
-    (a b : TargetConnection)
-    (written rewritten : List ℕ) (ms : List Message) → other.disk ≡ store.disk
-    → FeedsAllPieces protected (scene (opening_target settings n) store []) pieces (scene a first written)
-    → FeedsAllPieces protected (scene (opening_target settings n) other []) others (scene b second rewritten)
-    → StreamMeans (stream_of pieces) ms → StreamMeans (stream_of others) ms → DoneAlike a b first.disk second.disk written rewritten
-done_alike protected settings n store other first second pieces others a b written rewritten ms same f g p q =
-    let x : TargetReaches protected (beginning settings n store.disk) ms a first.disk written =
-    fed_stream protected settings n store pieces a first written ms f p in
-    let y : TargetReaches protected (beginning settings n store.disk) ms b second.disk rewritten =
-    subst (λ (d : Disk). TargetReaches protected (beginning settings n d) ms b second.disk rewritten) same
-    (fed_stream protected settings n other others b second rewritten ms g q) in
+pub done_alike : (protected : Bool) (settings : TargetSettings) (n : ℕ) (store other : Store) (one two : Scene) (pieces others : List (List ℕ))
+    (ms : List Message) → other.disk ≡ store.disk
+    → FeedsAllPieces protected (scene (opening_target settings n) store []) pieces one
+    → FeedsAllPieces protected (scene (opening_target settings n) other []) others two
+    → StreamMeans (stream_of pieces) ms → StreamMeans (stream_of others) ms → DoneAlike one.connection two.connection one.store.disk two.store.disk
+    one.output two.output
+done_alike protected settings n store other one two pieces others ms same f g p q =
+    let x : TargetReaches protected (beginning settings n store.disk) ms one.connection one.store.disk one.output =
+    fed_stream protected settings n store pieces one.connection one.store one.output ms f p in
+    let y : TargetReaches protected (beginning settings n store.disk) ms two.connection two.store.disk two.output =
+    subst (λ (d : Disk). TargetReaches protected (beginning settings n d) ms two.connection two.store.disk two.output) same
+    (fed_stream protected settings n other others two.connection two.store two.output ms g q) in
     record { output = y.output_is ∙ sym x.output_is; disk = y.disk_is ∙ sym x.disk_is; machine = y.machine ∙ sym x.machine }
 
 -- what they have written of streams that begin with the same PDUs, and where they stand
@@ -95,34 +96,40 @@ pub record WroteAlike (settings : TargetSettings) (a b : TargetConnection) (firs
   pub phase : (RefusesHeader (target_limit settings) first_rest ↔ RefusesHeader (target_limit settings) second_rest) → b.machine.session.phase
       ≡ a.machine.session.phase
 
-pub wrote_alike : (protected : Bool) (settings : TargetSettings) (n : ℕ) (store other first second : Store) (pieces others : List (List ℕ))
-    (a b : TargetConnection)
-    (written rewritten : List ℕ) (ms : List Message) (given rest same_given second_rest : List ℕ) → ArePreferencesInRange settings.preferences → other.disk
+-- the bytes of whole PDUs, and those behind them
+pub record Split : Type 0 where
+  pub given : List ℕ
+  pub rest : List ℕ
+
+pub wrote_alike : (protected : Bool) (settings : TargetSettings) (n : ℕ) (store other : Store) (one two : Scene) (pieces others : List (List ℕ))
+    (ms : List Message) (split other_split : Split) → ArePreferencesInRange settings.preferences → other.disk
     ≡ store.disk
-    → FeedsAllPieces protected (scene (opening_target settings n) store []) pieces (scene a first written)
-    → FeedsAllPieces protected (scene (opening_target settings n) other []) others (scene b second rewritten)
-    → SplitsStream longest_segment (stream_of pieces) ms given rest → SplitsStream longest_segment (stream_of others) ms same_given second_rest
-    → WroteAlike settings a b first.disk second.disk written rewritten rest second_rest
-wrote_alike protected settings n store other first second pieces others a b written rewritten ms given rest same_given second_rest range same f g p q =
-    let x : StoreAndOutputReached protected (beginning settings n store.disk) ms first.disk written =
-    fed_any protected settings n store pieces a first written ms given rest
+    → FeedsAllPieces protected (scene (opening_target settings n) store []) pieces one
+    → FeedsAllPieces protected (scene (opening_target settings n) other []) others two
+    → SplitsStream longest_segment (stream_of pieces) ms split.given split.rest → SplitsStream longest_segment (stream_of others) ms other_split.given
+    other_split.rest
+    → WroteAlike settings one.connection two.connection one.store.disk two.store.disk one.output two.output split.rest other_split.rest
+wrote_alike protected settings n store other one two pieces others ms split other_split range same f g p q =
+    let x : StoreAndOutputReached protected (beginning settings n store.disk) ms one.store.disk one.output =
+    fed_any protected settings n store pieces one.connection one.store one.output ms split.given split.rest
     (omega (arith, range.max_recv.1)) f p in
-    let y : StoreAndOutputReached protected (beginning settings n store.disk) ms second.disk rewritten =
-    subst (λ (d : Disk). StoreAndOutputReached protected (beginning settings n d) ms second.disk rewritten) same
-    (fed_any protected settings n other others b second rewritten ms same_given
-    second_rest (omega (arith, range.max_recv.1)) g q) in
-    let h : TargetReachesOrClosed protected (beginning settings n store.disk) ms rest a.machine =
-    fed_holds protected settings n store pieces a first written ms given rest
+    let y : StoreAndOutputReached protected (beginning settings n store.disk) ms two.store.disk two.output =
+    subst (λ (d : Disk). StoreAndOutputReached protected (beginning settings n d) ms two.store.disk two.output) same
+    (fed_any protected settings n other others two.connection two.store two.output ms other_split.given
+    other_split.rest (omega (arith, range.max_recv.1)) g q) in
+    let h : TargetReachesOrClosed protected (beginning settings n store.disk) ms split.rest one.connection.machine =
+    fed_holds protected settings n store pieces one.connection one.store one.output ms split.given split.rest
     (omega (arith, range.max_recv.1)) f p in
-    let k : TargetReachesOrClosed protected (beginning settings n store.disk) ms second_rest b.machine =
-    subst (λ (d : Disk). TargetReachesOrClosed protected (beginning settings n d) ms second_rest b.machine) same
-    (fed_holds protected settings n other others b second rewritten ms same_given
-    second_rest (omega (arith, range.max_recv.1)) g q) in
-    let values = same_values protected settings n store.disk ms rest second_rest a.machine b.machine h k in
+    let k : TargetReachesOrClosed protected (beginning settings n store.disk) ms other_split.rest two.connection.machine =
+    subst (λ (d : Disk). TargetReachesOrClosed protected (beginning settings n d) ms other_split.rest two.connection.machine) same
+    (fed_holds protected settings n other others two.connection two.store two.output ms other_split.given
+    other_split.rest (omega (arith, range.max_recv.1)) g q) in
+    let values = same_values protected settings n store.disk ms split.rest other_split.rest one.connection.machine two.connection.machine h k in
     record {
       output = y.output_is ∙ sym x.output_is;
       disk = y.disk_is ∙ sym x.disk_is;
       held = values.0;
       stage = values.1;
-      phase = λ refused. (same_session protected settings n store.disk ms rest second_rest a.machine b.machine refused h k).phase;
+      phase = λ refused. (same_session protected settings n store.disk ms split.rest other_split.rest one.connection.machine two.connection.machine refused
+          h k).phase;
     }

@@ -84,7 +84,8 @@ counted_after first w h total before reached r2t_count (Solicited tag data_sn en
     rw f (omega (arith, ends reached end h.is_final b f, counts.1)))
     (λ f. rw f counts)
 
-pub staged_after : (first : ℕ) (w : Write) (h : DataPdu) (order : Order) (found : Found) (total : ℕ) (bytes : List ℕ) (start len r2t_count : ℕ) (due_new : Due) →
+pub staged_after : (first : ℕ) (w : Write) (h : DataPdu) (order : Order) (found : Found) (total : ℕ) (bytes : List ℕ) (start len r2t_count : ℕ)
+    (due_new : Due) →
     due_new ≡ (if h.is_final then Nothing else continued w.due) → IsStaged order found total (take start bytes) w.due r2t_count → start ≤ length bytes
     → start + len ≡ length bytes → length bytes ≤ total → bytes_received w ≡ start → is_in_sequence first w h (bytes_received w + len) w.due ≡ true →
     IsStaged order found total bytes due_new r2t_count
@@ -95,7 +96,8 @@ staged_after first w h order found total bytes start len r2t_count due_new is st
   fits = fits;
   counted_r2ts = subst (λ (d : Due). CountsR2ts total (length bytes) r2t_count d) (sym is)
       (counted_after first w h total (length (take start bytes)) (length bytes) r2t_count w.due
-      (subst (λ (n : ℕ). is_in_sequence first w h n w.due ≡ true) (ap (λ (n : ℕ). n + len) size ∙ all) e) (omega (arith, length-take start bytes)) staged.counted_r2ts);
+      (subst (λ (n : ℕ). is_in_sequence first w h n w.due ≡ true) (ap (λ (n : ℕ). n + len) size ∙ all) e) (omega (arith, length-take start bytes))
+      staged.counted_r2ts);
 }
 
 due_fits : (total n r2t_count : ℕ) (due : Due) → CountsR2ts total n r2t_count due → DueFits total due
@@ -104,8 +106,10 @@ due_fits total n r2t_count (Unsolicited data_sn) counts = tt
 due_fits total n r2t_count (Solicited tag data_sn end) counts = counts.0
 
 -- the same with the bytes behind those that came before
-pub staged_behind : (first : ℕ) (w : Write) (h : DataPdu) (order : Order) (found : Found) (total : ℕ) (old bytes new : List ℕ) (r2t_count : ℕ) (due due_new : Due) →
-    due_new ≡ (if h.is_final then Nothing else continued due) → due ≡ w.due → total ≡ w.total → IsStaged order found total old due r2t_count → new ≡ old ++ bytes
+pub staged_behind : (first : ℕ) (w : Write) (h : DataPdu) (order : Order) (found : Found) (total : ℕ) (old bytes new : List ℕ) (r2t_count : ℕ)
+    (due due_new : Due) →
+    due_new ≡ (if h.is_final then Nothing else continued due) → due ≡ w.due → total ≡ w.total → IsStaged order found total old due r2t_count → new ≡ old ++
+    bytes
     → bytes_received w ≡ length old → is_in_sequence first w h (bytes_received w + length bytes) w.due ≡ true → IsStaged order found total new due_new r2t_count
 staged_behind first w h order found total old bytes new r2t_count due due_new is same same_total staged with_ size e =
     let staged' : IsStaged order found total (take (length old) new) w.due r2t_count =
@@ -113,8 +117,10 @@ staged_behind first w h order found total old bytes new r2t_count due due_new is
     (subst (λ (bs : List ℕ). IsStaged order found total bs due r2t_count) (sym (ap (take (length old)) with_ ∙ take-append_seam old bytes)) staged) in
     let all : length old + length bytes ≡ length new = sym (ap length with_ ∙ length-append old bytes) in
     let within : bytes_received w + length bytes ≤ w.total =
-    sequence_bound first w h (bytes_received w + length bytes) w.due (subst (λ (n : ℕ). DueFits n w.due) same_total (due_fits total (length (take (length old) new)) r2t_count w.due staged'.counted_r2ts)) e in
-    staged_after first w h order found total new (length old) (length bytes) r2t_count due_new (is ∙ ap (λ (d : Due). if h.is_final then Nothing else continued d) same)
+    sequence_bound first w h (bytes_received w + length bytes) w.due (subst (λ (n : ℕ). DueFits n w.due) same_total
+    (due_fits total (length (take (length old) new)) r2t_count w.due staged'.counted_r2ts)) e in
+    staged_after first w h order found total new (length old) (length bytes) r2t_count due_new
+    (is ∙ ap (λ (d : Due). if h.is_final then Nothing else continued d) same)
     staged' (omega (arith, all)) all (omega (arith, all, size, within, same_total)) size e
 
 -- ---- bytes that come
@@ -174,7 +180,8 @@ pub machine_stays : (s : Machine) (v : Framing) (a b : Arrival) → b.place ≡ 
 machine_stays s v a b place write = ap (λ (p : ℕ). with_tasks s.session (insert s.tasks p (Data b.write))) place
     ∙ ap (λ (w : Write). with_tasks s.session (insert s.tasks a.place (Data w))) write
 
-connected_is : (session session' : Session) (tasks tasks' : List Task) (v : Framing) (held held' : List ℕ) → session ≡ session' → tasks ≡ tasks' → held ≡ held' →
+connected_is : (session session' : Session) (tasks tasks' : List Task) (v : Framing) (held held' : List ℕ) → session ≡ session' → tasks ≡ tasks' → held ≡
+    held' →
     target_connection (with_tasks session tasks) (record v { held = held }) ≡ target_connection (with_tasks session' tasks') (record v { held = held' })
 connected_is session session' tasks tasks' v held held' p q r = rw (p, q, r) refl
 
@@ -185,7 +192,8 @@ pub expects : (s t : Machine) (v : Framing) (h : DataPdu) (len : ℕ) (a : Arriv
     ArrivesForWrite t v a × (connected t v (Some a) ≡ target_connection s v)
 expects s t v h len a live header fits within room some session takes due taken is_head is_len is_segment is_padded =
     let tag = tag_found a.head.initiator_task_tag s.tasks a.write taken.found in
-    let tasks : insert t.tasks a.place (Data a.write) ≡ s.tasks = taken.back a.write tag ∙ with_same a.head.initiator_task_tag s.tasks a.write taken.found tag in (
+    let tasks : insert t.tasks a.place (Data a.write) ≡ s.tasks = taken.back a.write tag ∙ with_same a.head.initiator_task_tag s.tasks a.write taken.found
+    tag in (
       record {
         live = live;
         body = record {
@@ -207,7 +215,8 @@ expects s t v h len a live header fits within room some session takes due taken 
         taken = subst (λ (ts : List Task). IsTaken ts t.tasks a) (sym tasks) taken;
       },
       connected_is t.session s.session (insert t.tasks a.place (Data a.write)) s.tasks v (v.held ++ (a.segment ++ replicate a.padded 0)) v.held session tasks
-          (ap (λ (x : List ℕ). v.held ++ (x ++ replicate a.padded 0)) is_segment ∙ ap (λ (k : ℕ). v.held ++ ([] ++ replicate k 0)) is_padded ∙ append-nil v.held),
+          (ap (λ (x : List ℕ). v.held ++ (x ++ replicate a.padded 0)) is_segment ∙ ap (λ (k : ℕ). v.held ++ ([] ++ replicate k 0)) is_padded ∙ append-nil
+          v.held),
     )
 
 pub expects_if : (s t : Machine) (v : Framing) (h : DataPdu) (len : ℕ) (r : Option Arrival) → v.failed ≡ false → IsHeader v.held (heads.DataOut h) len →
@@ -276,7 +285,8 @@ arrived_within s v a h is =
     over_none (connected s v (Some a)).machine (continues v.logins (heads.DataOut a.head)) (heads.DataOut a.head) a.segment
     (omega (arith, is, h.body.no_more, h.body.within))
 
-pub arrived_answers : {E : Type 0} (protected : Bool) (result : Result (Option ℕ) E) (s : Machine) (v : Framing) (a : Arrival) (before : Store) (output : List ℕ)
+pub arrived_answers : {E : Type 0} (protected : Bool) (result : Result (Option ℕ) E) (s : Machine) (v : Framing) (a : Arrival) (before : Store)
+    (output : List ℕ)
     (new : Machine) (after : Store) (written : List ℕ) → ArrivesForWrite s v a → IsSegmentThere a → v.limit ≡ target_limit s.session.settings →
     TasksPost protected result (moment (with_tasks s.session (arrived_tasks s a)) before output) (moment new after written) →
     MessagePost protected (arrived_message s v a) result (moment (connected s v (Some a)).machine before output) (moment new after written)
@@ -342,8 +352,10 @@ pub arrived_done : {E : Type 0} (protected : Bool) (rule : Option ℕ) (s : Mach
 arrived_done {E = E} protected rule s v w a place write before output new after written h there is at with skip works =
     let result : Result (Option ℕ) E = Ok rule in
     let done : TasksPost protected result (moment (with_tasks s.session (arrived_tasks s a)) before output) (moment new after written) =
-    subst (λ (x : Write). TasksPost protected result (moment (with_tasks s.session (insert s.tasks a.place (Data x))) before output) (moment new after written)) with
-    (subst (λ (p : ℕ). TasksPost protected result (moment (with_tasks s.session (insert s.tasks p (Data write))) before output) (moment new after written)) at works) in
+    subst (λ (x : Write). TasksPost protected result (moment (with_tasks s.session (insert s.tasks a.place (Data x))) before output)
+    (moment new after written)) with
+    (subst (λ (p : ℕ). TasksPost protected result (moment (with_tasks s.session (insert s.tasks p (Data write))) before output) (moment new after written))
+    at works) in
     record {
       head = heads.DataOut a.head;
       segment = a.segment;
@@ -354,7 +366,8 @@ arrived_done {E = E} protected rule s v w a place write before output new after 
     }
 
 pub arrived_short : {E : Type 0} (e : E) (protected : Bool) (s : Machine) (v w : Framing) (a : Arrival) (place : ℕ) (write : Write) (before : Store)
-    (output : List ℕ) (new shut : Machine) (after : Store) (written : List ℕ) → ArrivesForWrite s v a → IsSegmentThere a → v.limit ≡ target_limit s.session.settings → place ≡ a.place →
+    (output : List ℕ) (new shut : Machine) (after : Store) (written : List ℕ) → ArrivesForWrite s v a → IsSegmentThere a → v.limit ≡ target_limit
+    s.session.settings → place ≡ a.place →
     write ≡ joined_write (with_data a.write a.head a.segment) → w ≡ skipped v (heads.DataOut a.head) a.len → shut ≡ closed_machine new →
     (let result : Result (Option ℕ) E = Err e in
     TasksPost protected result (moment (with_tasks s.session (insert s.tasks place (Data write))) before output) (moment new after written))
@@ -362,11 +375,14 @@ pub arrived_short : {E : Type 0} (e : E) (protected : Bool) (s : Machine) (v w :
 arrived_short {E = E} e protected s v w a place write before output new shut after written h there is at with skip close works =
     let result : Result (Option ℕ) E = Err e in
     let done : TasksPost protected result (moment (with_tasks s.session (arrived_tasks s a)) before output) (moment new after written) =
-    subst (λ (x : Write). TasksPost protected result (moment (with_tasks s.session (insert s.tasks a.place (Data x))) before output) (moment new after written)) with
-    (subst (λ (p : ℕ). TasksPost protected result (moment (with_tasks s.session (insert s.tasks p (Data write))) before output) (moment new after written)) at works) in
+    subst (λ (x : Write). TasksPost protected result (moment (with_tasks s.session (insert s.tasks a.place (Data x))) before output)
+    (moment new after written)) with
+    (subst (λ (p : ℕ). TasksPost protected result (moment (with_tasks s.session (insert s.tasks p (Data write))) before output) (moment new after written))
+    at works) in
     let m : Message = arrived_message s v a in
     let old : Moment = moment (connected s v (Some a)).machine before output in
-    let halts : MessageRanOut protected m old (moment new after written) = (arrived_answers protected result s v a before output new after written h there is done).err in
+    let halts : MessageRanOut protected m old (moment new after written) = (arrived_answers protected result s v a before output new after written h there
+    is done).err in
     record {
       head = heads.DataOut a.head;
       segment = a.segment;
@@ -376,7 +392,8 @@ arrived_short {E = E} e protected s v w a place write before output new shut aft
       settings = ap (λ (x : Machine). x.session.settings) close
           ∙ halts_settings protected m old (moment new after written) (arrived_live s v a h) (arrived_within s v a h is) halts;
       closed_ = close ∙ ap closed_machine (sym close);
-      halts = subst (λ (x : Machine). MessageRanOut protected m old (moment x after written)) (sym close) (halts_closed protected m old (moment new after written) halts);
+      halts = subst (λ (x : Machine). MessageRanOut protected m old (moment x after written)) (sym close)
+          (halts_closed protected m old (moment new after written) halts);
     }
 
 pub arrived_crash : (protected : Bool) (s : Machine) (v : Framing) (a : Arrival) (place : ℕ) (write : Write) (before after : Disk)
@@ -442,13 +459,15 @@ pub none_arriving : (s : Machine) (v : Framing) (a : Arrival) → ArrivesForWrit
     NoneReadyAsks (connected s v (Some a)).machine (connected s v (Some a)).framing
 none_arriving s v a h part head segment ready means = absurd (apart ready (arriving_unready s v a h part))
 
-pub none_arrived : (s : Machine) (v : Framing) (a : Arrival) → ArrivesForWrite s v a → IsSegmentThere a → (machine_asks s (heads.DataOut a.head) || asks_task (Data a.write)) ≡ false →
+pub none_arrived : (s : Machine) (v : Framing) (a : Arrival) → ArrivesForWrite s v a → IsSegmentThere a →
+    (machine_asks s (heads.DataOut a.head) || asks_task (Data a.write)) ≡ false →
     NoneReadyAsks (connected s v (Some a)).machine (connected s v (Some a)).framing
 none_arrived s v a h there quiet head segment ready means =
     let same = Means-unique (connected s v (Some a)).framing.held (heads.DataOut a.head) head a.segment segment (arrived_means s v a h there) means in
     ap (machine_asks (connected s v (Some a)).machine) (sym same.0) ∙ arrived_asks s v a ∙ quiet
 
-pub some_arrived : (s : Machine) (v : Framing) (a : Arrival) → ArrivesForWrite s v a → IsSegmentThere a → (machine_asks s (heads.DataOut a.head) || asks_task (Data a.write)) ≡ true →
+pub some_arrived : (s : Machine) (v : Framing) (a : Arrival) → ArrivesForWrite s v a → IsSegmentThere a →
+    (machine_asks s (heads.DataOut a.head) || asks_task (Data a.write)) ≡ true →
     SomeReadyAsks (connected s v (Some a)).machine (connected s v (Some a)).framing
 some_arrived s v a h there asks = record {
   head = heads.DataOut a.head;

@@ -57,7 +57,8 @@ none_written protected order bytes before after old new count gives stays adds =
 }
 
 -- then the store was read
-pub read_behind : (protected : Bool) (orders : List Supplied) (before after now : Disk) (old mid new : ℕ → List ℕ → Type 0) → CrashLeavesBlocks protected orders before after old mid →
+pub read_behind : (protected : Bool) (orders : List Supplied) (before after now : Disk) (old mid new : ℕ → List ℕ → Type 0) → CrashLeavesBlocks protected
+    orders before after old mid →
     now ≡ after → Within mid new → CrashLeavesBlocks protected orders before now old new
 read_behind protected orders before after now old mid new h same within = record {
   count = ap (λ (d : Disk). d.count) same ∙ h.count;

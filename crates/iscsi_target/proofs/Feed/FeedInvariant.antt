@@ -1,5 +1,5 @@
--- A piece of a stream, one PDU after another.
-use Rattle.std.proofs.Common.{◌≡◌, ◌≤◌, ◌<◌, Bool, ◌⊎◌, inl, inr, ◌∙◌, ℕ, ◌+◌, ◌-◌, List, [], ◌∷◌, ◌++◌, true, false, length, take, drop, Option, Some, None}
+-- What a call keeps from PDU to PDU, and where it ends.
+use Rattle.std.proofs.Common.{◌≡◌, ◌≤◌, ◌<◌, Bool, ◌⊎◌, inl, inr, ◌∙◌, ℕ, ◌+◌, ◌-◌, List, [], ◌∷◌, ◌++◌, true, false, length, take, drop, Some, None}
 use Rattle.std.proofs.Common.{refl, sym, ap, subst, arith, append-nil, append_assoc}
 use Rattle.std.specs.Prelude.{Result, Ok, Err}
 use Rattle.std.proofs.lemmas.List.{length-append, length-take, take-append-drop, take_at, take_all, drop_all}
@@ -8,252 +8,32 @@ use Rattle.scsi_disk.specs.Disk.{Disk}
 use Rattle.iscsi_stream.specs.Stream.{Message}
 use Rattle.iscsi_stream.specs.Canonical.{canon, canonical_bytes}
 use Rattle.iscsi_stream.specs.Framing.{Framing, FramerTakes, FramerMoves, FramerFeedFails, is_ready, pdu_given_up, message_of, settled, holding}
-use Rattle.iscsi_stream.proofs.ReadyLemmas.{apart, ready_of}
+use Rattle.iscsi_stream.proofs.ReadyLemmas.{ready_of}
 use Rattle.iscsi_stream.specs.declared.fault.StreamFault.TheVariants as stream
-use Rattle.iscsi_stream.proofs.TakingLemmas.{moves_none, moves_gave, moves_then, taken_more, moves_taken}
-use Rattle.iscsi_stream.proofs.PassingLemmas.{unready_after, takes_some}
+use Rattle.iscsi_stream.proofs.TakingLemmas.{moves_none, moves_gave, moves_then, moves_taken}
+use Rattle.iscsi_stream.proofs.PassingLemmas.{takes_some}
 use Rattle.iscsi_login.specs.declared.phase.Phase.{Phase}
 use Rattle.iscsi_target.specs.declared.fault.TargetFault.{TargetFault}
 use Rattle.iscsi_target.specs.declared.fault.TargetFault.TheVariants as faults
 use Rattle.iscsi_login.specs.declared.phase.Phase.TheVariants as phases
-use Rattle.iscsi_target_session.specs.Session.{Session, target_limit}
+use Rattle.iscsi_target_session.specs.Session.{Session}
 use Rattle.iscsi_target.specs.declared.tasks.Task.{Task}
 use Rattle.iscsi_target.specs.State.{Machine, TargetStep, unchanged, closed_machine}
 use Rattle.iscsi_target.specs.State.{writes_joined}
-use Rattle.iscsi_target.specs.Execution.{Device, reliable}
-use Rattle.iscsi_target.specs.Machine.{Next, Dropped, Answered, Queued, full_met, done_first, step_on, answers, then_stepped, first_rule, MayAnswer, MayStop}
+use Rattle.iscsi_target.specs.Machine.{Next, Dropped, Answered, Queued, full_met, done_first, answers, MayAnswer, MayStop}
 use Rattle.iscsi_target.specs.Machine.{ExecutionsRun, is_machine_closed}
 use Rattle.iscsi_target.specs.Laws.{joined_stepped}
 use Rattle.iscsi_target.specs.Feed.{AsksForMemory, Scene, scene, call_progress, remainder, TargetConnection, Store, AnswersPdus, StopsForMemory, CallLeaves, IsShut, CallEnds, FeedsFirstBytes, FeedsOnePdu, IsLive}
 use Rattle.iscsi_target.specs.Advances.{store_of}
 use Rattle.iscsi_target.specs.inner.Inside.{Moment, moment, target_connection, GivesUpMessage, TasksRanOut, NextRanOut, MessageRanOut}
-use Rattle.iscsi_target.specs.inner.Inside.{IsAnswered, AnswersReady, TargetShutsReady, TargetRestFails, TakesOnePdu, FeedOneFails}
-use Rattle.iscsi_target.proofs.Writes.JoiningLemmas.{ones, SameNext, next_then, next_back, met_same, first_same, step_joined}
-use Rattle.iscsi_target.proofs.Steps.AppendLemmas.{answers_append, may_append}
+use Rattle.iscsi_target.specs.inner.Inside.{TargetShutsReady, TargetRestFails, TakesOnePdu, FeedOneFails}
+use Rattle.iscsi_target.proofs.Writes.JoiningLemmas.{ones, SameNext, next_then, next_back, met_same, first_same}
 use Rattle.iscsi_target.proofs.Turns.ServingLemmas.{runs_as, runs_rise}
 use Rattle.iscsi_target.proofs.Steps.TurnLemmas.{with_tasks}
 use Rattle.iscsi_login.specs.Stage.{is_closed_phase}
-use Rattle.iscsi_target.proofs.Steps.KeepingLemmas.{step_settings, queued_phase}
+use Rattle.iscsi_target.proofs.Steps.KeepingLemmas.{queued_phase}
 use Rattle.iscsi_target.proofs.Steps.ClosingLemmas.{may_close}
-
--- the bytes of the piece before the rest were taken, and their PDUs answered
-pub record FedUpTo (protected : Bool) (old : Scene) (piece rest : List ℕ) (new : Scene) : Type 0 where
-  pub front : List ℕ
-  pub parts : piece ≡ front ++ rest
-  pub messages : List Message
-  pub stepped : TargetStep
-  pub answered : AnswersPdus protected old.connection old.store front (call_progress new.connection.framing messages stepped) new.store
-  pub counted : new.store.failures ≡ answered.failures
-  pub disk : new.store.disk ≡ stepped.disk
-  pub output_is : new.output ≡ old.output ++ canon stepped.answers
-  pub rises : old.store.failures ≤ new.store.failures
-  pub machine_is : writes_joined new.connection.machine ≡ writes_joined stepped.machine
-  pub settings_is : new.connection.machine.session.settings ≡ old.connection.machine.session.settings
-
--- and the session goes on
-pub record GoesUpTo (protected : Bool) (old : Scene) (piece rest : List ℕ) (new : Scene) : Type 0 where
-  pub fed : FedUpTo protected old piece rest new
-  pub rule : fed.stepped.rule ≡ None
-  pub live : is_machine_closed new.connection.machine ≡ false
-
--- the last PDU broke this rule, or none; n were answered at most, and n if one was ready
-pub record FedAs (protected : Bool) (old : Scene) (piece rest : List ℕ) (new : Scene) (broken : Option ℕ) (most : ℕ) (ready : Bool) : Type 0 where
-  pub fed : FedUpTo protected old piece rest new
-  pub rule : fed.stepped.rule ≡ broken
-  pub few : length fed.messages ≤ most
-  pub full : ready ≡ true → length fed.messages ≡ most
-
-unfoldable pub fed_none : (protected : Bool) (old : TargetConnection) (before : Store) (output piece : List ℕ) → is_ready old.framing ≡ false → is_machine_closed old.machine ≡ false →
-    GoesUpTo protected (scene old before output) piece piece (scene old before output)
-unfolding MayAnswer answers
-fed_none protected old before output piece unready live = record {
-  fed = record {
-    front = [];
-    parts = refl;
-    messages = [];
-    stepped = unchanged old.machine before.disk;
-    answered = record { taken = moves_none old.framing; ready = unready; failures = before.failures; may = (refl, refl); works = λ _. refl; limit = refl };
-    counted = refl;
-    disk = refl;
-    output_is = sym (append-nil output);
-    rises = omega arith;
-    machine_is = refl;
-    settings_is = refl;
-  };
-  rule = refl;
-  live = live;
-}
-
--- ---- bytes that complete no PDU
-
-unfoldable pub fed_bytes : (protected : Bool) (old : TargetConnection) (before : Store) (output piece rest after_rest : List ℕ) (now : TargetConnection)
-    (after : Store)
-    (written : List ℕ) (n : ℕ)
-    (framing : Framing)
-    → (g : GoesUpTo protected (scene old before output) piece rest (scene now after written)) → FramerTakes now.framing rest n framing → is_ready framing
-    ≡ false
-    → after_rest ≡ drop n rest
-    → FedAs protected (scene old before output) piece after_rest (scene (target_connection now.machine framing) after written) None
-    (length g.fed.messages + 1) (is_ready framing)
-fed_bytes protected old before output piece rest after_rest now after written n framing g t unready is = let f = g.fed in record {
-  rule = g.rule;
-  few = omega arith;
-  full = λ e. absurd (apart e unready);
-  fed = record {
-    front = f.front ++ take n rest;
-    parts = taken_more piece f.front rest n f.parts ∙ ap (λ (x : List ℕ). (f.front ++ take n rest) ++ x) (sym is);
-    messages = f.messages;
-    stepped = f.stepped;
-    answered = record {
-      taken = moves_taken old.framing now.framing framing f.front n rest f.messages f.answered.taken t;
-      ready = unready;
-      failures = f.answered.failures;
-      may = f.answered.may;
-      works = f.answered.works;
-      limit = ap (λ (x : Framing). x.limit) t.gathered ∙ f.answered.limit;
-    };
-    counted = f.counted;
-    disk = f.disk;
-    output_is = f.output_is;
-    rises = f.rises;
-    machine_is = f.machine_is;
-    settings_is = f.settings_is;
-  };
-}
-
--- ---- a PDU
-
-pub same_step : (d : Device) (a b : Machine) (disk : Disk) (m : Message) → writes_joined a ≡ writes_joined b → joined_stepped (step_on d a disk m)
-    ≡ joined_stepped (step_on d b disk m)
-same_step d a b disk m e = sym (step_joined d a disk m) ∙ ap (λ (s : Machine). joined_stepped (step_on d s disk m)) e ∙ step_joined d b disk m
-
-abbrev last_of : Device → Machine → Disk → Message → TargetStep
-last_of d s disk m = then_stepped (step_on d s disk m) (unchanged (step_on d s disk m).machine (step_on d s disk m).disk)
-
-pub may_last : (protected : Bool) (d : Device) (s : Machine) (disk : Disk) (m : Message) (before after : ℕ)
-    → ExecutionsRun protected d before (step_on d s disk m).executed after
-    → MayAnswer protected s disk before (m ∷ []) (last_of d s disk m) after
-unfolding MayAnswer
-may_last protected d s disk m before after runs = (
-  step_on d s disk m,
-  unchanged (step_on d s disk m).machine (step_on d s disk m).disk,
-  after,
-  record { device = d; is = refl; runs = runs },
-  (refl, refl),
-  refl,
-)
-
-pub answers_last : (protected : Bool) (s : Machine) (disk : Disk) (m : Message) → answers protected s disk (m ∷ []) ≡ last_of (reliable protected) s disk m
-unfolding answers
-answers_last protected s disk m = refl
-
-pub rule_last : (a b : Option ℕ) → a ≡ None → first_rule a (first_rule b None) ≡ b
-rule_last a None e = rw e refl
-rule_last a (Some rule) e = rw e refl
-
-pub settings_as : (a b : Machine) → writes_joined a ≡ writes_joined b → a.session.settings ≡ b.session.settings
-settings_as a b e = ap (λ (s : Machine). s.session.settings) e
-
-unfoldable pub fed_pdu : (protected : Bool) (old : TargetConnection) (before : Store) (output piece rest after_rest : List ℕ) (now : TargetConnection)
-    (mid : Store)
-    (written : List ℕ) (n : ℕ)
-    (framing : Framing) (broken : Option ℕ) (new : TargetConnection) (after : Store) (more : List ℕ)
-    → (g : GoesUpTo protected (scene old before output) piece rest (scene now mid written)) → FramerTakes now.framing rest n framing →
-    IsAnswered protected (scene (target_connection now.machine framing) mid written) broken (scene new after more) → after_rest ≡ drop n rest
-    → FedAs protected (scene old before output) piece after_rest (scene new after more) broken (length g.fed.messages + 1) (is_ready framing)
-fed_pdu protected old before output piece rest after_rest now mid written n framing broken new after more g t a is =
-    let f = g.fed in
-    let m : Message = message_of framing a.head a.segment in
-    let d : Device = a.serves.device in
-    let s : Machine = f.stepped.machine in
-    let same : joined_stepped (step_on d now.machine mid.disk m) ≡ joined_stepped (step_on d s f.stepped.disk m) =
-    same_step d now.machine s mid.disk m f.machine_is ∙ ap (λ (x : Disk). joined_stepped (step_on d s x m)) f.disk in
-    let one : TargetStep = step_on d s f.stepped.disk m in
-    let last : TargetStep = last_of d s f.stepped.disk m in
-    let moves : FramerMoves old.framing new.framing (f.front ++ take n rest) (f.messages ++ m ∷ []) =
-    subst (λ (x : Framing). FramerMoves old.framing x (f.front ++ take n rest) (f.messages ++ m ∷ [])) (sym a.framing_is)
-    (subst (λ (x : List ℕ). FramerMoves old.framing (pdu_given_up framing a.head) x (f.messages ++ m ∷ [])) (append-nil (f.front ++ take n rest))
-    (moves_then old.framing framing (pdu_given_up framing a.head) (f.front ++ take n rest) [] f.messages (m ∷ [])
-    (moves_taken old.framing now.framing framing f.front n rest f.messages f.answered.taken t) (moves_gave framing a.head a.segment a.means))) in
-    let wrote : more ≡ output ++ canon (f.stepped.answers ++ last.answers) =
-    a.serves.output ∙ ap (λ (x : TargetStep). written ++ canon x.answers) same ∙ ap (λ (x : List ℕ). x ++ canon one.answers) f.output_is
-    ∙ append_assoc output (canon f.stepped.answers) (canon one.answers)
-    ∙ ap (λ (x : List ℕ). output ++ x) (sym (flat_map-append canonical_bytes f.stepped.answers one.answers))
-    ∙ ap (λ (x : List Message). output ++ canon (f.stepped.answers ++ x)) (sym (append-nil one.answers)) in
-    record {
-      fed = record {
-        front = f.front ++ take n rest;
-        parts = taken_more piece f.front rest n f.parts ∙ ap (λ (x : List ℕ). (f.front ++ take n rest) ++ x) (sym is);
-        messages = f.messages ++ m ∷ [];
-        stepped = then_stepped f.stepped last;
-        answered = record {
-          taken = moves;
-          ready = ap is_ready a.framing_is ∙ unready_after framing a.head;
-          failures = after.failures;
-          may = may_append protected old.machine before.disk before.failures mid.failures after.failures f.messages (m ∷ []) f.stepped last
-              (subst (λ (n : ℕ). MayAnswer protected old.machine before.disk before.failures f.messages f.stepped n) (sym f.counted) f.answered.may)
-              (may_last protected d s f.stepped.disk m mid.failures after.failures
-              (runs_as protected d mid.failures after.failures (step_on d now.machine mid.disk m) one same
-              a.serves.runs));
-          works = λ e. (
-              let low = a.serves.rises in
-              let high = f.rises in
-              let first : mid.failures ≡ before.failures = omega (arith, e, low, high) in
-              let then : after.failures ≡ mid.failures = omega (arith, e, first) in
-              let was : f.stepped ≡ answers protected old.machine before.disk f.messages = f.answered.works first in
-              let is_effect : last ≡ answers protected s f.stepped.disk (m ∷ []) = ap (λ (x : Device). last_of x s f.stepped.disk m) (a.serves.works then)
-              ∙ sym (answers_last protected s f.stepped.disk m) in
-              ap (then_stepped f.stepped) is_effect
-              ∙ ap (λ (x : TargetStep). then_stepped x (answers protected x.machine x.disk (m ∷ []))) was
-              ∙ sym (answers_append protected old.machine before.disk f.messages (m ∷ [])));
-          limit = ap (λ (x : Framing). x.limit) a.framing_is ∙ ap (λ (x : Framing). x.limit) t.gathered ∙ f.answered.limit;
-        };
-        counted = refl;
-        disk = a.serves.disk_is ∙ ap (λ (x : TargetStep). x.disk) same;
-        output_is = wrote;
-        rises = (let low = a.serves.rises in let high = f.rises in omega (arith, low, high));
-        machine_is = a.serves.machine ∙ ap (λ (x : TargetStep). x.machine) same;
-        settings_is = settings_as new.machine (step_on d now.machine mid.disk m).machine a.serves.machine ∙ step_settings d now.machine mid.disk m
-            ∙ f.settings_is;
-      };
-      few = omega (arith, length-append f.messages (m ∷ []));
-      full = λ e. length-append f.messages (m ∷ []);
-      rule = rule_last f.stepped.rule one.rule g.rule ∙ sym (a.serves.rule_is ∙ ap (λ (x : TargetStep). x.rule) same);
-    }
-
-fed_ready : (protected : Bool) (old : TargetConnection) (before : Store) (output piece rest after_rest : List ℕ) (now : TargetConnection) (mid : Store)
-    (written : List ℕ) (n : ℕ)
-    (framing : Framing) (broken : Option ℕ) (new : TargetConnection) (after : Store) (more : List ℕ)
-    → (g : GoesUpTo protected (scene old before output) piece rest (scene now mid written)) → FramerTakes now.framing rest n framing →
-    AnswersReady protected (scene (target_connection now.machine framing) mid written) broken (scene new after more) → after_rest ≡ drop n rest
-    → FedAs protected (scene old before output) piece after_rest (scene new after more) broken (length g.fed.messages + 1) (is_ready framing)
-fed_ready protected old before output piece rest after_rest now mid written n framing broken new after more g t (inl u) is =
-    let most : ℕ = length g.fed.messages + 1 in
-    let ready : Bool = is_ready framing in
-    subst (λ (b : Option ℕ). FedAs protected (scene old before output) piece after_rest (scene new after more) b most ready) (sym u.rule_is)
-    (subst (λ (c : TargetConnection). FedAs protected (scene old before output) piece after_rest (scene c after more) None most ready) (sym u.connection_is)
-    (subst (λ (s : Store). FedAs protected (scene old before output) piece after_rest (scene (target_connection now.machine framing) s more) None most
-    ready) (sym u.store_is)
-    (subst (λ (x : List ℕ). FedAs protected (scene old before output) piece after_rest (scene (target_connection now.machine framing) mid x) None most
-    ready) (sym u.output_is)
-    (fed_bytes protected old before output piece rest after_rest now mid written n framing g t u.unready is))))
-fed_ready protected old before output piece rest after_rest now mid written n framing broken new after more g t (inr a) is =
-    fed_pdu protected old before output piece rest after_rest now mid written n framing broken new after more g t a is
-
-pub fed_one : (protected : Bool) (old : TargetConnection) (before : Store) (output piece rest after_rest : List ℕ) (now : TargetConnection) (mid : Store)
-    (written : List ℕ) (n : ℕ)
-    (broken : Option ℕ) (new : TargetConnection) (after : Store) (more : List ℕ)
-    → (g : GoesUpTo protected (scene old before output) piece rest (scene now mid written))
-    → (t : TakesOnePdu protected (scene now mid written) rest n broken (scene new after more)) → after_rest ≡ drop n rest
-    → FedAs protected (scene old before output) piece after_rest (scene new after more) broken (length g.fed.messages + 1) (is_ready t.framing)
-fed_one protected old before output piece rest after_rest now mid written n broken new after more g t is =
-    fed_ready protected old before output piece rest after_rest now mid written n t.framing broken new after more g t.takes t.answers is
-
-pub stays_within : (protected : Bool) (old : TargetConnection) (before : Store) (output piece rest : List ℕ) (now : TargetConnection) (after : Store)
-    (written : List ℕ) →
-    FedUpTo protected (scene old before output) piece rest (scene now after written)
-    → old.framing.limit ≡ target_limit old.machine.session.settings → now.framing.limit ≡ target_limit now.machine.session.settings
-stays_within protected old before output piece rest now after written f e = f.answered.limit ∙ e ∙ ap target_limit (sym f.settings_is)
+use Rattle.iscsi_target.proofs.Feed.FeedStepLemmas.{FedUpTo, GoesUpTo, fed_none, fed_one}
 
 -- ---- where a call ends
 
@@ -395,21 +175,22 @@ gives_front protected r m old new disk now fb fa before after e d g = record {
   output_is = g.unwritten ∙ sym (append-nil before);
 }
 
-stops_front : (protected : Bool) (r : TargetStep) (m : Message) (old new : Machine) (disk now : Disk) (fb fa : ℕ) (before after : List ℕ)
+stops_front : (protected : Bool) (r : TargetStep) (m : Message) (old : Machine) (to : Moment) (from : Store) (before : List ℕ)
     (session : Session) (tasks : List Task) →
-    writes_joined old ≡ writes_joined r.machine → disk ≡ r.disk
-    → old.session.phase ≡ phases.Full → (full_met old disk.count m).next ≡ Queued session tasks
-    → TasksRanOut protected (moment (with_tasks session tasks) (store_of disk fb) before) (moment new (store_of now fa) after) →
-    Front protected r m fb before (moment new (store_of now fa) after)
-stops_front protected r m old new disk now fb fa before after session tasks e d full queued h =
+    writes_joined old ≡ writes_joined r.machine → from.disk ≡ r.disk
+    → old.session.phase ≡ phases.Full → (full_met old from.disk.count m).next ≡ Queued session tasks
+    → TasksRanOut protected (moment (with_tasks session tasks) from before) to →
+    Front protected r m from.failures before to
+stops_front protected r m old to from before session tasks e d full queued h =
     let q : Queues (full_met r.machine r.disk.count m).next session tasks =
     queues session tasks (full_met r.machine r.disk.count m).next
     (subst (λ (x : Next). SameNext x (full_met r.machine r.disk.count m).next) queued
-    (subst (λ (x : Disk). SameNext (full_met old disk.count m).next (full_met r.machine x.count m).next) d (same_next old r.machine disk.count m e))) in
-    let a : TargetStep = done_first h.done h.device session disk tasks in
+    (subst (λ (x : Disk). SameNext (full_met old from.disk.count m).next (full_met r.machine x.count m).next) d
+    (same_next old r.machine from.disk.count m e))) in
+    let a : TargetStep = done_first h.done h.device session from.disk tasks in
     let b : TargetStep = done_first h.done h.device session r.disk q.to in
     let same : joined_stepped a ≡ joined_stepped b =
-    (first_same h.done h.device session disk tasks q.to q.same).is ∙ ap (λ (x : Disk). joined_stepped (done_first h.done h.device session x q.to)) d in
+    (first_same h.done h.device session from.disk tasks q.to q.same).is ∙ ap (λ (x : Disk). joined_stepped (done_first h.done h.device session x q.to)) d in
     record {
       front = b;
       stops = inr (record {
@@ -421,9 +202,9 @@ stops_front protected r m old new disk now fb fa before after session tasks e d 
         device = h.device;
         is = refl;
         live = ap (λ (x : TargetStep). is_machine_closed x.machine) (sym same)
-            ∙ h.live (ap is_closed_phase (queued_phase old disk.count m session tasks queued ∙ full));
+            ∙ h.live (ap is_closed_phase (queued_phase old from.disk.count m session tasks queued ∙ full));
         failures = h.failures;
-        runs = runs_as protected h.device fb h.failures a b same h.runs;
+        runs = runs_as protected h.device from.failures h.failures a b same h.runs;
         rises = h.rises;
       });
       shut = h.machine ∙ ap (λ (x : TargetStep). closed_machine x.machine) same;
@@ -470,7 +251,7 @@ halts_by : (protected : Bool) (r : TargetStep) (m : Message) (old new : Machine)
     → NextRanOut protected x (moment old (store_of disk fb) before) (moment new (store_of now fa) after) →
     Front protected r m fb before (moment new (store_of now fa) after)
 halts_by protected r m old new disk now fb fa before after (Queued session tasks) e d full is h =
-    stops_front protected r m old new disk now fb fa before after session tasks e d full is h
+    stops_front protected r m old (moment new (store_of now fa) after) (store_of disk fb) before session tasks e d full is h
 halts_by protected r m old new disk now fb fa before after Dropped e d full is h = gives_front protected r m old new disk now fb fa before after e d h
 halts_by protected r m old new disk now fb fa before after (Answered q) e d full is h = gives_front protected r m old new disk now fb fa before after e d h
 
@@ -497,24 +278,26 @@ rises_after protected front r m before after (inl h) = h.1
 rises_after protected front r m before after (inr h) = let a = h.rises in let b = runs_rise protected h.device before front.executed h.failures h.runs
     in omega (arith, a, b)
 
-ends_shut : (protected : Bool) (old : TargetConnection) (before : Store) (output piece rest : List ℕ) (now : TargetConnection) (mid : Store) (written : List ℕ)
+ends_shut : (protected : Bool) (from : Scene) (piece rest : List ℕ) (here : Scene)
     (n : ℕ) (framing : Framing)
-    (new : TargetConnection) (after : Store) (more : List ℕ)
-    → GoesUpTo protected (scene old before output) piece rest (scene now mid written) → FramerTakes now.framing rest n framing →
-    TargetShutsReady protected (scene (target_connection now.machine framing) mid written) (scene new after more)
-    → FeedsFirstBytes protected (scene old before output) piece (Err faults.NoMemory) (scene new after more)
-ends_shut protected old before output piece rest now mid written n framing new after more g t s =
+    (to : Scene)
+    → GoesUpTo protected from piece rest here → FramerTakes here.connection.framing rest n framing →
+    TargetShutsReady protected (scene (target_connection here.connection.machine framing) here.store here.output) to
+    → FeedsFirstBytes protected from piece (Err faults.NoMemory) to
+ends_shut protected from piece rest here n framing to g t s =
     let f = g.fed in
     let m : Message = message_of framing s.head s.segment in
-    let x : Front protected f.stepped m mid.failures written (moment new.machine after more) =
-    halts_front protected f.stepped m now.machine new.machine mid.disk after.disk mid.failures after.failures written more f.machine_is f.disk s.halts in
-    let high : mid.failures ≤ after.failures = rises_after protected x.front f.stepped m mid.failures after.failures x.stops in
-    let counted : mid.failures ≡ f.answered.failures = f.counted in
-    let moves : FramerMoves now.framing (pdu_given_up framing s.head) (take n rest) (m ∷ []) =
-    rest_moves old.framing now.framing framing rest n m (pdu_given_up framing s.head) t (moves_gave framing s.head s.segment s.means) in
-    let next : FramerMoves now.framing (pdu_given_up framing s.head) (take n (drop (count_of piece rest) piece)) (m ∷ []) =
-    subst (λ (y : List ℕ). FramerMoves now.framing (pdu_given_up framing s.head) (take n y) (m ∷ [])) (sym (rest_is piece f.front rest f.parts)) moves in
-    let last : AnswersPdus protected old before f.front (call_progress now.framing f.messages f.stepped) after = record {
+    let x : Front protected f.stepped m here.store.failures here.output (moment to.connection.machine to.store to.output) =
+    halts_front protected f.stepped m here.connection.machine to.connection.machine here.store.disk to.store.disk here.store.failures to.store.failures
+    here.output to.output f.machine_is f.disk s.halts in
+    let high : here.store.failures ≤ to.store.failures = rises_after protected x.front f.stepped m here.store.failures to.store.failures x.stops in
+    let counted : here.store.failures ≡ f.answered.failures = f.counted in
+    let moves : FramerMoves here.connection.framing (pdu_given_up framing s.head) (take n rest) (m ∷ []) =
+    rest_moves from.connection.framing here.connection.framing framing rest n m (pdu_given_up framing s.head) t (moves_gave framing s.head s.segment s.means) in
+    let next : FramerMoves here.connection.framing (pdu_given_up framing s.head) (take n (drop (count_of piece rest) piece)) (m ∷ []) =
+    subst (λ (y : List ℕ). FramerMoves here.connection.framing (pdu_given_up framing s.head) (take n y) (m ∷ [])) (sym (rest_is piece f.front rest f.parts))
+    moves in
+    let last : AnswersPdus protected from.connection from.store f.front (call_progress here.connection.framing f.messages f.stepped) to.store = record {
       taken = f.answered.taken;
       ready = f.answered.ready;
       failures = f.answered.failures;
@@ -523,13 +306,13 @@ ends_shut protected old before output piece rest now mid written n framing new a
       limit = f.answered.limit;
     } in
     record {
-      framing = now.framing;
+      framing = here.connection.framing;
       count = count_of piece rest;
       some = omega arith;
       messages = f.messages;
       stepped = f.stepped;
       answered =
-          subst (λ (y : List ℕ). AnswersPdus protected old before y (call_progress now.framing f.messages f.stepped) after)
+          subst (λ (y : List ℕ). AnswersPdus protected from.connection from.store y (call_progress here.connection.framing f.messages f.stepped) to.store)
           (sym (front_is piece f.front rest f.parts)) last;
       leaves = record {
         front = x.front;
@@ -541,16 +324,16 @@ ends_shut protected old before output piece rest now mid written n framing new a
             limit = ap (λ (v : Framing). v.limit) t.gathered;
             count = n;
             taken = next;
-            stops = subst (λ (k : ℕ). MayStop protected f.stepped.machine f.stepped.disk k m x.front after.failures) counted h;
+            stops = subst (λ (k : ℕ). MayStop protected f.stepped.machine f.stepped.disk k m x.front to.store.failures) counted h;
           })
         ];
         shut = s.closed_ ∙ x.shut;
         disk = x.disk;
         output_is = x.output_is ∙ ap (λ (y : List ℕ). y ++ canon x.front.answers) f.output_is
-            ∙ append_assoc output (canon f.stepped.answers) (canon x.front.answers)
-            ∙ ap (λ (y : List ℕ). output ++ y) (sym (flat_map-append canonical_bytes f.stepped.answers x.front.answers));
+            ∙ append_assoc from.output (canon f.stepped.answers) (canon x.front.answers)
+            ∙ ap (λ (y : List ℕ). from.output ++ y) (sym (flat_map-append canonical_bytes f.stepped.answers x.front.answers));
       };
-      ends = live_stepped protected old before output piece rest now mid written g;
+      ends = live_stepped protected from.connection from.store from.output piece rest here.connection here.store here.output g;
     }
 
 pub ends_broken : (protected : Bool) (old : TargetConnection) (before : Store) (output piece rest : List ℕ) (now : TargetConnection) (after : Store)
@@ -613,19 +396,19 @@ short_rises protected output framing rest r counted new after written h = elim h
 ]
 
 -- no bytes could be taken, or no PDU answered
-pub ends_failed : (protected : Bool) (old : TargetConnection) (before : Store) (output piece rest : List ℕ) (now : TargetConnection) (mid : Store)
-    (written : List ℕ) (fault : TargetFault)
-    (new : TargetConnection) (after : Store) (more : List ℕ)
-    → GoesUpTo protected (scene old before output) piece rest (scene now mid written)
-    → FeedOneFails protected (scene now mid written) rest fault (scene new after more) →
-    FeedsFirstBytes protected (scene old before output) piece (Err fault) (scene new after more)
-ends_failed protected old before output piece rest now mid written fault new after more g (inl r) =
-    subst (λ (s : Store). FeedsFirstBytes protected (scene old before output) piece (Err fault) (scene new s more)) (sym r.store_is)
-    (subst (λ (x : List ℕ). FeedsFirstBytes protected (scene old before output) piece (Err fault) (scene new mid x)) (sym r.output_is)
-    (ends_refused protected old before output piece rest now mid written fault new g r.fails r.machine))
-ends_failed protected old before output piece rest now mid written fault new after more g (inr r) =
-    subst (λ (x : TargetFault). FeedsFirstBytes protected (scene old before output) piece (Err x) (scene new after more)) (sym r.memory)
-    (ends_shut protected old before output piece rest now mid written r.count r.framing new after more g r.takes r.shuts)
+pub ends_failed : (protected : Bool) (from : Scene) (piece rest : List ℕ) (here : Scene)
+    (fault : TargetFault)
+    (to : Scene)
+    → GoesUpTo protected from piece rest here
+    → FeedOneFails protected here rest fault to →
+    FeedsFirstBytes protected from piece (Err fault) to
+ends_failed protected from piece rest here fault to g (inl r) =
+    subst (λ (s : Store). FeedsFirstBytes protected from piece (Err fault) (scene to.connection s to.output)) (sym r.store_is)
+    (subst (λ (x : List ℕ). FeedsFirstBytes protected from piece (Err fault) (scene to.connection here.store x)) (sym r.output_is)
+    (ends_refused protected from.connection from.store from.output piece rest here.connection here.store here.output fault to.connection g r.fails r.machine))
+ends_failed protected from piece rest here fault to g (inr r) =
+    subst (λ (x : TargetFault). FeedsFirstBytes protected from piece (Err x) to) (sym r.memory)
+    (ends_shut protected from piece rest here r.count r.framing to g r.takes r.shuts)
 
 -- ---- one PDU
 
@@ -646,7 +429,8 @@ unfoldable pub feeds_one : (protected : Bool) (old : TargetConnection) (before :
     → (f : FedUpTo protected (scene old before output) (take n piece) [] (scene new after written))
     → f.stepped.rule ≡ None →
     length f.messages ≤ 1
-    → (n < length piece → length f.messages ≡ 1) → writes_joined new.machine ≡ new.machine → phase ≡ new.machine.session.phase → (over : Bool) → is_machine_closed new.machine ≡ over →
+    → (n < length piece → length f.messages ≡ 1) → writes_joined new.machine ≡ new.machine → phase ≡ new.machine.session.phase → (over : Bool) →
+    is_machine_closed new.machine ≡ over →
     FeedsOnePdu protected (scene old before output) piece n phase (scene new after written)
 feeds_one protected old before output piece n phase new after written bound some f rule few stops whole is true over = record {
   bound = bound;
@@ -684,8 +468,9 @@ next_fed protected old before output piece n phase new after written unready liv
     let front : TakesOnePdu protected (scene old before output) (take n piece) n None (scene new after written) =
     record { framing = t.framing; takes = front_taken old.framing t.framing piece n t.takes; answers = t.answers } in
     let none : [] ≡ drop n (take n piece) = sym (drop_all n (take n piece) (omega (arith, length-take n piece))) in
-    let f = fed_one protected old before output (take n piece) (take n piece) [] old before output n None new after written
+    let f = fed_one protected (scene old before output) (take n piece) (take n piece) [] (scene old before output) n None (scene new after written)
     (fed_none protected old before output (take n piece) unready live) front none in
     feeds_one protected old before output piece n phase new after written t.takes.bound
     (takes_some old.framing piece n t.framing unready t.takes) f.fed f.rule f.few
-    (λ lt. f.full (ready_of t.framing.failed t.framing.held (ap (λ (v : Framing). v.failed) t.takes.gathered ∙ t.takes.live) (t.takes.stops lt))) whole is (is_machine_closed new.machine) refl
+    (λ lt. f.full (ready_of t.framing.failed t.framing.held (ap (λ (v : Framing). v.failed) t.takes.gathered ∙ t.takes.live) (t.takes.stops lt))) whole is
+    (is_machine_closed new.machine) refl

@@ -5,7 +5,7 @@ use Rattle.std.specs.Prelude.{nat_lt, nat_le, not, ◌==◌, if◌then◌else◌
 use Rattle.std.proofs.lemmas.Bool.{eqb-false, leb-true}
 use Rattle.scsi_disk.specs.Disk.{Disk}
 use Rattle.scsi_disk.specs.Plan.{first_reason}
-use Rattle.scsi_disk.proofs.PlanLemmas.{all_false}
+use Rattle.iscsi_target_session.proofs.RefusalLemmas.{request_accepted}
 use Rattle.iscsi_text.specs.Text.{Pairs}
 use Rattle.iscsi_pdu.specs.declared.head.Head.{Head}
 use Rattle.iscsi_pdu.specs.declared.head.Head.TheVariants.{LoginRequest}
@@ -95,7 +95,7 @@ not_false false e = absurd cc
 request_goes : (s : Session) (r : Request) (segment : Segment) → (IsLast s.stage → ⊥) → Goes (on_login_request s r segment).session
 request_goes s r segment g =
     refused_goes (numbers_settled s r) r (first_reason (request_refusals s r)) (segment_taken (entered s r) r segment)
-    (λ none. segment_goes (entered s r) r segment (due_goes s r g (not_false (is_due_stage s r) (all_false (request_refusals s r) none).1.1.0)))
+    (λ none. segment_goes (entered s r) r segment (due_goes s r g (not_false (is_due_stage s r) (request_accepted s r none).due_stage)))
 
 login_goes : (s : Session) (head : Head) (segment : Segment) → (IsLast s.stage → ⊥) → Goes (login_in s head segment).session
 login_goes s (LoginRequest r) segment g = request_goes s r segment g

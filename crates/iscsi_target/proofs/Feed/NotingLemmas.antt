@@ -17,7 +17,8 @@ use Rattle.iscsi_target.specs.Feed.{TargetConnection, FeedsOnePdu, Scene, Store,
 use Rattle.iscsi_target.specs.inner.Inside.{AnswersReady, TakesOnePdu, target_connection}
 use Rattle.iscsi_target.specs.Asking.{NotesAsking, SomeNextAsks, SomeReadyAsks, machine_asks, has_cache}
 use Rattle.iscsi_target.specs.inner.Asking.{NoneNextAsks}
-use Rattle.iscsi_target.proofs.Feed.FeedInvariant.{FedAs, FedUpTo, GoesUpTo, fed_bytes, fed_none, fed_pdu, feeds_one, front_taken}
+use Rattle.iscsi_target.proofs.Feed.FeedStepLemmas.{FedAs, FedUpTo, GoesUpTo, fed_bytes, fed_none, fed_pdu}
+use Rattle.iscsi_target.proofs.Feed.FeedInvariant.{feeds_one, front_taken}
 use Rattle.iscsi_target.proofs.Steps.AskingLemmas.{answers_none}
 
 -- ---- which PDUs are answered
@@ -32,46 +33,49 @@ all_append P [] m all one = (one, tt)
 all_append P (x ∷ ms) m all one = (all.0, all_append P ms m all.1 one)
 
 -- it holds of each PDU that was answered
-fed_all : (protected : Bool) (P : Message → Type 0) (old : TargetConnection) (before : Store) (output piece rest after_rest : List ℕ) (now : TargetConnection)
-    (mid : Store)
-    (written : List ℕ) (n : ℕ) (framing : Framing) (broken : Option ℕ) (new : TargetConnection) (after : Store) (more : List ℕ)
-    → (g : GoesUpTo protected (scene old before output) piece rest (scene now mid written)) → FramerTakes now.framing rest n framing
-    → AnswersReady protected (scene (target_connection now.machine framing) mid written) broken (scene new after more) → after_rest ≡ drop n rest
+fed_all : (protected : Bool) (P : Message → Type 0) (from : Scene) (piece rest after_rest : List ℕ) (here : Scene)
+    (n : ℕ) (framing : Framing) (broken : Option ℕ) (to : Scene)
+    → (g : GoesUpTo protected from piece rest here) → FramerTakes here.connection.framing rest n framing
+    → AnswersReady protected (scene (target_connection here.connection.machine framing) here.store here.output) broken to → after_rest ≡ drop n rest
     → AllByRecursion P g.fed.messages → OfReady P framing
-    → (x : FedAs protected (scene old before output) piece after_rest (scene new after more) broken (length g.fed.messages + 1) (is_ready framing))
+    → (x : FedAs protected from piece after_rest to broken (length g.fed.messages + 1) (is_ready framing))
     × AllByRecursion P x.fed.messages
 unfolding fed_bytes fed_pdu
-fed_all protected P old before output piece rest after_rest now mid written n framing broken new after more g t (inl u) is all each =
-    let first : Scene = scene old before output in
+fed_all protected P from piece rest after_rest here n framing broken to g t (inl u) is all each =
+    let first : Scene = from in
     let most : ℕ = length g.fed.messages + 1 in
     let ready : Bool = is_ready framing in
-    subst (λ (b : Option ℕ). (x : FedAs protected first piece after_rest (scene new after more) b most ready) × AllByRecursion P x.fed.messages) (sym u.rule_is)
-    (subst (λ (c : TargetConnection). (x : FedAs protected first piece after_rest (scene c after more) None most ready) × AllByRecursion P x.fed.messages)
+    subst (λ (b : Option ℕ). (x : FedAs protected first piece after_rest to b most ready) × AllByRecursion P x.fed.messages) (sym u.rule_is)
+    (subst (λ (c : TargetConnection). (x : FedAs protected first piece after_rest (scene c to.store to.output) None most ready) × AllByRecursion P
+    x.fed.messages)
     (sym u.connection_is)
-    (subst (λ (s : Store). (x : FedAs protected first piece after_rest (scene (target_connection now.machine framing) s more) None most ready)
+    (subst (λ (s : Store). (x : FedAs protected first piece after_rest (scene (target_connection here.connection.machine framing) s to.output) None most ready)
     × AllByRecursion P x.fed.messages) (sym u.store_is)
-    (subst (λ (o : List ℕ). (x : FedAs protected first piece after_rest (scene (target_connection now.machine framing) mid o) None most ready)
+    (subst (λ (o : List ℕ). (x : FedAs protected first piece after_rest (scene (target_connection here.connection.machine framing) here.store o) None most
+    ready)
     × AllByRecursion P x.fed.messages) (sym u.output_is)
-    (fed_bytes protected old before output piece rest after_rest now mid written n framing g t u.unready is, all))))
-fed_all protected P old before output piece rest after_rest now mid written n framing broken new after more g t (inr a) is all each = (
-  fed_pdu protected old before output piece rest after_rest now mid written n framing broken new after more g t a is,
+    (fed_bytes protected from.connection from.store from.output piece rest after_rest here.connection here.store here.output n framing g t u.unready is, all))))
+fed_all protected P from piece rest after_rest here n framing broken to g t (inr a) is all each = (
+  fed_pdu protected from.connection from.store from.output piece rest after_rest here.connection here.store here.output n framing broken to.connection
+      to.store to.output g t a is,
   all_append P g.fed.messages (message_of framing a.head a.segment) all (each a.head a.segment a.ready a.means),
 )
 
-feeds_all : (protected : Bool) (P : Message → Type 0) (old : TargetConnection) (before : Store) (output piece : List ℕ) (n : ℕ) (phase : Phase)
-    (new : TargetConnection) (after : Store) (written : List ℕ)
+feeds_all : (protected : Bool) (P : Message → Type 0) (from : Scene) (piece : List ℕ) (n : ℕ) (phase : Phase)
+    (to : Scene)
     → n ≤ length piece → (0 < length piece → 0 < n)
-    → (f : FedUpTo protected (scene old before output) (take n piece) [] (scene new after written)) → f.stepped.rule ≡ None → length f.messages ≤ 1
-    → (n < length piece → length f.messages ≡ 1) → writes_joined new.machine ≡ new.machine → phase ≡ new.machine.session.phase → AllByRecursion P f.messages
-    → (over : Bool) → is_machine_closed new.machine ≡ over
-    → (x : FeedsOnePdu protected (scene old before output) piece n phase (scene new after written)) × AllByRecursion P x.fed.messages
+    → (f : FedUpTo protected from (take n piece) [] to) → f.stepped.rule ≡ None → length f.messages ≤ 1
+    → (n < length piece → length f.messages ≡ 1) → writes_joined to.connection.machine ≡ to.connection.machine → phase ≡ to.connection.machine.session.phase
+    → AllByRecursion P f.messages
+    → (over : Bool) → is_machine_closed to.connection.machine ≡ over
+    → (x : FeedsOnePdu protected from piece n phase to) × AllByRecursion P x.fed.messages
 unfolding feeds_one
-feeds_all protected P old before output piece n phase new after written bound some f rule few stops whole is all true over = (
-  feeds_one protected old before output piece n phase new after written bound some f rule few stops whole is true over,
+feeds_all protected P from piece n phase to bound some f rule few stops whole is all true over = (
+  feeds_one protected from.connection from.store from.output piece n phase to.connection to.store to.output bound some f rule few stops whole is true over,
   all,
 )
-feeds_all protected P old before output piece n phase new after written bound some f rule few stops whole is all false live = (
-  feeds_one protected old before output piece n phase new after written bound some f rule few stops whole is false live,
+feeds_all protected P from piece n phase to bound some f rule few stops whole is all false live = (
+  feeds_one protected from.connection from.store from.output piece n phase to.connection to.store to.output bound some f rule few stops whole is false live,
   all,
 )
 
@@ -85,9 +89,9 @@ unfolding fed_none
 next_all protected P old before output piece n phase new after written unready live t whole is each =
     let takes : FramerTakes old.framing (take n piece) n t.framing = front_taken old.framing t.framing piece n t.takes in
     let none : [] ≡ drop n (take n piece) = sym (drop_all n (take n piece) (omega (arith, length-take n piece))) in
-    let f = fed_all protected P old before output (take n piece) (take n piece) [] old before output n t.framing None new after written
+    let f = fed_all protected P (scene old before output) (take n piece) (take n piece) [] (scene old before output) n t.framing None (scene new after written)
     (fed_none protected old before output (take n piece) unready live) takes t.answers none tt each in
-    feeds_all protected P old before output piece n phase new after written t.takes.bound
+    feeds_all protected P (scene old before output) piece n phase (scene new after written) t.takes.bound
     (takes_some old.framing piece n t.framing unready t.takes) f.0.fed f.0.rule f.0.few
     (λ lt. f.0.full (ready_of t.framing.failed t.framing.held (ap (λ (v : Framing). v.failed) t.takes.gathered ∙ t.takes.live) (t.takes.stops lt))) whole is
     f.1 (is_machine_closed new.machine) refl

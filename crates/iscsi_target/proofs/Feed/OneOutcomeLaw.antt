@@ -17,12 +17,12 @@ use Rattle.iscsi_target.specs.declared.fault.TargetFault.TheVariants as faults
 use Rattle.iscsi_target.specs.State.{Machine, TargetStep, closed_machine}
 use Rattle.iscsi_target.specs.State.{writes_joined}
 use Rattle.iscsi_target.specs.Machine.{answers, is_machine_closed, then_stepped}
-use Rattle.iscsi_target.specs.Feed.{TargetsAlike, TargetConnection, CallEnds, TargetFeedPost, CallsAlike, FeedPostIfClosed, FeedsFirstBytes, GoesWell, Store, scene}
+use Rattle.iscsi_target.specs.Feed.{Scene, TargetsAlike, TargetConnection, CallEnds, TargetFeedPost, CallsAlike, FeedPostIfClosed, FeedsFirstBytes, GoesWell, Store, scene}
 use Rattle.iscsi_target.proofs.Steps.NumberLaws.{closed_answers}
 use Rattle.iscsi_target.proofs.Steps.TurnLemmas.{then_nothing}
 use Rattle.iscsi_target.proofs.Steps.AppendLemmas.{answers_append}
 use Rattle.iscsi_target.proofs.Steps.ClosingLemmas.{answers_close}
-use Rattle.iscsi_target.proofs.Feed.FeedingLemmas.{stands}
+use Rattle.iscsi_target.proofs.Feed.FedStreamLemmas.{stands}
 
 -- ---- what messages lead to
 
@@ -63,13 +63,12 @@ leaves r = record {
 }
 
 -- the end of a call, by what it answers
-ended : (protected : Bool) (s : List ℕ) (ms : List Message) (old : TargetConnection) (before : Store) (output piece : List ℕ)
-    (result : Result Phase TargetFault) (new : TargetConnection)
-    (after : Store) (written : List ℕ)
-    (f : FeedsFirstBytes protected (scene old before output) piece result (scene new after written)) (h : HasTaken s ms f.framing)
-    → GoesWell result before after → CallEnds piece result f.framing f.count f.stepped new
-    → Ended (leaves f.stepped) (sight s ms f.framing h (drop f.count piece)) result new.machine new.framing
-ended protected s ms old before output piece (Ok phase) new after written f h well e =
+ended : (protected : Bool) (s : List ℕ) (ms : List Message) (from : Scene) (piece : List ℕ)
+    (result : Result Phase TargetFault) (to : Scene)
+    (f : FeedsFirstBytes protected from piece result to) (h : HasTaken s ms f.framing)
+    → GoesWell result from.store to.store → CallEnds piece result f.framing f.count f.stepped to.connection
+    → Ended (leaves f.stepped) (sight s ms f.framing h (drop f.count piece)) result to.connection.machine to.connection.framing
+ended protected s ms from piece (Ok phase) to f h well e =
     elim e.3 [
       | inl over ↦ Over over (answered_ok f.stepped phase e.0 e.2) e.1
       | inr on_ ↦
@@ -77,15 +76,15 @@ ended protected s ms old before output piece (Ok phase) new after written f h we
           (subst (IsLeft (sight s ms f.framing h (drop f.count piece))) (sym on_.framing_is)
           (framer_leaves s ms f.framing (drop f.count piece) h f.answered.ready (drop_all f.count piece (omega (arith, on_.all)))))
     ]
-ended protected s ms old before output piece (Err faults.NoMemory) new after written f h well e = absurd (well.memory refl)
-ended protected s ms old before output piece (Err (faults.Stream fault)) new after written f h well e =
+ended protected s ms from piece (Err faults.NoMemory) to f h well e = absurd (well.memory refl)
+ended protected s ms from piece (Err (faults.Stream fault)) to f h well e =
     Breaks fault e.0.live refl e.3 (framer_refuses s ms f.framing (drop f.count piece) fault h e.1 e.2)
-ended protected s ms old before output piece (Err (faults.Protocol rule)) new after written f h well e =
-    let is : f.stepped ≡ answers protected old.machine before.disk f.messages = f.answered.works well.device in
-    Over (ap (λ (r : TargetStep). is_machine_closed r.machine) is ∙ answers_close protected old.machine before.disk f.messages rule
+ended protected s ms from piece (Err (faults.Protocol rule)) to f h well e =
+    let is : f.stepped ≡ answers protected from.connection.machine from.store.disk f.messages = f.answered.works well.device in
+    Over (ap (λ (r : TargetStep). is_machine_closed r.machine) is ∙ answers_close protected from.connection.machine from.store.disk f.messages rule
     (ap (λ (r : TargetStep). r.rule) (sym is) ∙ e.0))
     (answered_rule f.stepped rule e.0) e.1
-ended protected s ms old before output piece (Err faults.Closed) new after written f h well e = absurd e
+ended protected s ms from piece (Err faults.Closed) to f h well e = absurd e
 
 -- ---- two calls
 
@@ -123,7 +122,7 @@ run_of protected stream ms old before output piece result new after written t f 
     let x : Sight = sight s (ms ++ f.messages) f.framing h (drop f.count piece) in
     let e : Ended (leaves (answers protected old.machine before.disk f.messages)) x result new.machine new.framing =
     subst (λ (r : TargetStep). Ended (leaves r) x result new.machine new.framing) is
-    (ended protected s (ms ++ f.messages) old before output piece result new after written f h well f.ends) in
+    (ended protected s (ms ++ f.messages) (scene old before output) piece result (scene new after written) f h well f.ends) in
     let whole : stream ++ piece ≡ s ++ drop f.count piece =
     ap (λ (y : List ℕ). stream ++ y) (sym (take-append-drop f.count piece)) ∙ sym (append_assoc stream (take f.count piece) (drop f.count piece)) in
     record {
@@ -139,18 +138,19 @@ run_of protected stream ms old before output piece result new after written t f 
 
 run_alike : (protected : Bool) (stream : List ℕ) (ms : List Message) (old : TargetConnection) (disk : Disk) (output : List ℕ)
     (result other : Result Phase TargetFault)
-    (new now : TargetConnection) (first second : Store) (written rewritten : List ℕ)
-    → Run protected stream ms old disk output (call_end result new first.disk written)
-    → Run protected stream ms old disk output (call_end other now second.disk rewritten) →
-    CallsAlike result other (scene new first written) (scene now second rewritten)
+    (one two : Scene)
+    → Run protected stream ms old disk output (call_end result one.connection one.store.disk one.output)
+    → Run protected stream ms old disk output (call_end other two.connection two.store.disk two.output) →
+    CallsAlike result other one two
 unfolding receiver
-run_alike protected stream ms old disk output result other new now first second written rewritten a b =
+run_alike protected stream ms old disk output result other one two a b =
     let h : ReceiveAlike (receiver protected old.machine disk) a.messages b.messages a.sight b.sight =
     receive_alike (receiver protected old.machine disk) old.framing.limit stream ms a.messages b.messages a.sight b.sight a.receives b.receives in
-    let e : EndAlike is_machine_closed (call result new.machine new.framing) (call other now.machine now.framing) =
-    end_alike (leaves (answers protected old.machine disk a.messages)) a.sight b.sight result other new.machine now.machine new.framing
-    now.framing h.sight a.ended
-    (subst (λ (r : TargetStep). Ended (leaves r) b.sight other now.machine now.framing) h.same b.ended) in
+    let e : EndAlike is_machine_closed (call result one.connection.machine one.connection.framing) (call other two.connection.machine two.connection.framing) =
+    end_alike (leaves (answers protected old.machine disk a.messages)) a.sight b.sight result other one.connection.machine two.connection.machine
+    one.connection.framing
+    two.connection.framing h.sight a.ended
+    (subst (λ (r : TargetStep). Ended (leaves r) b.sight other two.connection.machine two.connection.framing) h.same b.ended) in
     record {
       answered = e.answered;
       alike = record { machine = e.session_is; framing = e.framing };
@@ -160,16 +160,17 @@ run_alike protected stream ms old disk output result other new now first second 
 
 -- ---- the law
 
-by_state : (protected : Bool) (closed_ : Bool) (stream : List ℕ) (ms : List Message) (old same : TargetConnection) (before store : Store)
-    (output piece : List ℕ)
-    (result other : Result Phase TargetFault) (a b : TargetConnection) (first second : Store) (written rewritten : List ℕ)
-    → is_machine_closed old.machine ≡ closed_ → (is_machine_closed old.machine ≡ false → HasTaken stream ms old.framing) → TargetsAlike old same → store.disk
-    ≡ before.disk
-    → FeedPostIfClosed protected closed_ (scene old before output) piece result (scene a first written) → GoesWell result before first →
-    FeedPostIfClosed protected closed_ (scene same store output) piece other (scene b second rewritten) → GoesWell other store second
-    → CallsAlike result other (scene a first written) (scene b second rewritten)
-by_state protected true stream ms old same before store output piece result other a b first second written rewritten c t like disk f well g well' =
-    let machine : b.machine ≡ a.machine = ap (λ (x : TargetConnection). x.machine) g.connection ∙ like.machine
+by_state : (protected closed_ : Bool) (stream : List ℕ) (ms : List Message) (from : Scene) (same : TargetConnection) (store : Store)
+    (piece : List ℕ)
+    (result other : Result Phase TargetFault) (one two : Scene)
+    → is_machine_closed from.connection.machine ≡ closed_ → (is_machine_closed from.connection.machine ≡ false → HasTaken stream ms from.connection.framing)
+    → TargetsAlike from.connection same → store.disk
+    ≡ from.store.disk
+    → FeedPostIfClosed protected closed_ from piece result one → GoesWell result from.store one.store →
+    FeedPostIfClosed protected closed_ (scene same store from.output) piece other two → GoesWell other store two.store
+    → CallsAlike result other one two
+by_state protected true stream ms from same store piece result other one two c t like disk f well g well' =
+    let machine : two.connection.machine ≡ one.connection.machine = ap (λ (x : TargetConnection). x.machine) g.connection ∙ like.machine
     ∙ ap (λ (x : TargetConnection). x.machine) (sym f.connection) in
     record {
       answered = g.result_is ∙ sym f.result_is;
@@ -177,26 +178,28 @@ by_state protected true stream ms old same before store output piece result othe
       disk = ap (λ (x : Store). x.disk) g.store ∙ disk ∙ ap (λ (x : Store). x.disk) (sym f.store);
       output = g.output_is ∙ sym f.output_is;
     }
-by_state protected false stream ms old same before store output piece result other a b first second written rewritten c t like disk f well g well' =
-    let is : same ≡ old = λ i. record { machine = like.machine i; framing = like.framing c i } in
+by_state protected false stream ms from same store piece result other one two c t like disk f well g well' =
+    let is : same ≡ from.connection = λ i. record { machine = like.machine i; framing = like.framing c i } in
     let t' : HasTaken stream ms same.framing = subst (λ (x : TargetConnection). HasTaken stream ms x.framing) (sym is) (t c) in
-    let r : Run protected (stream ++ piece) ms same store.disk output (call_end other b second.disk rewritten) =
-    run_of protected stream ms same store output piece other b second rewritten t' g well' in
-    run_alike protected (stream ++ piece) ms old before.disk output result other a b first second written rewritten
-    (run_of protected stream ms old before output piece result a first written (t c) f well)
-    (subst (λ (d : Disk). Run protected (stream ++ piece) ms old d output (call_end other b second.disk rewritten)) disk
-    (subst (λ (x : TargetConnection). Run protected (stream ++ piece) ms x store.disk output (call_end other b second.disk rewritten)) is r))
+    let r : Run protected (stream ++ piece) ms same store.disk from.output (call_end other two.connection two.store.disk two.output) =
+    run_of protected stream ms same store from.output piece other two.connection two.store two.output t' g well' in
+    run_alike protected (stream ++ piece) ms from.connection from.store.disk from.output result other one two
+    (run_of protected stream ms from.connection from.store from.output piece result one.connection one.store one.output (t c) f well)
+    (subst (λ (d : Disk). Run protected (stream ++ piece) ms from.connection d from.output (call_end other two.connection two.store.disk two.output)) disk
+    (subst (λ (x : TargetConnection). Run protected (stream ++ piece) ms x store.disk from.output (call_end other two.connection two.store.disk two.output))
+    is r))
 
-pub one_outcome : (protected : Bool) (stream piece output written rewritten : List ℕ) (ms : List Message) (old same a b : TargetConnection)
-    (before store first second : Store)
+pub one_outcome : (protected : Bool) (stream piece : List ℕ) (from one two : Scene) (ms : List Message) (same : TargetConnection)
+    (store : Store)
     (result other : Result Phase TargetFault)
-    → (is_machine_closed old.machine ≡ false → HasTaken stream ms old.framing) → TargetsAlike old same → store.disk ≡ before.disk
-    → TargetFeedPost protected (scene old before output) piece result (scene a first written) → GoesWell result before first
-    → TargetFeedPost protected (scene same store output) piece other (scene b second rewritten) →
-    GoesWell other store second
-    → CallsAlike result other (scene a first written) (scene b second rewritten)
-one_outcome protected stream piece output written rewritten ms old same a b before store first second result other t like disk f well g well' =
-    by_state protected (is_machine_closed old.machine) stream ms old same before store output piece result other a b first second written rewritten
+    → (is_machine_closed from.connection.machine ≡ false → HasTaken stream ms from.connection.framing) → TargetsAlike from.connection same → store.disk ≡
+    from.store.disk
+    → TargetFeedPost protected from piece result one → GoesWell result from.store one.store
+    → TargetFeedPost protected (scene same store from.output) piece other two →
+    GoesWell other store two.store
+    → CallsAlike result other one two
+one_outcome protected stream piece from one two ms same store result other t like disk f well g well' =
+    by_state protected (is_machine_closed from.connection.machine) stream ms from same store piece result other one two
     refl t like disk f well
-    (subst (λ (x : Bool). FeedPostIfClosed protected x (scene same store output) piece other (scene b second rewritten)) (ap is_machine_closed like.machine) g)
+    (subst (λ (x : Bool). FeedPostIfClosed protected x (scene same store from.output) piece other two) (ap is_machine_closed like.machine) g)
     well'

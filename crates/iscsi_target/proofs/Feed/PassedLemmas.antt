@@ -18,14 +18,15 @@ use Rattle.iscsi_target.specs.State.{Machine, TargetStep, unchanged, writes_join
 use Rattle.iscsi_target.specs.Execution.{Device}
 use Rattle.iscsi_target.specs.Machine.{Next, Dropped, Answered, Queued, full_met, step_on, done_first, then_stepped, MayAnswer, is_machine_closed}
 use Rattle.iscsi_target.specs.Laws.{joined_stepped}
-use Rattle.iscsi_target.specs.Feed.{scene, TargetConnection, Store, FeedsFirstBytes}
+use Rattle.iscsi_target.specs.Feed.{Scene, scene, TargetConnection, Store, FeedsFirstBytes}
 use Rattle.iscsi_target.specs.Advances.{TargetAdvances}
 use Rattle.iscsi_target.specs.inner.Inside.{Moment, moment, target_connection, AnswersReady, NextRanOut, MessageRanOut, TakesOnePdu, FeedOneFails}
 use Rattle.iscsi_target.specs.Crash.{IsBehindCommand, CrashesNext, CrashesFed, IsMidCommandBlock, commands_by, commands_in, commands_at, commands_of}
 use Rattle.iscsi_target.proofs.Steps.AppendLemmas.{may_append}
 use Rattle.iscsi_target.proofs.Turns.ServingLemmas.{runs_as, runs_rise}
 use Rattle.iscsi_target.proofs.Writes.JoiningLemmas.{SameNext, joined_then, joined_twice}
-use Rattle.iscsi_target.proofs.Feed.FeedInvariant.{FedUpTo, GoesUpTo, same_step, same_next}
+use Rattle.iscsi_target.proofs.Feed.FeedStepLemmas.{FedUpTo, GoesUpTo, same_step}
+use Rattle.iscsi_target.proofs.Feed.FeedInvariant.{same_next}
 use Rattle.iscsi_target.proofs.Feed.CrashLemmas.{commands_same}
 
 -- ---- the commands of a PDU, with the pieces of each write joined
@@ -288,37 +289,38 @@ halts_rise protected m old new (inl h) = h.rises
 halts_rise protected m old new (inr h) = halt_rises protected (full_met old.machine old.store.disk.count m).next old new h.1
 
 -- the PDU that the next bytes complete was answered
-pub crashes_on : (protected : Bool) (old : TargetConnection) (before : Store) (output piece rest : List ℕ) (now : TargetConnection) (mid : Store)
-    (written : List ℕ) (n : ℕ)
-    (broken : Option ℕ) (new : TargetConnection) (after : Store) (more : List ℕ) (kept was left : ℕ → List ℕ → Type 0)
-    → GoesUpTo protected (scene old before output) piece rest (scene now mid written)
-    → TakesOnePdu protected (scene now mid written) rest n broken (scene new after more) →
-    CrashesFed protected old before piece mid kept was → CrashesNext protected now rest mid.disk after.disk was left
-    → CrashesFed protected old before piece after kept left
-crashes_on protected old before output piece rest now mid written n broken new after more kept was left g t up one =
-    let rises : mid.failures ≤ after.failures =
-    ready_rises protected (target_connection now.machine t.framing) mid written broken new after more t.answers in
-    crashes_then protected old now before mid after piece g.fed.front rest kept was left g.fed.parts
-    (fed_advances protected old before output piece rest now mid written g.fed)
-    rises up (crashes_next protected now mid after rest was left rises one)
+pub crashes_on : (protected : Bool) (from : Scene) (piece rest : List ℕ) (here : Scene)
+    (n : ℕ)
+    (broken : Option ℕ) (to : Scene) (kept was left : ℕ → List ℕ → Type 0)
+    → GoesUpTo protected from piece rest here
+    → TakesOnePdu protected here rest n broken to →
+    CrashesFed protected from.connection from.store piece here.store kept was → CrashesNext protected here.connection rest here.store.disk to.store.disk was
+    left
+    → CrashesFed protected from.connection from.store piece to.store kept left
+crashes_on protected from piece rest here n broken to kept was left g t up one =
+    let rises : here.store.failures ≤ to.store.failures =
+    ready_rises protected (target_connection here.connection.machine t.framing) here.store here.output broken to.connection to.store to.output t.answers in
+    crashes_then protected from.connection here.connection from.store here.store to.store piece g.fed.front rest kept was left g.fed.parts
+    (fed_advances protected from.connection from.store from.output piece rest here.connection here.store here.output g.fed)
+    rises up (crashes_next protected here.connection here.store to.store rest was left rises one)
 
 -- it could not be taken, or not be answered
-pub crashes_failed : (protected : Bool) (old : TargetConnection) (before : Store) (output piece rest : List ℕ) (now : TargetConnection) (mid : Store)
-    (written : List ℕ)
-    (fault : TargetFault) (new : TargetConnection) (after : Store) (more : List ℕ) (kept was left : ℕ → List ℕ → Type 0)
-    → GoesUpTo protected (scene old before output) piece rest (scene now mid written)
-    → FeedOneFails protected (scene now mid written) rest fault (scene new after more) →
-    CrashesFed protected old before piece mid kept was → CrashesNext protected now rest mid.disk after.disk was left
-    → CrashesFed protected old before piece after kept left
-crashes_failed protected old before output piece rest now mid written fault new after more kept was left g fails up one =
-    let rises : mid.failures ≤ after.failures = elim fails [
+pub crashes_failed : (protected : Bool) (from : Scene) (piece rest : List ℕ) (here : Scene)
+    (fault : TargetFault) (to : Scene) (kept was left : ℕ → List ℕ → Type 0)
+    → GoesUpTo protected from piece rest here
+    → FeedOneFails protected here rest fault to →
+    CrashesFed protected from.connection from.store piece here.store kept was → CrashesNext protected here.connection rest here.store.disk to.store.disk was
+    left
+    → CrashesFed protected from.connection from.store piece to.store kept left
+crashes_failed protected from piece rest here fault to kept was left g fails up one =
+    let rises : here.store.failures ≤ to.store.failures = elim fails [
       | inl r ↦ omega (arith, ap (λ (s : Store). s.failures) r.store_is)
-      | inr r ↦ halts_rise protected (message_of r.framing r.shuts.head r.shuts.segment) (moment now.machine mid written)
-          (moment new.machine after more) r.shuts.halts
+      | inr r ↦ halts_rise protected (message_of r.framing r.shuts.head r.shuts.segment) (moment here.connection.machine here.store here.output)
+          (moment to.connection.machine to.store to.output) r.shuts.halts
     ] in
-    crashes_then protected old now before mid after piece g.fed.front rest kept was left g.fed.parts
-    (fed_advances protected old before output piece rest now mid written g.fed)
-    rises up (crashes_next protected now mid after rest was left rises one)
+    crashes_then protected from.connection here.connection from.store here.store to.store piece g.fed.front rest kept was left g.fed.parts
+    (fed_advances protected from.connection from.store from.output piece rest here.connection here.store here.output g.fed)
+    rises up (crashes_next protected here.connection here.store to.store rest was left rises one)
 
 -- ---- a call that goes on
 

@@ -35,9 +35,9 @@ use Rattle.iscsi_target.specs.inner.State.{breaks}
 use Rattle.iscsi_target_session.specs.Login.{target_login_step}
 use Rattle.iscsi_target.specs.Transfer.{data_out_taken, with_data, is_in_sequence, bytes_received, with_r2t}
 use Rattle.iscsi_target.specs.Execution.{Device, reliable, execute}
-use Rattle.iscsi_target.specs.Command.{order_of, led_by, send_r2t, task_of as task_for, task_by, task_planned, presented}
+use Rattle.iscsi_target.specs.Command.{order_of, led_by, send_r2t, task_of, task_by, task_planned, presented}
 use Rattle.iscsi_target.specs.Machine.{task_begun, stays, target_step, step_on, answers, then_stepped, is_machine_closed, done_in_turn, having_accepted, write_of, with_write}
-use Rattle.iscsi_target.specs.Laws.{Command as Tagged, task_in, tasks_in, task_of, tasks_done, task_open, tasks_open, AreInOrder}
+use Rattle.iscsi_target.specs.Laws.{TaggedOrder, order_asked, orders_asked, order_done, orders_done, order_waiting, orders_waiting, AreInOrder}
 use Rattle.iscsi_target.proofs.Steps.TurnLemmas.{Begins, begins, Turns, turns, with_tasks, stays_on}
 use Rattle.iscsi_target_session.proofs.CaseLemmas.{by_cases}
 use Rattle.iscsi_target.proofs.Steps.StepPartLemmas.{Accepts, Immediately, InTurn, Parts, step_parts}
@@ -47,14 +47,14 @@ use Rattle.iscsi_target.proofs.Steps.KeepingLemmas.{answers_settings, begun_sett
 
 -- from a session with these tasks
 pub record Queues (unit : Option LogicalUnit) (tasks : List Task) (r : TargetStep) : Type 0 where
-  pub more : List Tagged
-  pub order : tasks_open tasks ++ tasks_in unit r.accepted ≡ tasks_done r.executed ++ more
-  pub open_ : is_machine_closed r.machine ≡ false → more ≡ tasks_open r.machine.tasks
+  pub more : List TaggedOrder
+  pub order : orders_waiting tasks ++ orders_asked unit r.accepted ≡ orders_done r.executed ++ more
+  pub open_ : is_machine_closed r.machine ≡ false → more ≡ orders_waiting r.machine.tasks
 
-over_open : (unit : Option LogicalUnit) (old : List Task) (s : Machine) → IsOver s ⊎ (s.tasks ≡ old) → is_machine_closed s ≡ false → tasks_open old
-    ≡ tasks_open s.tasks
+over_open : (unit : Option LogicalUnit) (old : List Task) (s : Machine) → IsOver s ⊎ (s.tasks ≡ old) → is_machine_closed s ≡ false → orders_waiting old
+    ≡ orders_waiting s.tasks
 over_open unit old s (inl over) e = absurd (apart over.closed e)
-over_open unit old s (inr same) e = ap tasks_open (sym same)
+over_open unit old s (inr same) e = ap orders_waiting (sym same)
 
 pub still : (old : List Task) (s : Machine) → IsOver s ⊎ (s.tasks ≡ old) → is_machine_closed s ≡ false → s.tasks ≡ old
 still old s (inl over) e = absurd (apart over.closed e)
@@ -64,45 +64,46 @@ still old s (inr same) e = same
 
 reply_queues : (unit : Option LogicalUnit) (s : Machine) (disk : Disk) (r : Reply) → Queues unit s.tasks (on disk s.tasks r)
 reply_queues unit s disk r = record {
-  more = tasks_open s.tasks;
-  order = append-nil (tasks_open s.tasks);
+  more = orders_waiting s.tasks;
+  order = append-nil (orders_waiting s.tasks);
   open_ = over_open unit s.tasks (on disk s.tasks r).machine (on_ends disk s.tasks r);
 }
 
 unchanged_queues : (unit : Option LogicalUnit) (s : Machine) (disk : Disk) → Queues unit s.tasks (unchanged s disk)
-unchanged_queues unit s disk = record { more = tasks_open s.tasks; order = append-nil (tasks_open s.tasks); open_ = λ e. refl }
+unchanged_queues unit s disk = record { more = orders_waiting s.tasks; order = append-nil (orders_waiting s.tasks); open_ = λ e. refl }
 
 shut_queues : (unit : Option LogicalUnit) (s : Machine) (disk : Disk) → Queues unit s.tasks (shut_down s disk)
-shut_queues unit s disk = record { more = tasks_open s.tasks; order = append-nil (tasks_open s.tasks); open_ = λ e. absurd cc }
+shut_queues unit s disk = record { more = orders_waiting s.tasks; order = append-nil (orders_waiting s.tasks); open_ = λ e. absurd cc }
 
 -- ---- one after another
 
-pub tasks_append : (unit : Option LogicalUnit) (a b : List Message) → tasks_in unit (a ++ b) ≡ tasks_in unit a ++ tasks_in unit b
-tasks_append unit a b = flat_map-append (λ (m : Message). task_in unit m.head) a b
+pub tasks_append : (unit : Option LogicalUnit) (a b : List Message) → orders_asked unit (a ++ b) ≡ orders_asked unit a ++ orders_asked unit b
+tasks_append unit a b = flat_map-append (λ (m : Message). order_asked unit m.head) a b
 
 closed_queues : (unit : Option LogicalUnit) (tasks : List Task) (first : TargetStep) (disk : Disk) → Queues unit tasks first → is_machine_closed first.machine
     ≡ true →
     Queues unit tasks (then_stepped first (unchanged first.machine disk))
 closed_queues unit tasks first disk q e = record {
   more = q.more;
-  order = ap (λ (ms : List Message). tasks_open tasks ++ tasks_in unit ms) (append-nil first.accepted) ∙ q.order
-      ∙ ap (λ (es : List Execution). tasks_done es ++ q.more) (sym (append-nil first.executed));
+  order = ap (λ (ms : List Message). orders_waiting tasks ++ orders_asked unit ms) (append-nil first.accepted) ∙ q.order
+      ∙ ap (λ (es : List Execution). orders_done es ++ q.more) (sym (append-nil first.executed));
   open_ = λ f. absurd (apart e f);
 }
 
-open_queues : (unit : Option LogicalUnit) (tasks : List Task) (first later : TargetStep) → Queues unit tasks first → is_machine_closed first.machine ≡ false → Queues unit first.machine.tasks later →
+open_queues : (unit : Option LogicalUnit) (tasks : List Task) (first later : TargetStep) → Queues unit tasks first → is_machine_closed first.machine ≡ false
+    → Queues unit first.machine.tasks later →
     Queues unit tasks (then_stepped first later)
 open_queues unit tasks first later q e p = record {
   more = p.more;
   order =
-      ap (λ (ts : List Tagged). tasks_open tasks ++ ts) (tasks_append unit first.accepted later.accepted)
-      ∙ sym (append_assoc (tasks_open tasks) (tasks_in unit first.accepted) (tasks_in unit later.accepted))
-      ∙ ap (λ (ts : List Tagged). ts ++ tasks_in unit later.accepted) q.order
-      ∙ append_assoc (tasks_done first.executed) q.more (tasks_in unit later.accepted)
-      ∙ ap (λ (ts : List Tagged). tasks_done first.executed ++ (ts ++ tasks_in unit later.accepted)) (q.open_ e)
-      ∙ ap (λ (ts : List Tagged). tasks_done first.executed ++ ts) p.order
-      ∙ sym (append_assoc (tasks_done first.executed) (tasks_done later.executed) p.more)
-      ∙ ap (λ (ts : List Tagged). ts ++ p.more) (sym (map-append task_of first.executed later.executed));
+      ap (λ (ts : List TaggedOrder). orders_waiting tasks ++ ts) (tasks_append unit first.accepted later.accepted)
+      ∙ sym (append_assoc (orders_waiting tasks) (orders_asked unit first.accepted) (orders_asked unit later.accepted))
+      ∙ ap (λ (ts : List TaggedOrder). ts ++ orders_asked unit later.accepted) q.order
+      ∙ append_assoc (orders_done first.executed) q.more (orders_asked unit later.accepted)
+      ∙ ap (λ (ts : List TaggedOrder). orders_done first.executed ++ (ts ++ orders_asked unit later.accepted)) (q.open_ e)
+      ∙ ap (λ (ts : List TaggedOrder). orders_done first.executed ++ ts) p.order
+      ∙ sym (append_assoc (orders_done first.executed) (orders_done later.executed) p.more)
+      ∙ ap (λ (ts : List TaggedOrder). ts ++ p.more) (sym (map-append order_done first.executed later.executed));
   open_ = p.open_;
 }
 
@@ -114,7 +115,7 @@ pub record Leads (s : Machine) (task : Task) (r : TargetStep) : Type 0 where
   pub behind : is_machine_closed r.machine ≡ false → stays s.tasks r ≡ false → r.machine.tasks ≡ s.tasks
   pub queues : Queues (unit_of s.session) (task ∷ s.tasks) r
 
-abbrev command_of : Write → List Tagged
+abbrev command_of : Write → List TaggedOrder
 command_of w = (w.initiator_task_tag, w.order) ∷ []
 
 request_leads : (s : Machine) (disk : Disk) (k : QueuedRequest) (r : Reply) → Leads s (Request k) (on disk s.tasks r)
@@ -124,35 +125,37 @@ request_leads s disk k r =
       accepted = refl;
       behind = λ live stay. still s.tasks (on disk s.tasks r).machine over live;
       queues = record {
-        more = tasks_open s.tasks;
-        order = append-nil (tasks_open s.tasks);
+        more = orders_waiting s.tasks;
+        order = append-nil (orders_waiting s.tasks);
         open_ = over_open (unit_of s.session) s.tasks (on disk s.tasks r).machine over;
       };
     }
 
-executed_leads : (s : Machine) (task : Task) (w : Write) (r : TargetStep) → task_open task ≡ command_of w → r.accepted ≡ [] → r.machine.tasks ≡ s.tasks →
-    tasks_done r.executed ≡ command_of w → Leads s task r
+executed_leads : (s : Machine) (task : Task) (w : Write) (r : TargetStep) → order_waiting task ≡ command_of w → r.accepted ≡ [] → r.machine.tasks ≡ s.tasks →
+    orders_done r.executed ≡ command_of w → Leads s task r
 executed_leads s task w r is none tasks done = record {
   accepted = none;
   behind = λ live stay. tasks;
   queues = record {
-    more = tasks_open s.tasks;
-    order = ap (λ (ms : List Message). tasks_open (task ∷ s.tasks) ++ tasks_in (unit_of s.session) ms) none ∙ append-nil (tasks_open (task ∷ s.tasks))
-        ∙ ap (λ (ts : List Tagged). ts ++ tasks_open s.tasks) (is ∙ sym done);
-    open_ = λ e. ap tasks_open (sym tasks);
+    more = orders_waiting s.tasks;
+    order = ap (λ (ms : List Message). orders_waiting (task ∷ s.tasks) ++ orders_asked (unit_of s.session) ms) none ∙ append-nil
+        (orders_waiting (task ∷ s.tasks))
+        ∙ ap (λ (ts : List TaggedOrder). ts ++ orders_waiting s.tasks) (is ∙ sym done);
+    open_ = λ e. ap orders_waiting (sym tasks);
   };
 }
 
-waiting_leads : (s : Machine) (task : Task) (w v : Write) (r : TargetStep) → task_open task ≡ command_of w → command_of v ≡ command_of w → r.accepted ≡ [] →
+waiting_leads : (s : Machine) (task : Task) (w v : Write) (r : TargetStep) → order_waiting task ≡ command_of w → command_of v ≡ command_of w → r.accepted ≡ [] →
     r.executed ≡ [] → r.machine.tasks ≡ Data v ∷ s.tasks → Leads s task r
 waiting_leads s task w v r is same none done tasks = record {
   accepted = none;
   behind = λ live stay. stays_on (Data v) s.tasks (ap (λ (ts : List Task). nat_lt (length s.tasks) (length ts)) (sym tasks) ∙ stay);
   queues = record {
-    more = tasks_open (task ∷ s.tasks);
-    order = ap (λ (ms : List Message). tasks_open (task ∷ s.tasks) ++ tasks_in (unit_of s.session) ms) none ∙ append-nil (tasks_open (task ∷ s.tasks))
-        ∙ ap (λ (es : List Execution). tasks_done es ++ tasks_open (task ∷ s.tasks)) (sym done);
-    open_ = λ e. ap (λ (ts : List Tagged). ts ++ tasks_open s.tasks) (is ∙ sym same) ∙ ap tasks_open (sym tasks);
+    more = orders_waiting (task ∷ s.tasks);
+    order = ap (λ (ms : List Message). orders_waiting (task ∷ s.tasks) ++ orders_asked (unit_of s.session) ms) none ∙ append-nil
+        (orders_waiting (task ∷ s.tasks))
+        ∙ ap (λ (es : List Execution). orders_done es ++ orders_waiting (task ∷ s.tasks)) (sym done);
+    open_ = λ e. ap (λ (ts : List TaggedOrder). ts ++ orders_waiting s.tasks) (is ∙ sym same) ∙ ap orders_waiting (sym tasks);
   };
 }
 
@@ -163,8 +166,8 @@ begins_lead = record {
     accepted = refl;
     behind = λ live stay. refl;
     queues = record {
-      more = tasks_open s.tasks;
-      order = append-nil ((tag, order) ∷ tasks_open s.tasks);
+      more = orders_waiting s.tasks;
+      order = append-nil ((tag, order) ∷ orders_waiting s.tasks);
       open_ = λ e. refl;
     };
   };
@@ -227,17 +230,17 @@ same_command w v tag order = λ i. (tag i, order i) ∷ []
 -- the commands are the same with a write that took data
 written_open : (tasks : List Task) (w v : Write) → write_of tasks v.initiator_task_tag ≡ Some w → v.initiator_task_tag ≡ w.initiator_task_tag → v.order
     ≡ w.order
-    → tasks_open (with_write v tasks) ≡ tasks_open tasks
+    → orders_waiting (with_write v tasks) ≡ orders_waiting tasks
 written_open [] w v e tag order = refl
-written_open (Command t o ∷ more) w v e tag order = ap (λ (ts : List Tagged). (t, o) ∷ ts) (written_open more w v e tag order)
+written_open (Command t o ∷ more) w v e tag order = ap (λ (ts : List TaggedOrder). (t, o) ∷ ts) (written_open more w v e tag order)
 written_open (Request k ∷ more) w v e tag order = written_open more w v e tag order
 written_open (Data x ∷ more) w v e tag order =
     by_cases (x.initiator_task_tag == v.initiator_task_tag)
     (λ f.
     let same : x ≡ w = (let g : Some x ≡ Some w = rw f at e in cc) in
     let is : command_of v ≡ command_of x = same_command w v tag order ∙ ap command_of (sym same) in
-    rw f (ap (λ (ts : List Tagged). ts ++ tasks_open more) is))
-    (λ f. rw f (ap (λ (ts : List Tagged). command_of x ++ ts) (written_open more w v (rw f at e) tag order)))
+    rw f (ap (λ (ts : List TaggedOrder). ts ++ orders_waiting more) is))
+    (λ f. rw f (ap (λ (ts : List TaggedOrder). command_of x ++ ts) (written_open more w v (rw f at e) tag order)))
 
 taken_queues : (device : Device) (s : Machine) (disk : Disk) (h : DataPdu) (bytes : List ℕ) (w v : Write) → write_of s.tasks h.initiator_task_tag ≡ Some w →
     data_out_taken (first_burst s.session.held) w h bytes ≡ Some v
@@ -250,20 +253,21 @@ taken_queues device s disk h bytes w v e f =
     let r : TargetStep = done_in_turn device s.session disk (with_write v s.tasks) in
     record {
       more = d.1.more;
-      order = append-nil (tasks_open s.tasks) ∙ sym now ∙ sym (append-nil (tasks_open (with_write v s.tasks)))
-          ∙ ap (λ (ms : List Message). tasks_open (with_write v s.tasks) ++ tasks_in (unit_of s.session) ms) (sym d.0) ∙ d.1.order;
+      order = append-nil (orders_waiting s.tasks) ∙ sym now ∙ sym (append-nil (orders_waiting (with_write v s.tasks)))
+          ∙ ap (λ (ms : List Message). orders_waiting (with_write v s.tasks) ++ orders_asked (unit_of s.session) ms) (sym d.0) ∙ d.1.order;
       open_ = d.1.open_;
     }
 
 -- ---- a request
 
-planned_open : (h : CommandPdu) (order : Order) (bytes : List ℕ) (plan : Plan) → task_open (task_planned h order bytes plan) ≡ (h.initiator_task_tag, order) ∷ []
+planned_open : (h : CommandPdu) (order : Order) (bytes : List ℕ) (plan : Plan) → order_waiting (task_planned h order bytes plan) ≡
+    (h.initiator_task_tag, order) ∷ []
 planned_open h order bytes (plans.Take total) = refl
 planned_open h order bytes (plans.Refuse sense) = refl
 planned_open h order bytes (plans.Give given) = refl
 
 asked_of : (unit : Option LogicalUnit) (count : ℕ) (m : Message) (tag : Option ℕ) (head : Head) (asked : Asks) → asked_by head ≡ Some asked
-    → task_open (task_by unit count m tag asked) ≡ task_in unit head
+    → order_waiting (task_by unit count m tag asked) ≡ order_asked unit head
 asked_of unit count m tag (ScsiCommand h) (asks.Command g) e =
     let same : h ≡ g = cc in
     planned_open g (order_of unit g) (segment_bytes m.segment) (plan_of (order_of unit g) count)
@@ -280,14 +284,15 @@ asked_of unit count m tag (LogoutRequest h) (asks.Command g) e = absurd cc
 asked_of unit count m tag (DataOut h) asked e = absurd cc
 asked_of unit count m tag _ asked e = absurd cc
 
-asked_is : (unit : Option LogicalUnit) (count : ℕ) (m : Message) (head : Head) (r : InboundRequest) → IsRequest r head → task_open (task_for unit (presented count m r)) ≡ task_in unit head
+asked_is : (unit : Option LogicalUnit) (count : ℕ) (m : Message) (head : Head) (r : InboundRequest) → IsRequest r head → order_waiting
+    (task_of unit (presented count m r)) ≡ order_asked unit head
 asked_is unit count m head r e = asked_of unit count m r.initiator_task_tag head r.asks (asks_is head r e)
 
 tasks_with : (unit : Option LogicalUnit) (tasks : List Task) (count : ℕ) (m : Message) (r : InboundRequest) → IsRequest r m.head →
-    tasks_open (tasks ++ task_for unit (presented count m r) ∷ []) ≡ tasks_open tasks ++ tasks_in unit (m ∷ [])
+    orders_waiting (tasks ++ task_of unit (presented count m r) ∷ []) ≡ orders_waiting tasks ++ orders_asked unit (m ∷ [])
 tasks_with unit tasks count m r is =
-    flat_map-append task_open tasks (task_for unit (presented count m r) ∷ [])
-    ∙ ap (λ (ts : List Tagged). tasks_open tasks ++ (ts ++ [])) (asked_is unit count m m.head r is)
+    flat_map-append order_waiting tasks (task_of unit (presented count m r) ∷ [])
+    ∙ ap (λ (ts : List TaggedOrder). orders_waiting tasks ++ (ts ++ [])) (asked_is unit count m m.head r is)
 
 -- the disk tells what it told
 same_unit : (s t : Machine) (m : Message) → Accepts s m t → unit_of t.session ≡ unit_of s.session
@@ -299,20 +304,23 @@ same_tasks s _ m (Immediately c none) = refl
 same_tasks s _ m (InTurn n c w is) = refl
 
 admitted_queues : (device : Device) (s : Machine) (session : Session) (m : Message) (disk : Disk) (r : InboundRequest) → IsRequest r m.head →
-    Queues (unit_of session) s.tasks (having_accepted (m ∷ []) (done_in_turn device session disk (s.tasks ++ task_for (unit_of session) (presented disk.count m r) ∷ [])))
+    Queues (unit_of session) s.tasks (having_accepted (m ∷ []) (done_in_turn device session disk
+    (s.tasks ++ task_of (unit_of session) (presented disk.count m r) ∷ [])))
 admitted_queues device s session m disk r is =
-    let all : List Task = s.tasks ++ task_for (unit_of session) (presented disk.count m r) ∷ [] in
+    let all : List Task = s.tasks ++ task_of (unit_of session) (presented disk.count m r) ∷ [] in
     let d = done_queues device session disk all in
     record {
       more = d.1.more;
-      order = sym (tasks_with (unit_of session) s.tasks disk.count m r is) ∙ sym (append-nil (tasks_open all)) ∙ ap (λ (ms : List Message). tasks_open all ++ tasks_in (unit_of session) ms) (sym d.0)
+      order = sym (tasks_with (unit_of session) s.tasks disk.count m r is) ∙ sym (append-nil (orders_waiting all)) ∙ ap
+          (λ (ms : List Message). orders_waiting all ++ orders_asked (unit_of session) ms) (sym d.0)
           ∙ d.1.order;
       open_ = d.1.open_;
     }
 
-refused_queues : (unit : Option LogicalUnit) (s t : Machine) (m : Message) (disk : Disk) (rule : ℕ) → t.tasks ≡ s.tasks → Queues unit s.tasks (having_accepted (m ∷ []) (breaks t disk rule m))
+refused_queues : (unit : Option LogicalUnit) (s t : Machine) (m : Message) (disk : Disk) (rule : ℕ) → t.tasks ≡ s.tasks → Queues unit s.tasks
+    (having_accepted (m ∷ []) (breaks t disk rule m))
 refused_queues unit s t m disk rule e = record {
-  more = tasks_open s.tasks ++ tasks_in unit (m ∷ []);
+  more = orders_waiting s.tasks ++ orders_asked unit (m ∷ []);
   order = refl;
   open_ = λ f. absurd cc;
 }
@@ -329,9 +337,9 @@ parts_order device disk = record {
   taken_ = λ s m h w v k e f. taken_queues device s disk h (segment_bytes m.segment) w v e f;
   refused_ = λ s t m rule a x. refused_queues (unit_of s.session) s t m disk rule (same_tasks s t m x);
   admitted_ = λ s t m a x r is f. subst (λ (unit : Option LogicalUnit). Queues unit s.tasks (having_accepted (m ∷ [])
-      (done_in_turn device t.session disk (t.tasks ++ task_for (unit_of t.session) (presented disk.count m r) ∷ [])))) (same_unit s t m x)
+      (done_in_turn device t.session disk (t.tasks ++ task_of (unit_of t.session) (presented disk.count m r) ∷ [])))) (same_unit s t m x)
       (subst (λ (ts : List Task). Queues (unit_of t.session) s.tasks (having_accepted (m ∷ [])
-      (done_in_turn device t.session disk (ts ++ task_for (unit_of t.session) (presented disk.count m r) ∷ [])))) (sym (same_tasks s t m x))
+      (done_in_turn device t.session disk (ts ++ task_of (unit_of t.session) (presented disk.count m r) ∷ [])))) (sym (same_tasks s t m x))
       (admitted_queues device s t.session m disk r is));
 }
 
@@ -340,7 +348,7 @@ step_order device disk s m = step_parts device disk (λ s m r. Queues (unit_of s
 
 pub answers_queue : (protected : Bool) (s : Machine) (disk : Disk) (ms : List Message) → Queues (unit_of s.session) s.tasks (answers protected s disk ms)
 unfolding answers
-answers_queue protected s disk [] = record { more = tasks_open s.tasks; order = append-nil (tasks_open s.tasks); open_ = λ f. refl }
+answers_queue protected s disk [] = record { more = orders_waiting s.tasks; order = append-nil (orders_waiting s.tasks); open_ = λ f. refl }
 answers_queue protected s disk (m ∷ ms) =
     let first : TargetStep = target_step protected s disk m in
     let q : Queues (unit_of s.session) s.tasks first = step_order (reliable protected) disk s m in
@@ -361,6 +369,6 @@ opening_in_order protected settings n disk ms =
     record { more = q.more; order = q.order; open_ = q.open_ }
 
 -- the tags of what was executed
-pub tags_of_tasks : (es : List Execution) → map (λ task. task.0) (tasks_done es) ≡ map (λ e. e.initiator_task_tag) es
+pub tags_of_tasks : (es : List Execution) → map (λ task. task.0) (orders_done es) ≡ map (λ e. e.initiator_task_tag) es
 tags_of_tasks [] = refl
 tags_of_tasks (e ∷ es) = ap (λ (ts : List ℕ). e.initiator_task_tag ∷ ts) (tags_of_tasks es)

@@ -240,7 +240,8 @@ parts_kept device disk = record {
   taken_ = λ s m h w v e f g live k. done_kept device s.session disk (with_write v s.tasks) live
       (data_unasked (first_burst s.session.held) s.tasks w v h (segment_bytes m.segment) f g k.unasked);
   refused_ = λ s t m rule a x live k. reply_kept t disk (reject_and_close t.session (waiting_tasks t.tasks) rule m) (same_kept s t m x k);
-  admitted_ = λ s t m a x r is f live k. done_kept device t.session disk (t.tasks ++ task_of (unit_of t.session) (presented disk.count m r) ∷ []) (same_live s t m x live)
+  admitted_ = λ s t m a x r is f live k. done_kept device t.session disk (t.tasks ++ task_of (unit_of t.session) (presented disk.count m r) ∷ [])
+      (same_live s t m x live)
       (behind_with (unit_of t.session) t.tasks disk.count m r (same_kept s t m x k).unasked);
 }
 

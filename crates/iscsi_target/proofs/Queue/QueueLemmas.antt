@@ -313,7 +313,8 @@ numbered_is true k n e = absurd cc
 admitted_few : (s t : Machine) (m : Message) (count : ℕ) (r : InboundRequest) → IsRequest r m.head → Accepts s m t → HasCmdSn m → AreFew s.tasks
     → AreFew (t.tasks ++ task_of (unit_of t.session) (presented count m r) ∷ [])
 admitted_few s _ m count r at (Immediately c none) h f =
-    subst (λ (ts : List Task). AreFew (ts ++ task_of (unit_of s.session) (presented count m r) ∷ [])) (sym none) (one_few (task_of (unit_of s.session) (presented count m r)))
+    subst (λ (ts : List Task). AreFew (ts ++ task_of (unit_of s.session) (presented count m r) ∷ [])) (sym none)
+    (one_few (task_of (unit_of s.session) (presented count m r)))
 admitted_few s _ m count r at (InTurn n c w is) h f =
     let fits : FitsNumber (Some n) = subst FitsNumber c h.request in
     let lt : s.session.exp_cmd_sn < 2 ^ 32 = subst (λ (k : ℕ). k < 2 ^ 32) is fits in
@@ -339,7 +340,8 @@ parts_few device disk = record {
     each = λ h f. omega arith;
   };
   admitted_ = λ s t m a x r is b. turns_at s m (m ∷ []) (t.tasks ++ task_of (unit_of t.session) (presented disk.count m r) ∷ [])
-      (done_in_turn device t.session disk (t.tasks ++ task_of (unit_of t.session) (presented disk.count m r) ∷ [])) (λ h f. admitted_few s t m disk.count r is x h f)
+      (done_in_turn device t.session disk (t.tasks ++ task_of (unit_of t.session) (presented disk.count m r) ∷ []))
+      (λ h f. admitted_few s t m disk.count r is x h f)
       (done_few device t.session disk (t.tasks ++ task_of (unit_of t.session) (presented disk.count m r) ∷ []));
 }
 
@@ -414,7 +416,8 @@ stays_first w tasks none i = ap (λ (ts : List Task). waiting_tasks (Data w ∷ 
 begins_alone : Begins (λ device s disk task r. s.tasks ≡ [] → IsImmediate task → waiting_tasks r.machine.tasks ≡ 0)
 begins_alone = record {
   request_ = λ device s disk k e i.
-      (let r : Reply = request_answered s.session (waiting_tasks s.tasks) k.message k.request in left_none s.tasks r.session (is_closed_phase r.session.phase) refl e);
+      (let r : Reply = request_answered s.session (waiting_tasks s.tasks) k.message k.request in left_none s.tasks r.session
+      (is_closed_phase r.session.phase) refl e);
   command_ = λ device s disk tag order e i. none_waits s.tasks e;
   write_ = λ device s disk w h e i. none_waits s.tasks e;
   send_r2t_ = λ device s disk w h g e i. stays_first (with_r2t s.session.held w) s.tasks e i;
@@ -457,7 +460,8 @@ admitted_rises : (device : Device) (s t : Machine) (m : Message) (disk : Disk) (
 admitted_rises device s _ m disk r at (Immediately c none) = record {
   live = λ open_ full. inl (
     ((done_tells device s.session disk (s.tasks ++ task_of (unit_of s.session) (presented disk.count m r) ∷ [])).live open_).1,
-    (let none_ = alone_waits device s.session disk s.tasks (task_of (unit_of s.session) (presented disk.count m r)) none (task_immediate (unit_of s.session) disk.count m r at c) in
+    (let none_ = alone_waits device s.session disk s.tasks (task_of (unit_of s.session) (presented disk.count m r)) none
+        (task_immediate (unit_of s.session) disk.count m r at c) in
         omega (arith, none_)),
   );
 }

@@ -116,7 +116,8 @@ written_none v (Data x ∷ more) e o =
 
 -- ---- a request
 
-planned_none : (h : Command) (order : Order) (bytes : List ℕ) (plan : Plan) → asks_to_last order.cdb ≡ false → asks_task (task_planned h order bytes plan) ≡ false
+planned_none : (h : Command) (order : Order) (bytes : List ℕ) (plan : Plan) → asks_to_last order.cdb ≡ false → asks_task (task_planned h order bytes plan) ≡
+    false
 planned_none h order bytes (Take total) o = o
 planned_none h order bytes (Refuse sense) o = o
 planned_none h order bytes (Give given) o = o
@@ -162,7 +163,8 @@ parts_none device disk = record {
   admitted_ = λ s t m a x r is f e.
       (let both = neither (list_any asks_task s.tasks) (asks_head m.head) e in
       let unit : Option LogicalUnit = unit_of t.session in
-      turns (λ device s disk tasks r. NoneOf tasks → NoneAsks r.executed) turns_none device t.session disk (t.tasks ++ task_of unit (presented disk.count m r) ∷ [])
+      turns (λ device s disk tasks r. NoneOf tasks → NoneAsks r.executed) turns_none device t.session disk
+      (t.tasks ++ task_of unit (presented disk.count m r) ∷ [])
       (with_none t.tasks (task_of unit (presented disk.count m r)) (same_none s t m x (none_of s.tasks both.0))
       (task_none unit disk.count m r.initiator_task_tag r.asks (asks_is m.head r is) both.1)));
 }

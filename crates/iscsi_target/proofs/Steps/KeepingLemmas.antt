@@ -322,7 +322,8 @@ request_next s count m r =
     by_cases r.immediate
     (λ i. by_cases (is_busy s.tasks) (λ e. rw (i, e) tt) (λ e. rw (i, e) (admitted_next s.session s count m r (same_session s.session) refl)))
     (λ i. by_cases (is_within r.cmd_sn s.session.exp_cmd_sn (max_cmd_sn s))
-    (λ e. by_cases (r.cmd_sn == s.session.exp_cmd_sn) (λ f. rw (i, e, f) (admitted_next s.session (advanced s) count m r (advances s) refl)) (λ f. rw (i, e, f) tt))
+    (λ e. by_cases (r.cmd_sn == s.session.exp_cmd_sn) (λ f. rw (i, e, f) (admitted_next s.session (advanced s) count m r (advances s) refl))
+    (λ f. rw (i, e, f) tt))
     (λ e. rw (i, e) tt))
 
 taken_next : (s : Machine) (m : Message) (w : Option Write) → NextKeeps s.session (data_taken s m w)

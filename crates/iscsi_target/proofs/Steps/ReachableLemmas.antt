@@ -83,7 +83,8 @@ reached_data_in protected settings n disk ms m p =
 
 -- ---- outside the window
 
-outside_due : (s : Machine) (count : ℕ) (m : Message) (r : InboundRequest) → r.immediate ≡ false → is_within r.cmd_sn s.session.exp_cmd_sn (max_cmd_sn s) ≡ false
+outside_due : (s : Machine) (count : ℕ) (m : Message) (r : InboundRequest) → r.immediate ≡ false → is_within r.cmd_sn s.session.exp_cmd_sn (max_cmd_sn s) ≡
+    false
     → due_met s count m (inbounds.Request r) ≡ plainly Dropped
 outside_due s count m r numbered outside = rw (numbered, outside) refl
 

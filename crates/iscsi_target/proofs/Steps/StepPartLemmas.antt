@@ -72,7 +72,8 @@ same_tasks s m _ (Immediately c e) = refl
 same_tasks s m _ (InTurn n c w e) = refl
 
 admitted_parts : (device : Device) (disk : Disk) (P : Machine → Message → TargetStep → Type 0) → Parts device disk P → (s t : Machine) (m : Message) →
-    Accepts s m t → (tasks : t.tasks ≡ s.tasks) (r : InboundRequest) → IsRequest r m.head → P s m (met device s disk (accepting m (admitted t (presented disk.count m r))))
+    Accepts s m t → (tasks : t.tasks ≡ s.tasks) (r : InboundRequest) → IsRequest r m.head → P s m
+    (met device s disk (accepting m (admitted t (presented disk.count m r))))
 admitted_parts device disk P p s t m x tasks r is =
     let a : pdu_answers s m m.head ≡ 0 = request_silent s m m.head r is in
     by_cases (is_tag_of t.tasks r.initiator_task_tag) (λ e. rw e (subst (λ (ts : List Task). P s m (having_accepted (m ∷ [])
@@ -99,7 +100,8 @@ request_parts device disk P p s m r is =
     (λ e. rw (i, e) (admitted_parts device disk P p s s m (Immediately (number_is m.head r true is i) (no_tasks s.tasks e)) refl r is)))
     (λ i. by_cases (is_within r.cmd_sn s.session.exp_cmd_sn (max_cmd_sn s))
     (λ e. by_cases (r.cmd_sn == s.session.exp_cmd_sn)
-    (λ f. rw (i, e, f) (admitted_parts device disk P p s (advanced s) m (InTurn r.cmd_sn (number_is m.head r false is i) e (eqb-true r.cmd_sn s.session.exp_cmd_sn f)) refl r is))
+    (λ f. rw (i, e, f) (admitted_parts device disk P p s (advanced s) m
+    (InTurn r.cmd_sn (number_is m.head r false is i) e (eqb-true r.cmd_sn s.session.exp_cmd_sn f)) refl r is))
     (λ f. rw (i, e, f) (p.reject_and_close_ s command_out_of_turn m)))
     (λ e. rw (i, e) (p.nothing_ s m (inr a))))
 

@@ -22,7 +22,8 @@ use Rattle.iscsi_target_session.proofs.CaseLemmas.{by_cases}
 pub record Begins (B : Device → Machine → Disk → Task → TargetStep → Type 0) : Type 0 where
   pub request_ : (device : Device) (s : Machine) (disk : Disk) (k : QueuedRequest)
       → B device s disk (Request k) (on disk s.tasks (request_answered s.session (waiting_tasks s.tasks) k.message k.request))
-  pub command_ : (device : Device) (s : Machine) (disk : Disk) (tag : ℕ) (order : Order) → B device s disk (Command tag order) (execute device s disk tag order [])
+  pub command_ : (device : Device) (s : Machine) (disk : Disk) (tag : ℕ) (order : Order) → B device s disk (Command tag order)
+      (execute device s disk tag order [])
   pub write_ : (device : Device) (s : Machine) (disk : Disk) (w : Write) → is_whole_write w ≡ true
       → B device s disk (Data w) (execute device s disk w.initiator_task_tag w.order w.pieces)
   pub send_r2t_ : (device : Device) (s : Machine) (disk : Disk) (w : Write) → is_whole_write w ≡ false → is_nothing_due w.due ≡ true →

@@ -6,7 +6,7 @@ use Rattle.scsi_disk.specs.Disk.{Disk}
 use Rattle.iscsi_text.specs.Text.{Pairs}
 use Rattle.iscsi_text.specs.Reading.{text_in}
 use Rattle.scsi_unit.specs.LogicalUnit.{LogicalUnit}
-use Rattle.iscsi_pdu.specs.Serial.{distance, is_within}
+use Rattle.iscsi_pdu.specs.Serial.{is_within}
 use Rattle.iscsi_pdu.specs.declared.head.Head.{Head}
 use Rattle.iscsi_pdu.specs.declared.head.Head.TheVariants.{DataOut}
 use Rattle.iscsi_pdu.specs.declared.head.scsi_command.ScsiCommand.{ScsiCommand as Command}
@@ -30,7 +30,7 @@ use Rattle.iscsi_target.specs.Feed.{Store}
 use Rattle.iscsi_target_session.proofs.CaseLemmas.{by_cases}
 use Rattle.iscsi_target.proofs.Turns.ServingLemmas.{serves_same, leaves_serves, accepts_by, works_follow}
 use Rattle.iscsi_target.specs.Advances.{store_of}
-use Rattle.iscsi_target.specs.inner.Inside.{Moment, moment, DisklessPost, TasksPost, rule_at_acceptance, NextPost, MessagePost, IsJudged, MayCome, comes_of}
+use Rattle.iscsi_target.specs.inner.Inside.{Moment, moment, DisklessPost, TasksPost, rule_at_acceptance, NextPost, MessagePost, IsChecked, MayCome, comes_of}
 use Rattle.iscsi_target.specs.declared.admission.Admission.{Admission}
 use Rattle.iscsi_target.specs.declared.admission.Admission.TheVariants as admissions
 use Rattle.iscsi_target.proofs.Steps.TurnLemmas.{with_tasks}
@@ -65,35 +65,31 @@ use Rattle.iscsi_target_session.proofs.KindLemmas.{bytes_of, plain, head_of}
 
 -- ---- the bytes of a request
 
-pub plain_of : (c : Bool) (hd : Head) (bytes : List ℕ) (m : Message) (is : message c hd bytes ≡ m) (r : InboundRequest) → IsRequest r m.head → segment_bytes m.segment ≡ bytes
+pub plain_of : (c : Bool) (hd : Head) (bytes : List ℕ) (m : Message) (is : message c hd bytes ≡ m) (r : InboundRequest) → IsRequest r m.head → segment_bytes
+    m.segment ≡ bytes
 plain_of c hd bytes m is r e = bytes_of c hd bytes m is (request_plain m.head r e)
 
 -- ---- the order of requests
 
-pub beside_tasks : (s : Machine) (count : ℕ) (m : Message) (r : InboundRequest) → is_busy s.tasks ≡ true → (immediate_request s (presented count m r)).next ≡ Answered (beside s m r)
+pub beside_tasks : (s : Machine) (count : ℕ) (m : Message) (r : InboundRequest) → is_busy s.tasks ≡ true → (immediate_request s (presented count m r)).next
+    ≡ Answered (beside s m r)
 beside_tasks s count m r e = rw e refl
 
-pub at_once : (s : Machine) (count : ℕ) (m : Message) (r : InboundRequest) → s.tasks ≡ [] → admitted s (presented count m r) ≡ (immediate_request s (presented count m r)).next
+pub at_once : (s : Machine) (count : ℕ) (m : Message) (r : InboundRequest) → s.tasks ≡ [] → admitted s (presented count m r) ≡
+    (immediate_request s (presented count m r)).next
 at_once s count m r none = sym (rw (ap is_busy none) refl)
 
-within_by : (s : Machine) (n : ℕ) (b : Bool) → IsTrue b ↔ ((distance s.session.exp_cmd_sn (max_cmd_sn s) < 2 ^ 31)
-    × (distance s.session.exp_cmd_sn n ≤ distance s.session.exp_cmd_sn (max_cmd_sn s))) → is_within n s.session.exp_cmd_sn (max_cmd_sn s) ≡ b
-within_by s n b is = search rules
-
-pub outside : (s : Machine) (count : ℕ) (m : Message) (r : InboundRequest) (b : Bool) → IsTrue b
-    ↔ ((distance s.session.exp_cmd_sn (max_cmd_sn s) < 2 ^ 31) × (distance s.session.exp_cmd_sn r.cmd_sn ≤ distance s.session.exp_cmd_sn (max_cmd_sn s)))
+pub outside : (s : Machine) (count : ℕ) (m : Message) (r : InboundRequest) (b : Bool) → b ≡ is_within r.cmd_sn s.session.exp_cmd_sn (max_cmd_sn s)
     → b ≡ false → (request_in_turn s (presented count m r)).next ≡ Dropped
-outside s count m r b is e = rw (within_by s r.cmd_sn b is ∙ e) refl
+outside s count m r b is e = rw (sym is ∙ e) refl
 
-pub out_of_turn : (s : Machine) (count : ℕ) (m : Message) (r : InboundRequest) (b : Bool) → IsTrue b
-    ↔ ((distance s.session.exp_cmd_sn (max_cmd_sn s) < 2 ^ 31) × (distance s.session.exp_cmd_sn r.cmd_sn ≤ distance s.session.exp_cmd_sn (max_cmd_sn s)))
+pub out_of_turn : (s : Machine) (count : ℕ) (m : Message) (r : InboundRequest) (b : Bool) → b ≡ is_within r.cmd_sn s.session.exp_cmd_sn (max_cmd_sn s)
     → b ≡ true → (r.cmd_sn == s.session.exp_cmd_sn) ≡ false → (request_in_turn s (presented count m r)).next ≡ broken s command_out_of_turn m
-out_of_turn s count m r b is e f = rw (within_by s r.cmd_sn b is ∙ e, f) refl
+out_of_turn s count m r b is e f = rw (sym is ∙ e, f) refl
 
-pub inside : (s : Machine) (count : ℕ) (m : Message) (r : InboundRequest) (b : Bool) → IsTrue b
-    ↔ ((distance s.session.exp_cmd_sn (max_cmd_sn s) < 2 ^ 31) × (distance s.session.exp_cmd_sn r.cmd_sn ≤ distance s.session.exp_cmd_sn (max_cmd_sn s)))
+pub inside : (s : Machine) (count : ℕ) (m : Message) (r : InboundRequest) (b : Bool) → b ≡ is_within r.cmd_sn s.session.exp_cmd_sn (max_cmd_sn s)
     → b ≡ true → (r.cmd_sn == s.session.exp_cmd_sn) ≡ true → admitted (advanced s) (presented count m r) ≡ (request_in_turn s (presented count m r)).next
-inside s count m r b is e f = sym (rw (within_by s r.cmd_sn b is ∙ e, f) refl)
+inside s count m r b is e f = sym (rw (sym is ∙ e, f) refl)
 
 -- ---- any PDU
 
@@ -174,11 +170,13 @@ joined_planned h order bytes (Take total) = ap (λ (p : Pieces). Data (record (w
 joined_planned h order bytes (Refuse sense) = refl
 joined_planned h order bytes (Give given) = refl
 
-joined_by : (unit : Option LogicalUnit) (count : ℕ) (m : Message) (tag : Option ℕ) (asked : Asks) → joined_task (task_by unit count m tag asked) ≡ task_by unit count m tag asked
+joined_by : (unit : Option LogicalUnit) (count : ℕ) (m : Message) (tag : Option ℕ) (asked : Asks) → joined_task (task_by unit count m tag asked) ≡ task_by
+    unit count m tag asked
 joined_by unit count m tag (asks.Command h) = joined_planned h (order_of unit h) (segment_bytes m.segment) (plan_of (order_of unit h) count)
 joined_by unit count m tag (asks.Session q) = refl
 
-pub joined_as : (unit : Option LogicalUnit) (count : ℕ) (m : Message) (r : InboundRequest) → joined_task (task_of unit (presented count m r)) ≡ task_of unit (presented count m r)
+pub joined_as : (unit : Option LogicalUnit) (count : ℕ) (m : Message) (r : InboundRequest) → joined_task (task_of unit (presented count m r)) ≡ task_of unit
+    (presented count m r)
 joined_as unit count m r = joined_by unit count m r.initiator_task_tag r.asks
 
 -- the task of a command, by its plan
@@ -186,7 +184,8 @@ pub task_takes : (unit : Option LogicalUnit) (count total : ℕ) (h : Command) (
     task_for unit count h bytes ≡ Data (write_opened h (order_of unit h) total bytes)
 task_takes unit count total h bytes e = ap (task_planned h (order_of unit h) bytes) e
 
-simple_by : (h : Command) (order : Order) (bytes : List ℕ) (plan : Plan) → ((n : ℕ) → plan ≡ Take n → ⊥) → task_planned h order bytes plan ≡ kinds.Command h.initiator_task_tag order
+simple_by : (h : Command) (order : Order) (bytes : List ℕ) (plan : Plan) → ((n : ℕ) → plan ≡ Take n → ⊥) → task_planned h order bytes plan ≡ kinds.Command
+    h.initiator_task_tag order
 simple_by h order bytes (Take total) none = absurd (none total refl)
 simple_by h order bytes (Refuse sense) none = refl
 simple_by h order bytes (Give given) none = refl
@@ -200,7 +199,8 @@ pub task_asks : (unit : Option LogicalUnit) (count : ℕ) (m : Message) (r : Inb
     task_of unit (presented count m r) ≡ task_by unit count m r.initiator_task_tag asked
 task_asks unit count m r asked e = ap (task_by unit count m r.initiator_task_tag) e
 
-pub task_command : (unit : Option LogicalUnit) (count : ℕ) (c : Bool) (hd : Head) (bytes : List ℕ) (m : Message) (is : message c hd bytes ≡ m) (r : InboundRequest)
+pub task_command : (unit : Option LogicalUnit) (count : ℕ) (c : Bool) (hd : Head) (bytes : List ℕ) (m : Message) (is : message c hd bytes ≡ m)
+    (r : InboundRequest)
     (h : Command) → IsRequest r m.head → r.asks ≡ asks.Command h → task_for unit count h bytes ≡ task_of unit (presented count m r)
 task_command unit count c hd bytes m is r h e asked =
     sym (task_asks unit count m r (asks.Command h) asked ∙ ap (task_for unit count h) (plain_of c hd bytes m is r e))
@@ -241,7 +241,8 @@ live_step d s disk m phase live within is =
 pub untagged : (s : Machine) (m : Message) (r : InboundRequest) → rule_at_acceptance s m r ≡ None → is_tag_of s.tasks r.initiator_task_tag ≡ false
 untagged s m r e = by_cases (is_tag_of s.tasks r.initiator_task_tag) (λ a. let x : Some kind_not_due ≡ None = sym (rw a refl) ∙ e in cc) (λ a. a)
 
-pub keeps_rules : (s : Machine) (m : Message) (r : InboundRequest) → rule_at_acceptance s m r ≡ None → breaks_rules s.session.held (length (segment_bytes m.segment)) r.asks ≡ false
+pub keeps_rules : (s : Machine) (m : Message) (r : InboundRequest) → rule_at_acceptance s m r ≡ None → breaks_rules s.session.held
+    (length (segment_bytes m.segment)) r.asks ≡ false
 keeps_rules s m r e = by_cases (breaks_rules s.session.held (length (segment_bytes m.segment)) r.asks)
     (λ b. let x : Some data_out_of_order ≡ None = sym (rw (untagged s m r e, b) refl) ∙ e in cc) (λ b. b)
 
@@ -261,7 +262,8 @@ pub admitted_none : (s : Machine) (count : ℕ) (m : Message) (r : InboundReques
     → admitted s (presented count m r) ≡ Queued s.session (s.tasks ++ task_of (unit_of s.session) (presented count m r) ∷ [])
 admitted_none s count m r e = admitted_queued s count m r (untagged s m r e) (keeps_rules s m r e)
 
-pub admitted_some : (s : Machine) (count : ℕ) (m : Message) (r : InboundRequest) (rule : ℕ) → rule_at_acceptance s m r ≡ Some rule → admitted s (presented count m r) ≡ broken s rule m
+pub admitted_some : (s : Machine) (count : ℕ) (m : Message) (r : InboundRequest) (rule : ℕ) → rule_at_acceptance s m r ≡ Some rule → admitted s
+    (presented count m r) ≡ broken s rule m
 admitted_some s count m r rule e =
     by_cases (is_tag_of s.tasks r.initiator_task_tag)
     (λ a. let is : kind_not_due ≡ rule = some_is (sym (refused_tag s m r a) ∙ e) in admitted_tagged s count m r a ∙ ap (λ (n : ℕ). broken s n m) is)
@@ -272,26 +274,28 @@ admitted_some s count m r rule e =
     some_is : {a b : ℕ} → Some a ≡ Some b → a ≡ b
     some_is e = cc
 
--- ---- what is judged of a PDU
+-- ---- the checks on a PDU
 
--- what comes of a PDU by what is judged of it
-pub judged : (s : Machine) (count : ℕ) (m : Message) (met : ℕ → Met) (v w : Admission) → IsJudged s m met v → v ≡ w → (met count).next ≡ comes_of s count m w
-judged s count m met v w j e = j.comes count ∙ ap (comes_of s count m) e
+-- what comes of a PDU by what its checks find
+pub checked : (s : Machine) (count : ℕ) (m : Message) (met : ℕ → Met) (v w : Admission) → IsChecked s m met v → v ≡ w → (met count).next ≡ comes_of s count m w
+checked s count m met v w j e = j.comes count ∙ ap (comes_of s count m) e
 
-pub judged_data : (s : Machine) (count : ℕ) (c : Bool) (hd : Head) (bytes : List ℕ) (m : Message) (is : message c hd bytes ≡ m) (met : ℕ → Met) (v : Admission)
-    (h : DataPdu) → IsJudged s m met v → v ≡ admissions.Data h → on_data_out s m h bytes ≡ (met count).next
-judged_data s count c hd bytes m is met v h j e =
+pub checked_data : (s : Machine) (count : ℕ) (c : Bool) (hd : Head) (bytes : List ℕ) (m : Message) (is : message c hd bytes ≡ m) (met : ℕ → Met) (v : Admission)
+    (h : DataPdu) → IsChecked s m met v → v ≡ admissions.Data h → on_data_out s m h bytes ≡ (met count).next
+checked_data s count c hd bytes m is met v h j e =
     let head : hd ≡ DataOut h = sym (head_of c hd bytes m is) ∙ subst (MayCome s m) e j.may in
-    sym (judged s count m met v (admissions.Data h) j e ∙ ap (λ (b : List ℕ). on_data_out s m h b) (plain c hd bytes m is (ap is_last_login_pdu head)))
+    sym (checked s count m met v (admissions.Data h) j e ∙ ap (λ (b : List ℕ). on_data_out s m h b) (plain c hd bytes m is (ap is_last_login_pdu head)))
 
--- what is judged of what a PDU is to the target is judged of the PDU
-pub due_judged : (s : Machine) (m : Message) (met : ℕ → Met) (v : Admission) → ((count : ℕ) → full_met s count m ≡ met count) → IsJudged s m met v →
-    IsJudged s m (λ count. full_met s count m) v
-due_judged s m met v same j = record { comes = λ count. ap (λ (x : Met). x.next) (same count) ∙ j.comes count; may = j.may }
+-- what the checks find on what a PDU is to the target, they find on the PDU
+pub due_checked : (s : Machine) (m : Message) (met : ℕ → Met) (v : Admission) → ((count : ℕ) → full_met s count m ≡ met count) → IsChecked s m met v →
+    IsChecked s m (λ count. full_met s count m) v
+due_checked s m met v same j = record { comes = λ count. ap (λ (x : Met). x.next) (same count) ∙ j.comes count; may = j.may }
 
 -- a request that may be accepted isn't dropped
-not_dropped : (s : Machine) (count : ℕ) (m : Message) (r : InboundRequest) (rule : Option ℕ) → rule_at_acceptance s m r ≡ rule → admitted s (presented count m r) ≡ Dropped → ⊥
-not_dropped s count m r None e d = let apart : Queued s.session (s.tasks ++ task_of (unit_of s.session) (presented count m r) ∷ []) ≡ Dropped = sym (admitted_none s count m r e) ∙ d in cc
+not_dropped : (s : Machine) (count : ℕ) (m : Message) (r : InboundRequest) (rule : Option ℕ) → rule_at_acceptance s m r ≡ rule → admitted s
+    (presented count m r) ≡ Dropped → ⊥
+not_dropped s count m r None e d = let apart : Queued s.session (s.tasks ++ task_of (unit_of s.session) (presented count m r) ∷ []) ≡ Dropped = sym
+    (admitted_none s count m r e) ∙ d in cc
 not_dropped s count m r (Some rule) e d = let apart : broken s rule m ≡ Dropped = sym (admitted_some s count m r rule e) ∙ d in cc
 
 turn_follows : {E : Type 0} (protected : Bool) (result : Result (Option ℕ) E) (next : Next) (s : Machine) (before : Store) (output : List ℕ) (new : Moment) →
@@ -310,16 +314,20 @@ pub in_its_turn : {E : Type 0} (protected : Bool) (result : Result (Option ℕ) 
     NextPost protected (admitted (advanced s) (presented count m r)) result (moment (advanced s) before output) new →
     NextPost protected (admitted (advanced s) (presented count m r)) result (moment s before output) new
 in_its_turn protected result s count m r before output new h =
-    turn_follows protected result (admitted (advanced s) (presented count m r)) s before output new (not_dropped (advanced s) count m r (rule_at_acceptance (advanced s) m r) refl) h
+    turn_follows protected result (admitted (advanced s) (presented count m r)) s before output new
+    (not_dropped (advanced s) count m r (rule_at_acceptance (advanced s) m r) refl) h
 
 -- a request that breaks no rule, and becomes the last task
-pub admitted_follows : {E : Type 0} (protected : Bool) (result : Result (Option ℕ) E) (s : Machine) (count : ℕ) (m : Message) (r : InboundRequest) (before : Store)
+pub admitted_follows : {E : Type 0} (protected : Bool) (result : Result (Option ℕ) E) (s : Machine) (count : ℕ) (m : Message) (r : InboundRequest)
+    (before : Store)
     (output : List ℕ) (new : Machine)
     (after : Store) (written : List ℕ) → rule_at_acceptance s m r ≡ None
-    → TasksPost protected result (moment (with_tasks s.session (s.tasks ++ task_of (unit_of s.session) (presented count m r) ∷ [])) before output) (moment new after written)
+    → TasksPost protected result (moment (with_tasks s.session (s.tasks ++ task_of (unit_of s.session) (presented count m r) ∷ [])) before output)
+    (moment new after written)
     → NextPost protected (admitted s (presented count m r)) result (moment s before output) (moment new after written)
 admitted_follows protected result s count m r before output new after written kept h =
-    works_follow protected result (admitted s (presented count m r)) s.session (s.tasks ++ task_of (unit_of s.session) (presented count m r) ∷ []) s before output new after written
+    works_follow protected result (admitted s (presented count m r)) s.session (s.tasks ++ task_of (unit_of s.session) (presented count m r) ∷ []) s before
+    output new after written
     (admitted_none s count m r kept) h
 
 -- ---- a Data-Out

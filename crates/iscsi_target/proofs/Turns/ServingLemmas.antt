@@ -18,7 +18,7 @@ use Rattle.iscsi_target.specs.Laws.{joined_execution, joined_stepped}
 use Rattle.iscsi_target.specs.Feed.{Store}
 use Rattle.iscsi_target.specs.declared.tasks.Task.{Task}
 use Rattle.iscsi_target.specs.Advances.{store_of}
-use Rattle.iscsi_target.specs.inner.Inside.{moment, MessageServed, DisklessPost, TaskPost, TasksPost, NextPost, NextRanOut}
+use Rattle.iscsi_target.specs.inner.Inside.{Moment, moment, MessageServed, DisklessPost, TaskPost, TasksPost, NextPost, NextRanOut}
 use Rattle.iscsi_target_session.specs.Replies.{ReplyPost, ReplyAttemptPost}
 use Rattle.iscsi_target.proofs.Writes.OpenWriteLemmas.{data_of_one}
 use Rattle.iscsi_target.proofs.Steps.TurnLemmas.{with_tasks}
@@ -174,19 +174,20 @@ accepts_by protected fb fa ms g broken new now before after h = record {
 
 -- ---- an order
 
-pub order_serves : (protected : Bool) (fb fa tag : ℕ) (s : Machine) (disk : Disk) (order : Order) (pieces : Pieces) (e : Effect) (new : Machine) (now : Disk)
-    (before after : List ℕ)
-    → OrderExecuted protected fb fa disk order (piece_data pieces) e → new ≡ record s { session = stat_sn_advanced s.session } → now ≡ e.disk
+pub order_serves : (protected : Bool) (fb : ℕ) (to : Moment) (tag : ℕ) (s : Machine) (disk : Disk) (order : Order) (pieces : Pieces) (e : Effect)
+    (before : List ℕ)
+    → OrderExecuted protected fb to.store.failures disk order (piece_data pieces) e → to.machine ≡ record s { session = stat_sn_advanced s.session } →
+    to.store.disk ≡ e.disk
     → (let told : Effect = as_told (unit_of s.session) disk.count order e in
-    after ≡ before ++ canon (command_answers s.session (waiting_tasks s.tasks) tag told.outcome (data_in_parts s.session.held told.outcome.bytes)))
-    → MessageServed protected fb before (λ d. execute d s disk tag order pieces) None (moment new (store_of now fa) after)
-order_serves protected fb fa tag s disk order pieces e new now before after x is_new is_now is_after =
-    elim (cases_lt fb fa) [
+    to.output ≡ before ++ canon (command_answers s.session (waiting_tasks s.tasks) tag told.outcome (data_in_parts s.session.held told.outcome.bytes)))
+    → MessageServed protected fb before (λ d. execute d s disk tag order pieces) None to
+order_serves protected fb to tag s disk order pieces e before x is_new is_now is_after =
+    elim (cases_lt fb to.store.failures) [
       | inl lt ↦ record {
         device = λ _ _ _ _. e;
         rises = x.rises;
         works = λ same. absurd (omega (arith, same, lt));
-        runs = (fa, x, refl);
+        runs = (to.store.failures, x, refl);
         machine = ap writes_joined is_new;
         disk_is = is_now;
         output = is_after;
@@ -198,7 +199,7 @@ order_serves protected fb fa tag s disk order pieces e new now before after x is
             device = reliable protected;
             rises = x.rises;
             works = λ _. refl;
-            runs = (fa, subst (λ (y : Effect). OrderExecuted protected fb fa disk order (piece_data pieces) y) same x, refl);
+            runs = (to.store.failures, subst (λ (y : Effect). OrderExecuted protected fb to.store.failures disk order (piece_data pieces) y) same x, refl);
             machine = ap writes_joined is_new;
             disk_is = is_now ∙ ap (λ (y : Effect). y.disk) same;
             output = is_after ∙ ap (λ (y : Effect). before ++ canon (command_answers s.session (waiting_tasks s.tasks) tag

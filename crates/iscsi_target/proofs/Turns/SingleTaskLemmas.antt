@@ -60,7 +60,8 @@ turn_alone device s disk m r numbered due within kept =
 pub request_alone : (device : Device) (s : Session) (disk : Disk) (m : Message) (r : InboundRequest) → IsDue (with_tasks s []) m (inbounds.Request r)
     → r.immediate ≡ false → r.cmd_sn ≡ s.exp_cmd_sn → is_within s.exp_cmd_sn s.exp_cmd_sn (max_cmd_sn_with s 0) ≡ true
     → breaks_rules s.held (length (segment_bytes m.segment)) r.asks ≡ false
-    → step_on device (with_tasks s []) disk m ≡ having_accepted (m ∷ []) (task_begun device (advanced (with_tasks s [])) disk (task_of (unit_of s) (presented disk.count m r)))
+    → step_on device (with_tasks s []) disk m ≡ having_accepted (m ∷ [])
+    (task_begun device (advanced (with_tasks s [])) disk (task_of (unit_of s) (presented disk.count m r)))
 request_alone device s disk m r d numbered due within kept =
     due_step device (with_tasks s []) disk m (inbounds.Request r) d ∙ turn_alone device s disk m r numbered due within kept
 

@@ -172,17 +172,17 @@ record Leads (d : Device) (s : Session) (disk : Disk) (task : Task) (more : List
   session : mid.session ≡ (task_begun d (with_tasks s more) disk task).machine.session
   ones_ : ones mid.tasks ≡ ones more
 
-leads : (protected : Bool) (fb fm : ℕ) (s : Session) (disk : Disk) (task : Task) (more : List Task) (rule : Option ℕ) (mid : Machine) (mid_disk : Disk)
-    (before out : List ℕ) →
-    (g : Goes protected (moment (with_tasks s more) (store_of disk fb) before) task rule (moment mid (store_of mid_disk fm) out))
-    → Leads g.serves.device s disk task more mid
-leads protected fb fm s disk task more rule mid mid_disk before out g =
+leads : (protected : Bool) (fb : ℕ) (here : Moment) (s : Session) (disk : Disk) (task : Task) (more : List Task) (rule : Option ℕ)
+    (before : List ℕ) →
+    (g : Goes protected (moment (with_tasks s more) (store_of disk fb) before) task rule here)
+    → Leads g.serves.device s disk task more here.machine
+leads protected fb here s disk task more rule before g =
     let h = g.serves in
     let r : TargetStep = task_begun h.device (with_tasks s more) disk task in
-    let session : mid.session ≡ r.machine.session = ap (λ (x : Machine). x.session) h.machine in
-    let same : ones mid.tasks ≡ ones r.machine.tasks = ap (λ (x : Machine). x.tasks) h.machine in
+    let session : here.machine.session ≡ r.machine.session = ap (λ (x : Machine). x.session) h.machine in
+    let same : ones here.machine.tasks ≡ ones r.machine.tasks = ap (λ (x : Machine). x.tasks) h.machine in
     let live : is_machine_closed r.machine ≡ false = ap (λ (x : Session). is_closed_phase x.phase) (sym session) ∙ g.live in
-    let stay : stays more r ≡ false = ap (λ (n : ℕ). nat_lt (length more) n) (sym (size_same mid.tasks r.machine.tasks same)) ∙ g.done in
+    let stay : stays more r ≡ false = ap (λ (n : ℕ). nat_lt (length more) n) (sym (size_same here.machine.tasks r.machine.tasks same)) ∙ g.done in
     let tasks : r.machine.tasks ≡ more = (begun_leads h.device s disk task more).behind live stay in
     record { live = live; stay = stay; tasks = tasks; session = session; ones_ = same ∙ ap ones tasks }
 
@@ -190,89 +190,89 @@ leads protected fb fm s disk task more rule mid mid_disk before out g =
 pub left_behind : (protected : Bool) (old : Moment) (task : Task) (rule : Option ℕ) (new : Moment) → Goes protected old task rule new
     → ones new.machine.tasks ≡ ones old.machine.tasks
 left_behind protected old task rule new g =
-    (leads protected old.store.failures new.store.failures old.machine.session old.store.disk task old.machine.tasks rule new.machine
-    new.store.disk old.output new.output
+    (leads protected old.store.failures (moment new.machine new.store new.output) old.machine.session old.store.disk task old.machine.tasks rule old.output
     g).ones_
 
 -- the session has what it was configured with
 pub settings_left : (protected : Bool) (old : Moment) (task : Task) (rule : Option ℕ) (new : Moment) → Goes protected old task rule new
     → new.machine.session.settings ≡ old.machine.session.settings
 settings_left protected old task rule new g =
-    let l = leads protected old.store.failures new.store.failures old.machine.session old.store.disk task old.machine.tasks rule new.machine
-    new.store.disk old.output new.output g in
+    let l = leads protected old.store.failures (moment new.machine new.store new.output) old.machine.session old.store.disk task old.machine.tasks rule
+    old.output g in
     ap (λ (t : Session). t.settings) l.session
     ∙ begun_settings g.serves.device old.machine.session old.store.disk task old.machine.tasks
 
-pub then_serves : (protected : Bool) (fb fm fa : ℕ) (s : Session) (disk : Disk) (task : Task) (more : List Task) (rule : Option ℕ)
-    (mid : Machine) (mid_disk : Disk)
-    (before out : List ℕ) (broken : Option ℕ) (new : Machine) (now : Disk) (after : List ℕ)
-    → Goes protected (moment (with_tasks s more) (store_of disk fb) before) task rule (moment mid (store_of mid_disk fm) out)
-    → MessageServed protected fm out (λ d. done_in_turn d mid.session mid_disk mid.tasks) broken (moment new (store_of now fa) after)
-    → MessageServed protected fb before (λ d. done_in_turn d s disk (task ∷ more)) broken (moment new (store_of now fa) after)
-then_serves protected fb fm fa s disk task more rule mid mid_disk before out broken new now after g e =
+pub then_serves : (protected : Bool) (from : Store) (here to : Moment) (s : Session) (task : Task) (more : List Task) (rule : Option ℕ)
+    (before : List ℕ) (broken : Option ℕ)
+    → Goes protected (moment (with_tasks s more) from before) task rule here
+    → MessageServed protected here.store.failures here.output (λ d. done_in_turn d here.machine.session here.store.disk here.machine.tasks) broken to
+    → MessageServed protected from.failures before (λ d. done_in_turn d s from.disk (task ∷ more)) broken to
+then_serves protected from here to s task more rule before broken g e =
     let h = g.serves in
-    let l = leads protected fb fm s disk task more rule mid mid_disk before out g in
-    let r : TargetStep = task_begun h.device (with_tasks s more) disk task in
-    let j = joins protected h.device e.device (with_tasks s more) disk task in
-    let q : TargetStep = done_in_turn e.device mid.session mid_disk more in
-    let same : joined_stepped (done_in_turn e.device mid.session mid_disk mid.tasks)
-    ≡ joined_stepped q = (done_same e.device mid.session mid_disk mid.tasks more l.ones_).is in
-    let ses : r.machine.session ≡ mid.session = sym l.session in
-    let dsk : r.disk ≡ mid_disk = sym h.disk_is in
-    let is : done_in_turn j.0 s disk (task ∷ more) ≡ then_stepped r q =
-    first_on (length more) j.0 s disk task more (ap (stays more) j.1.first ∙ l.stay) (ap (λ (x : TargetStep). is_machine_closed x.machine) j.1.first ∙ l.live)
+    let l = leads protected from.failures here s from.disk task more rule before g in
+    let r : TargetStep = task_begun h.device (with_tasks s more) from.disk task in
+    let j = joins protected h.device e.device (with_tasks s more) from.disk task in
+    let q : TargetStep = done_in_turn e.device here.machine.session here.store.disk more in
+    let same : joined_stepped (done_in_turn e.device here.machine.session here.store.disk here.machine.tasks)
+    ≡ joined_stepped q = (done_same e.device here.machine.session here.store.disk here.machine.tasks more l.ones_).is in
+    let ses : r.machine.session ≡ here.machine.session = sym l.session in
+    let dsk : r.disk ≡ here.store.disk = sym h.disk_is in
+    let is : done_in_turn j.0 s from.disk (task ∷ more) ≡ then_stepped r q =
+    first_on (length more) j.0 s from.disk task more (ap (stays more) j.1.first ∙ l.stay)
+    (ap (λ (x : TargetStep). is_machine_closed x.machine) j.1.first ∙ l.live)
     ∙ ap (λ (x : TargetStep). then_stepped x (done_in_turn (device_after x.executed j.0) x.machine.session x.disk more)) j.1.first
     ∙ (λ i. then_stepped r (done_in_turn (j.1.later i) (ses i) (dsk i) more)) in
-    serves_by protected fb fa (λ d. done_in_turn d s disk (task ∷ more)) j.0 (then_stepped r q) broken new now before after is (omega (arith, h.rises, e.rises))
+    serves_by protected from.failures to.store.failures (λ d. done_in_turn d s from.disk (task ∷ more)) j.0 (then_stepped r q) broken to.machine
+    to.store.disk before to.output is (omega (arith, h.rises, e.rises))
     (λ x. j.1.works (h.works (omega (arith, x, h.rises, e.rises))) (e.works (omega (arith, x, h.rises, e.rises))))
-    (runs_append protected j.0 fb fm fa r.executed q.executed (j.1.runs fb fm h.runs)
-    (subst (λ (d : Device). ExecutionsRun protected d fm q.executed fa) (sym j.1.later)
-    (runs_as protected e.device fm fa (done_in_turn e.device mid.session mid_disk mid.tasks) q same
+    (runs_append protected j.0 from.failures here.store.failures to.store.failures r.executed q.executed (j.1.runs from.failures here.store.failures h.runs)
+    (subst (λ (d : Device). ExecutionsRun protected d here.store.failures q.executed to.store.failures) (sym j.1.later)
+    (runs_as protected e.device here.store.failures to.store.failures (done_in_turn e.device here.machine.session here.store.disk here.machine.tasks) q same
     e.runs)))
     (e.machine ∙ ap (λ (x : TargetStep). x.machine) same)
     (e.disk_is ∙ ap (λ (x : TargetStep). x.disk) same)
-    (e.output ∙ ap (λ (x : TargetStep). out ++ canon x.answers) same ∙ ap (λ (x : List ℕ). x ++ canon q.answers) h.output
+    (e.output ∙ ap (λ (x : TargetStep). here.output ++ canon x.answers) same ∙ ap (λ (x : List ℕ). x ++ canon q.answers) h.output
     ∙ append_assoc before (canon r.answers) (canon q.answers)
     ∙ ap (λ (x : List ℕ). before ++ x) (sym (canon_append r.answers q.answers)))
     (e.rule_is ∙ ap (λ (x : TargetStep). x.rule) same ∙ ap (λ (x : Option ℕ). first_rule x q.rule)
-    (sym ((looks h.device (with_tasks s more) disk task).rule l.live)))
+    (sym ((looks h.device (with_tasks s more) from.disk task).rule l.live)))
 
 -- the first task was done, and memory ran out behind it
-pub then_stops : (protected : Bool) (fb fm fa : ℕ) (s : Session) (disk : Disk) (task : Task) (more : List Task) (rule : Option ℕ)
-    (mid : Machine) (mid_disk : Disk)
-    (before out : List ℕ) (new : Machine) (now : Disk) (after : List ℕ)
-    → Goes protected (moment (with_tasks s more) (store_of disk fb) before) task rule (moment mid (store_of mid_disk fm) out)
-    → TasksRanOut protected (moment mid (store_of mid_disk fm) out) (moment new (store_of now fa) after) →
-    TasksRanOut protected (moment (with_tasks s (task ∷ more)) (store_of disk fb) before) (moment new (store_of now fa) after)
-then_stops protected fb fm fa s disk task more rule mid mid_disk before out new now after g e =
+pub then_stops : (protected : Bool) (from : Store) (here to : Moment) (s : Session) (task : Task) (more : List Task) (rule : Option ℕ)
+    (before : List ℕ)
+    → Goes protected (moment (with_tasks s more) from before) task rule here
+    → TasksRanOut protected here to →
+    TasksRanOut protected (moment (with_tasks s (task ∷ more)) from before) to
+then_stops protected from here to s task more rule before g e =
     let h = g.serves in
-    let l = leads protected fb fm s disk task more rule mid mid_disk before out g in
-    let r : TargetStep = task_begun h.device (with_tasks s more) disk task in
-    let j = joins protected h.device e.device (with_tasks s more) disk task in
-    let q : TargetStep = done_first e.done e.device mid.session mid_disk more in
-    let same : joined_stepped (done_first e.done e.device mid.session mid_disk mid.tasks)
-    ≡ joined_stepped q = (first_same e.done e.device mid.session mid_disk mid.tasks more l.ones_).is in
-    let ses : r.machine.session ≡ mid.session = sym l.session in
-    let dsk : r.disk ≡ mid_disk = sym h.disk_is in
-    let is : done_first (suc e.done) j.0 s disk (task ∷ more) ≡ then_stepped r q =
-    first_on e.done j.0 s disk task more (ap (stays more) j.1.first ∙ l.stay) (ap (λ (x : TargetStep). is_machine_closed x.machine) j.1.first ∙ l.live)
+    let l = leads protected from.failures here s from.disk task more rule before g in
+    let r : TargetStep = task_begun h.device (with_tasks s more) from.disk task in
+    let j = joins protected h.device e.device (with_tasks s more) from.disk task in
+    let q : TargetStep = done_first e.done e.device here.machine.session here.store.disk more in
+    let same : joined_stepped (done_first e.done e.device here.machine.session here.store.disk here.machine.tasks)
+    ≡ joined_stepped q = (first_same e.done e.device here.machine.session here.store.disk here.machine.tasks more l.ones_).is in
+    let ses : r.machine.session ≡ here.machine.session = sym l.session in
+    let dsk : r.disk ≡ here.store.disk = sym h.disk_is in
+    let is : done_first (suc e.done) j.0 s from.disk (task ∷ more) ≡ then_stepped r q =
+    first_on e.done j.0 s from.disk task more (ap (stays more) j.1.first ∙ l.stay) (ap (λ (x : TargetStep). is_machine_closed x.machine) j.1.first ∙ l.live)
     ∙ ap (λ (x : TargetStep). then_stepped x (done_first e.done (device_after x.executed j.0) x.machine.session x.disk more)) j.1.first
     ∙ (λ i. then_stepped r (done_first e.done (j.1.later i) (ses i) (dsk i) more)) in
-    let runs : ExecutionsRun protected j.0 fb (then_stepped r q).executed e.failures =
-    runs_append protected j.0 fb fm e.failures r.executed q.executed (j.1.runs fb fm h.runs)
-    (subst (λ (d : Device). ExecutionsRun protected d fm q.executed e.failures) (sym j.1.later) (runs_as protected e.device fm e.failures
-    (done_first e.done e.device mid.session mid_disk mid.tasks) q same e.runs)) in
+    let runs : ExecutionsRun protected j.0 from.failures (then_stepped r q).executed e.failures =
+    runs_append protected j.0 from.failures here.store.failures e.failures r.executed q.executed (j.1.runs from.failures here.store.failures h.runs)
+    (subst (λ (d : Device). ExecutionsRun protected d here.store.failures q.executed e.failures) (sym j.1.later)
+    (runs_as protected e.device here.store.failures e.failures
+    (done_first e.done e.device here.machine.session here.store.disk here.machine.tasks) q same e.runs)) in
     record {
       done = suc e.done;
       device = j.0;
       live = λ _. ap (λ (x : TargetStep). is_machine_closed x.machine) is
           ∙ ap (λ (x : TargetStep). is_machine_closed x.machine) (sym same) ∙ e.live g.live;
       failures = e.failures;
-      runs = subst (λ (x : TargetStep). ExecutionsRun protected j.0 fb x.executed e.failures) (sym is) runs;
+      runs = subst (λ (x : TargetStep). ExecutionsRun protected j.0 from.failures x.executed e.failures) (sym is) runs;
       rises = e.rises;
       machine = e.machine ∙ ap (λ (x : TargetStep). closed_machine x.machine) same ∙ ap (λ (x : TargetStep). closed_machine x.machine) (sym is);
       disk_is = e.disk_is ∙ ap (λ (x : TargetStep). x.disk) same ∙ ap (λ (x : TargetStep). x.disk) (sym is);
-      output = e.output ∙ ap (λ (x : TargetStep). out ++ canon x.answers) same ∙ ap (λ (x : List ℕ). x ++ canon q.answers) h.output
+      output = e.output ∙ ap (λ (x : TargetStep). here.output ++ canon x.answers) same ∙ ap (λ (x : List ℕ). x ++ canon q.answers) h.output
           ∙ append_assoc before (canon r.answers) (canon q.answers)
           ∙ ap (λ (x : List ℕ). before ++ x) (sym (canon_append r.answers q.answers)) ∙ ap (λ (x : TargetStep). before ++ canon x.answers) (sym is);
     }
@@ -334,16 +334,14 @@ works_then : {E : Type 0} (protected : Bool) (result : Result (Option ℕ) E) (s
     → Goes protected (at_tasks old session behind) task rule next → TasksPost protected result next new
     → TasksPost protected result (at_tasks old session (task ∷ behind)) new
 works_then protected (Ok broken) session task behind rule old next new g h = record {
-  ok = then_serves protected old.store.failures next.store.failures new.store.failures session old.store.disk task behind rule next.machine
-      next.store.disk old.output
-      next.output broken new.machine new.store.disk new.output g h.ok;
+  ok = then_serves protected old.store (moment next.machine next.store next.output) (moment new.machine new.store new.output) session task behind rule
+      old.output broken g h.ok;
   err = tt;
 }
 works_then protected (Err e) session task behind rule old next new g h = record {
   ok = tt;
-  err = then_stops protected old.store.failures next.store.failures new.store.failures session old.store.disk task behind rule next.machine
-      next.store.disk old.output
-      next.output new.machine new.store.disk new.output g h.err;
+  err = then_stops protected old.store (moment next.machine next.store next.output) (moment new.machine new.store new.output) session task behind rule
+      old.output g h.err;
 }
 
 pub either : (a b : Bool) → b ≡ true → (a || b) ≡ true

@@ -441,7 +441,8 @@ tags_same : (tasks : List Task) (tag : Option ℕ) → is_tag_of (ones tasks) ta
 tags_same [] tag = refl
 tags_same (task ∷ more) tag = λ i. is_same_tag (tag_same task i) tag || tags_same more tag i
 
-admitted_same : (s : Machine) (count : ℕ) (m : Message) (r : InboundRequest) → SameNext (admitted (writes_joined s) (presented count m r)) (admitted s (presented count m r))
+admitted_same : (s : Machine) (count : ℕ) (m : Message) (r : InboundRequest) → SameNext (admitted (writes_joined s) (presented count m r))
+    (admitted s (presented count m r))
 admitted_same s count m r =
     let task : Task = task_of (unit_of s.session) (presented count m r) in
     next_if (is_tag_of (ones s.tasks) r.initiator_task_tag) (is_tag_of s.tasks r.initiator_task_tag)
@@ -479,8 +480,10 @@ within_same s n = ap (λ (k : ℕ). not (is_within n s.session.exp_cmd_sn (max_c
 request_same : (s : Machine) (count : ℕ) (m : Message) (r : InboundRequest) →
     SameMet (due_met (writes_joined s) count m (inbounds.Request r)) (due_met s count m (inbounds.Request r))
 request_same s count m r =
-    met_if r.immediate r.immediate (immediate_request (writes_joined s) (presented count m r)) (request_in_turn (writes_joined s) (presented count m r)) (immediate_request s (presented count m r)) (request_in_turn s (presented count m r)) refl
-    (met_if (is_busy (ones s.tasks)) (is_busy s.tasks) (plainly (Answered (reply_beside (writes_joined s) m r))) (accepting m (admitted (writes_joined s) (presented count m r)))
+    met_if r.immediate r.immediate (immediate_request (writes_joined s) (presented count m r)) (request_in_turn (writes_joined s) (presented count m r))
+    (immediate_request s (presented count m r)) (request_in_turn s (presented count m r)) refl
+    (met_if (is_busy (ones s.tasks)) (is_busy s.tasks) (plainly (Answered (reply_beside (writes_joined s) m r)))
+    (accepting m (admitted (writes_joined s) (presented count m r)))
     (plainly (Answered (reply_beside s m r))) (accepting m (admitted s (presented count m r))) (busy_same s.tasks)
     (plain_same _ _ (beside_same s m r)) (accepted_same m _ _ (admitted_same s count m r)))
     (met_if (not (is_within r.cmd_sn s.session.exp_cmd_sn (max_cmd_sn (writes_joined s)))) (not (is_within r.cmd_sn s.session.exp_cmd_sn (max_cmd_sn s)))

@@ -390,7 +390,8 @@ parts_ask device disk = record {
   refused_ = λ s t m rule a x o k. closing s.tasks (pdu_answers s m m.head) (having_accepted (m ∷ []) (breaks t disk rule m)) refl refl;
   admitted_ = λ s t m a x r is f o k.
       having_asks (unanswered s.tasks) (pdu_answers s m m.head) (m ∷ []) _
-      (subst (λ (ts : List Task). Asks (unanswered s.tasks) (pdu_answers s m m.head) (done_in_turn device t.session disk (ts ++ task_of (unit_of t.session) (presented disk.count m r) ∷ [])))
+      (subst (λ (ts : List Task). Asks (unanswered s.tasks) (pdu_answers s m m.head)
+      (done_in_turn device t.session disk (ts ++ task_of (unit_of t.session) (presented disk.count m r) ∷ [])))
       (sym (same_tasks s t m x))
       (answering (unanswered s.tasks) (pdu_answers s m m.head) _ (admitted_asks device s t.session m disk r k) a));
 }

@@ -44,7 +44,7 @@ use Rattle.iscsi_target.proofs.Steps.StepPartLemmas.{Accepts, Immediately, InTur
 use Rattle.iscsi_target.proofs.Answers.ReplyLemmas.{IsOver, on_ends, login_logs, request_answered_reply}
 use Rattle.iscsi_target.proofs.Writes.OpenWriteLemmas.{DueFits, IsOpen, size_with, tiles_with, taken_open, asking_modest, with_r2t_open}
 use Rattle.iscsi_target.proofs.Steps.DiskFoldLemmas.{step_folds}
-use Rattle.scsi_disk.proofs.PlanLemmas.{all_false}
+use Rattle.scsi_disk.proofs.PlanLemmas.{none_refused}
 
 -- A write may be open on a disk of n blocks, and any other command takes no data there (section 11.7).
 abbrev pub OnTask : ℕ → Task → Type 0
@@ -130,9 +130,8 @@ take_is_by order count total None false e w f = absurd (let g = rw w at f in cc)
 take_is_by order count total None true e w f =
     let g : Take (taken_length order) ≡ Take total = rw w at f in
     let size : taken_length order ≡ total = cc in
-    let rows = all_false (refusals order count) e in
     eqb-true order.expected (taken_length order) (not_and (is_write order.cdb)
-    (order.expected == taken_length order) w rows.1.1.1.1.1.1.1.1.0) ∙ size
+    (order.expected == taken_length order) w (none_refused order count e).expects_all) ∙ size
 
 pub take_is : (order : Order) (count total : ℕ) → plan_of order count ≡ Take total → order.expected ≡ total
 take_is order count total f = take_is_by order count total (first_refusal order count) (is_write order.cdb) refl refl f
@@ -162,7 +161,8 @@ immediate_bound most expected total (suc n) write immediate e le is =
       is,
     )
 
-pub immediate_fits : (unit : Option LogicalUnit) (count : ℕ) (h : Command) (held : Held) (total : ℕ) (bytes : List ℕ) → breaks_burst_rules held h (length bytes) ≡ false →
+pub immediate_fits : (unit : Option LogicalUnit) (count : ℕ) (h : Command) (held : Held) (total : ℕ) (bytes : List ℕ) → breaks_burst_rules held h
+    (length bytes) ≡ false →
     plan_of (order_of unit h) count ≡ Take total → length bytes ≤ total
 immediate_fits unit count h held total bytes e f =
     immediate_bound (unasked held h.expected_data_transfer_length) h.expected_data_transfer_length total (length bytes) h.write (is_on held keys.ImmediateData)
@@ -289,7 +289,8 @@ written_sound count v (Data x ∷ more) open_ o =
 
 -- ---- a request
 
-planned_sound : (unit : Option LogicalUnit) (count : ℕ) (held : Held) (h : Command) (bytes : List ℕ) (plan : Plan) → breaks_burst_rules held h (length bytes) ≡ false →
+planned_sound : (unit : Option LogicalUnit) (count : ℕ) (held : Held) (h : Command) (bytes : List ℕ) (plan : Plan) → breaks_burst_rules held h
+    (length bytes) ≡ false →
     plan_of (order_of unit h) count ≡ plan
     → OnTask count (task_planned h (order_of unit h) bytes plan)
 planned_sound unit count held h bytes (Take total) e f = opened_open count held h (order_of unit h) total bytes f

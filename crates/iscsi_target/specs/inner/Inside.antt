@@ -1,4 +1,4 @@
--- What the parts of this crate do, as its own functions see it.
+-- What the parts of this crate do, as its own functions see it. One file, since the parts cite each other.
 use Rattle.std.specs.Prelude.{Bool, ◌≡◌, ◌≢◌, ◌⊎◌, ℕ, ◌<◌, ◌≤◌, Option, Some, None, false, true, if◌then◌else◌, List, [], ◌++◌, length, map, insert, remove, slice_index_or, Result, IfOk, OnOk, OnErr, ◌^◌}
 use Rattle.std.specs.List.{AllByRecursion}
 use Rattle.iscsi_stream.specs.Canonical.{canon}
@@ -88,11 +88,11 @@ MayCome s m (admissions.AtOnce r) = IsRequest r m.head × (s.tasks ≡ [])
 MayCome s m (admissions.InTurn r) =
     IsRequest r m.head × (waiting_tasks s.tasks ≤ 7) × (r.immediate ≡ false)
 
--- The verdict stands for what comes of the PDU, however many blocks the disk has.
-pub record IsJudged (s : Machine) (m : Message) (met : ℕ → Met) (verdict : Admission)
+-- The checks found what comes of the PDU, however many blocks the disk has.
+pub record IsChecked (s : Machine) (m : Message) (met : ℕ → Met) (found : Admission)
     : Type 0 where
-  pub comes : (count : ℕ) → (met count).next ≡ comes_of s count m verdict
-  pub may : MayCome s m verdict
+  pub comes : (count : ℕ) → (met count).next ≡ comes_of s count m found
+  pub may : MayCome s m found
 
 -- ---- a step
 

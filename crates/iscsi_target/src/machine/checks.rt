@@ -1,8 +1,8 @@
-//! What is judged of a PDU in full feature phase, in the order in which it is judged (RFC 7143,
+//! The checks on a PDU in full feature phase, in the order in which they are made (RFC 7143,
 //! sections 4.2 and 11).
 
 ghost use Rattle.std.specs.Prelude.{◌≡◌, ◌↔◌, ◌<◌, ◌≤◌, ◌^◌, None, Some, nat_lt, IsTrue, false};
-ghost use Rattle.iscsi_pdu.specs.Serial.{distance};
+ghost use Rattle.iscsi_pdu.specs.Serial.{is_within};
 ghost use Rattle.iscsi_stream.specs.Stream.{Message};
 ghost use Rattle.iscsi_target_session.specs.Inbound.{IsRequest};
 ghost use Rattle.iscsi_target_session.specs.LoginText.{is_normal};
@@ -10,19 +10,19 @@ ghost use Rattle.iscsi_target_session.specs.declared.inbound.Inbound.TheVariants
 ghost use Rattle.iscsi_target.specs.State.{max_cmd_sn};
 ghost use Rattle.iscsi_target.specs.Command.{breaks_rules, presented};
 ghost use Rattle.iscsi_target.specs.Machine.{is_tag_of, may_ask, may_come, immediate_request, request_in_turn, due_met, full_met};
-ghost use Rattle.iscsi_target.specs.inner.Inside.{IsJudged, rule_at_acceptance};
+ghost use Rattle.iscsi_target.specs.inner.Inside.{IsChecked, rule_at_acceptance};
 
 use super::Machine;
 use crate::admission::Admission;
-use iscsi_login::Session;
+use iscsi_login::Session as SessionType;
 use iscsi_pdu::Serial;
 use iscsi_pdu::rule::{COMMAND_OUT_OF_TURN, DATA_OUT_OF_ORDER, KIND_NOT_DUE, SEGMENT_TOO_LONG};
 use iscsi_target_session::{Asks, Inbound, InboundRequest, Received, SessionRequest};
 
 impl Machine {
-    // What is judged of a PDU: whether it may come, then its length, and then its CmdSN.
+    // The checks on a PDU: whether it may come, then its length, and then its CmdSN.
     pub(super) fn check(&self, received: &Received<'_>) -> Admission
-        ensures { IsJudged self.now received.now (λ count. full_met self.now count received.now)
+        ensures { IsChecked self.now received.now (λ count. full_met self.now count received.now)
             result }
     {
         let Some(pdu) = Inbound::of(&received.pdu.head) else {
@@ -64,12 +64,12 @@ impl Machine {
     pub(super) fn is_normal(&self) -> bool
         ensures { result ≡ is_normal self.now.session.session_type }
     {
-        matches!(self.session.session_type(), Session::Normal)
+        matches!(self.session.session_type(), SessionType::Normal)
     }
 
     // A request that may come.
     fn check_request(&self, request: InboundRequest) -> Admission
-        ensures { (m : Message) → IsRequest request m.head → IsJudged self.now m
+        ensures { (m : Message) → IsRequest request m.head → IsChecked self.now m
             (λ count. due_met self.now count m (Request request)) result }
     {
         if request.immediate {
@@ -82,7 +82,7 @@ impl Machine {
     // An immediate request, which becomes no task while there is one.
     fn check_immediate(&self, request: InboundRequest) -> Admission
         ensures { (m : Message) → IsRequest request m.head
-            → IsJudged self.now m (λ count. immediate_request self.now (presented count m request))
+            → IsChecked self.now m (λ count. immediate_request self.now (presented count m request))
             result }
     {
         if self.tasks.len() > 0 {
@@ -96,7 +96,7 @@ impl Machine {
     fn check_in_turn(&self, request: InboundRequest) -> Admission
         requires { request.immediate ≡ false }
         ensures { (m : Message) → IsRequest request m.head
-            → IsJudged self.now m (λ count. request_in_turn self.now (presented count m request))
+            → IsChecked self.now m (λ count. request_in_turn self.now (presented count m request))
             result }
     {
         if !self.is_within(request.cmd_sn) {
@@ -117,9 +117,7 @@ impl Machine {
 
     // Whether a CmdSN is within the window.
     fn is_within(&self, cmd_sn: u32) -> bool
-        ensures { IsTrue result ↔ ((distance self.now.session.exp_cmd_sn (max_cmd_sn self.now) < 2 ^ 31)
-            × (distance self.now.session.exp_cmd_sn cmd_sn
-            ≤ distance self.now.session.exp_cmd_sn (max_cmd_sn self.now))) }
+        ensures { result ≡ is_within cmd_sn self.now.session.exp_cmd_sn (max_cmd_sn self.now) }
     {
         let numbers = self.numbers();
         Serial(cmd_sn).within(Serial(numbers.exp_cmd_sn), Serial(numbers.max_cmd_sn))

@@ -10,11 +10,8 @@ ghost use Rattle.iscsi_target.specs.inner.Reads.{CanBeCut, HasPart, ReadsOnto, S
 
 use super::Machine;
 use super::source::Source;
-use iscsi_pdu::{DataIn, Head, RESERVED_TAG};
+use iscsi_pdu::{DataIn, HEADER_LEN, Head, RESERVED_TAG};
 use scsi_disk::{BlockStore, StoreFault};
-
-/// How many bytes a header has.
-const HEADER_LEN: usize = 48;
 
 impl Machine {
     // Data in sequences of MaxBurstLength bytes. Returns how many Data-In PDUs were sent.

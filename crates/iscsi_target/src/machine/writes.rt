@@ -6,12 +6,10 @@ ghost use Rattle.scsi_disk.specs.Plan.{plan_of, is_write, taken_length};
 ghost use Rattle.scsi_disk.specs.Found.{IsFound};
 ghost use Rattle.iscsi_pdu.specs.Meaning.{HeadFits};
 ghost use Rattle.iscsi_stream.specs.Pieces.{piece_data};
-ghost use Rattle.iscsi_stream.specs.Segment.{segment_bytes};
-ghost use Rattle.iscsi_target_session.specs.Inbound.{IsRequest};
 ghost use Rattle.iscsi_target.specs.State.{unit_of, waiting_tasks};
 ghost use Rattle.iscsi_target.specs.Execution.{execute};
 ghost use Rattle.iscsi_target.specs.Transfer.{is_whole_write, is_nothing_due, desired, with_piece};
-ghost use Rattle.iscsi_target.specs.Command.{order_of, r2t_head, led_by, send_r2t, proceed, write_opened, breaks_burst_rules, breaks_rules, task_for, task_of, presented};
+ghost use Rattle.iscsi_target.specs.Command.{order_of, r2t_head, led_by, send_r2t, proceed, write_opened};
 ghost use Rattle.iscsi_target.specs.Machine.{on_data_out};
 ghost use Rattle.iscsi_target.specs.Crash.{CrashLeavesBlocks, commands_by};
 ghost use Rattle.iscsi_target.specs.Advances.{store_of};
@@ -21,13 +19,11 @@ ghost use Rattle.iscsi_target.specs.Queue.{TakePlaces};
 use super::Machine;
 use crate::due::Due;
 use crate::open_write::OpenWrite;
-use crate::queued_request::QueuedRequest;
 use crate::scsi_response::{append_response, response_head};
-use crate::tasks::Task;
 use iscsi_pdu::rule::DATA_OUT_OF_ORDER;
 use iscsi_pdu::{DataOut, Head, ReadyToTransfer, ScsiCommand};
 use iscsi_stream::write_pdu;
-use iscsi_target_session::{Asks, InboundRequest, Received};
+use iscsi_target_session::Received;
 use scsi_disk::{BlockStore, Found, Order, Plan, execute_found};
 use std::alloc::{AllocError, Global};
 
@@ -211,63 +207,11 @@ impl Machine {
         }
         self.run_queue(store, out)
     }
-
-    // The task of a request that has to wait, on a disk of `n` blocks.
-    pub(super) fn task(
-        &self,
-        request: &InboundRequest,
-        received: &Received<'_>,
-        blocks: u64,
-        out: &Vec<u8>,
-    ) -> Result<Task, AllocError>
-        requires is { IsRequest request.now received.now.head }
-        requires keeps { breaks_rules self.now.session.held
-            (length (segment_bytes received.now.segment)) request.now.asks ≡ false }
-        ensures { IfOk result (λ task. task
-            ≡ task_of (unit_of self.now.session) (presented blocks received.now request.now)) }
-    {
-        let alloc = *out.allocator();
-        match &request.asks {
-            Asks::Command(command) => self.command_task(command, received.pdu.bytes, blocks, alloc),
-            Asks::Session(asked) => {
-                let tag = request.initiator_task_tag;
-                Ok(Task::Request(QueuedRequest::copy(alloc, tag, asked, received)?))
-            }
-        }
-    }
-
-    // The task of a command with its immediate data, on a disk of `n` blocks. A WRITE is planned
-    // here, and any other command when its turn comes.
-    fn command_task(
-        &self,
-        command: &ScsiCommand,
-        bytes: &[u8],
-        blocks: u64,
-        alloc: Global,
-    ) -> Result<Task, AllocError>
-        requires keeps { breaks_burst_rules self.now.session.held command.now (length bytes.now)
-            ≡ false }
-        ensures { IfOk result (λ task. task
-            ≡ task_for (unit_of self.now.session) blocks command.now bytes.now) }
-    {
-        let order = self.order_of(command);
-        if order.is_write() {
-            let found = Found::of(&order, blocks);
-            if let Plan::Take(total) = found.plan(&order) {
-                let write = opened(alloc, command, order, found, total, bytes)?;
-                return Ok(Task::Data(write));
-            }
-        }
-        Ok(Task::Command {
-            initiator_task_tag: command.initiator_task_tag,
-            order,
-        })
-    }
 }
 
 // The write of `n` bytes that a command with this order opens with its immediate data, and the room
 // for all of them.
-fn opened(
+pub(super) fn opened(
     alloc: Global,
     command: &ScsiCommand,
     order: Order,

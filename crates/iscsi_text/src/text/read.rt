@@ -57,6 +57,7 @@ fn gather<'a>(bytes: &'a [u8], pairs: &mut Vec<Pair<'a>>) -> Result<Option<TextF
 }
 
 // Puts pairs in the order of their keys. Those of one key stay in their order.
+// `sort_pairs` with the clause that std's sort has, from which its own follows.
 fn sort(pairs: &mut Vec<Pair>) -> Result<(), AllocError>
     ensures ok { OnOk result (ArrangesPairs (all_shown pairs.old.items)
         (all_shown pairs.new.items)) }

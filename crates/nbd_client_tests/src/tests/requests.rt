@@ -1,4 +1,4 @@
-//! A medium over a line whose server says what a row says.
+//! A medium over a line whose server says what a row says. One file, since the rows share that server.
 
 ghost use Rattle.std.specs.Prelude.{◌≡◌, ◌<◌, ◌≤◌, [], OnOk};
 ghost use Rattle.scsi_disk.specs.Disk.{most_blocks};

@@ -1,4 +1,5 @@
 //! What a unit answers of itself. The bytes are laid out by hand from the tables of SPC-4 and SBC-3.
+//! One file, since it is one table.
 
 use crate::asserts::same;
 use scsi_cdb::{Cdb, Residual, Sense};

@@ -1,4 +1,5 @@
-//! Texts by example: whom they let in, and which line is the first that is wrong.
+//! Texts by example: whom they let in, and which line is the first that is wrong. One file, since it
+//! is one table.
 
 use crate::asserts::same;
 use iscsi_access::{Progress, Said, Verdict};

@@ -4,7 +4,7 @@ use Rattle.iscsi_compare.specs.declared.fault.CompareFault.TheVariants as fault
 use Rattle.iscsi_compare.specs.Comparing.{AgreeAtEnds, ComparisonFails, Part}
 use Rattle.iscsi_compare.specs.inner.Inside.{fuel}
 use Rattle.iscsi_compare.proofs.SideLemmas.{less}
-use Rattle.iscsi_compare.proofs.InStepLemmas.{first_stops, second_stops, onwards, memory_stops, they_part, they_agree, one_more}
+use Rattle.iscsi_compare.proofs.InStepLemmas.{streams, first_stops, second_stops, onwards, memory_stops, they_part, they_agree, one_more}
 use Rattle.iscsi_compare.proofs.in_step.compare_streams.Goals as goal
 
 pub returns-in_err-some-clause-compares : goal.returns-in_err-some-clause-compares
@@ -19,9 +19,9 @@ pub returns-in_err-other_some-clause-compares : goal.returns-in_err-other_some-c
 returns-in_err-other_some-clause-compares g c =
     let p = err_from_is_err_and c.from_residual-in_err-other_some.result c.from_residual-in_err-other_some.ensures.1 in
     let l = c.loop-other_form in
-    rw (p.1, p.2) (second_stops c.in_err-other_some.field-0.0 (g.R.Read.remaining c.args.mine.now) (g.R.Read.remaining l.mine) (g.R.Read.remaining c.next.new.r)
-    (g.Q.Read.remaining c.args.other.now) (g.Q.Read.remaining l.other)
-    (g.Q.Read.remaining c.next-in-loop-other_form.new.r) l.first l.second c.next.new.self c.args.out.now.items l.out.items c.next.new.form.items
+    rw (p.1, p.2) (second_stops c.in_err-other_some.field-0.0 (streams (g.R.Read.remaining c.args.mine.now) (g.Q.Read.remaining c.args.other.now)
+    c.args.out.now.items) (streams (g.R.Read.remaining l.mine) (g.Q.Read.remaining l.other) l.out.items) (g.R.Read.remaining c.next.new.r)
+    (g.Q.Read.remaining c.next-in-loop-other_form.new.r) l.first l.second c.next.new.self c.next.new.form.items
     c.in_ok-some.some l.invariant c.in_ok-some.ensures.ok c.in_ok-some.ensures.form c.in_err-other_some.ensures.err)
 
 pub returns-in_err-write_lines-clause-compares : goal.returns-in_err-write_lines-clause-compares
@@ -30,9 +30,9 @@ returns-in_err-write_lines-clause-compares g c =
     let l = c.loop-other_form in
     let s = c.next.new.self in
     let t = c.next-in-loop-other_form.new.self in
-    rw (p.1, p.2) (onwards (ComparisonFails fault.NoMemory) (g.R.Read.remaining c.args.mine.now) (g.R.Read.remaining l.mine) (g.R.Read.remaining c.next.new.r)
-    (g.Q.Read.remaining c.args.other.now) (g.Q.Read.remaining l.other)
-    (g.Q.Read.remaining c.next-in-loop-other_form.new.r) l.first l.second s t c.args.out.now.items l.out.items c.in_ok-some.some c.in_ok-other_some.other_some
+    rw (p.1, p.2) (onwards (ComparisonFails fault.NoMemory) (streams (g.R.Read.remaining c.args.mine.now) (g.Q.Read.remaining c.args.other.now)
+    c.args.out.now.items) (streams (g.R.Read.remaining l.mine) (g.Q.Read.remaining l.other) l.out.items) (g.R.Read.remaining c.next.new.r)
+    (g.Q.Read.remaining c.next-in-loop-other_form.new.r) l.first l.second s t c.in_ok-some.some c.in_ok-other_some.other_some
     l.invariant c.in_ok-some.ensures.ok c.in_ok-other_some.ensures.ok
     (memory_stops c.in_ok-some.some c.in_ok-other_some.other_some s t))
 
@@ -43,9 +43,10 @@ returns-then-not-is_same-clause-compares g c =
     let t = c.next-in-loop-other_form.new.self in
     let p = c.in_ok-some.some in
     let q = c.in_ok-other_some.other_some in
-    rw c.difference.ensures (onwards (λ x y. Part x y s.framer.place t.framer.place) (g.R.Read.remaining c.args.mine.now) (g.R.Read.remaining l.mine)
-    (g.R.Read.remaining c.next.new.r) (g.Q.Read.remaining c.args.other.now)
-    (g.Q.Read.remaining l.other) (g.Q.Read.remaining c.next-in-loop-other_form.new.r) l.first l.second s t c.args.out.now.items l.out.items p q l.invariant
+    rw c.difference.ensures (onwards (λ x y. Part x y s.framer.place t.framer.place)
+    (streams (g.R.Read.remaining c.args.mine.now) (g.Q.Read.remaining c.args.other.now) c.args.out.now.items)
+    (streams (g.R.Read.remaining l.mine) (g.Q.Read.remaining l.other) l.out.items) (g.R.Read.remaining c.next.new.r)
+    (g.Q.Read.remaining c.next-in-loop-other_form.new.r) l.first l.second s t p q l.invariant
     c.in_ok-some.ensures.ok c.in_ok-other_some.ensures.ok
     (they_part p q s t c.next.new.form.items c.next-in-loop-other_form.new.form.items c.in_ok-some.ensures.form c.in_ok-other_some.ensures.form
     (λ e u. c.is_same.ensures.differ c.if-not-is_same.true e (c.deref.ensures.value ∙ u ∙ sym c.deref-in-loop-other_form.ensures.value))))
@@ -63,9 +64,9 @@ returns-then-not-some-clause-compares g c =
     let p = c.in_ok-some.some in
     let q = c.in_ok-other_some.other_some in
     let same = c.is_same.ensures.same c.if-not-is_same.false in
-    onwards AgreeAtEnds (g.R.Read.remaining c.args.mine.now) (g.R.Read.remaining l.mine) (g.R.Read.remaining c.next.new.r) (g.Q.Read.remaining c.args.other.now)
-    (g.Q.Read.remaining l.other) (g.Q.Read.remaining c.next-in-loop-other_form.new.r) l.first l.second s t
-    c.args.out.now.items l.out.items p q l.invariant c.in_ok-some.ensures.ok c.in_ok-other_some.ensures.ok
+    onwards AgreeAtEnds (streams (g.R.Read.remaining c.args.mine.now) (g.Q.Read.remaining c.args.other.now) c.args.out.now.items)
+    (streams (g.R.Read.remaining l.mine) (g.Q.Read.remaining l.other) l.out.items) (g.R.Read.remaining c.next.new.r)
+    (g.Q.Read.remaining c.next-in-loop-other_form.new.r) l.first l.second s t p q l.invariant c.in_ok-some.ensures.ok c.in_ok-other_some.ensures.ok
     (they_agree p q s t c.if-not-some.true (sym same.0 ∙ c.if-not-some.true))
 
 pub loop-other_form-smaller : goal.loop-other_form-smaller
@@ -82,9 +83,10 @@ loop-other_form-preserved g c =
     let p = c.in_ok-some.some in
     let q = c.in_ok-other_some.other_some in
     let same = c.is_same.ensures.same c.if-not-is_same.false in
-    one_more (g.R.Read.remaining c.args.mine.now) (g.R.Read.remaining l.mine) (g.R.Read.remaining c.next.new.r) (g.Q.Read.remaining c.args.other.now)
-    (g.Q.Read.remaining l.other) (g.Q.Read.remaining c.next-in-loop-other_form.new.r) l.first l.second s t
-    c.take.new.self c.take-in-loop-other_form.new.self c.args.out.now.items l.out.items c.next.new.form.items c.next-in-loop-other_form.new.form.items p q
+    one_more (streams (g.R.Read.remaining c.args.mine.now) (g.Q.Read.remaining c.args.other.now) c.args.out.now.items)
+    (streams (g.R.Read.remaining l.mine) (g.Q.Read.remaining l.other) l.out.items) (g.R.Read.remaining c.next.new.r)
+    (g.Q.Read.remaining c.next-in-loop-other_form.new.r) (record { first = l.first; second = l.second }) (record { first = s; second = t })
+    (record { first = c.take.new.self; second = c.take-in-loop-other_form.new.self }) c.next.new.form.items c.next-in-loop-other_form.new.form.items p q
     c.if-not-some.false (sym same.0 ∙ c.if-not-some.false) l.invariant c.in_ok-some.ensures.ok
     c.in_ok-other_some.ensures.ok c.in_ok-some.ensures.form c.in_ok-other_some.ensures.form (sym c.deref.ensures.value ∙ same.1
     ∙ c.deref-in-loop-other_form.ensures.value) c.in_ok-some.ensures.ready c.in_ok-other_some.ensures.ready

@@ -20,7 +20,8 @@ loop-offered-preserved c =
     let text = c.pairs-offered-items in
     answered_more c.args.session c.args.preferences.now (declarations c.args.tag c.args.max_recv) c.args.text.now c.loop-offered.offered-index _
     (all_shown c.loop-offered.pairs.items) (all_shown c.add_answer.new.pairs.items)
-    (stands_in text.result.now c.args.text.now c.loop-offered.offered-index _ text.ensures.pairs c.loop-offered-test.true) c.loop-offered.invariant c.in_ok-add_answer.ensures
+    (stands_in text.result.now c.args.text.now c.loop-offered.offered-index _ text.ensures.pairs c.loop-offered-test.true) c.loop-offered.invariant
+    c.in_ok-add_answer.ensures
 
 pub returns : goal.returns
 returns c =

@@ -30,7 +30,8 @@ returns c =
     let idle : IsTrue c.is_idle.result = search in
     let gives = c.into_iter-step-iterator.ensures.into_iter_gives in
     let list = YieldsList-from_vec c.args.steps.items gives.0 (omega (arith, gives.1, ap length gives.0, c.args.steps.ok.0)) in
-    let end = YieldsList-end list c.loop-step.yielded c.loop-step.step-iterator c.loop-step.yielded_by c.next.result c.next.new.self c.in-None.is c.next.ensures.steps in
+    let end = YieldsList-end list c.loop-step.yielded c.loop-step.step-iterator c.loop-step.yielded_by c.next.result c.next.new.self c.in-None.is
+    c.next.ensures.steps in
     let all : c.loop-step.yielded ≡ c.args.steps.items = sym (map_same c.loop-step.yielded) ∙ end.0 in
     let given : HasGiven c.args.pair.now c.args.steps.items c.loop-step.pair c.loop-step.outcomes.items =
     subst (λ (x : List Step). HasGiven c.args.pair.now x c.loop-step.pair c.loop-step.outcomes.items) all c.loop-step.invariant in

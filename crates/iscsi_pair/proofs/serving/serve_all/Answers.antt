@@ -43,7 +43,8 @@ loop-request-preserved c =
     let yielded : List Request = c.loop-request.yielded in
     let outcomes : List Done = c.loop-request.outcomes.items in
     let ran = c.settle-in-loop-request.ensures.ran in
-    let more = served_next first yielded c.in-Some.request c.loop-request.pair c.step.new.self c.settle-in-loop-request.new.pair c.outcome-outcome.new.self ran.0
+    let more = served_next first yielded c.in-Some.request c.loop-request.pair c.step.new.self c.settle-in-loop-request.new.pair c.outcome-outcome.new.self
+    ran.0
     outcomes c.loop-request.invariant c.step.ensures ran.1 ran.2 c.in_ok-settle-2.ensures.ok c.outcome-outcome.ensures.taken in
     subst (λ (x : List Done). HasServed first (yielded ++ c.in-Some.request ∷ []) c.outcome-outcome.new.self x)
     (sym (c.in-Ok.ensures.ok ∙ ap (λ (d : Option Done). outcomes ++ listed d) c.outcome-outcome.ensures.outcome)) more

@@ -1,11 +1,16 @@
 use Rattle.std.proofs.Common.{[], take}
 use Rattle.std.proofs.lemmas.Result.{err_from_is_err_and}
 use Rattle.iscsi_target.specs.Machine.{is_machine_closed}
-use Rattle.iscsi_target.specs.Feed.{Store}
+use Rattle.iscsi_target.specs.Feed.{scene, Store}
 use Rattle.iscsi_target.specs.Advances.{store_of}
 use Rattle.iscsi_serve.specs.inner.SessionSteps.{service}
-use Rattle.iscsi_serve.proofs.SessionReadInvariant.{next_goes, next_closes, next_is_closed, next_is_open, next_rises, closes_synced, goes_written}
-use Rattle.iscsi_serve.proofs.SessionReadInvariant.{write_loses, breaks_held, fault_breaks, held_all}
+use Rattle.iscsi_serve.proofs.NextPduLemmas.{next_goes, next_rises}
+use Rattle.iscsi_serve.proofs.SessionReadInvariant.{next_closes, next_is_closed, next_is_open}
+use Rattle.iscsi_serve.proofs.SyncedLemmas.{closes_synced}
+use Rattle.iscsi_serve.proofs.PieceLemmas.{goes_written}
+use Rattle.iscsi_serve.proofs.NextPduLemmas.{write_loses, fault_breaks}
+use Rattle.iscsi_serve.proofs.PieceLemmas.{breaks_held}
+use Rattle.iscsi_serve.proofs.SyncedLemmas.{held_all}
 use Rattle.iscsi_serve.proofs.SessionCrashLemmas.{next_crashes, next_advances, comes_synced, crashes_synced}
 use Rattle.iscsi_serve.proofs.session.serve_next.Goals as goal
 
@@ -20,9 +25,10 @@ returns-in_err-write_out-in-Ok-clause-err g c =
     rw (p.1, p.2) (breaks_held g.S.BlockStore.protected (service c.args.target.now before contents c.args.out.now.items)
     (service c.feed_next.new.self after now [])
     c.args.piece.now c.in_err-write_out-in-Ok.field-0.0 contents now c.feed_next.new.out.items c.in_err-write_out-in-Ok.ensures.err
-    (write_loses g.S.BlockStore.protected c.args.target.now c.feed_next.new.self before mid after contents now c.args.out.now.items c.args.piece.now
-    c.feed_next.new.out.items []
-    c.in_err-write_out-in-Ok.field-0.0 c.feed_next.result c.requires.live c.feed_next.ensures.fed c.in_err-write_out-in-Ok.ensures.store c.in_err-write_out-in-Ok.ensures.bytes
+    (write_loses g.S.BlockStore.protected (service c.args.target.now before contents c.args.out.now.items)
+    (scene c.feed_next.new.self mid c.feed_next.new.out.items) after now c.args.piece.now []
+    c.in_err-write_out-in-Ok.field-0.0 c.feed_next.result c.requires.live c.feed_next.ensures.fed c.in_err-write_out-in-Ok.ensures.store
+    c.in_err-write_out-in-Ok.ensures.bytes
     c.in_err-write_out-in-Ok.ensures.err))
 
 pub returns-in_err-write_out-in-Err-clause-err : goal.returns-in_err-write_out-in-Err-clause-err
@@ -36,8 +42,8 @@ returns-in_err-write_out-in-Err-clause-err g c =
     rw (p.1, p.2) (breaks_held g.S.BlockStore.protected (service c.args.target.now before contents c.args.out.now.items)
     (service c.feed_next.new.self after now [])
     c.args.piece.now c.in_err-write_out-in-Err.field-0.0 contents now c.feed_next.new.out.items c.in_err-write_out-in-Err.ensures.err
-    (write_loses g.S.BlockStore.protected c.args.target.now c.feed_next.new.self before mid after contents now c.args.out.now.items c.args.piece.now
-    c.feed_next.new.out.items []
+    (write_loses g.S.BlockStore.protected (service c.args.target.now before contents c.args.out.now.items)
+    (scene c.feed_next.new.self mid c.feed_next.new.out.items) after now c.args.piece.now []
     c.in_err-write_out-in-Err.field-0.0 c.feed_next.result c.requires.live c.feed_next.ensures.fed c.in_err-write_out-in-Err.ensures.store
     c.in_err-write_out-in-Err.ensures.bytes c.in_err-write_out-in-Err.ensures.err))
 

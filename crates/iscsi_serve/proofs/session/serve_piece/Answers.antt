@@ -5,8 +5,9 @@ use Rattle.std.proofs.lemmas.Result.{err_from_is_err_and}
 use Rattle.iscsi_target.specs.Feed.{Store}
 use Rattle.iscsi_target.specs.Advances.{store_of}
 use Rattle.iscsi_serve.specs.inner.SessionSteps.{ServedTarget, service}
-use Rattle.iscsi_serve.proofs.SessionReadInvariant.{PieceUpTo, piece_next, piece_breaks, piece_lost, piece_done, piece_over, piece_closes}
-use Rattle.iscsi_serve.proofs.SessionReadInvariant.{piece_start, closes_synced, held_all}
+use Rattle.iscsi_serve.proofs.PieceLemmas.{PieceUpTo, piece_next, piece_breaks, piece_lost, piece_done, piece_over, piece_closes}
+use Rattle.iscsi_serve.proofs.PieceLemmas.{piece_start}
+use Rattle.iscsi_serve.proofs.SyncedLemmas.{closes_synced, held_all}
 use Rattle.iscsi_serve.proofs.SessionCrashLemmas.{AdvancesUpTo, piece_begins, piece_advances, piece_advanced, piece_crashes, comes_synced, crashes_synced}
 use Rattle.iscsi_serve.proofs.SessionCrashLemmas.{LastUpTo, SomeSynced, last_begins, last_more, last_stops, last_closed, last_synced, last_done, serving}
 use Rattle.iscsi_target.proofs.Feed.PassedLemmas.{crashes_none}
@@ -238,8 +239,9 @@ returns-in_err-taken-clause-unsent g c =
     let l = c.loop-rest.invariant.4 synced in (
       l.0,
       l.1,
-      last_stops g.S.BlockStore.protected old c.args.piece.now c.loop-rest.rest.now c.loop-rest.target c.serve_next.new.target
-          (store_of (g.S.BlockStore.disk l.0) (g.S.BlockStore.failures l.0)) mid.store after mid.contents contents mid.waiting []
+      last_stops g.S.BlockStore.protected old (serving c.args.piece.now c.loop-rest.rest.now)
+          (service c.loop-rest.target mid.store mid.contents mid.waiting) (service c.serve_next.new.target after contents [])
+          (store_of (g.S.BlockStore.disk l.0) (g.S.BlockStore.failures l.0))
           (g.S.BlockStore.kept l.0) (g.S.BlockStore.kept c.loop-rest.store) (g.S.BlockStore.kept c.serve_next.new.store) l.2
           (c.in_err-taken.ensures.unsent (cc)) c.serve_next.ensures.crash,
     ))
@@ -267,9 +269,9 @@ returns-in_err-write_out-clause-unsent g c =
     c.serve_next.ensures.crash c.in_ok-taken.ensures.sent in (
       l.0,
       l.1,
-      last_synced g.S.BlockStore.protected old c.args.piece.now c.serve_next.new.target
-          (store_of (g.S.BlockStore.disk l.0) (g.S.BlockStore.failures l.0)) after last contents
-          (g.W.Write.contents c.write_out.new.w) c.serve_next.new.out.items [] (g.S.BlockStore.kept l.0) (g.S.BlockStore.kept c.serve_next.new.store)
+      last_synced g.S.BlockStore.protected old c.args.piece.now (service c.serve_next.new.target after contents c.serve_next.new.out.items)
+          (store_of (g.S.BlockStore.disk l.0) (g.S.BlockStore.failures l.0)) last (g.W.Write.contents c.write_out.new.w) [] (g.S.BlockStore.kept l.0)
+          (g.S.BlockStore.kept c.serve_next.new.store)
           (g.S.BlockStore.kept c.write_out.new.store) l.2 c.in_err-write_out.ensures.store c.in_err-write_out.ensures.kept
           (held_all c.in_err-write_out.field-0.0 contents (g.W.Write.contents c.write_out.new.w) c.serve_next.new.out.items (cc)
           c.in_err-write_out.ensures.err),
@@ -287,9 +289,9 @@ returns-in_err-write_out-2-clause-unsent g c =
     let l = c.loop-rest.invariant.4 synced in (
       l.0,
       l.1,
-      last_done g.S.BlockStore.protected old c.args.piece.now c.loop-rest.rest.now c.loop-rest.target
-          (store_of (g.S.BlockStore.disk l.0) (g.S.BlockStore.failures l.0)) mid.store last
-          mid.contents (g.W.Write.contents c.write_out-2.new.w) mid.waiting [] (g.S.BlockStore.kept l.0) (g.S.BlockStore.kept c.loop-rest.store)
+      last_done g.S.BlockStore.protected old c.args.piece.now c.loop-rest.rest.now (service c.loop-rest.target mid.store mid.contents mid.waiting)
+          (store_of (g.S.BlockStore.disk l.0) (g.S.BlockStore.failures l.0)) last (g.W.Write.contents c.write_out-2.new.w) [] (g.S.BlockStore.kept l.0)
+          (g.S.BlockStore.kept c.loop-rest.store)
           (g.S.BlockStore.kept c.write_out-2.new.store) l.2 c.in_err-write_out-2.ensures.store c.in_err-write_out-2.ensures.kept
           (held_all c.in_err-write_out-2.field-0.0 mid.contents (g.W.Write.contents c.write_out-2.new.w) mid.waiting (cc) c.in_err-write_out-2.ensures.err),
     ))

@@ -2,7 +2,7 @@ use Rattle.std.proofs.Common.{◌≡◌, true, false, length, []}
 use Rattle.iscsi_target.specs.Machine.{is_machine_closed}
 use Rattle.iscsi_target.specs.Advances.{store_of}
 use Rattle.iscsi_serve.specs.inner.SessionSteps.{service}
-use Rattle.iscsi_serve.proofs.SessionReadInvariant.{PieceUpTo}
+use Rattle.iscsi_serve.proofs.PieceLemmas.{PieceUpTo}
 use Rattle.iscsi_serve.proofs.SessionCrashLemmas.{AdvancesUpTo, Crashed, LastUpTo, SomeSynced, serving}
 use Rattle.iscsi_serve.proofs.session.serve_piece.Given as goal
 

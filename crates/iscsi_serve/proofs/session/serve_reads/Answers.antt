@@ -28,8 +28,9 @@ returns-in_err-n-clause-serves g c =
     (g.S.BlockStore.kept c.args.store.now)
     (g.S.BlockStore.kept c.loop-out.store) in
     let p = err_from_is_err_and c.from_residual.result c.from_residual.ensures.1 in
-    rw (p.1, p.2) (read_stops g.S.BlockStore.protected c.args.config c.requires.range first c.loop-out.target store r0 (g.R.Read.remaining c.loop-out.r)
-    (g.R.Read.remaining c.next.new.r) w0 (g.W.Write.contents c.loop-out.w) due c.loop-out.invariant.1.read c.loop-out.invariant.1.crash c.loop-out.invariant.0
+    rw (p.1, p.2) (read_stops g.S.BlockStore.protected c.args.config c.requires.range (outside first r0 w0) c.loop-out.target
+    (outside store (g.R.Read.remaining c.loop-out.r) (g.W.Write.contents c.loop-out.w)) (g.R.Read.remaining c.next.new.r) due
+    c.loop-out.invariant.1.read c.loop-out.invariant.1.crash c.loop-out.invariant.0
     c.in_err-n.ensures.err.0)
 
 pub returns-clause-serves : goal.returns-clause-serves
@@ -41,8 +42,9 @@ returns-clause-serves g c =
     let due : List ℕ → Type 0 = λ read. CrashesFed g.S.BlockStore.protected (opening_target c.args.config 1) first read store
     (g.S.BlockStore.kept c.args.store.now)
     (g.S.BlockStore.kept c.loop-out.store) in
-    rw c.from.ensures (finish_stops g.S.BlockStore.protected c.args.config c.requires.range c.in-Err.fault first c.loop-out.target c.finish.new.self store r0
-    (g.R.Read.remaining c.loop-out.r) (g.R.Read.remaining c.next.new.r) w0 (g.W.Write.contents c.loop-out.w) due c.loop-out.invariant.1.read
+    rw c.from.ensures (finish_stops g.S.BlockStore.protected c.args.config c.requires.range c.in-Err.fault (outside first r0 w0) c.loop-out.target
+    c.finish.new.self (outside store (g.R.Read.remaining c.loop-out.r) (g.W.Write.contents c.loop-out.w)) (g.R.Read.remaining c.next.new.r) due
+    c.loop-out.invariant.1.read
     c.loop-out.invariant.1.crash c.loop-out.invariant.0 c.in-Err.ensures.finishes (rw c.in_default.is at c.in_ok-n.ensures.end).1)
 
 pub returns-in-Ok-clause-serves : goal.returns-in-Ok-clause-serves
@@ -54,8 +56,9 @@ returns-in-Ok-clause-serves g c =
     let due : List ℕ → Type 0 = λ read. CrashesFed g.S.BlockStore.protected (opening_target c.args.config 1) first read store
     (g.S.BlockStore.kept c.args.store.now)
     (g.S.BlockStore.kept c.loop-out.store) in
-    end_stops g.S.BlockStore.protected c.args.config c.requires.range first c.loop-out.target c.finish.new.self store r0 (g.R.Read.remaining c.loop-out.r)
-    (g.R.Read.remaining c.next.new.r) w0 (g.W.Write.contents c.loop-out.w) due c.loop-out.invariant.1.read c.loop-out.invariant.1.crash c.loop-out.invariant.0
+    end_stops g.S.BlockStore.protected c.args.config c.requires.range (outside first r0 w0) c.loop-out.target c.finish.new.self
+    (outside store (g.R.Read.remaining c.loop-out.r) (g.W.Write.contents c.loop-out.w)) (g.R.Read.remaining c.next.new.r) due
+    c.loop-out.invariant.1.read c.loop-out.invariant.1.crash c.loop-out.invariant.0
     c.in-Ok.ensures.finishes
     (rw c.in_default.is at c.in_ok-n.ensures.end).1
 
@@ -75,12 +78,13 @@ returns-in_err-serve_piece-clause-serves g c =
     (g.S.BlockStore.kept c.args.store.now)
     (g.S.BlockStore.kept c.serve_piece.new.store) in
     let crash : due (c.loop-out.invariant.1.read.stream ++ piece) =
-    session_crashes g.S.BlockStore.protected c.args.config first c.loop-out.target store after r0 r1 w0 w1 (g.S.BlockStore.kept c.args.store.now)
+    session_crashes g.S.BlockStore.protected c.args.config (outside first r0 w0) c.loop-out.target (outside store r1 w1) after
+    (g.S.BlockStore.kept c.args.store.now)
     (g.S.BlockStore.kept c.loop-out.store)
     (g.S.BlockStore.kept c.serve_piece.new.store) piece c.loop-out.invariant.1 c.serve_piece.ensures.crash in
     let p = err_from_is_err_and c.from_residual-in_err-serve_piece.result c.from_residual-in_err-serve_piece.ensures.1 in
-    rw (p.1, p.2) (fault_stops g.S.BlockStore.protected c.args.config c.requires.range c.in_err-serve_piece.field-0.0 first c.loop-out.target
-    c.serve_piece.new.target store after r0 r1 r2 w0 w1 w2 piece
+    rw (p.1, p.2) (fault_stops g.S.BlockStore.protected c.args.config c.requires.range c.in_err-serve_piece.field-0.0 (outside first r0 w0)
+    c.loop-out.target c.serve_piece.new.target (outside store r1 w1) (outside after r2 w2) piece
     due c.loop-out.invariant.1.read crash (rw c.in-Some.is at c.in_ok-n.ensures.piece).2 c.in_err-serve_piece.ensures.err)
 
 pub returns-in_err-serve_piece-clause-blocks : goal.returns-in_err-serve_piece-clause-blocks
@@ -95,8 +99,8 @@ returns-in_err-serve_piece-clause-blocks g c =
     let w1 = g.W.Write.contents c.loop-out.w in
     let w2 = g.W.Write.contents c.serve_piece.new.w in
     let piece : List ℕ = take c.in-Some.n c.next.new.buffer in
-    fault_executed g.S.BlockStore.protected c.args.config c.in_err-serve_piece.field-0.0 first c.loop-out.target c.serve_piece.new.target store
-    after r0 r1 w0 w1 w2 piece
+    fault_executed g.S.BlockStore.protected c.args.config c.in_err-serve_piece.field-0.0 (outside first r0 w0) c.loop-out.target c.serve_piece.new.target
+    (outside store r1 w1) after w2 piece
     c.loop-out.invariant.1.read c.in_err-serve_piece.ensures.err
 
 pub returns-then-branch-clause-serves : goal.returns-then-branch-clause-serves
@@ -115,10 +119,12 @@ returns-then-branch-clause-serves g c =
     (g.S.BlockStore.kept c.args.store.now)
     (g.S.BlockStore.kept c.serve_piece.new.store) in
     let crash : due (c.loop-out.invariant.1.read.stream ++ piece) =
-    session_crashes g.S.BlockStore.protected c.args.config first c.loop-out.target store after r0 r1 w0 w1 (g.S.BlockStore.kept c.args.store.now)
+    session_crashes g.S.BlockStore.protected c.args.config (outside first r0 w0) c.loop-out.target (outside store r1 w1) after
+    (g.S.BlockStore.kept c.args.store.now)
     (g.S.BlockStore.kept c.loop-out.store)
     (g.S.BlockStore.kept c.serve_piece.new.store) piece c.loop-out.invariant.1 c.serve_piece.ensures.crash in
-    over_stops g.S.BlockStore.protected c.args.config c.requires.range first c.loop-out.target c.serve_piece.new.target store after r0 r1 r2 w0 w1 w2 piece due
+    over_stops g.S.BlockStore.protected c.args.config c.requires.range (outside first r0 w0) c.loop-out.target c.serve_piece.new.target
+    (outside store r1 w1) (outside after r2 w2) piece due
     c.loop-out.invariant.1.read crash
     (rw c.in-Some.is at c.in_ok-n.ensures.piece).2 c.in_ok-serve_piece.ensures.goes
     (c.serve_piece.ensures.closes (c.in_ok-serve_piece.was ∙ ok_is c.in_ok-serve_piece.field-0 c.if-branch.true))
@@ -136,7 +142,8 @@ returns-then-branch-clause-blocks g c =
     let w2 = g.W.Write.contents c.serve_piece.new.w in
     let piece : List ℕ = take c.in-Some.n c.next.new.buffer in
     let more : ReadUpTo g.S.BlockStore.protected c.args.config (outside first r0 w0) c.serve_piece.new.target (outside after r2 w2) =
-    read_more g.S.BlockStore.protected c.args.config first c.loop-out.target c.serve_piece.new.target store after r0 r1 r2 w0 w1 w2 piece
+    read_more g.S.BlockStore.protected c.args.config (outside first r0 w0) c.loop-out.target c.serve_piece.new.target (outside store r1 w1)
+    (outside after r2 w2) piece
     c.loop-out.invariant.1.read (rw c.in-Some.is
     at c.in_ok-n.ensures.piece).2
     c.in_ok-serve_piece.ensures.goes in
@@ -154,7 +161,7 @@ returns-then-branch-clause-end g c = λ h.
     let w1 = g.W.Write.contents c.loop-out.w in
     let w2 = g.W.Write.contents c.serve_piece.new.w in
     let piece : List ℕ = take c.in-Some.n c.next.new.buffer in
-    over_ends g.S.BlockStore.protected c.args.config first c.loop-out.target store after r0 r1 r2 w0 w1 piece c.loop-out.invariant.1.read
+    over_ends g.S.BlockStore.protected c.args.config (outside first r0 w0) c.loop-out.target (outside store r1 w1) after r2 piece c.loop-out.invariant.1.read
     (rw c.in-Some.is at c.in_ok-n.ensures.piece).2
     (c.serve_piece.ensures.closes (c.in_ok-serve_piece.was ∙ ok_is c.in_ok-serve_piece.field-0 c.if-branch.true)) h
 
@@ -172,7 +179,8 @@ loop-out-preserved g c =
     let piece : List ℕ = take c.in-Some.n c.next.new.buffer in
     let open_ = c.in_ok-serve_piece.was ∙ ok_open c.in_ok-serve_piece.field-0 c.if-branch.false in (
       c.serve_piece.ensures.open open_,
-      session_more g.S.BlockStore.protected c.args.config first c.loop-out.target c.serve_piece.new.target store after r0 r1 r2 w0 w1 w2
+      session_more g.S.BlockStore.protected c.args.config (outside first r0 w0) c.loop-out.target c.serve_piece.new.target (outside store r1 w1)
+          (outside after r2 w2)
           (g.S.BlockStore.kept c.args.store.now)
           (g.S.BlockStore.kept c.loop-out.store) (g.S.BlockStore.kept c.serve_piece.new.store) piece c.loop-out.invariant.1 (rw c.in-Some.is at
           c.in_ok-n.ensures.piece).2
@@ -215,9 +223,9 @@ returns-in_err-serve_piece-clause-unsent g c =
     let p = err_from_is_err_and c.from_residual-in_err-serve_piece.result c.from_residual-in_err-serve_piece.ensures.1 in
     rw (p.1, p.2) (λ is synced.
     let l = c.in_err-serve_piece.ensures.unsent (cc) (c.loop-out.invariant.2 synced) in
-    let m = session_last g.S.BlockStore.protected c.args.config c.requires.range first c.loop-out.target c.serve_piece.new.target
-    (store_of (g.S.BlockStore.disk l.0) (g.S.BlockStore.failures l.0)) store
-    after r0 r1 r2 w0 w1 w2 (g.S.BlockStore.kept c.args.store.now) (g.S.BlockStore.kept c.loop-out.store) (g.S.BlockStore.kept l.0)
+    let m = session_last g.S.BlockStore.protected c.args.config c.requires.range (outside first r0 w0) c.loop-out.target c.serve_piece.new.target
+    (record { store = (store_of (g.S.BlockStore.disk l.0) (g.S.BlockStore.failures l.0)); kept = (g.S.BlockStore.kept l.0) }) (outside store r1 w1)
+    (outside after r2 w2) (g.S.BlockStore.kept c.args.store.now) (g.S.BlockStore.kept c.loop-out.store)
     (g.S.BlockStore.kept c.serve_piece.new.store) piece c.loop-out.invariant.1 (rw c.in-Some.is at c.in_ok-n.ensures.piece).2 l.2 in
     (l.0, l.1, m))
 

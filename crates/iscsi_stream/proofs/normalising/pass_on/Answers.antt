@@ -5,6 +5,7 @@ use Rattle.std.proofs.lemmas.Result.{err_from_is_err_and}
 use Rattle.iscsi_stream.specs.Framing.{holding}
 use Rattle.iscsi_stream.proofs.PassingLemmas.{passed_none, passed_more, passed_part, feed_stops, takes_some, bare_taken}
 use Rattle.iscsi_stream.proofs.normalising.pass_on.Goals as goal
+use Rattle.iscsi_stream.specs.inner.Passing.{passing_progress}
 
 pub loop-rest-init : goal.loop-rest-init
 loop-rest-init c = passed_none c.args.form c.args.piece.now c.args.framer.now c.args.out.now.items c.args.counts.now c.requires.unready
@@ -20,9 +21,9 @@ loop-rest-preserved-in-Some-bare c =
     let next = c.in-Some.ensures in
     let taken = bare_taken c.loop-rest.framer rest c.in-Some-bare.head (next.live refl) (next.empty refl) (next.whole refl)
     (rw (next.header, c.in-Some-bare.is) at c.read_bare_head-bare.ensures.means) in
-    passed_more c.args.form c.args.piece.now rest c.args.framer.now c.loop-rest.framer (holding c.loop-rest.framer (take 48 rest)) c.append_bare.new.framer
-    c.args.out.now.items c.loop-rest.out.items c.append_bare.new.out.items
-    c.args.counts.now c.loop-rest.counts c.append_bare.new.counts 48 _ c.loop-rest.invariant
+    passed_more c.args.form c.args.piece.now rest (passing_progress c.args.framer.now c.args.out.now.items c.args.counts.now)
+    (passing_progress c.loop-rest.framer c.loop-rest.out.items c.loop-rest.counts) (holding c.loop-rest.framer (take 48 rest))
+    (passing_progress c.append_bare.new.framer c.append_bare.new.out.items c.append_bare.new.counts) 48 _ c.loop-rest.invariant
     taken.0 (c.in_ok-append_bare.ensures.ok (take 48 rest) taken.1)
 
 pub returns-in_err-taken-clause-appended : goal.returns-in_err-taken-clause-appended
@@ -45,9 +46,10 @@ loop-rest-smaller c =
 
 pub loop-rest-preserved : goal.loop-rest-preserved
 loop-rest-preserved c =
-    passed_more c.args.form c.args.piece.now c.loop-rest.rest.now c.args.framer.now c.loop-rest.framer c.feed.new.self c.append_ready.new.framer
-    c.args.out.now.items c.loop-rest.out.items c.append_ready.new.out.items
-    c.args.counts.now c.loop-rest.counts c.append_ready.new.counts c.in_ok-taken.taken c.in_ok-append_ready.ensures.ok.0 c.loop-rest.invariant
+    passed_more c.args.form c.args.piece.now c.loop-rest.rest.now (passing_progress c.args.framer.now c.args.out.now.items c.args.counts.now)
+    (passing_progress c.loop-rest.framer c.loop-rest.out.items c.loop-rest.counts) c.feed.new.self
+    (passing_progress c.append_ready.new.framer c.append_ready.new.out.items c.append_ready.new.counts) c.in_ok-taken.taken
+    c.in_ok-append_ready.ensures.ok.0 c.loop-rest.invariant
     c.in_ok-taken.ensures.ok c.in_ok-append_ready.ensures.ok.1
 
 pub returns-in_err-append_ready-clause-appended : goal.returns-in_err-append_ready-clause-appended

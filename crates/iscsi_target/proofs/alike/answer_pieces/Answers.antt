@@ -41,7 +41,7 @@ loop-piece-preserved g c =
           subst (λ (x : List (List ℕ)). FeedsAllPieces g.S.BlockStore.protected (scene start before []) x
           (scene c.feed-fed.new.self after c.feed-fed.new.out.items))
           (sym (mapped_more items c.args.pieces.now c.loop-piece.piece-index c.piece-item.result (omega arith) (sym c.piece-item.is)))
-          (fed_more g.S.BlockStore.protected start before [] (map items (take c.loop-piece.piece-index c.args.pieces.now)) c.loop-piece.target mid
-          c.loop-piece.output.items
-          c.piece-item.result.items c.feed-fed.result c.feed-fed.new.self after c.feed-fed.new.out.items (c.loop-piece.invariant.fed at_mid) fed well));
+          (fed_more g.S.BlockStore.protected (scene start before []) (map items (take c.loop-piece.piece-index c.args.pieces.now))
+          (scene c.loop-piece.target mid c.loop-piece.output.items) c.piece-item.result.items c.feed-fed.result
+          (scene c.feed-fed.new.self after c.feed-fed.new.out.items) (c.loop-piece.invariant.fed at_mid) fed well));
     }

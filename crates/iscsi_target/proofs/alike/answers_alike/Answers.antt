@@ -29,17 +29,17 @@ returns g c =
       first = c.in_ok-first.ensures.fed;
       second = c.in_ok-second.ensures.fed;
       alike = λ ms well well_other p q.
-          (let d = done_alike g.S.BlockStore.protected settings n store other first second pieces others a.target b.target a.output.items
-          b.output.items ms c.requires.disk
+          (let d = done_alike g.S.BlockStore.protected settings n store other (scene a.target first a.output.items) (scene b.target second b.output.items)
+          pieces others ms c.requires.disk
           (c.in_ok-first.ensures.fed well) (fed_second well_other) p q in
           (d.output, d.disk, d.machine));
       front = λ ms given rest same_given second_rest well well_other p q.
-          (let d = wrote_alike g.S.BlockStore.protected settings n store other first second pieces others a.target b.target a.output.items b.output.items
-          ms given rest same_given
-          second_rest c.in_ok-first.ensures.in_range c.requires.disk (c.in_ok-first.ensures.fed well) (fed_second well_other) p q in
+          (let d = wrote_alike g.S.BlockStore.protected settings n store other (scene a.target first a.output.items) (scene b.target second b.output.items)
+          pieces others ms (record { given = given; rest = rest }) (record { given = same_given; rest = second_rest }) c.in_ok-first.ensures.in_range
+          c.requires.disk (c.in_ok-first.ensures.fed well) (fed_second well_other) p q in
           (d.output, d.disk, d.held, d.stage));
       phase = λ ms given rest same_given second_rest well well_other p q.
-          (wrote_alike g.S.BlockStore.protected settings n store other first second pieces others a.target b.target a.output.items b.output.items ms given rest
-          same_given second_rest
+          (wrote_alike g.S.BlockStore.protected settings n store other (scene a.target first a.output.items) (scene b.target second b.output.items) pieces
+          others ms (record { given = given; rest = rest }) (record { given = same_given; rest = second_rest })
           c.in_ok-first.ensures.in_range c.requires.disk (c.in_ok-first.ensures.fed well) (fed_second well_other) p q).phase;
     }

@@ -1,6 +1,7 @@
 use Rattle.std.proofs.Common.{List, ℕ, sym, subst, ◌∙◌, arith}
 use Rattle.iscsi_stream.specs.Stream.{SplitsStream, longest_segment}
-use Rattle.iscsi_target.proofs.Feed.FeedingLemmas.{fed_stream, fed_any, fed_holds, same_session}
+use Rattle.iscsi_target.proofs.Feed.FedStreamLemmas.{fed_stream}
+use Rattle.iscsi_target.proofs.Feed.FeedingLemmas.{fed_any, fed_holds, same_session}
 use Rattle.iscsi_target.proofs.laws.any_pieces.Goals as goal
 
 pub returns : goal.returns

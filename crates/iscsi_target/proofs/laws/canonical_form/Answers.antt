@@ -3,7 +3,7 @@ use Rattle.iscsi_stream.specs.Segment.{no_login}
 use Rattle.iscsi_stream.specs.Stream.{longest_segment, ReadsAs}
 use Rattle.iscsi_stream.proofs.OneMeaningLaw.{canon_again}
 use Rattle.iscsi_target.specs.Feed.{TargetReaches, beginning, stream_of}
-use Rattle.iscsi_target.proofs.Feed.FeedingLemmas.{fed_stream}
+use Rattle.iscsi_target.proofs.Feed.FedStreamLemmas.{fed_stream}
 use Rattle.iscsi_target.proofs.laws.canonical_form.Goals as goal
 
 pub returns : goal.returns

@@ -1,7 +1,7 @@
 use Rattle.std.proofs.Common.{length}
 use Rattle.iscsi_target.specs.Advances.{store_of}
 use Rattle.iscsi_target.specs.Crash.{CrashesFed}
-use Rattle.iscsi_target.proofs.Feed.FeedInvariant.{GoesUpTo}
+use Rattle.iscsi_target.proofs.Feed.FeedStepLemmas.{GoesUpTo}
 use Rattle.iscsi_target.specs.Feed.{scene}
 use Rattle.iscsi_target.proofs.target.feed_all.Given as goal
 

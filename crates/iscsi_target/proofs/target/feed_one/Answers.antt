@@ -5,7 +5,7 @@ use Rattle.iscsi_target.specs.State.{Machine}
 use Rattle.iscsi_target.specs.Feed.{scene, TargetConnection, Store}
 use Rattle.iscsi_target.specs.Advances.{store_of}
 use Rattle.iscsi_target.specs.inner.Inside.{target_connection, AnswersReady}
-use Rattle.iscsi_target.proofs.Feed.FeedInvariant.{fed_none, fed_one, stays_within}
+use Rattle.iscsi_target.proofs.Feed.FeedStepLemmas.{fed_none, fed_one, stays_within}
 use Rattle.iscsi_target.specs.Asking.{has_cache}
 use Rattle.iscsi_target.specs.inner.Asking.{NoneReadyAsks}
 use Rattle.iscsi_target.specs.Crash.{CrashesNext}
@@ -35,9 +35,8 @@ returns-clause-limit g c =
     let after : Store = store_of (g.S.BlockStore.disk c.answer_ready.new.store) (g.S.BlockStore.failures c.answer_ready.new.store) in
     let out : List ℕ = c.args.out.now.items in
     let piece : List ℕ = c.args.piece.now in
-    let fed = fed_one g.S.BlockStore.protected old before out piece piece (drop c.in_ok-taken.taken piece) old before out c.in_ok-taken.taken
-    c.in_ok-broken.broken new after
-    c.answer_ready.new.out.items
+    let fed = fed_one g.S.BlockStore.protected (scene old before out) piece piece (drop c.in_ok-taken.taken piece) (scene old before out)
+    c.in_ok-taken.taken c.in_ok-broken.broken (scene new after c.answer_ready.new.out.items)
     (fed_none g.S.BlockStore.protected old before out piece c.requires.unready c.requires.live) (returns-clause-ok g c) refl in
     stays_within g.S.BlockStore.protected old before out piece (drop c.in_ok-taken.taken piece) new after c.answer_ready.new.out.items fed.fed c.requires.limit
 
@@ -49,9 +48,8 @@ returns-clause-unready g c =
     let after : Store = store_of (g.S.BlockStore.disk c.answer_ready.new.store) (g.S.BlockStore.failures c.answer_ready.new.store) in
     let out : List ℕ = c.args.out.now.items in
     let piece : List ℕ = c.args.piece.now in
-    let fed = fed_one g.S.BlockStore.protected old before out piece piece (drop c.in_ok-taken.taken piece) old before out c.in_ok-taken.taken
-    c.in_ok-broken.broken new after
-    c.answer_ready.new.out.items
+    let fed = fed_one g.S.BlockStore.protected (scene old before out) piece piece (drop c.in_ok-taken.taken piece) (scene old before out)
+    c.in_ok-taken.taken c.in_ok-broken.broken (scene new after c.answer_ready.new.out.items)
     (fed_none g.S.BlockStore.protected old before out piece c.requires.unready c.requires.live) (returns-clause-ok g c) refl in
     fed.fed.answered.ready
 
@@ -62,20 +60,24 @@ returns-in_err-broken-clause-limit g c =
 
 pub returns-in_err-broken-clause-crash : goal.returns-in_err-broken-clause-crash
 returns-in_err-broken-clause-crash g c =
-    subst (λ (m : Machine). CrashesNext g.S.BlockStore.protected (target_connection m c.args.intake.now.framing) c.args.piece.now (g.S.BlockStore.disk c.args.store.now)
+    subst (λ (m : Machine). CrashesNext g.S.BlockStore.protected (target_connection m c.args.intake.now.framing) c.args.piece.now
+    (g.S.BlockStore.disk c.args.store.now)
     (g.S.BlockStore.disk c.answer_ready.new.store) (g.S.BlockStore.kept c.args.store.now)
     (g.S.BlockStore.kept c.answer_ready.new.store)) c.in_ok-taken.ensures.kept
-    (next_by g.S.BlockStore.protected (target_connection c.take_bytes.new.self.machine c.args.intake.now.framing) c.args.piece.now c.in_ok-taken.taken c.take_bytes.new.self.framing
+    (next_by g.S.BlockStore.protected (target_connection c.take_bytes.new.self.machine c.args.intake.now.framing) c.args.piece.now c.in_ok-taken.taken
+    c.take_bytes.new.self.framing
     (g.S.BlockStore.disk c.args.store.now) (g.S.BlockStore.disk c.answer_ready.new.store) (g.S.BlockStore.kept c.args.store.now)
     (g.S.BlockStore.kept c.answer_ready.new.store)
     c.in_ok-taken.ensures.ok c.answer_ready.ensures.crash)
 
 pub returns-clause-crash : goal.returns-clause-crash
 returns-clause-crash g c =
-    subst (λ (m : Machine). CrashesNext g.S.BlockStore.protected (target_connection m c.args.intake.now.framing) c.args.piece.now (g.S.BlockStore.disk c.args.store.now)
+    subst (λ (m : Machine). CrashesNext g.S.BlockStore.protected (target_connection m c.args.intake.now.framing) c.args.piece.now
+    (g.S.BlockStore.disk c.args.store.now)
     (g.S.BlockStore.disk c.answer_ready.new.store) (g.S.BlockStore.kept c.args.store.now)
     (g.S.BlockStore.kept c.answer_ready.new.store)) c.in_ok-taken.ensures.kept
-    (next_by g.S.BlockStore.protected (target_connection c.take_bytes.new.self.machine c.args.intake.now.framing) c.args.piece.now c.in_ok-taken.taken c.take_bytes.new.self.framing
+    (next_by g.S.BlockStore.protected (target_connection c.take_bytes.new.self.machine c.args.intake.now.framing) c.args.piece.now c.in_ok-taken.taken
+    c.take_bytes.new.self.framing
     (g.S.BlockStore.disk c.args.store.now) (g.S.BlockStore.disk c.answer_ready.new.store) (g.S.BlockStore.kept c.args.store.now)
     (g.S.BlockStore.kept c.answer_ready.new.store)
     c.in_ok-taken.ensures.ok c.answer_ready.ensures.crash)
@@ -91,10 +93,12 @@ returns-clause-none g c = λ cache quiet framing takes head segment ready means.
 
 pub returns-clause-only : goal.returns-clause-only
 returns-clause-only g c = λ noted.
-    some_next c.args.intake.now.machine c.take_bytes.new.self.machine c.args.intake.now.framing c.take_bytes.new.self.framing c.args.piece.now c.in_ok-taken.taken c.args.asks.now
+    some_next c.args.intake.now.machine c.take_bytes.new.self.machine c.args.intake.now.framing c.take_bytes.new.self.framing c.args.piece.now
+    c.in_ok-taken.taken c.args.asks.now
     c.in_ok-taken.ensures.ok c.in_ok-taken.ensures.kept (c.note_asking.ensures.only noted)
 
 pub returns-in_err-broken-clause-only : goal.returns-in_err-broken-clause-only
 returns-in_err-broken-clause-only g c = λ noted.
-    some_next c.args.intake.now.machine c.take_bytes.new.self.machine c.args.intake.now.framing c.take_bytes.new.self.framing c.args.piece.now c.in_ok-taken.taken c.args.asks.now
+    some_next c.args.intake.now.machine c.take_bytes.new.self.machine c.args.intake.now.framing c.take_bytes.new.self.framing c.args.piece.now
+    c.in_ok-taken.taken c.args.asks.now
     c.in_ok-taken.ensures.ok c.in_ok-taken.ensures.kept (c.note_asking.ensures.only noted)

@@ -20,4 +20,5 @@ returns-in_err-found c =
     let found : option_map (λ x. x.now) c.find.result ≡ find (λ row. bytes_eq row.0.now c.args.name.now) c.args.keys.now =
     find_from_yields_List (λ (row : Bor (List ℕ) × KeyKind). bytes_eq row.0.now c.args.name.now) _ _ c.find.result c.find.ensures.ran
     (YieldsList-from_slice c.args.keys.now cc) (λ x b q k. search (rules, tests)) in
-    rw c.from_residual.ensures (ap (option_map (λ (row : Bor (List ℕ) × KeyKind). row.1)) (rw c.in_err-found.was at found) ∙ find_row c.args.name.now c.args.keys.now)
+    rw c.from_residual.ensures (ap (option_map (λ (row : Bor (List ℕ) × KeyKind). row.1)) (rw c.in_err-found.was at found) ∙ find_row c.args.name.now
+    c.args.keys.now)

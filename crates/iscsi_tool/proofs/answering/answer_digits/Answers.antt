@@ -21,6 +21,6 @@ returns g c =
         through_lent held c.new-digits.result after _ _ (held c.finish.new.w) s.1 f.0 s.4 c.new-digits.ensures.whole begin s.3
             (λ h. search rules) more,
         spells c.args.blocks c.args.bytes.now s.0 c.answer-outcome.new.r.now s.1 f.0 c.answer-outcome.result c.finish.result
-            after.is_cut (held after.inner.writer.now) s.2 s.5 c.answer-outcome.ensures.end cut,
+            after.is_cut (held after.inner.writer.now) s.2 s.5 c.answer-outcome.ensures.end c.answer-outcome.ensures.cut cut,
       );
     }

@@ -10,9 +10,10 @@ returns c =
     let none : bad_key (offered c.args.self.now) c.args.answer.now ≡ None = rw (← c.self.view_is) (sym c.bad_key.ensures.key ∙ c.in_default.is) in
     let next : c.following_stage-next.result ≡ following_stage c.args.self.now.stage = c.following_stage-next.ensures
     ∙ ap (λ (m : InitiatorSession). following_stage m.stage) c.self.view_is in
-    let did = rw (next, c.count.ensures) at c.in_ok-begin_stage.ensures.ok in
+    let did = rw (next, c.count_answer.ensures) at c.in_ok-begin_stage.ensures.ok in
     record {
-      ok = rw (none, c.hold.ensures) (settled (following_stage c.args.self.now.stage) (login_counted c.args.self.now c.args.response.now) c.begin_stage.new.self
+      ok = rw (none, c.apply_answer.ensures) (settled (following_stage c.args.self.now.stage) (login_counted c.args.self.now c.args.response.now)
+          c.begin_stage.new.self
           c.args.answer.now _ _ _ did refl);
       err = _;
       unwritten = _;

@@ -36,7 +36,8 @@ returns-in_err-feed-clause-blameless g c = λ faithful.
     let least = c.min-len.ensures in
     let moves = at.self.moves in
     let some : 0 < length at.rest.now = grind (arith, nat_tests, c.is_empty.ensures, c.loop-rest-test.true) in
-    let blameless = initiator_blameless c.in_err-feed.field-0.0 at.self.initiator c.feed.new.self at.self.target (extents_disk at.self.store) at.requests.items at.rest.now
+    let blameless = initiator_blameless c.in_err-feed.field-0.0 at.self.initiator c.feed.new.self at.self.target (extents_disk at.self.store)
+    at.requests.items at.rest.now
     c.feed.new.out.items c.to_initiator.new.read n c.in_err-feed.ensures.feeds (faithful _ _ c.in_ok-to_initiator.ensures.carried)
     (omega (arith, least)) (omega (arith, least, some, moves)) in
     rw (p.1, p.2) (λ blocks requests outcomes h. blameless blocks requests outcomes (at.invariant.1 faithful blocks requests outcomes h))

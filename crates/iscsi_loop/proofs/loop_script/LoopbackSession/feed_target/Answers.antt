@@ -36,7 +36,8 @@ returns-in_err-feed-clause-blameless g c = λ faithful.
     let least = c.min-len.ensures in
     let moves = at.self.moves in
     let some : 0 < length at.rest.now = grind (arith, nat_tests, c.is_empty.ensures, c.loop-rest-test.true) in
-    let blameless = target_blameless c.in_err-feed.field-0.0 at.self.initiator at.self.target c.feed.new.self (extents_disk at.self.store) (extents_disk c.feed.new.store) at.rest.now
+    let blameless = target_blameless c.in_err-feed.field-0.0 at.self.initiator at.self.target c.feed.new.self (extents_disk at.self.store)
+    (extents_disk c.feed.new.store) at.rest.now
     at.answers.items c.feed.new.out.items c.to_target.new.read n c.in_err-feed.ensures.fed (faithful _ _ c.in_ok-to_target.ensures.carried)
     (omega (arith, least)) (omega (arith, least, some, moves)) in
     rw (p.1, p.2) (λ blocks requests outcomes h. blameless blocks requests outcomes (at.invariant.1 faithful blocks requests outcomes h))

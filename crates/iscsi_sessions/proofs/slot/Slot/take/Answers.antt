@@ -1,7 +1,7 @@
 use Rattle.std.proofs.Common.{List, ℕ, ◌+◌, drop, ap, subst, sym, ◌∙◌}
 use Rattle.std.proofs.lemmas.List.{drop-drop, take_rest}
 use Rattle.iscsi_target.specs.Crash.{CrashesNext}
-use Rattle.iscsi_target.specs.Feed.{TargetConnection}
+use Rattle.iscsi_target.specs.Feed.{scene, TargetConnection}
 use Rattle.iscsi_target.specs.Advances.{store_of}
 use Rattle.iscsi_sessions.specs.Slots.{Slot}
 use Rattle.iscsi_sessions.proofs.TakingLaw.{takes_at}
@@ -9,9 +9,10 @@ use Rattle.iscsi_sessions.proofs.slot.Slot.take.Goals as goal
 
 pub returns-in-Ok-clause-takes : goal.returns-in-Ok-clause-takes
 returns-in-Ok-clause-takes g c =
-    takes_at g.S.BlockStore.protected c.args.self.now (store_of (g.S.BlockStore.disk c.args.store.now) (g.S.BlockStore.failures c.args.store.now))
-    (store_of (g.S.BlockStore.disk c.feed_asking.new.store) (g.S.BlockStore.failures c.feed_asking.new.store)) c.in-Ok.taken c.in-Ok.field-0-1
-    c.self.inside.target c.feed_asking.new.self c.self.inside.output.items c.feed_asking.new.out.items _
+    takes_at g.S.BlockStore.protected c.args.self.now (scene c.self.inside.target
+    (store_of (g.S.BlockStore.disk c.args.store.now) (g.S.BlockStore.failures c.args.store.now)) c.self.inside.output.items)
+    (scene c.feed_asking.new.self (store_of (g.S.BlockStore.disk c.feed_asking.new.store) (g.S.BlockStore.failures c.feed_asking.new.store))
+    c.feed_asking.new.out.items) (c.in-Ok.taken, c.in-Ok.field-0-1) _
     (drop c.self.inside.fed c.self.inside.unfed.items) (drop (c.self.inside.fed + c.in-Ok.taken) c.self.inside.unfed.items) c.self.inside.sent
     c.self.inside.asks c.feed_asking.new.asks c.self.inside.offered c.requires.may (c.self.view_is ∙ c.gather.ensures) c.self.invariant.3
     (take_rest c.self.inside.unfed.items c.self.inside.fed) (sym (drop-drop c.in-Ok.taken c.self.inside.fed c.self.inside.unfed.items))

@@ -11,6 +11,16 @@ returns-clause-skipped c head len live header =
     let inside = ap (λ v. v.failed) c.self.view_is ∙ live in
     let place = ap (λ v. v.place) c.self.view_is in
     rw inside (skipped_is c.args.self.now c.self.inside.limit c.saturating_add-self-inside.result c.after-logins.result c.self.inside.buffer.room head len
-    (ap (λ v. v.limit) c.self.view_is) (omega (arith, c.saturating_add-self-inside.ensures, c.from.ensures, c.from-2.ensures, c.pad.ensures, ap pdu_len same.1, same.1, place))
+    (ap (λ v. v.limit) c.self.view_is) (omega (
+      arith,
+      c.saturating_add-self-inside.ensures,
+      c.from.ensures,
+      c.from-2.ensures,
+      c.pad.ensures,
+      ap pdu_len
+          same.1,
+      same.1,
+      place,
+    ))
     (c.after-logins.ensures ∙ ap (logins_after c.self.inside.logins) same.0 ∙ ap (λ v. logins_after v.logins head) c.self.view_is)
     (ap (λ v. v.room) c.self.view_is) live)

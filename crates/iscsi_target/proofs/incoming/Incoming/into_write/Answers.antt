@@ -29,9 +29,11 @@ invariant_of-write c =
       kept.no_more,
       kept.begun,
     ) in (
-      staged_after c.requires.due.0 c.args.self.write c.args.self.head i.order i.found i.total i.bytes.items i.start c.args.self.len i.r2t_count c.due_after.result
+      staged_after c.requires.due.0 c.args.self.write c.args.self.head i.order i.found i.total i.bytes.items i.start c.args.self.len i.r2t_count
+          c.due_after.result
           (c.due_after.ensures ∙ ap (λ (a : Arrival). if a.head.is_final then Nothing else continued a.write.due) v)
-          (subst (λ (d : Due). IsStaged i.order i.found i.total (take i.start i.bytes.items) d i.r2t_count) (ap (λ (a : Arrival). a.write.due) v) c.self.invariant.0)
+          (subst (λ (d : Due). IsStaged i.order i.found i.total (take i.start i.bytes.items) d i.r2t_count) (ap (λ (a : Arrival). a.write.due) v)
+          c.self.invariant.0)
           kept.begun all (omega (arith, all, len, kept.fits)) size c.requires.due.1,
       kept.has_room,
     )

@@ -66,7 +66,8 @@ returns-else-not-is_there-clause-err g c =
     let before : Store = store_of (g.S.BlockStore.disk c.args.store.now) (g.S.BlockStore.failures c.args.store.now) in
     let after : Store = store_of (g.S.BlockStore.disk c.answer_arrived.new.store) (g.S.BlockStore.failures c.answer_arrived.new.store) in
     subst (λ (x : TargetConnection). OnErr c.answer_arrived.result (TargetShutsReady g.S.BlockStore.protected (scene x before c.args.out.now.items)
-    (scene (connected t w c.take.new.self) after c.answer_arrived.new.out.items))) (ap (connected s v) (sym c.in-Some.is ∙ c.take.ensures.value) ∙ c.self.view_is)
+    (scene (connected t w c.take.new.self) after c.answer_arrived.new.out.items)))
+    (ap (connected s v) (sym c.in-Some.is ∙ c.take.ensures.value) ∙ c.self.view_is)
     (subst (λ (x : TargetConnection). OnErr c.answer_arrived.result (TargetShutsReady g.S.BlockStore.protected
     (scene (connected s v (Some a)) before c.args.out.now.items)
     (scene x after c.answer_arrived.new.out.items))) (ap (connected t w) (sym c.take.ensures.after)) c.answer_arrived.ensures.err)
@@ -99,7 +100,8 @@ returns-in-None-clause-err g c =
     let before : Store = store_of (g.S.BlockStore.disk c.args.store.now) (g.S.BlockStore.failures c.args.store.now) in
     let after : Store = store_of (g.S.BlockStore.disk c.answer_framed.new.store) (g.S.BlockStore.failures c.answer_framed.new.store) in
     subst (λ (x : TargetConnection). OnErr c.answer_framed.result (TargetShutsReady g.S.BlockStore.protected (scene x before c.args.out.now.items)
-    (scene (connected t w c.take.new.self) after c.answer_framed.new.out.items))) (ap (connected s v) (sym c.in-None.is ∙ c.take.ensures.value) ∙ c.self.view_is)
+    (scene (connected t w c.take.new.self) after c.answer_framed.new.out.items)))
+    (ap (connected s v) (sym c.in-None.is ∙ c.take.ensures.value) ∙ c.self.view_is)
     (subst (λ (x : TargetConnection). OnErr c.answer_framed.result (TargetShutsReady g.S.BlockStore.protected
     (scene (target_connection s v) before c.args.out.now.items)
     (scene x after c.answer_framed.new.out.items))) (ap (connected t w) (sym c.take.ensures.after)) c.answer_framed.ensures.err)

@@ -27,7 +27,8 @@ returns-in_default c =
     let s : Machine = c.args.self.now in
     let m : Message = c.args.received.now in
     let r : InboundRequest = c.args.request.now in
-    λ disk. leaves_by c.reject-in_default.result disk s.tasks _ (beside s m r) s c.reject-in_default.new.self c.args.out.now.items c.reject-in_default.new.out.items
+    λ disk. leaves_by c.reject-in_default.result disk s.tasks _ (beside s m r) s c.reject-in_default.new.self c.args.out.now.items
+    c.reject-in_default.new.out.items
     (let room : has_task_room s r.initiator_task_tag ≡ true = search rules in beside_command s m r room c.in_default.not-Session)
     (c.reject-in_default.ensures disk)
 

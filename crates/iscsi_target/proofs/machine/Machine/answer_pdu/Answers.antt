@@ -16,7 +16,8 @@ pub returns-in-Full-clause-answers : goal.returns-in-Full-clause-answers
 returns-in-Full-clause-answers g c =
     full_answers g.S.BlockStore.protected c.answer_full_phase.result c.args.self.now c.args.received.now
     (store_of (g.S.BlockStore.disk c.args.store.now) (g.S.BlockStore.failures c.args.store.now))
-    c.args.out.now.items c.answer_full_phase.new.self (store_of (g.S.BlockStore.disk c.answer_full_phase.new.store) (g.S.BlockStore.failures c.answer_full_phase.new.store))
+    c.args.out.now.items c.answer_full_phase.new.self (store_of (g.S.BlockStore.disk c.answer_full_phase.new.store)
+    (g.S.BlockStore.failures c.answer_full_phase.new.store))
     c.answer_full_phase.new.out.items c.requires.live c.requires.within (sym c.phase.ensures.phase ∙ c.in-Full.is) c.answer_full_phase.ensures.follows
 
 pub returns-in-Full-clause-crash : goal.returns-in-Full-clause-crash

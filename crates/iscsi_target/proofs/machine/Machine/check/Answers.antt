@@ -4,7 +4,7 @@ use Rattle.iscsi_target_session.specs.declared.inbound.Inbound.{Inbound}
 use Rattle.iscsi_target_session.specs.declared.inbound.Inbound.TheVariants as inbounds
 use Rattle.iscsi_target_session.proofs.InboundLemmas.{data_head}
 use Rattle.iscsi_target.specs.Machine.{Met, due_met}
-use Rattle.iscsi_target.proofs.Turns.DispatchLemmas.{came, due_judged, due_served, due_too_long}
+use Rattle.iscsi_target.proofs.Turns.DispatchLemmas.{came, due_checked, due_served, due_too_long}
 use Rattle.iscsi_target.proofs.machine.Machine.check.Goals as goal
 
 pub returns-then-is_too_long : goal.returns-then-is_too_long
@@ -34,7 +34,7 @@ pub returns-in-Request : goal.returns-in-Request
 returns-in-Request c =
     let at : inbound c.args.received.now.head ≡ Some c.in-Some.pdu = came c.received.inside.continued c.received.inside.pdu.head
     c.received.inside.pdu.bytes.now c.args.received.now c.received.view_is (Some c.in-Some.pdu) (sym c.of.ensures ∙ c.in-Some.is) in
-    due_judged c.args.self.now c.args.received.now
+    due_checked c.args.self.now c.args.received.now
     (λ (count : ℕ). due_met c.args.self.now count c.args.received.now (inbounds.Request c.in-Request.request)) c.check_request.result
     (λ (count : ℕ). due_served c.args.self.now count c.received.inside.continued c.received.inside.pdu.head
     c.received.inside.pdu.bytes.now c.args.received.now c.received.view_is c.in-Some.pdu at (sym c.may_come.ensures ∙ c.if-not-may_come.false)

@@ -25,7 +25,8 @@ returns-then-len-eq0-clause-follows g c =
     let kept : rule_at_acceptance c.args.self.now c.args.received.now c.args.request.now ≡ None = sym c.refusal.ensures ∙ search rules in
     let before : Store = (store_of (g.S.BlockStore.disk c.args.store.now) (g.S.BlockStore.failures c.args.store.now)) in
     let after : Store = (store_of (g.S.BlockStore.disk c.run_request.new.store) (g.S.BlockStore.failures c.run_request.new.store)) in
-    admitted_follows g.S.BlockStore.protected c.run_request.result c.args.self.now (g.S.BlockStore.disk c.args.store.now).count c.args.received.now c.args.request.now before
+    admitted_follows g.S.BlockStore.protected c.run_request.result c.args.self.now (g.S.BlockStore.disk c.args.store.now).count c.args.received.now
+    c.args.request.now before
     c.args.out.now.items c.run_request.new.self after c.run_request.new.out.items kept
     (alone_works g.S.BlockStore.protected c.run_request.result c.args.self.now
     (task_of (unit_of c.args.self.now.session) (presented (g.S.BlockStore.disk c.args.store.now).count c.args.received.now c.args.request.now)) before
@@ -46,14 +47,17 @@ returns-in_err-task-clause-follows g c =
     let kept : rule_at_acceptance c.args.self.now c.args.received.now c.args.request.now ≡ None = sym c.refusal.ensures ∙ search rules in
     let before : Store = (store_of (g.S.BlockStore.disk c.args.store.now) (g.S.BlockStore.failures c.args.store.now)) in
     let h = short_works g.S.BlockStore.protected c.in_err-task.field-0.0 c.args.self.now (c.args.self.now.tasks
-    ++ task_of (unit_of c.args.self.now.session) (presented (g.S.BlockStore.disk c.args.store.now).count c.args.received.now c.args.request.now) ∷ []) before c.args.out.now.items in
-    admitted_follows g.S.BlockStore.protected c.from_residual.result c.args.self.now (g.S.BlockStore.disk c.args.store.now).count c.args.received.now c.args.request.now before
+    ++ task_of (unit_of c.args.self.now.session) (presented (g.S.BlockStore.disk c.args.store.now).count c.args.received.now c.args.request.now) ∷ [])
+    before c.args.out.now.items in
+    admitted_follows g.S.BlockStore.protected c.from_residual.result c.args.self.now (g.S.BlockStore.disk c.args.store.now).count c.args.received.now
+    c.args.request.now before
     c.args.out.now.items c.args.self.now before c.args.out.now.items kept (record { ok = search rules; err = on_err c.from_residual.result h.err })
 
 pub push-requires-clause-place : goal.push-requires-clause-place
 push-requires-clause-place g c = elim c.requires.turn [
   | inl none ↦ inl (ap (λ (x : Machine). x.tasks) c.self.view_is ∙ none)
-  | inr some ↦ inr (ap takes_place c.in_ok-task.ensures ∙ takes_as (unit_of c.args.self.now.session) c.blocks-2.result c.args.received.now c.args.request.now c.requires.is some)
+  | inr some ↦ inr (ap takes_place c.in_ok-task.ensures ∙ takes_as (unit_of c.args.self.now.session) c.blocks-2.result c.args.received.now
+      c.args.request.now c.requires.is some)
 ]
 
 pub push-requires-clause-room : goal.push-requires-clause-room
@@ -64,18 +68,21 @@ push-requires-clause-room g c =
 
 pub returns-clause-follows : goal.returns-clause-follows
 returns-clause-follows g c =
-    let task : c.in_ok-task.task ≡ task_of (unit_of c.self.inside.session) (presented (g.S.BlockStore.disk c.args.store.now).count c.args.received.now c.args.request.now) = c.in_ok-task.ensures
+    let task : c.in_ok-task.task ≡ task_of (unit_of c.self.inside.session)
+    (presented (g.S.BlockStore.disk c.args.store.now).count c.args.received.now c.args.request.now) = c.in_ok-task.ensures
     ∙ ap (λ (x : Machine). task_of (unit_of x.session) (presented c.blocks-2.result c.args.received.now c.args.request.now)) (sym c.self.view_is)
     ∙ ap (λ (n : ℕ). task_of (unit_of c.self.inside.session) (presented n c.args.received.now c.args.request.now)) c.blocks-2.ensures.count in
     let pushed : with_tasks c.self.inside.session c.push.new.self ≡ with_tasks c.args.self.now.session (c.args.self.now.tasks
     ++ task_of (unit_of c.args.self.now.session) (presented (g.S.BlockStore.disk c.args.store.now).count c.args.received.now c.args.request.now) ∷ []) =
     ap (with_tasks c.self.inside.session) (c.push.ensures ∙ ap (λ (t : Task). c.self.inside.tasks ++ t ∷ []) task)
-    ∙ ap (λ (x : Machine). with_tasks x.session (x.tasks ++ task_of (unit_of x.session) (presented (g.S.BlockStore.disk c.args.store.now).count c.args.received.now c.args.request.now) ∷ [])) c.self.view_is
+    ∙ ap (λ (x : Machine). with_tasks x.session (x.tasks ++ task_of (unit_of x.session)
+    (presented (g.S.BlockStore.disk c.args.store.now).count c.args.received.now c.args.request.now) ∷ [])) c.self.view_is
     in
     let kept : rule_at_acceptance c.args.self.now c.args.received.now c.args.request.now ≡ None = sym c.refusal.ensures ∙ search rules in
     let before : Store = (store_of (g.S.BlockStore.disk c.args.store.now) (g.S.BlockStore.failures c.args.store.now)) in
     let after : Store = (store_of (g.S.BlockStore.disk c.run_queue.new.store) (g.S.BlockStore.failures c.run_queue.new.store)) in
-    admitted_follows g.S.BlockStore.protected c.run_queue.result c.args.self.now (g.S.BlockStore.disk c.args.store.now).count c.args.received.now c.args.request.now before
+    admitted_follows g.S.BlockStore.protected c.run_queue.result c.args.self.now (g.S.BlockStore.disk c.args.store.now).count c.args.received.now
+    c.args.request.now before
     c.args.out.now.items c.run_queue.new.self after c.run_queue.new.out.items kept
     (subst (λ (x : Machine). TasksPost g.S.BlockStore.protected c.run_queue.result (moment x before c.args.out.now.items)
     (moment c.run_queue.new.self after c.run_queue.new.out.items))
@@ -95,26 +102,31 @@ returns-then-len-eq0-clause-crash g c =
 
 pub returns-clause-crash : goal.returns-clause-crash
 returns-clause-crash g c =
-    let task : c.in_ok-task.task ≡ task_of (unit_of c.self.inside.session) (presented (g.S.BlockStore.disk c.args.store.now).count c.args.received.now c.args.request.now) = c.in_ok-task.ensures
+    let task : c.in_ok-task.task ≡ task_of (unit_of c.self.inside.session)
+    (presented (g.S.BlockStore.disk c.args.store.now).count c.args.received.now c.args.request.now) = c.in_ok-task.ensures
     ∙ ap (λ (x : Machine). task_of (unit_of x.session) (presented c.blocks-2.result c.args.received.now c.args.request.now)) (sym c.self.view_is)
     ∙ ap (λ (n : ℕ). task_of (unit_of c.self.inside.session) (presented n c.args.received.now c.args.request.now)) c.blocks-2.ensures.count in
     let pushed : with_tasks c.self.inside.session c.push.new.self ≡ with_tasks c.args.self.now.session (c.args.self.now.tasks
     ++ task_of (unit_of c.args.self.now.session) (presented (g.S.BlockStore.disk c.args.store.now).count c.args.received.now c.args.request.now) ∷ []) =
     ap (with_tasks c.self.inside.session) (c.push.ensures ∙ ap (λ (t : Task). c.self.inside.tasks ++ t ∷ []) task)
-    ∙ ap (λ (x : Machine). with_tasks x.session (x.tasks ++ task_of (unit_of x.session) (presented (g.S.BlockStore.disk c.args.store.now).count c.args.received.now c.args.request.now) ∷ [])) c.self.view_is
+    ∙ ap (λ (x : Machine). with_tasks x.session (x.tasks ++ task_of (unit_of x.session)
+    (presented (g.S.BlockStore.disk c.args.store.now).count c.args.received.now c.args.request.now) ∷ [])) c.self.view_is
     in
     let kept : rule_at_acceptance c.args.self.now c.args.received.now c.args.request.now ≡ None = sym c.refusal.ensures ∙ search rules in
     subst (λ (orders : List Supplied). CrashLeavesBlocks g.S.BlockStore.protected orders (g.S.BlockStore.disk c.args.store.now)
     (g.S.BlockStore.disk c.run_queue.new.store)
     (g.S.BlockStore.kept c.args.store.now) (g.S.BlockStore.kept c.run_queue.new.store))
     (ap (λ (x : Machine). commands_of x.tasks) pushed
-    ∙ sym (ap commands_by (admitted_none c.args.self.now (g.S.BlockStore.disk c.args.store.now).count c.args.received.now c.args.request.now kept))) c.run_queue.ensures.crash
+    ∙ sym (ap commands_by (admitted_none c.args.self.now (g.S.BlockStore.disk c.args.store.now).count c.args.received.now c.args.request.now kept)))
+    c.run_queue.ensures.crash
 
 pub returns-in-Some-clause-follows : goal.returns-in-Some-clause-follows
 returns-in-Some-clause-follows g c =
     answered_follows g.S.BlockStore.protected c.reject_and_close.result (g.S.BlockStore.failures c.args.store.now) c.args.self.now
     (reject_and_close c.args.self.now.session (waiting_tasks c.args.self.now.tasks) c.in-Some.rule c.args.received.now)
-    (admitted c.args.self.now (presented (g.S.BlockStore.disk c.args.store.now).count c.args.received.now c.args.request.now)) (g.S.BlockStore.disk c.args.store.now)
+    (admitted c.args.self.now (presented (g.S.BlockStore.disk c.args.store.now).count c.args.received.now c.args.request.now))
+    (g.S.BlockStore.disk c.args.store.now)
     c.reject_and_close.new.self c.args.out.now.items c.reject_and_close.new.out.items
-    (admitted_some c.args.self.now (g.S.BlockStore.disk c.args.store.now).count c.args.received.now c.args.request.now c.in-Some.rule (sym c.refusal.ensures ∙ c.in-Some.is))
+    (admitted_some c.args.self.now (g.S.BlockStore.disk c.args.store.now).count c.args.received.now c.args.request.now c.in-Some.rule
+    (sym c.refusal.ensures ∙ c.in-Some.is))
     (c.reject_and_close.ensures (g.S.BlockStore.disk c.args.store.now))

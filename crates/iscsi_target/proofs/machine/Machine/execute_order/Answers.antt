@@ -8,6 +8,8 @@ use Rattle.iscsi_target.specs.Execution.{command_answers, data_in_parts}
 use Rattle.iscsi_target.proofs.Feed.CrashLemmas.{read_behind}
 use Rattle.iscsi_target.proofs.Turns.ServingLemmas.{order_serves, on_err}
 use Rattle.iscsi_target.proofs.machine.Machine.execute_order.Goals as goal
+use Rattle.iscsi_target.specs.Advances.{store_of}
+use Rattle.iscsi_target.specs.inner.Inside.{moment}
 
 pub send_outcome-requires : goal.send_outcome-requires
 send_outcome-requires g c = c.in_ok-outcome.ensures.ok.few
@@ -43,8 +45,8 @@ returns-clause-handles g c = record {
       subst (λ (d : Disk). OrderExecuted protected fb fa disk c.args.order [] (record { disk = d; outcome = led.given })) (sym c.send_outcome.ensures.read.disk)
       (subst (λ (n : ℕ). OrderExecuted protected fb n disk c.args.order [] (record { disk = g.S.BlockStore.disk c.outcome_of.new.store; outcome = led.given }))
       (sym c.in_ok-send_outcome.ensures.failures) led.executes) in
-      order_serves protected fb fa c.args.tag s disk c.args.order [] e
-      c.advance_stat_sn.new.self now c.args.out.now.items c.send_outcome.new.out.items executes c.advance_stat_sn.ensures refl
+      order_serves protected fb (moment c.advance_stat_sn.new.self (store_of now fa) c.send_outcome.new.out.items) c.args.tag s disk c.args.order [] e
+      c.args.out.now.items executes c.advance_stat_sn.ensures refl
       (subst (λ (o : Outcome). c.send_outcome.new.out.items ≡ c.args.out.now.items ++ canon (command_answers s.session (waiting_tasks s.tasks) c.args.tag o
       (data_in_parts s.session.held o.bytes))) led.is c.in_ok-send_outcome.ensures.ok);
   err = search rules;

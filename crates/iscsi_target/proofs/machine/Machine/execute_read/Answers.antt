@@ -5,6 +5,8 @@ use Rattle.scsi_disk.proofs.ReadingLemmas.{whole}
 use Rattle.iscsi_target.proofs.Answers.CommandLemmas.{told_read}
 use Rattle.iscsi_target.proofs.Turns.ServingLemmas.{order_serves}
 use Rattle.iscsi_target.proofs.machine.Machine.execute_read.Goals as goal
+use Rattle.iscsi_target.specs.Advances.{store_of}
+use Rattle.iscsi_target.specs.inner.Inside.{moment}
 
 pub returns-clause-handles : goal.returns-clause-handles
 returns-clause-handles g c = record {
@@ -14,9 +16,9 @@ returns-clause-handles g c = record {
       let answers = c.in_ok-send_read.ensures.ok in
       let e : Effect = record { disk = now; outcome = answers.outcome } in
       let reads = (whole disk c.args.order.now (plan_of c.args.order.now disk.count) c.args.range refl c.requires.whole).reads in
-      order_serves g.S.BlockStore.protected (g.S.BlockStore.failures c.args.store.now) fa c.args.tag c.args.self.now
-      disk c.args.order.now [] e
-      c.advance_stat_sn.new.self now c.args.out.now.items c.send_read.new.out.items answers.executes c.advance_stat_sn.ensures refl
+      order_serves g.S.BlockStore.protected (g.S.BlockStore.failures c.args.store.now)
+      (moment c.advance_stat_sn.new.self (store_of now fa) c.send_read.new.out.items) c.args.tag c.args.self.now disk c.args.order.now [] e
+      c.args.out.now.items answers.executes c.advance_stat_sn.ensures refl
       (told_read c.args.self.now c.args.tag disk.count c.args.order.now answers.outcome c.args.out.now.items c.send_read.new.out.items reads answers.output);
   err = search rules;
 }

@@ -8,6 +8,8 @@ use Rattle.iscsi_target.proofs.Turns.ServingLemmas.{order_serves}
 use Rattle.iscsi_target.proofs.Answers.CommandLemmas.{told_write, write_told}
 use Rattle.iscsi_target.proofs.Feed.CrashLemmas.{one_done}
 use Rattle.iscsi_target.proofs.machine.Machine.execute_write.Goals as goal
+use Rattle.iscsi_target.specs.Advances.{store_of}
+use Rattle.iscsi_target.specs.inner.Inside.{moment}
 
 pub returns-clause-handles : goal.returns-clause-handles
 returns-clause-handles g c = record {
@@ -17,14 +19,15 @@ returns-clause-handles g c = record {
       let none : e.outcome.bytes ≡ [] = write_gives_none g.S.BlockStore.protected (g.S.BlockStore.failures c.args.store.now) fa
       (g.S.BlockStore.disk c.args.store.now) c.args.order.now
       c.args.bytes.now e c.in_ok-outcome.ensures.ok c.requires.write in
-      order_serves g.S.BlockStore.protected (g.S.BlockStore.failures c.args.store.now) fa c.args.tag c.args.self.now
-      (g.S.BlockStore.disk c.args.store.now) c.args.order.now
-      (with_piece [] 0 c.args.bytes.now) e c.advance_stat_sn.new.self now c.args.out.now.items c.append_response.new.out.items
+      order_serves g.S.BlockStore.protected (g.S.BlockStore.failures c.args.store.now)
+      (moment c.advance_stat_sn.new.self (store_of now fa) c.append_response.new.out.items) c.args.tag c.args.self.now
+      (g.S.BlockStore.disk c.args.store.now) c.args.order.now (with_piece [] 0 c.args.bytes.now) e c.args.out.now.items
       (subst (λ (bytes : List ℕ). OrderExecuted g.S.BlockStore.protected (g.S.BlockStore.failures c.args.store.now) fa
       (g.S.BlockStore.disk c.args.store.now) c.args.order.now bytes e)
       (sym (data_of_one c.args.bytes.now)) c.in_ok-outcome.ensures.ok)
       c.advance_stat_sn.ensures refl
-      (write_told c.args.self.now c.args.tag (g.S.BlockStore.disk c.args.store.now).count c.args.order.now c.in_ok-outcome.outcome c.args.out.now.items c.append_response.new.out.items
+      (write_told c.args.self.now c.args.tag (g.S.BlockStore.disk c.args.store.now).count c.args.order.now c.in_ok-outcome.outcome c.args.out.now.items
+      c.append_response.new.out.items
       c.requires.write
       (told_write c.args.self.now c.args.tag c.in_ok-outcome.outcome c.response_head-head.result c.args.out.now.items c.reserve.new.self.items
       c.append_response.new.out.items none

@@ -17,9 +17,11 @@ use Rattle.iscsi_target.proofs.machine.Machine.open.Goals as goal
 pub returns-clause-crash : goal.returns-clause-crash
 returns-clause-crash g c =
     subst (λ (order : Order). CrashLeavesBlocks g.S.BlockStore.protected ((order, c.args.bytes.now) ∷ []) (g.S.BlockStore.disk c.args.store.now)
-    (g.S.BlockStore.disk c.continue_write.new.store) (g.S.BlockStore.kept c.args.store.now) (g.S.BlockStore.kept c.continue_write.new.store)) c.order_of-order.ensures
+    (g.S.BlockStore.disk c.continue_write.new.store) (g.S.BlockStore.kept c.args.store.now) (g.S.BlockStore.kept c.continue_write.new.store))
+    c.order_of-order.ensures
     (subst (λ (bytes : List ℕ). CrashLeavesBlocks g.S.BlockStore.protected ((c.order_of-order.result, bytes) ∷ []) (g.S.BlockStore.disk c.args.store.now)
-    (g.S.BlockStore.disk c.continue_write.new.store) (g.S.BlockStore.kept c.args.store.now) (g.S.BlockStore.kept c.continue_write.new.store)) (data_of_one c.args.bytes.now)
+    (g.S.BlockStore.disk c.continue_write.new.store) (g.S.BlockStore.kept c.args.store.now) (g.S.BlockStore.kept c.continue_write.new.store))
+    (data_of_one c.args.bytes.now)
     (subst (λ (w : Write). CrashLeavesBlocks g.S.BlockStore.protected ((w.order, piece_data w.pieces) ∷ []) (g.S.BlockStore.disk c.args.store.now)
     (g.S.BlockStore.disk c.continue_write.new.store) (g.S.BlockStore.kept c.args.store.now)
     (g.S.BlockStore.kept c.continue_write.new.store)) c.in_ok-write.ensures c.continue_write.ensures.crash))
@@ -47,7 +49,8 @@ returns-then-bytes-total-clause-handles g c =
     let whole : is_whole_write write ≡ true = same_tags c.args.total (length (piece_data (with_piece [] 0 c.args.bytes.now)))
     (sym size ∙ ap length (sym (data_of_one c.args.bytes.now))) in
     record {
-      ok = serves_if g.S.BlockStore.protected c.execute_write.result (g.S.BlockStore.failures c.args.store.now) (g.S.BlockStore.failures c.execute_write.new.store)
+      ok = serves_if g.S.BlockStore.protected c.execute_write.result (g.S.BlockStore.failures c.args.store.now)
+          (g.S.BlockStore.failures c.execute_write.new.store)
           (λ (d : Device). proceed d c.args.self.now (g.S.BlockStore.disk c.args.store.now) write)
           (λ (d : Device). execute d c.args.self.now (g.S.BlockStore.disk c.args.store.now) c.args.command.now.initiator_task_tag c.order_of-order.result
           (with_piece [] 0 c.args.bytes.now))

@@ -32,7 +32,8 @@ returns-clause-ok g c =
     (store_of (g.S.BlockStore.disk c.args.store.now) (g.S.BlockStore.failures c.args.store.now))
     (store_of (g.S.BlockStore.disk c.execute_found.new.store) (g.S.BlockStore.failures c.execute_found.new.store)) c.execute_found.result short
     (λ u some. elim c.match-unit.branch [
-      | in-Some+in_ok-told+in_default-2 w ↦ none_said w.in_ok-told.field-0 w.in-Some.unit.now u (g.S.BlockStore.disk c.args.store.now).count c.args.order unit w.in_default-2.is
+      | in-Some+in_ok-told+in_default-2 w ↦ none_said w.in_ok-told.field-0 w.in-Some.unit.now u (g.S.BlockStore.disk c.args.store.now).count c.args.order
+          unit w.in_default-2.is
           (w.in_ok-told.ensures.told ∙ ap (λ (n : ℕ). unit_outcome w.in-Some.unit.now n c.args.order) c.requires.blocks)
           (held_unit _ c.unit.result w.in-Some.unit unit w.in-Some.is is) some
       | in_default w ↦ absurd (held_none _ c.unit.result unit u w.in_default.is is some)
@@ -42,7 +43,8 @@ returns-clause-ok g c =
 pub returns-clause-disk : goal.returns-clause-disk
 returns-clause-disk g c =
     result_keeps c.execute_found.result g.S.BlockStore.protected (g.S.BlockStore.failures c.args.store.now) (g.S.BlockStore.failures c.execute_found.new.store)
-    (g.S.BlockStore.disk c.args.store.now) (g.S.BlockStore.disk c.execute_found.new.store) c.args.order [] c.execute_found.ensures.ok c.execute_found.ensures.err
+    (g.S.BlockStore.disk c.args.store.now) (g.S.BlockStore.disk c.execute_found.new.store) c.args.order [] c.execute_found.ensures.ok
+    c.execute_found.ensures.err
     c.requires.gives
 
 pub returns-clause-crash : goal.returns-clause-crash

@@ -26,11 +26,13 @@ pub returns-in-Command-clause-handles : goal.returns-in-Command-clause-handles
 returns-in-Command-clause-handles g c =
     let unit = unit_of c.args.self.now.session in
     let disk = g.S.BlockStore.disk c.args.store.now in
-    let same : task_for unit disk.count c.in-Command.command c.received.inside.pdu.bytes.now ≡ task_of unit (presented disk.count c.args.received.now c.args.request.now) =
+    let same : task_for unit disk.count c.in-Command.command c.received.inside.pdu.bytes.now ≡ task_of unit
+    (presented disk.count c.args.received.now c.args.request.now) =
     task_command unit disk.count c.received.inside.continued c.received.inside.pdu.head c.received.inside.pdu.bytes.now c.args.received.now
     c.received.view_is c.args.request.now c.in-Command.command c.requires.is c.in-Command.is in
     record {
-      ok = serves_if g.S.BlockStore.protected c.scsi_command.result (g.S.BlockStore.failures c.args.store.now) (g.S.BlockStore.failures c.scsi_command.new.store)
+      ok = serves_if g.S.BlockStore.protected c.scsi_command.result (g.S.BlockStore.failures c.args.store.now)
+          (g.S.BlockStore.failures c.scsi_command.new.store)
           (λ (d : Device). task_begun d c.args.self.now disk (task_of unit (presented disk.count c.args.received.now c.args.request.now)))
           (λ (d : Device). task_begun d c.args.self.now disk (task_for unit disk.count c.in-Command.command c.received.inside.pdu.bytes.now))
           c.scsi_command.new.self (g.S.BlockStore.disk c.scsi_command.new.store) c.args.out.now.items c.scsi_command.new.out.items

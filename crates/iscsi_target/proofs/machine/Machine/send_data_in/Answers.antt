@@ -34,12 +34,15 @@ loop-sent-preserved g c =
     ∙ ap (λ (k : ℕ). min (max_burst held) (k - at)) c.len-total.ensures in
     let reached : at + c.min.result ≡ c.in_ok-sent.sent.bytes = omega (arith, c.in_ok-sent.ensures.ok.carried) in
     record {
-      sequences = sequences_next c.args.self.now c.args.tag source (disk c.args.store.now) (disk c.loop-sent.store) (failures c.args.store.now)
-          (failures c.loop-sent.store) (failures c.send_sequence.new.store) c.min.result (at + c.min.result) c.loop-sent.sent c.in_ok-sent.sent
-          c.args.out.now.items c.loop-sent.out.items c.send_sequence.new.out.items some c.in_ok-sent.ensures.most below is_n refl so_far.disk
+      sequences = sequences_next c.args.self.now c.args.tag source (disk c.args.store.now) (disk c.loop-sent.store)
+          (record { before = (failures c.args.store.now); between = (failures c.loop-sent.store); after = (failures c.send_sequence.new.store) })
+          c.min.result (at + c.min.result) c.loop-sent.sent c.in_ok-sent.sent
+          (record { before = c.args.out.now.items; between = c.loop-sent.out.items; after = c.send_sequence.new.out.items }) some c.in_ok-sent.ensures.most
+          below is_n refl so_far.disk
           c.in_ok-sent.ensures.ok so_far.rises reads.read.rises so_far.sequences;
       left = subst (λ (n : ℕ). HasPart source (disk c.args.store.now).count n (source_len source - n)) reached
-          (part_left source (disk c.args.store.now).count at (source_len source) (max_burst held) c.min.result c.requires.burst (omega (arith, below)) is_n so_far.left);
+          (part_left source (disk c.args.store.now).count at (source_len source) (max_burst held) c.min.result c.requires.burst (omega (arith, below)) is_n
+          so_far.left);
       disk = reads.read.disk ∙ so_far.disk;
       kept = λ n bytes is. so_far.kept n bytes (reads.read.kept n bytes is);
       rises = omega (arith, so_far.rises, reads.read.rises);
@@ -48,5 +51,6 @@ loop-sent-preserved g c =
 pub returns-clause-ok : goal.returns-clause-ok
 returns-clause-ok g c =
     let failures = g.S.BlockStore.failures in
-    sequences_all c.args.self.now c.args.tag (given_by_source c.args.source.now (g.S.BlockStore.disk c.args.store.now) (failures c.args.store.now) (failures c.loop-sent.store))
+    sequences_all c.args.self.now c.args.tag (given_by_source c.args.source.now (g.S.BlockStore.disk c.args.store.now) (failures c.args.store.now)
+    (failures c.loop-sent.store))
     c.loop-sent.sent c.args.out.now.items c.loop-sent.out.items (omega (arith, c.loop-sent-test.false, c.len-total.ensures)) c.loop-sent.invariant.sequences

@@ -9,6 +9,7 @@ use Rattle.iscsi_target.specs.declared.machine.source.Source.TheVariants.{Blocks
 use Rattle.iscsi_target.proofs.Answers.CommandLemmas.{on_ok}
 use Rattle.iscsi_target.proofs.Answers.ReadPartLemmas.{answers_failed, answers_read}
 use Rattle.iscsi_target.proofs.machine.Machine.send_read.Goals as goal
+use Rattle.iscsi_target.specs.Advances.{store_of}
 
 pub returns-clause-ok : goal.returns-clause-ok
 returns-clause-ok g c =
@@ -16,10 +17,12 @@ returns-clause-ok g c =
     let failures = g.S.BlockStore.failures in
     let order = c.args.order.now in
     let s = c.args.self.now in
-    on_ok c.append_response.result (answers_failed g.S.BlockStore.protected s c.args.tag order disk (g.S.BlockStore.disk c.append_answers.new.store) c.args.range
-    (failures c.args.store.now) (failures c.append_answers.new.store) c.in_ok-outcome.outcome c.response_head-head.result c.args.out.now.items
+    on_ok c.append_response.result (answers_failed g.S.BlockStore.protected s c.args.tag order (store_of disk (failures c.args.store.now))
+    (store_of (g.S.BlockStore.disk c.append_answers.new.store) (failures c.append_answers.new.store)) c.args.range c.in_ok-outcome.outcome
+    c.response_head-head.result c.args.out.now.items
     c.truncate.new.self.items c.append_response.new.out.items (whole disk order (plan_of order disk.count) c.args.range refl c.requires.whole)
-    c.append_answers.ensures.reads.read.disk (c.append_answers.ensures.reads.device (c.in-Err.is ∙ ap Err c.in_ok-outcome.ensures.ok.0)) c.in_ok-outcome.ensures.ok.1 (search rules)
+    c.append_answers.ensures.reads.read.disk (c.append_answers.ensures.reads.device (c.in-Err.is ∙ ap Err c.in_ok-outcome.ensures.ok.0))
+    c.in_ok-outcome.ensures.ok.1 (search rules)
     (c.response_head-head.ensures.head s.session (waiting_tasks s.tasks) (sym c.numbers.ensures.stat_sn) (sym c.numbers.ensures.exp_cmd_sn)
     (sym c.numbers.ensures.max_cmd_sn))) c.append_response.ensures.ok
 

@@ -27,9 +27,11 @@ loop-sent-preserved g c =
     let is_n : c.min-len.result ≡ min held.initiator_max_recv (c.args.end - c.loop-sent.sent.bytes) =
     c.min-len.ensures ∙ ap (λ (k : ℕ). min k (c.args.end - c.loop-sent.sent.bytes)) c.max_segment-most.ensures.value in
     record {
-      parts = parts_next c.args.self.now c.args.tag c.args.source.now (disk c.args.store.now) (disk c.loop-sent.store) (failures c.args.store.now)
-          (failures c.loop-sent.store) (failures c.append_part.new.store) c.min-len.result c.args.end c.args.before c.loop-sent.sent c.data_in-head.result
-          c.args.out.now.items c.loop-sent.out.items c.append_part.new.out.items some below is_n c.data_in-head.ensures.head so_far.disk
+      parts = parts_next c.args.self.now c.args.tag c.args.source.now (disk c.args.store.now) (disk c.loop-sent.store)
+          (record { before = (failures c.args.store.now); between = (failures c.loop-sent.store); after = (failures c.append_part.new.store) })
+          c.min-len.result c.args.end c.args.before c.loop-sent.sent c.data_in-head.result
+          (record { before = c.args.out.now.items; between = c.loop-sent.out.items; after = c.append_part.new.out.items }) some below is_n
+          c.data_in-head.ensures.head so_far.disk
           c.in_ok-append_part.ensures.ok so_far.rises reads.read.rises so_far.parts;
       left = part_left c.args.source.now (disk c.args.store.now).count c.loop-sent.sent.bytes c.args.end held.initiator_max_recv c.min-len.result
           c.requires.segment (omega (arith, below)) is_n so_far.left;
@@ -41,5 +43,6 @@ loop-sent-preserved g c =
 pub returns-clause-ok : goal.returns-clause-ok
 returns-clause-ok g c =
     let failures = g.S.BlockStore.failures in
-    parts_all c.args.self.now c.args.tag (given_by_source c.args.source.now (g.S.BlockStore.disk c.args.store.now) (failures c.args.store.now) (failures c.loop-sent.store))
+    parts_all c.args.self.now c.args.tag (given_by_source c.args.source.now (g.S.BlockStore.disk c.args.store.now) (failures c.args.store.now)
+    (failures c.loop-sent.store))
     c.args.before c.loop-sent.sent c.args.end c.args.out.now.items c.loop-sent.out.items (omega (arith, c.loop-sent-test.false)) c.loop-sent.invariant.parts

@@ -9,7 +9,8 @@ pub loop-n-preserved : goal.loop-n-preserved
 loop-n-preserved c = (
   length-set c.loop-n.now c.loop-n.n c.is_seen.result ∙ c.loop-n.invariant.0,
   seen_more c.args.seen.now c.loop-n.now c.loop-n.now c.loop-n.n c.args.text.now c.is_seen.result c.loop-n-test.true c.told-seen c.loop-n.invariant.0
-      (c.is_seen.ensures ∙ ap (λ (k : List ℕ). get_or c.args.seen.now c.loop-n.n false || has_key k c.args.text.now) c.known_key.ensures.name) c.loop-n.invariant.1,
+      (c.is_seen.ensures ∙ ap (λ (k : List ℕ). get_or c.args.seen.now c.loop-n.n false || has_key k c.args.text.now) c.known_key.ensures.name)
+      c.loop-n.invariant.1,
 )
 
 pub returns : goal.returns

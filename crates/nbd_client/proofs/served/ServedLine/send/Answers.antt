@@ -21,5 +21,5 @@ returns-clause-may g c r lba a =
 pub returns-clause-answers : goal.returns-clause-answers
 returns-clause-answers g c same r lba a =
     let few : (g.M.Medium.seen c.args.self.now.medium).count ≤ most_blocks = search rules in
-    answers_asked _ r _ lba _ _ _ _ _ _ _ c.in-Ok.done.error _ _ few
+    answers_asked _ r (record { place = _; count = _ }) (record { place = lba; count = _ }) _ _ _ _ _ c.in-Ok.done.error _ _ few
     c.in-Some.ensures.asked.0 c.in-Some.ensures.asked.1 a (omega arith) c.in-Ok-reply_of.ensures.sent (c.in-Ok.ensures.done same)

@@ -19,7 +19,8 @@ returns-in_ok-extend_from_slice-in-Blocks-clause-ok g c =
     let range = c.in-Blocks.range in
     let has : HasPart (Blocks range) disk.count c.args.offset c.args.len =
     subst (λ (source : Source). HasPart source disk.count c.args.offset c.args.len) c.in-Blocks.is c.requires.has in
-    subst (λ (source : Source). OnOk c.read_onto.result (SendsPart c.args.head.now (given_by_source source disk (failures c.args.store.now) (failures c.read_onto.new.self))
+    subst (λ (source : Source). OnOk c.read_onto.result (SendsPart c.args.head.now
+    (given_by_source source disk (failures c.args.store.now) (failures c.read_onto.new.self))
     c.args.offset c.args.len c.args.out.now.items c.read_onto.new.out.items)) (sym c.in-Blocks.is)
     (blocks_sent c.read_onto.result c.args.head.now disk range (failures c.args.store.now) (failures c.read_onto.new.self)
     (g.S.BlockStore.untold c.args.store.now) (g.S.BlockStore.untold c.read_onto.new.self) c.args.offset c.from.result c.args.len

@@ -1,0 +1,78 @@
+//! What the words of `serve` say of segments and bursts.
+
+ghost use Rattle.std.specs.Prelude.{◌<◌, ◌≤◌, IfOk, IfSome};
+ghost use Rattle.iscsi_options.specs.Options.{AreOffered, longest_asked};
+
+use crate::command_line::LineFault;
+use crate::serve_options::refused;
+use clap::ArgMatches;
+use iscsi_login::Preferences;
+use iscsi_options::{LONGEST_ASKED, SHORTEST_ASKED};
+use std::alloc::Global;
+
+const BAD_SEGMENT: &str =
+    "is no number of bytes: '--segment <N>' takes a number from 512 to 1048576";
+
+const BAD_BURST: &str = "is no number of bytes: '--burst <N>' takes a number from 512 to 1048576";
+
+const BAD_FIRST_BURST: &str =
+    "is no number of bytes: '--first-burst <N>' takes a number from 512 to 1048576, and at most \
+    that of '--burst'";
+
+// What the target prefers: the standard preferences, with the lengths that are asked for.
+pub(crate) fn preferences_of(
+    alloc: Global,
+    asked: &ArgMatches<'_>,
+) -> Result<Preferences, LineFault>
+    ensures offered { IfOk result AreOffered }
+{
+    let standard = Preferences::standard();
+    let segment = length_of(alloc, asked, "segment", BAD_SEGMENT)?.unwrap_or(standard.max_recv);
+    let burst = length_of(alloc, asked, "burst", BAD_BURST)?.unwrap_or(standard.max_burst);
+    let first = match length_of(alloc, asked, "first-burst", BAD_FIRST_BURST)? {
+        Some(first) => first,
+        None => standard.first_burst.min(burst),
+    };
+    if burst < first {
+        let digits = asked.get_str("first-burst").unwrap_or("");
+        return Err(refused(alloc, digits, BAD_FIRST_BURST));
+    }
+    Ok(Preferences {
+        max_burst: burst,
+        first_burst: first,
+        max_recv: segment,
+        ..standard
+    })
+}
+
+// The number of bytes, 512 to 1048576, that a word has, if it stands there.
+fn length_of(
+    alloc: Global,
+    asked: &ArgMatches<'_>,
+    name: &str,
+    text: &str,
+) -> Result<Option<u32>, LineFault>
+    ensures range { IfOk result
+        (λ length. IfSome length (λ n. (512 ≤ n) × (n ≤ longest_asked))) }
+{
+    let Some(digits) = asked.get_str(name) else {
+        return Ok(None);
+    };
+    match bytes_of(digits) {
+        Some(length) => Ok(Some(length)),
+        None => Err(refused(alloc, digits, text)),
+    }
+}
+
+// The number of bytes that digits spell, from 512 to 1048576.
+fn bytes_of(digits: &str) -> Option<u32>
+    ensures range { IfSome result (λ n. (512 ≤ n) × (n ≤ longest_asked)) }
+{
+    if !digits.bytes().all(|c| c.is_ascii_digit()) {
+        return None;
+    }
+    match digits.parse::<u32>() {
+        Ok(n) if SHORTEST_ASKED <= n && n <= LONGEST_ASKED => Some(n),
+        _ => None,
+    }
+}
