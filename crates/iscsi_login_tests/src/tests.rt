@@ -23,7 +23,7 @@ fn standard_offers() -> Offers<'static> {
 
 /// Asserts that a value is the one that is due, in a row of which this tells.
 fn same<T: PartialEq + Debug>(rt: &impl Abort, value: &T, due: &T, row: &impl Debug) {
-    assert_eq!(rt; *value, *due, "{row:?}");
+    assert!(rt; *value == *due, "{row:?}: {value:?} is not {due:?}");
 }
 
 const SECURITY: &[u8] = b"AuthMethod=None\0InitiatorName=iqn.2026-01.example:host\0\

@@ -229,28 +229,33 @@ struct LoopbackSession {
 
 impl LoopbackSession {
     // Both ends of a session that is not started.
-    fn open(alloc: Global, blocks: u64, piece: usize) -> Result<LoopbackSession, ServeFault>
+    fn open(alloc: Global, blocks: u64, piece: usize) -> Result<Box<LoopbackSession>, ServeFault>
         requires some { 0 < blocks }
         requires few { blocks ≤ most_blocks }
         requires moves { 0 < piece }
         requires short { piece ≤ 4096 }
         ensures opening { IfOk result (λ ends.
-            ends.initiator ≡ opening_initiator initiator_settings) }
+            ends.value.initiator ≡ opening_initiator initiator_settings) }
         ensures new { IfOk result (λ ends.
-            ends_of ends.initiator ends.target (extents_disk ends.store) [] [] ≡ new_ends blocks) }
+            ends_of ends.value.initiator ends.value.target (extents_disk ends.value.store) [] []
+            ≡ new_ends blocks) }
         ensures blameless { IfErr result BlamesNoEnd }
         ensures err { IfErr result IsSessionFault }
     {
         // What may fail comes first, so that no end has to be let go.
         let initiator = initiator_configuration(alloc)?;
         let target = configuration(alloc)?;
-        Ok(LoopbackSession {
+        let ends = LoopbackSession {
             alloc,
             initiator: Initiator::new(alloc, initiator),
             target: Target::new(alloc, target, FIRST_STAT_SN),
             store: SparseStore::new(alloc, blocks),
             piece,
-        })
+        };
+        match Box::new(alloc, ends) {
+            Ok(ends) => Ok(ends),
+            Err(fault) => Err(AllocError::from(fault).into()),
+        }
     }
 
     // Logs in.

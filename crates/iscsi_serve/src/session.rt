@@ -9,6 +9,7 @@ ghost use Rattle.iscsi_login.specs.Negotiation.{ArePreferencesInRange};
 ghost use Rattle.iscsi_login.specs.Stage.{is_closed_phase};
 ghost use Rattle.iscsi_target.specs.Machine.{is_machine_closed};
 ghost use Rattle.iscsi_target.specs.Crash.{CrashesFed};
+ghost use Rattle.iscsi_target.specs.Feed.{opening_target};
 ghost use Rattle.iscsi_target.specs.Advances.{store_of};
 ghost use Rattle.iscsi_serving.specs.Executed.{HasExecuted};
 ghost use Rattle.iscsi_serve.specs.Session.{target_settings, SyncedAdvances, EndsCut, EndsWell, ServesAllPdus, ServesStream, WroteBefore, around};
@@ -137,10 +138,46 @@ pub(crate) fn serve_reads<S: BlockStore, R: Read, W: Write>(
     ensures cut { EndsCut result (R.remaining r.new) }
 {
     let mut target = Target::new(alloc, config, FIRST_STAT_SN);
-    let mut out = Vec::new(alloc);
+    serve_pieces(&mut target, store, r, w, buffer, &mut Vec::new(alloc))
+}
+
+// Runs the session of a target to which nothing came. It is lent the target, so that none of its ways out has to
+// take one apart.
+fn serve_pieces<S: BlockStore, R: Read, W: Write>(
+    target: &mut Target,
+    store: &mut S,
+    r: &mut R,
+    w: &mut W,
+    buffer: &mut [u8],
+    out: &mut Vec<u8>,
+) -> Result<(), SessionFault>
+    requires some { 0 < length buffer.old }
+    requires opening { target.old ≡ opening_target target.old.machine.session.settings 1 }
+    requires range { ArePreferencesInRange target.old.machine.session.settings.preferences }
+    ensures serves { ServesStream S.protected target.old.machine.session.settings result
+        (around (R.remaining r.old) (W.contents w.old)
+        (store_of (S.disk store.old) (S.failures store.old)) (S.kept store.old))
+        (around (R.remaining r.new) (W.contents w.new)
+        (store_of (S.disk store.new) (S.failures store.new)) (S.kept store.new)) }
+    ensures blocks { HasExecuted S.protected (S.disk store.old) (S.disk store.new) }
+    ensures lasts { S.failures store.new ≡ 0
+        → LastsOnceSynced (S.synced store.new) (S.disk store.new) (S.kept store.new) }
+    ensures synced { S.synced store.old ≡ true → result ≢ Err SessionFault.Sync
+        → S.synced store.new ≡ true }
+    ensures unsent { result ≡ Err SessionFault.Sync → S.synced store.old ≡ true
+        → (then : S) × (S.synced then ≡ true) × WroteBefore S.protected target.old.machine.session.settings
+        (around (R.remaining r.old) (W.contents w.old)
+        (store_of (S.disk store.old) (S.failures store.old)) (S.kept store.old))
+        (store_of (S.disk then) (S.failures then)) (S.kept then)
+        (around (R.remaining r.new) (W.contents w.new)
+        (store_of (S.disk store.new) (S.failures store.new)) (S.kept store.new)) }
+    ensures end { S.failures store.new ≡ S.failures store.old → OnOk result
+        (EndsWell S.protected target.old.machine.session.settings (S.disk store.old) (R.remaining r.old) (R.remaining r.new)) }
+    ensures cut { EndsCut result (R.remaining r.new) }
+{
     let mut reads = Reads::new();
     while let Some(n) = reads.next(r, buffer)? {
-        if serve_piece(&mut target, &buffer[..n], store, &mut out, w)? {
+        if serve_piece(target, &buffer[..n], store, out, w)? {
             return Ok(());
         }
     }

@@ -1,11 +1,11 @@
-//! What the words of all commands share: how a word is declared, and why words are refused.
+//! What the words of all commands share: the bare command, and why words are refused.
 
 ghost use Rattle.std.specs.Prelude.{◌≡◌};
 ghost use Rattle.iscsi_serve_words.specs.Words.{words_status};
 
 use crate::examples;
 use clap::error::ErrorKind;
-use clap::{Arg, ArgAction, Command, Error};
+use clap::{Command, Error};
 use std::alloc::{AllocError, AllocFailed, Global};
 use std::io::{self, Write};
 use thiserror::Error;
@@ -102,41 +102,6 @@ pub fn bare_command<'a>(alloc: Global) -> Result<Command<'a>, AllocError> {
         .disable_help_subcommand(true)
         .subcommand_required(true)
         .bin_name("lanthovur")
-}
-
-/// A word that may stand there or not.
-pub fn flag<'a>(alloc: Global, name: &'a str, help: &'a str) -> Arg<'a> {
-    Arg::new(alloc, name)
-        .long(name)
-        .action(ArgAction::SetTrue)
-        .help(help)
-}
-
-/// A program with one more word, if it could be made. The error is want of memory.
-pub fn with_word<'a>(
-    program: Command<'a>,
-    word: Result<Arg<'a>, AllocError>,
-) -> Result<Command<'a>, AllocError> {
-    program.arg(word?)
-}
-
-/// A word with a value.
-pub fn valued<'a>(alloc: Global, name: &'a str, value: &'a str, help: &'a str) -> Arg<'a> {
-    Arg::new(alloc, name)
-        .long(name)
-        .value_name(value)
-        .action(ArgAction::Set)
-        .help(help)
-}
-
-// A word with a value, which may stand there several times.
-pub(crate) fn repeated<'a>(alloc: Global, name: &'a str, value: &'a str, help: &'a str) -> Arg<'a> {
-    valued(alloc, name, value, help).action(ArgAction::Append)
-}
-
-/// The name of a file, without a word before it.
-pub fn file<'a>(alloc: Global, name: &'a str, help: &'a str) -> Arg<'a> {
-    Arg::new(alloc, name).action(ArgAction::Set).help(help)
 }
 
 /// The usage error for a word whose value is wrong: the text says what it is not, and what was meant.

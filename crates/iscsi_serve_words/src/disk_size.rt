@@ -3,7 +3,8 @@
 ghost use Rattle.std.specs.Prelude.{◌<◌, ◌≤◌, IfOk, IfSome};
 ghost use Rattle.scsi_disk.specs.Disk.{most_blocks};
 
-use crate::command_line::{LineFault, bad_number, bad_value, valued};
+use crate::command_line::{LineFault, bad_number, bad_value};
+use crate::word::{Word, WordKind};
 use clap::{ArgMatches, Command};
 use iscsi_options::number_of;
 use scsi_disk::MOST_BLOCKS;
@@ -32,6 +33,22 @@ const TWO_SIZES: &str = "'--size <SIZE>' cannot be used with '--blocks <N>': eac
 const NO_SIZE: &str =
     "the disk size is missing: use '--size <SIZE>', such as '--size 32M', or '--blocks <N>'";
 
+/// The words for the size of a disk.
+pub const SIZE: &[Word] = &[
+    Word {
+        name: "size",
+        kind: WordKind::Value("SIZE"),
+        beside: None,
+        help: "Disk size in bytes, or with K, M, G or T (powers of 1024), such as 32M",
+    },
+    Word {
+        name: "blocks",
+        kind: WordKind::Value("N"),
+        beside: None,
+        help: "Disk size in blocks of 512 bytes, 1 to 1099511627776",
+    },
+];
+
 /// Why words give no disk size.
 #[derive(Clone, Copy)]
 pub enum SizeFault<'a> {
@@ -43,23 +60,6 @@ pub enum SizeFault<'a> {
     Both,
     /// Neither word is there.
     Neither,
-}
-
-/// A program with these two words. The error is want of memory.
-pub fn with_size<'a>(alloc: Global, program: Command<'a>) -> Result<Command<'a>, AllocError> {
-    program
-        .arg(valued(
-            alloc,
-            "size",
-            "SIZE",
-            "Disk size in bytes, or with K, M, G or T (powers of 1024), such as 32M",
-        ))?
-        .arg(valued(
-            alloc,
-            "blocks",
-            "N",
-            "Disk size in blocks of 512 bytes, 1 to 1099511627776",
-        ))
 }
 
 /// The number of blocks that the words give, if one of them is there.

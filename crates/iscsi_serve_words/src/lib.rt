@@ -2,6 +2,7 @@
 #![tactic(auto)]
 
 mod command_line;
+mod command_row;
 mod disk_size;
 mod examples;
 mod nbd_storage;
@@ -10,15 +11,15 @@ mod serve_lengths;
 mod serve_options;
 mod serve_words;
 mod storage;
+mod word;
 
-pub use command_line::{
-    LineFault, bad_number, bad_value, bare_command, file, flag, read_command_line, usage, valued,
-    with_word,
-};
-pub use disk_size::{SizeFault, bad_size, needed_blocks, with_size};
+pub use command_line::{LineFault, bad_number, bad_value, bare_command, read_command_line, usage};
+pub use command_row::CommandRow;
+pub use disk_size::{SIZE, SizeFault, bad_size, needed_blocks};
 pub use nbd_storage::{FaultLine, NbdExport, NbdFault};
 pub use serve_options::serve_program;
 pub use serve_words::{
     MOST_INITIATORS, ServeJob, Service, read_initiators, read_serve_words, service_of,
 };
 pub use storage::{Image, ImageFault, Origin, Storage};
+pub use word::{Word, WordKind};

@@ -6,6 +6,7 @@ ghost use Rattle.nbd_client.specs.Ended.{medium_line};
 ghost use Rattle.nbd_client.specs.Tcp.{line_blocks};
 ghost use Rattle.iscsi_serve_words.specs.Storage.{HasAskedBlocks, IsOtherExport};
 
+use crate::serve_words::short_number_of;
 use libc::net::{POLLOUT, poll};
 use libc::types::pollfd;
 use nbd_client::{HandshakeFault, Line, MediumFault, NbdMedium, Report, TcpLine};
@@ -101,11 +102,8 @@ fn server_of(server: &str) -> Option<(&str, u16)> {
 
 // The port that digits spell, 1 to 65535.
 fn port_of(digits: &str) -> Option<u16> {
-    if !digits.bytes().all(|c| c.is_ascii_digit()) {
-        return None;
-    }
-    match digits.parse::<u16>() {
-        Ok(port) if port > 0 => Some(port),
+    match short_number_of(digits) {
+        Some(port) if 0 < port => Some(port),
         _ => None,
     }
 }

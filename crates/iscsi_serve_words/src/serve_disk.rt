@@ -12,7 +12,7 @@ use crate::nbd_storage::export_of;
 use crate::serve_options::{refusal, refused, serve_program};
 use crate::storage::{Image, Origin, Storage};
 use clap::ArgMatches;
-use iscsi_options::{LEAST_MEMORY, MEMORY, MOST_MEMORY, UnitOptions};
+use iscsi_options::{LEAST_MEMORY, MEMORY, MOST_MEMORY, UnitOptions, number_of};
 use scsi_unit::is_serial;
 use std::alloc::Global;
 
@@ -146,15 +146,8 @@ pub(crate) fn memory_of(alloc: Global, asked: &ArgMatches<'_>) -> Result<u64, Li
     if asked.get_str("nbd").is_some() {
         return Err(refusal(alloc, MEMORY_OF_EXPORT));
     }
-    match digits.parse::<u64>() {
-        Ok(bytes) if is_digits(digits) && LEAST_MEMORY <= bytes && bytes <= MOST_MEMORY => Ok(
-            bytes,
-        ),
+    match number_of(digits, MOST_MEMORY) {
+        Some(bytes) if LEAST_MEMORY <= bytes => Ok(bytes),
         _ => Err(refused(alloc, digits, BAD_MEMORY)),
     }
-}
-
-// Whether a word is nothing but digits.
-fn is_digits(word: &str) -> bool {
-    word.bytes().all(|c| c.is_ascii_digit())
 }

@@ -7,7 +7,7 @@ use crate::command_line::LineFault;
 use crate::serve_options::refused;
 use clap::ArgMatches;
 use iscsi_login::Preferences;
-use iscsi_options::{LONGEST_ASKED, SHORTEST_ASKED};
+use iscsi_options::{LONGEST_ASKED, SHORTEST_ASKED, number_of};
 use std::alloc::Global;
 
 const BAD_SEGMENT: &str =
@@ -68,10 +68,7 @@ fn length_of(
 fn bytes_of(digits: &str) -> Option<u32>
     ensures range { IfSome result (λ n. (512 ≤ n) × (n ≤ longest_asked)) }
 {
-    if !digits.bytes().all(|c| c.is_ascii_digit()) {
-        return None;
-    }
-    match digits.parse::<u32>() {
+    match u32::try_from(number_of(digits, u64::from(LONGEST_ASKED))?) {
         Ok(n) if SHORTEST_ASKED <= n && n <= LONGEST_ASKED => Some(n),
         _ => None,
     }

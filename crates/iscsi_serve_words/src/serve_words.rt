@@ -4,7 +4,9 @@
 ghost use Rattle.std.specs.Prelude.{◌<◌, ◌≤◌, IfOk, IfSome};
 ghost use Rattle.iscsi_login.specs.Name.{IsName};
 ghost use Rattle.iscsi_portal.specs.Portal.{IsPortal};
-ghost use Rattle.iscsi_serve_words.specs.Services.{IsServeJob};
+ghost use Rattle.iscsi_options.specs.Options.{AreLimits};
+ghost use Rattle.iscsi_serve_words.specs.Services.{CanServe, IsServeJob};
+ghost use Rattle.iscsi_serve_words.specs.declared.serve_words.Service.TheVariants as service;
 
 use crate::command_line::{LineFault, bad_number, bare_command, usage};
 use crate::serve_disk::{memory_of, read_only_of, storage_of, unit_of};
@@ -158,26 +160,37 @@ pub fn service_of<'a>(alloc: Global, asked: &ArgMatches<'a>) -> Result<ServeJob<
     let read_only = read_only_of(alloc, asked)?;
     let sessions = sessions_of(alloc, asked)?;
     initiators_of(alloc, asked)?;
-    let Some(digits) = asked.get_str("at-once") else {
-        return Ok(ServeJob {
-            storage,
-            service: Service::InTurn { port, sessions },
-            read_only,
-            secrets: asked.get_str("chap"),
-        });
+    let service = match asked.get_str("at-once") {
+        Some(digits) => Service::AtOnce(options_of(alloc, asked, digits, port, sessions)?),
+        None => Service::InTurn { port, sessions },
     };
+    Ok(ServeJob {
+        storage,
+        service,
+        read_only,
+        secrets: asked.get_str("chap"),
+    })
+}
+
+// The options of a service of several sessions at a time, whose number these digits spell.
+fn options_of<'a>(
+    alloc: Global,
+    asked: &ArgMatches<'a>,
+    digits: &str,
+    port: u16,
+    sessions: Option<u16>,
+) -> Result<Options<'a>, LineFault>
+    ensures range { IfOk result (λ options. CanServe (service.AtOnce options)) }
+{
     let Some(at_once) = at_once_of(digits) else {
         return Err(refused(alloc, digits, BAD_AT_ONCE));
     };
     let (listen, name) = place_of(alloc, asked)?;
     let portal = portal_of(alloc, asked)?;
     let unit = unit_of(alloc, asked)?;
-    let limits = Limits {
-        idle: seconds_of(alloc, asked, "idle", BAD_IDLE)?,
-        login_within: login_within_of(alloc, asked)?,
-    };
+    let limits = limits_of(alloc, asked)?;
     let preferences = preferences_of(alloc, asked)?;
-    let options = Options {
+    Ok(Options {
         listen,
         port,
         sessions,
@@ -190,12 +203,6 @@ pub fn service_of<'a>(alloc: Global, asked: &ArgMatches<'a>) -> Result<ServeJob<
         memory: memory_of(alloc, asked)?,
         print_port: asked.get_flag("print-port"),
         log: asked.get_flag("log"),
-    };
-    Ok(ServeJob {
-        storage,
-        service: Service::AtOnce(options),
-        read_only,
-        secrets: asked.get_str("chap"),
     })
 }
 
@@ -270,6 +277,15 @@ fn seconds_of(
     }
 }
 
+// What ends a session or a connection without a login.
+fn limits_of(alloc: Global, asked: &ArgMatches<'_>) -> Result<Limits, LineFault>
+    ensures some { IfOk result AreLimits }
+{
+    let idle = seconds_of(alloc, asked, "idle", BAD_IDLE)?;
+    let login_within = login_within_of(alloc, asked)?;
+    Ok(Limits { idle, login_within })
+}
+
 // How many seconds a login may take: those that are said, or else 30, or any number of them.
 fn login_within_of(alloc: Global, asked: &ArgMatches<'_>) -> Result<Option<u16>, LineFault>
     ensures some { IfOk result (λ seconds. IfSome seconds (λ n. 0 < n)) }
@@ -293,6 +309,6 @@ fn at_once_of(digits: &str) -> Option<u16>
 }
 
 // The number that digits spell, up to 65535.
-fn short_number_of(digits: &str) -> Option<u16> {
+pub(crate) fn short_number_of(digits: &str) -> Option<u16> {
     u16::try_from(number_of(digits, u64::from(u16::MAX))?).ok()
 }

@@ -50,6 +50,8 @@ pub fn are_answered_alike<S: BlockStore>(
         → StreamMeans (stream_of (map (λ piece. piece.items) captures.entry.1.now)) ms
         → IsTrue alike) }
 {
-    let (first, second) = answers_alike(alloc, configs, 1, captures, store, other)?;
-    Ok(first.output == second.output)
+    match answers_alike(alloc, configs, 1, captures, store, other) {
+        Ok((first, second)) => Ok(first.output == second.output),
+        Err(fault) => Err(fault),
+    }
 }

@@ -74,13 +74,27 @@ fn compare_from<R: Read, Q: Read, W: Write>(
     ensures compares { (written : List ℕ) × Appends (W.contents w.old) (W.contents w.new) written
         × ComparesCaptures comparison.entry.sameness result written }
 {
-    let (Ok(mut mine), Ok(mut other)) = (
-        Captured::new(alloc, first, comparison.wanted),
-        Captured::new(alloc, second, comparison.other),
-    ) else {
+    let Ok(mut mine) = Captured::new(alloc, first, comparison.wanted) else {
         return Err(NO_MEMORY);
     };
-    match compare_bytes(alloc, comparison.sameness, &mut mine, &mut other, w) {
+    let Ok(mut other) = Captured::new(alloc, second, comparison.other) else {
+        return Err(NO_MEMORY);
+    };
+    compare_captured(alloc, comparison, &mut mine, &mut other, w)
+}
+
+// Compares two directions. They are lent, so that none of the ways out has to take them apart.
+fn compare_captured<R: Read, Q: Read, W: Write>(
+    alloc: Global,
+    comparison: CaptureComparison<'_>,
+    mine: &mut Captured<'_, R>,
+    other: &mut Captured<'_, Q>,
+    w: &mut W,
+) -> Result<Verdict, CaptureComparisonFault>
+    ensures compares { (written : List ℕ) × Appends (W.contents w.old) (W.contents w.new) written
+        × ComparesCaptures comparison.entry.sameness result written }
+{
+    match compare_bytes(alloc, comparison.sameness, mine, other, w) {
         Ok(verdict) => Ok(verdict),
         Err(ComparisonFault::Own(ToolFault::Write)) => Err(NO_WRITE),
         Err(ComparisonFault::Own(_)) => Err(NO_MEMORY),

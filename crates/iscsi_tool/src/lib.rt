@@ -20,4 +20,4 @@ pub use iscsi_words::{
     CaptureComparison, CaptureComparisonFault, CaptureJob, CaptureWork, Filter, Job, Telling, Work,
     read_words,
 };
-pub use running::{Outcome, run_program, run_read, run_words};
+pub use running::{Outcome, run_read, run_words};

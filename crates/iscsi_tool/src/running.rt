@@ -18,14 +18,13 @@ use iscsi_comparison::{Comparison, ComparisonFault};
 use iscsi_disk_service::{DiskFault, serve_storage};
 use iscsi_filters::status;
 use iscsi_loop::run_loop;
-use iscsi_serve_words::{LineFault, read_command_line};
+use iscsi_serve_words::LineFault;
 use iscsi_serving::ServeFault;
 use iscsi_stream::ToolFault;
 use iscsi_words::{CaptureComparison, CaptureComparisonFault, CaptureJob, Job, read_words};
 use std::convert::AsStr;
 use std::io;
 use std::io::{Read, Write};
-use std::process::ExitCode;
 
 /// How a run of the program ends.
 #[derive(Debug, Drop)]
@@ -105,16 +104,6 @@ fn tell_captures<E: Write>(
         Some(name) => writeln!(w, "{name}: {fault}"),
         None => writeln!(w, "{fault}"),
     }
-}
-
-/// Runs the program: the words of the command line, over the standard streams. It ends as
-/// `run_read` does.
-pub fn run_program(rt: &HostRuntime) -> ExitCode {
-    let words = read_command_line(rt);
-    let mut input = rt.stdin();
-    let mut output = rt.stdout();
-    let mut errors = rt.stderr();
-    ExitCode::from(run_read(rt, &words, &mut input, &mut output, &mut errors))
 }
 
 /// Runs the job of a command line as `run_words` does. Or tells why its words could not be read,

@@ -11,9 +11,7 @@ use iscsi_captures::{CapturesFault, End, Wanted};
 use iscsi_comparison::Sameness;
 use iscsi_explain::Form;
 use iscsi_options::number_of;
-use iscsi_serve_words::{
-    LineFault, bad_number, bad_size, file, flag, needed_blocks, valued, with_word,
-};
+use iscsi_serve_words::{LineFault, Word, WordKind, bad_number, bad_size, needed_blocks};
 use std::alloc::{AllocError, Global};
 
 /// What is done with a capture.
@@ -64,90 +62,49 @@ impl CaptureJob<'_> {
     }
 }
 
-// The word for the capture that is read.
-fn with_capture<'a>(alloc: Global, program: Command<'a>) -> Result<Command<'a>, AllocError> {
-    with_word(
-        program,
-        Ok(valued(
-            alloc,
-            "capture",
-            "FILE",
-            "Read a capture file (pcap or pcapng) instead; - is standard input",
-        )),
-    )
-}
+const CAPTURE: Word = Word {
+    name: "capture",
+    kind: WordKind::Value("FILE"),
+    beside: None,
+    help: "Read a capture file (pcap or pcapng) instead; - is standard input",
+};
 
-// The word for a connection of it.
-fn with_connection<'a>(
-    alloc: Global,
-    program: Command<'a>,
-    help: &'a str,
-) -> Result<Command<'a>, AllocError> {
-    with_word(program, Ok(valued(alloc, "connection", "K", help)))
-}
+const CONNECTION: Word = Word {
+    name: "connection",
+    kind: WordKind::Value("K"),
+    beside: None,
+    help: "Connection to read, by its number in the list of 'connections'",
+};
 
-// The word for a direction.
-fn with_end<'a>(alloc: Global, program: Command<'a>) -> Result<Command<'a>, AllocError> {
-    with_word(
-        program,
-        Ok(valued(
-            alloc,
-            "from",
-            "END",
-            "End whose bytes are read: initiator or target",
-        )),
-    )
-}
-
-const CONNECTION: &str = "Connection to read, by its number in the list of 'connections'";
+const END: Word = Word {
+    name: "from",
+    kind: WordKind::Value("END"),
+    beside: None,
+    help: "End whose bytes are read: initiator or target",
+};
 
 /// The words of a program that may read a capture.
-pub(crate) fn with_capture_words<'a>(
-    alloc: Global,
-    program: Command<'a>,
-) -> Result<Command<'a>, AllocError> {
-    let program = with_capture(alloc, program)?;
-    let program = with_connection(alloc, program, CONNECTION)?;
-    with_end(alloc, program)
-}
+pub(crate) const DIRECTION: &[Word] = &[CAPTURE, CONNECTION, END];
 
 /// The words of a program that may read the initiator's side of a capture.
-pub(crate) fn with_initiator_words<'a>(
-    alloc: Global,
-    program: Command<'a>,
-) -> Result<Command<'a>, AllocError> {
-    let program = with_capture(alloc, program)?;
-    with_connection(alloc, program, CONNECTION)
-}
+pub(crate) const INITIATOR: &[Word] = &[CAPTURE, CONNECTION];
 
 /// The words of a program that may compare two captures.
-pub(crate) fn with_two_captures<'a>(
-    alloc: Global,
-    program: Command<'a>,
-) -> Result<Command<'a>, AllocError> {
-    let program = with_word(
-        program,
-        Ok(flag(
-            alloc,
-            "capture",
-            "Read both files as captures (pcap or pcapng)",
-        )),
-    )?;
-    let program = with_connection(
-        alloc,
-        program,
-        "Connection of both captures, or K,L: K of the first and L of the second",
-    )?;
-    with_end(alloc, program)
-}
-
-pub(crate) fn connections_program<'a>(alloc: Global) -> Result<Command<'a>, AllocError> {
-    Command::new(alloc, "connections")
-        .about("List the TCP connections of a capture file (pcap or pcapng)")
-        .disable_version_flag(true)
-        .bin_name("lanthovur connections")?
-        .arg(file(alloc, "FILE", "Capture file; - is standard input").required(true))
-}
+pub(crate) const TWO_CAPTURES: &[Word] = &[
+    Word {
+        name: "capture",
+        kind: WordKind::Flag,
+        beside: None,
+        help: "Read both files as captures (pcap or pcapng)",
+    },
+    Word {
+        name: "connection",
+        kind: WordKind::Value("K"),
+        beside: None,
+        help: "Connection of both captures, or K,L: K of the first and L of the second",
+    },
+    END,
+];
 
 /// The job of listing a capture's connections.
 pub(crate) fn connections_of<'a>(asked: &ArgMatches<'a>) -> Job<'a>

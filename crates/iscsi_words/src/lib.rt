@@ -3,6 +3,7 @@
 
 mod capture_comparing;
 mod capture_words;
+mod commands;
 mod examples;
 mod filter;
 mod telling;

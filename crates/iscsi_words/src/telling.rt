@@ -1,9 +1,8 @@
 //! The words for lines with notes, and for JSON.
 
-use clap::{ArgMatches, Command};
+use clap::ArgMatches;
 use iscsi_explain::Form;
-use iscsi_serve_words::{flag, with_word};
-use std::alloc::{AllocError, Global};
+use iscsi_serve_words::{Word, WordKind};
 
 /// A stream that is shown in another form than by plain lines.
 #[derive(Clone, Copy, Debug, PartialEq, Eq)]
@@ -15,23 +14,20 @@ pub struct Telling {
 }
 
 /// The words for the forms of a program that shows PDUs.
-pub(crate) fn with_form_words<'a>(
-    alloc: Global,
-    program: Command<'a>,
-) -> Result<Command<'a>, AllocError> {
-    let program = with_word(
-        program,
-        Ok(flag(
-            alloc,
-            "explain",
-            "Tell commands, sense, keys, statuses and reasons in words, under each line",
-        )),
-    )?;
-    with_word(
-        program,
-        Ok(flag(alloc, "json", "Print one JSON object for each PDU")),
-    )
-}
+pub(crate) const FORMS: &[Word] = &[
+    Word {
+        name: "explain",
+        kind: WordKind::Flag,
+        beside: None,
+        help: "Tell commands, sense, keys, statuses and reasons in words, under each line",
+    },
+    Word {
+        name: "json",
+        kind: WordKind::Flag,
+        beside: None,
+        help: "Print one JSON object for each PDU",
+    },
+];
 
 /// The form that words ask for.
 pub(crate) fn form_of(asked: &ArgMatches<'_>) -> Form {

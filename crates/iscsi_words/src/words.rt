@@ -1,5 +1,4 @@
-//! The words of the command line. One file, since the words, their help and what they mean stand
-//! together.
+//! What the words of a command line ask for.
 
 ghost use Rattle.std.specs.Prelude.{◌≡◌, ◌<◌, ◌≤◌, [], true, Ok, IfOk, IfSome};
 ghost use Rattle.iscsi_words.specs.Jobs.{HasDisk, IsJob};
@@ -8,19 +7,22 @@ ghost use Rattle.iscsi_words.specs.declared.words.Job.TheVariants as job;
 
 use crate::capture_comparing::CaptureComparison;
 use crate::capture_words::{
-    CaptureJob, answered_job, asks_for_capture, compared_job, connections_of, connections_program,
-    normalised_job, shown_job, with_capture_words, with_initiator_words, with_two_captures,
+    CaptureJob, answered_job, asks_for_capture, compared_job, connections_of, normalised_job,
+    shown_job,
 };
-use crate::examples;
+use crate::commands::{
+    answer_program, compare_program, connections_program, loop_program, normalise_program,
+    show_program,
+};
 use crate::filter::{Filter, Work};
-use crate::telling::{Telling, form_of, with_form_words};
+use crate::telling::{Telling, form_of};
 use clap::{ArgMatches, Command, Error};
 use iscsi_comparison::{Comparison, Sameness};
 use iscsi_explain::Form;
-use iscsi_options::LONGEST_PIECE;
+use iscsi_options::{LONGEST_PIECE, number_of};
 use iscsi_serve_words::{
-    LineFault, ServeJob, Service, Storage, bad_number, bad_size, bad_value, bare_command, file,
-    flag, needed_blocks, serve_program, service_of, usage, valued, with_size,
+    LineFault, ServeJob, Service, Storage, bad_number, bad_size, bad_value, bare_command,
+    needed_blocks, serve_program, service_of, usage,
 };
 use std::alloc::{AllocError, Global};
 use std::convert::AsStr;
@@ -62,6 +64,30 @@ enum JobWord {
 }
 
 impl JobWord {
+    // All of them, in the order of the help.
+    const ALL: &'static [JobWord] = &[
+        JobWord::Show,
+        JobWord::Normalise,
+        JobWord::Compare,
+        JobWord::Connections,
+        JobWord::Answer,
+        JobWord::Serve,
+        JobWord::Loop,
+    ];
+
+    // The words of the job.
+    fn program<'a>(self, alloc: Global) -> Result<Command<'a>, AllocError> {
+        match self {
+            JobWord::Show => show_program(alloc),
+            JobWord::Normalise => normalise_program(alloc),
+            JobWord::Compare => compare_program(alloc),
+            JobWord::Connections => connections_program(alloc),
+            JobWord::Answer => answer_program(alloc),
+            JobWord::Serve => serve_program(alloc),
+            JobWord::Loop => loop_program(alloc),
+        }
+    }
+
     // The job that a word names.
     fn of(word: &str) -> Option<JobWord> {
         match word {
@@ -83,93 +109,6 @@ const UNASKED: Job<'static> = Job::Filter(Filter {
     hex: true,
 });
 
-// A program whose input may be hex text.
-fn program<'a>(alloc: Global, name: &'a str, about: &'a str) -> Result<Command<'a>, AllocError> {
-    Command::new(alloc, name)
-        .about(about)
-        .disable_version_flag(true)
-        .arg(flag(
-            alloc,
-            "hex",
-            "Read hex text instead of bytes, and write bytes as a line of hex",
-        ))
-}
-
-fn show_program<'a>(alloc: Global) -> Result<Command<'a>, AllocError> {
-    let program = program(alloc, "show", "Print one line for each PDU of a stream")?
-        .bin_name("lanthovur show")?
-        .after_help(examples::SHOW);
-    let program = with_form_words(alloc, program)?;
-    with_capture_words(alloc, program)
-}
-
-fn normalise_program<'a>(alloc: Global) -> Result<Command<'a>, AllocError> {
-    let program = program(
-        alloc,
-        "normalise",
-        "Write a stream in canonical form: equal meaning becomes equal bytes",
-    )?
-    .bin_name("lanthovur normalise")?
-    .after_help(examples::NORMALISE)
-    .arg(flag(
-        alloc,
-        "text",
-        "Read one text of keys, such as that of a login, instead of a stream",
-    ))?;
-    with_capture_words(alloc, program)
-}
-
-fn answer_program<'a>(alloc: Global) -> Result<Command<'a>, AllocError> {
-    let program = program(
-        alloc,
-        "answer",
-        "Write a target's responses to a stream from an initiator",
-    )?
-    .after_help(examples::ANSWER)
-    .override_usage("lanthovur answer [OPTIONS] (--size <SIZE> | --blocks <N>)")
-    .bin_name("lanthovur answer")?;
-    let program = with_size(alloc, program)?;
-    with_initiator_words(alloc, program)
-}
-
-fn loop_program<'a>(alloc: Global) -> Result<Command<'a>, AllocError> {
-    let program = Command::new(alloc, "loop")
-        .about("Run a script of commands between an initiator and a target, over a local socket")
-        .after_help(examples::LOOP)
-        .override_usage("lanthovur loop (--size <SIZE> | --blocks <N>) --piece <k>")
-        .disable_version_flag(true)
-        .bin_name("lanthovur loop")?;
-    let piece = valued(
-        alloc,
-        "piece",
-        "k",
-        "Most bytes written to the socket before they are read, 1 to 4096",
-    );
-    with_size(alloc, program)?.arg(piece.required(true))
-}
-
-fn compare_program<'a>(alloc: Global) -> Result<Command<'a>, AllocError> {
-    let program = program(
-        alloc,
-        "compare",
-        "Print the first two PDUs in which two streams differ in meaning",
-    )?
-    .after_help(examples::COMPARE)
-    .bin_name("lanthovur compare")?
-    .arg(file(alloc, "A", "File of the first stream").required(true))?
-    .arg(file(
-        alloc,
-        "B",
-        "File of the second stream (default standard input)",
-    ))?
-    .arg(flag(
-        alloc,
-        "same-job",
-        "Let tags, session ids and serial numbers differ, as in two runs of one job",
-    ))?;
-    with_two_captures(alloc, program)
-}
-
 // With the words of one more job, if they could be made.
 fn with_job<'a>(
     command: Command<'a>,
@@ -180,14 +119,11 @@ fn with_job<'a>(
 
 // The words of each job.
 fn command<'a>(alloc: Global) -> Result<Command<'a>, AllocError> {
-    let command = bare_command(alloc)?;
-    let command = with_job(command, show_program(alloc))?;
-    let command = with_job(command, normalise_program(alloc))?;
-    let command = with_job(command, compare_program(alloc))?;
-    let command = with_job(command, connections_program(alloc))?;
-    let command = with_job(command, answer_program(alloc))?;
-    let command = with_job(command, serve_program(alloc))?;
-    with_job(command, loop_program(alloc))
+    let mut command = bare_command(alloc)?;
+    for job in JobWord::ALL {
+        command = with_job(command, job.program(alloc))?;
+    }
+    Ok(command)
 }
 
 /// The job that the words of a command line ask for, without the program's name. Words that are no
@@ -362,10 +298,7 @@ fn loop_of(alloc: Global, asked: &ArgMatches<'_>) -> Result<Job<'static>, LineFa
 fn piece_of(digits: &str) -> Option<u32>
     ensures range { IfSome result (λ n. (0 < n) × (n ≤ 4096)) }
 {
-    if !digits.bytes().all(|c| c.is_ascii_digit()) {
-        return None;
-    }
-    match digits.parse::<u32>() {
+    match u32::try_from(number_of(digits, u64::from(LONGEST_PIECE))?) {
         Ok(piece) if 0 < piece && piece <= LONGEST_PIECE => Some(piece),
         _ => None,
     }

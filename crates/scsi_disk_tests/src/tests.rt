@@ -15,7 +15,7 @@ use std::process::Abort;
 
 /// Asserts that a value is the one that is due, in a row of which this tells.
 fn same<T: PartialEq + Debug>(rt: &impl Abort, value: &T, due: &T, row: &impl Debug) {
-    assert_eq!(rt; *value, *due, "{row:?}");
+    assert!(rt; *value == *due, "{row:?}: {value:?} is not {due:?}");
 }
 
 /// The descriptor block of which these are the words.

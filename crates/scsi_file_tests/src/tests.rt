@@ -12,7 +12,7 @@ use std::process::Abort;
 
 /// Asserts that a value is the one that is due, in a row of which this tells.
 fn same<T: PartialEq + Debug>(rt: &impl Abort, value: &T, due: &T, row: &impl Debug) {
-    assert_eq!(rt; *value, *due, "{row:?}");
+    assert!(rt; *value == *due, "{row:?}: {value:?} is not {due:?}");
 }
 
 /// A medium of 8 blocks, all of which last: the first is full of `a`, the next of `b`, and so on.

@@ -4,14 +4,13 @@ ghost use Rattle.std.specs.Prelude.{◌≡◌, length};
 ghost use Rattle.iscsi_event_loop.specs.Running.{RunsIdle};
 
 use super::Server;
-use crate::peer::Peer;
 use crate::refusals::Refusal;
 use crate::session_line::SessionLine;
 use crate::system::now;
 use crate::tally::Ended;
 use iscsi_login::Phase;
 use iscsi_serving::SessionEnd;
-use iscsi_sessions::SessionTable;
+use std::fmt::Display;
 
 impl<'a> Server<'a> {
     // Ends the session of a slot, and all of them where a sync failed.
@@ -76,13 +75,25 @@ impl<'a> Server<'a> {
     pub(super) fn tell_login(&mut self, rt: &HostRuntime, slot: usize)
         ensures same { self.new ≡ self.old }
     {
+        if self.options.log {
+            self.tell(rt, slot, "logged in");
+        }
+    }
+
+    // Writes a line with what is told of the session of a slot.
+    fn tell(&mut self, rt: &HostRuntime, slot: usize, told: impl Display + Drop)
+        ensures same { self.new ≡ self.old }
+    {
         let Some(Some(peer)) = self.peers.get(slot) else {
             return;
         };
-        if self.options.log {
-            let line = line_of(&self.numbers, &self.table, slot, peer, "logged in");
-            self.lines.tell(rt, &line);
-        }
+        let line = SessionLine {
+            number: self.numbers.get(slot).copied().unwrap_or(0),
+            address: peer.connection.address(),
+            initiator: self.table.initiator_name(slot),
+            told,
+        };
+        self.lines.tell(rt, &line);
     }
 
     // Tells why the session of a slot ended, if that is a fault, and of all ends if that is asked for. Where
@@ -90,23 +101,30 @@ impl<'a> Server<'a> {
     fn tell_end(&mut self, rt: &HostRuntime, slot: usize, end: Option<SessionEnd>)
         ensures same { self.new ≡ self.old }
     {
-        let Some(Some(peer)) = self.peers.get(slot) else {
-            return;
-        };
         if self.options.log {
-            let ended = ended(rt, peer, self.table.phase(slot), end);
-            let line = line_of(&self.numbers, &self.table, slot, peer, ended);
-            self.lines.tell(rt, &line);
+            if let Some(ended) = self.ended(rt, slot, end) {
+                self.tell(rt, slot, ended);
+            }
         } else if let Some(end) = end {
-            let line = line_of(&self.numbers, &self.table, slot, peer, end);
-            self.lines.tell(rt, &line);
+            self.tell(rt, slot, end);
         } else if let Some(refusal) = self.refusal(rt, slot) {
-            let Some(Some(peer)) = self.peers.get(slot) else {
-                return;
-            };
-            let line = line_of(&self.numbers, &self.table, slot, peer, refusal);
-            self.lines.tell(rt, &line);
+            self.tell(rt, slot, refusal);
         }
+    }
+
+    // How the session of a slot ends, and what went over its connection. If the system doesn't tell the time, the
+    // seconds are those up to the last byte.
+    fn ended(&self, rt: &HostRuntime, slot: usize, end: Option<SessionEnd>) -> Option<Ended> {
+        let peer = self.peers.get(slot)?.as_ref()?;
+        let connection = &peer.connection;
+        let now = now(rt).unwrap_or(connection.moved());
+        Some(Ended {
+            end: peer.tally.end(self.table.phase(slot), end),
+            commands: peer.tally.commands(),
+            received: connection.received(),
+            sent: connection.sent(),
+            seconds: connection.since_accepted(now).as_secs(),
+        })
     }
 
     // What is told of the login of a slot, if it was refused and is to be told now.
@@ -153,35 +171,5 @@ impl<'a> Server<'a> {
         if let Some(place) = self.numbers.get_mut(slot) {
             *place = 0;
         }
-    }
-}
-
-// The line of the session of a slot.
-fn line_of<'b, T>(
-    numbers: &[u16],
-    table: &'b SessionTable,
-    slot: usize,
-    peer: &Peer,
-    told: T,
-) -> SessionLine<'b, T> {
-    SessionLine {
-        number: numbers.get(slot).copied().unwrap_or(0),
-        address: peer.connection.address(),
-        initiator: table.initiator_name(slot),
-        told,
-    }
-}
-
-// How the session of a peer ends in this phase, and what went over its connection. If the system
-// doesn't tell the time, the seconds are those up to the last byte.
-fn ended(rt: &HostRuntime, peer: &Peer, phase: Option<Phase>, end: Option<SessionEnd>) -> Ended {
-    let connection = &peer.connection;
-    let now = now(rt).unwrap_or(connection.moved());
-    Ended {
-        end: peer.tally.end(phase, end),
-        commands: peer.tally.commands(),
-        received: connection.received(),
-        sent: connection.sent(),
-        seconds: connection.since_accepted(now).as_secs(),
     }
 }

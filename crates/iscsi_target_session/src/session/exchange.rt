@@ -1,7 +1,9 @@
 //! The exchange of CHAP in a login (RFC 7143, section 12.1.3): which texts are refused, and what the
 //! others are answered.
 
-ghost use Rattle.std.specs.Prelude.{◌≡◌, IfOk, Some};
+ghost use Rattle.std.specs.Prelude.{◌≡◌, ◌++◌, IfOk, Some};
+ghost use Rattle.iscsi_text.specs.Reading.{in_order};
+ghost use Rattle.iscsi_text.specs.Shown.{all_shown};
 ghost use Rattle.iscsi_text.specs.Canonical.{canonical_text};
 ghost use Rattle.iscsi_pdu.specs.Meaning.{HeadFits};
 ghost use Rattle.iscsi_pdu.specs.declared.head.Head.TheVariants as heads;
@@ -10,14 +12,15 @@ ghost use Rattle.iscsi_access.specs.Chap.{Chap};
 ghost use Rattle.iscsi_access.specs.declared.verdict.Said.{Said};
 ghost use Rattle.iscsi_access.specs.declared.verdict.Verdict.TheVariants.{Goes};
 ghost use Rattle.iscsi_target_session.specs.Login.{has_passed, verdict_for, allowed_move, exchange_pairs, by_verdict, rest_of, exchange_text};
+ghost use Rattle.iscsi_target_session.specs.LoginText.{answer_pairs};
 ghost use Rattle.iscsi_target_session.specs.Replies.{ReplyAttemptPost};
 
 use super::Session;
 use crate::status::Status;
-use iscsi_access::{Progress, Said, Verdict};
+use iscsi_access::{Progress, Said, Spoken, Verdict};
 use iscsi_login::{Stage, answer_pairs};
 use iscsi_pdu::{LOGIN_SEGMENT, LoginRequest};
-use iscsi_text::{Text, sort_pairs, write_pairs};
+use iscsi_text::{Pair, Text, sort_pairs, write_pairs};
 use std::alloc::{AllocError, Global};
 
 /// The keys of the exchange (RFC 7143, section 12.1.3).
@@ -122,6 +125,19 @@ impl Session {
             return Ok(Vec::new(alloc));
         };
         let spoken = chap.speak(alloc, said)?;
+        self.answer_with(alloc, &spoken, rest)
+    }
+
+    // The answer to a text, with what was spoken.
+    fn answer_with(
+        &self,
+        alloc: Global,
+        spoken: &Spoken<'_>,
+        rest: &Text<'_>,
+    ) -> Result<Vec<u8>, AllocError>
+        ensures { IfOk result (λ answer. answer.items
+            ≡ canonical_text (in_order (spoken.now ++ answer_pairs self.now rest.now))) }
+    {
         let mut pairs = spoken.pairs(alloc)?;
         let answers = answer_pairs(
             alloc,
@@ -133,10 +149,17 @@ impl Session {
         )?;
         pairs.extend_from_slice(&answers)?;
         sort_pairs(&mut pairs)?;
-        let mut answer = Vec::new(alloc);
-        write_pairs(&pairs, &mut answer)?;
-        Ok(answer)
+        text_of(alloc, &pairs)
     }
+}
+
+// The canonical text of pairs.
+fn text_of(alloc: Global, pairs: &[Pair<'_>]) -> Result<Vec<u8>, AllocError>
+    ensures { IfOk result (λ text. text.items ≡ canonical_text (all_shown pairs.now)) }
+{
+    let mut text = Vec::new(alloc);
+    write_pairs(pairs, &mut text)?;
+    Ok(text)
 }
 
 // What a text says beside the exchange.

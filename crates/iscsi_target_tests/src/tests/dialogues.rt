@@ -1,11 +1,12 @@
 //! Sessions by example, in pieces of any length. One file, since all of it runs the same rows.
 
 use super::queues::{
-    BEHIND, EIGHT, FAILING_QUEUES, LONG_QUEUES, SHORT_QUEUES, TURN, WAITING_REQUESTS,
-    WAITING_WRITES, WINDOWS,
+    BEHIND, EIGHT, FAILING_FIRST, FAILING_SECOND, FAILING_THIRD, LONG_QUEUES, SHORT_QUEUES, TURN,
+    WAITING_REQUESTS, WAITING_WRITES, WINDOWS,
 };
 use super::rows::{
     Dialogue, FAILING, FAILING_PARTS, LISTED, LOGIN, LOGINS, LONG, NOBODY, REQUESTS, SHORT, WRITES,
+    dialogue_of,
 };
 use super::{BY_PDU, feed_pieces, target_of, target_that_lists, target_with};
 use crate::asserts::same;
@@ -116,34 +117,32 @@ fn check_after_login<S: BlockStore>(
 fn check_dialogue<S: BlockStore>(
     rt: &impl Abort,
     alloc: Global,
-    row: &Dialogue,
+    row: &Dialogue<'_>,
     len: usize,
     store: &mut S,
 ) {
-    let (name, is_fresh, lines) = *row;
-    if !is_fresh {
-        check_after_login(rt, alloc, name, len, store, lines);
+    if !row.is_fresh {
+        check_after_login(rt, alloc, row.name, len, store, row.lines);
         return;
     }
     let mut target = target_of(rt, alloc);
-    check(rt, alloc, name, len, &mut target, store, lines);
+    check(rt, alloc, row.name, len, &mut target, store, row.lines);
 }
 
 /// The lengths of pieces: a PDU at a time, a byte, less than a header, a header, and all.
 pub const LENGTHS: &[usize] = &[BY_PDU, 1, 47, 48, 100_000];
 
 // A session over a disk whose read or write of this number fails, in pieces of several lengths.
-fn check_failing(rt: &impl Abort, alloc: Global, at: u64, row: &Dialogue) {
-    let (name, _, lines) = *row;
+fn check_failing(rt: &impl Abort, alloc: Global, at: u64, row: &Dialogue<'_>) {
     for len in LENGTHS {
         let store = MemoryStore::new(alloc, 2048).expect(rt, "a disk");
         let mut store = FailAt::new(store, at);
-        check_after_login(rt, alloc, name, *len, &mut store, lines);
+        check_after_login(rt, alloc, row.name, *len, &mut store, row.lines);
     }
 }
 
 // A session over the store that keeps what was written alone, and once over the other.
-fn check_stores(rt: &impl Abort, alloc: Global, row: &Dialogue) {
+fn check_stores(rt: &impl Abort, alloc: Global, row: &Dialogue<'_>) {
     for len in LENGTHS {
         let mut store = SparseStore::new(alloc, 2048);
         check_dialogue(rt, alloc, row, *len, &mut store);
@@ -152,36 +151,40 @@ fn check_stores(rt: &impl Abort, alloc: Global, row: &Dialogue) {
     check_dialogue(rt, alloc, row, 48, &mut store);
 }
 
-// Sessions over either store.
-fn check_rows(rt: &impl Abort, alloc: Global, rows: &[Dialogue]) {
-    for row in rows {
-        check_stores(rt, alloc, row);
+// The sessions of a text, over either store.
+fn check_all(rt: &impl Abort, alloc: Global, text: &str) {
+    for row in text.split("\n\n") {
+        check_stores(rt, alloc, &dialogue_of(rt, row));
     }
 }
 
 #[test]
 fn logins(rt: HostRuntime) {
-    check_rows(&rt, rt.alloc(), LOGINS);
+    check_all(&rt, rt.alloc(), LOGINS);
 }
 
 // A session of a target that lists two names, whose stream comes in pieces of this length.
-fn check_listed(rt: &impl Abort, alloc: Global, row: &Dialogue, len: usize) {
-    let (name, _, lines) = *row;
+fn check_listed(rt: &impl Abort, alloc: Global, row: &Dialogue<'_>, len: usize) {
     let mut target = target_that_lists(
         rt,
         alloc,
         &[b"iqn.2026-01.example:guest", b"iqn.2026-01.example:host"],
     );
     let mut store = SparseStore::new(alloc, 2048);
-    check(rt, alloc, name, len, &mut target, &mut store, lines);
+    check(rt, alloc, row.name, len, &mut target, &mut store, row.lines);
+}
+
+// The same in pieces of each length.
+fn check_listed_lengths(rt: &impl Abort, alloc: Global, row: &Dialogue<'_>) {
+    for len in LENGTHS {
+        check_listed(rt, alloc, row, *len);
+    }
 }
 
 #[test]
 fn listed_initiators(rt: HostRuntime) {
-    for row in LISTED {
-        for len in LENGTHS {
-            check_listed(&rt, rt.alloc(), row, *len);
-        }
+    for row in LISTED.split("\n\n") {
+        check_listed_lengths(&rt, rt.alloc(), &dialogue_of(&rt, row));
     }
 }
 
@@ -203,60 +206,64 @@ fn an_empty_list(rt: HostRuntime) {
 
 #[test]
 fn requests(rt: HostRuntime) {
-    check_rows(&rt, rt.alloc(), REQUESTS);
+    check_all(&rt, rt.alloc(), REQUESTS);
 }
 
 #[test]
 fn windows(rt: HostRuntime) {
-    check_rows(&rt, rt.alloc(), WINDOWS);
+    check_all(&rt, rt.alloc(), WINDOWS);
 }
 
 #[test]
 fn short_queues(rt: HostRuntime) {
-    check_rows(&rt, rt.alloc(), SHORT_QUEUES);
+    check_all(&rt, rt.alloc(), SHORT_QUEUES);
 }
 
 #[test]
 fn long_queues(rt: HostRuntime) {
-    check_rows(&rt, rt.alloc(), LONG_QUEUES);
+    check_all(&rt, rt.alloc(), LONG_QUEUES);
 }
 
 #[test]
 fn writes_that_wait(rt: HostRuntime) {
-    check_rows(&rt, rt.alloc(), WAITING_WRITES);
+    check_all(&rt, rt.alloc(), WAITING_WRITES);
 }
 
 #[test]
 fn requests_that_wait(rt: HostRuntime) {
-    check_rows(&rt, rt.alloc(), WAITING_REQUESTS);
+    check_all(&rt, rt.alloc(), WAITING_REQUESTS);
 }
 
 // A session over a disk of its own, in pieces of this length.
-fn check_sparse(rt: &impl Abort, alloc: Global, row: &Dialogue, len: usize) {
+fn check_sparse(rt: &impl Abort, alloc: Global, row: &Dialogue<'_>, len: usize) {
     let mut store = SparseStore::new(alloc, 2048);
     check_dialogue(rt, alloc, row, len, &mut store);
 }
 
 #[test]
 fn long_texts(rt: HostRuntime) {
-    for row in LONG {
-        check_sparse(&rt, rt.alloc(), row, BY_PDU);
-        check_sparse(&rt, rt.alloc(), row, 47);
+    for text in LONG.split("\n\n") {
+        let row = dialogue_of(&rt, text);
+        check_sparse(&rt, rt.alloc(), &row, BY_PDU);
+        check_sparse(&rt, rt.alloc(), &row, 47);
+    }
+}
+
+// Sessions of a text, over disks whose read or write of this number fails.
+fn check_all_failing(rt: &impl Abort, alloc: Global, at: u64, text: &str) {
+    for row in text.split("\n\n") {
+        check_failing(rt, alloc, at, &dialogue_of(rt, row));
     }
 }
 
 /// The session goes on after a failure of its store.
 #[test]
 fn stores_that_fail(rt: HostRuntime) {
-    for row in FAILING {
-        check_failing(&rt, rt.alloc(), 0, row);
-    }
-    for (at, row) in FAILING_PARTS {
-        check_failing(&rt, rt.alloc(), *at, row);
-    }
-    for (at, row) in FAILING_QUEUES {
-        check_failing(&rt, rt.alloc(), *at, row);
-    }
+    check_all_failing(&rt, rt.alloc(), 0, FAILING);
+    check_all_failing(&rt, rt.alloc(), 1, FAILING_PARTS);
+    check_all_failing(&rt, rt.alloc(), 0, FAILING_FIRST);
+    check_all_failing(&rt, rt.alloc(), 1, FAILING_SECOND);
+    check_all_failing(&rt, rt.alloc(), 2, FAILING_THIRD);
 }
 
 // A session in pieces of each length to 100, over the store that keeps what was written alone.
@@ -281,21 +288,19 @@ fn a_window_in_pieces_of_each_length(rt: HostRuntime) {
 }
 
 // A session of a target that takes segments of at most 512 bytes.
-fn check_short(rt: &impl Abort, alloc: Global, row: &Dialogue, len: usize) {
-    let (name, _, lines) = *row;
+fn check_short(rt: &impl Abort, alloc: Global, row: &Dialogue<'_>, len: usize) {
     let mut preferences = Preferences::standard();
     preferences.max_recv = 512;
     let mut target = target_with(rt, alloc, preferences);
     let mut store = SparseStore::new(alloc, 2048);
-    check(rt, alloc, name, len, &mut target, &mut store, lines);
+    check(rt, alloc, row.name, len, &mut target, &mut store, row.lines);
 }
 
 #[test]
 fn longer_segments_than_declared(rt: HostRuntime) {
-    for row in SHORT {
-        for len in LENGTHS {
-            check_short(&rt, rt.alloc(), row, *len);
-        }
+    let row = dialogue_of(&rt, SHORT);
+    for len in LENGTHS {
+        check_short(&rt, rt.alloc(), &row, *len);
     }
 }
 

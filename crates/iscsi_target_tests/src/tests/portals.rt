@@ -3,7 +3,7 @@
 //! C; a script counted the bytes of the texts.
 
 use super::dialogues::{LENGTHS, check};
-use super::rows::Dialogue;
+use super::rows::{Dialogue, dialogue_of};
 use super::{BY_PDU, NAME, feed_pieces};
 use crate::asserts::same;
 use iscsi_login::{Phase, Preferences};
@@ -15,47 +15,38 @@ use std::alloc::Global;
 use std::process::Abort;
 
 /// Sessions of a target whose portal is 192.0.2.7:3260, of group 1.
-const TOLD: &[Dialogue] = &[
-    (
-        "as open-iscsi asks",
-        true,
-        "I> 43870000 000000e7 40000001 00000000 00000000 00000000 00000001 00000000 00000000 00000000 00000000 00000000 'InitiatorName=iqn.2026-01.example:host|InitiatorAlias=host|SessionType=Discovery|HeaderDigest=None|DataDigest=None|DefaultTime2Wait=2|DefaultTime2Retain=0|IFMarker=No|OFMarker=No|ErrorRecoveryLevel=0|MaxRecvDataSegmentLength=32768|\n\
-        T> 23870000 00000095 40000001 00000001 00000000 00000000 00000001 00000001 00000008 00000000 00000000 00000000 'DataDigest=None|DefaultTime2Retain=0|DefaultTime2Wait=2|ErrorRecoveryLevel=0|HeaderDigest=None|IFMarker=No|MaxRecvDataSegmentLength=8192|OFMarker=No|\n\
-        = full\n\
-        I> 44800000 00000010 00000000 00000000 00000001 ffffffff 00000001 00000002 00000000 00000000 00000000 00000000 'SendTargets=All|\n\
-        T> 24800000 00000043 00000000 00000000 00000001 ffffffff 00000002 00000001 00000008 00000000 00000000 00000000 'TargetName=iqn.2026-01.example:disk|TargetAddress=192.0.2.7:3260,1|\n\
-        = full",
-    ),
-    (
-        "each key of a discovery session",
-        true,
-        "I> 43870000 00000111 40000001 00000000 00000000 00000000 00000001 00000000 00000000 00000000 00000000 00000000 'DataPDUInOrder=No|DataSequenceInOrder=No|DefaultTime2Retain=0|DefaultTime2Wait=5|ErrorRecoveryLevel=2|FirstBurstLength=512|ImmediateData=Yes|InitialR2T=No|InitiatorName=iqn.2026-01.example:host|MaxBurstLength=1024|MaxConnections=4|MaxOutstandingR2T=8|SessionType=Discovery|\n\
-        T> 23870000 000000f4 40000001 00000001 00000000 00000000 00000001 00000001 00000008 00000000 00000000 00000000 'DataPDUInOrder=Yes|DataSequenceInOrder=Yes|DefaultTime2Retain=0|DefaultTime2Wait=5|ErrorRecoveryLevel=0|FirstBurstLength=512|ImmediateData=Yes|InitialR2T=No|MaxBurstLength=1024|MaxConnections=1|MaxOutstandingR2T=1|MaxRecvDataSegmentLength=8192|\n\
-        = full",
-    ),
-    (
-        "in a normal session",
-        true,
-        "I> 43870000 0000006e 40000001 00000000 00000000 00000000 00000001 00000000 00000000 00000000 00000000 00000000 'AuthMethod=None|InitiatorName=iqn.2026-01.example:host|SessionType=Normal|TargetName=iqn.2026-01.example:disk|\n\
-        T> 23870000 00000045 40000001 00000001 00000000 00000000 00000001 00000001 00000008 00000000 00000000 00000000 'AuthMethod=None|MaxRecvDataSegmentLength=8192|TargetPortalGroupTag=1|\n\
-        = full\n\
-        I> 44800000 0000000d 00000000 00000000 00000001 ffffffff 00000001 00000002 00000000 00000000 00000000 00000000 'SendTargets=|\n\
-        T> 24800000 00000043 00000000 00000000 00000001 ffffffff 00000002 00000001 00000008 00000000 00000000 00000000 'TargetName=iqn.2026-01.example:disk|TargetAddress=192.0.2.7:3260,1|\n\
-        = full\n\
-        I> 44800000 00000025 00000000 00000000 00000002 ffffffff 00000001 00000003 00000000 00000000 00000000 00000000 'SendTargets=iqn.2026-01.example:disk|\n\
-        T> 24800000 00000043 00000000 00000000 00000002 ffffffff 00000003 00000001 00000008 00000000 00000000 00000000 'TargetName=iqn.2026-01.example:disk|TargetAddress=192.0.2.7:3260,1|\n\
-        = full\n\
-        I> 44800000 00000026 00000000 00000000 00000003 ffffffff 00000001 00000004 00000000 00000000 00000000 00000000 'SendTargets=iqn.2026-01.example:other|\n\
-        T> 24800000 00000000 00000000 00000000 00000003 ffffffff 00000004 00000001 00000008 00000000 00000000 00000000\n\
-        = full\n\
-        I> 44800000 0000002d 00000000 00000000 00000004 ffffffff 00000001 00000005 00000000 00000000 00000000 00000000 'A-key=1|SendTargets=All|TargetName=x|X-key=1|\n\
-        T> 24800000 0000006b 00000000 00000000 00000004 ffffffff 00000005 00000001 00000008 00000000 00000000 00000000 'TargetName=iqn.2026-01.example:disk|TargetAddress=192.0.2.7:3260,1|A-key=NotUnderstood|X-key=NotUnderstood|\n\
-        = full\n\
-        I> 44800000 00000010 00000000 00000000 00000005 ffffffff 00000001 00000006 00000000 00000000 00000000 00000000 'A-key=1|X-key=1|\n\
-        T> 24800000 00000028 00000000 00000000 00000005 ffffffff 00000006 00000001 00000008 00000000 00000000 00000000 'A-key=NotUnderstood|X-key=NotUnderstood|\n\
-        = full",
-    ),
-];
+const TOLD: &str = "* as open-iscsi asks\n\
+    I> 43870000 000000e7 40000001 00000000 00000000 00000000 00000001 00000000 00000000 00000000 00000000 00000000 'InitiatorName=iqn.2026-01.example:host|InitiatorAlias=host|SessionType=Discovery|HeaderDigest=None|DataDigest=None|DefaultTime2Wait=2|DefaultTime2Retain=0|IFMarker=No|OFMarker=No|ErrorRecoveryLevel=0|MaxRecvDataSegmentLength=32768|\n\
+    T> 23870000 00000095 40000001 00000001 00000000 00000000 00000001 00000001 00000008 00000000 00000000 00000000 'DataDigest=None|DefaultTime2Retain=0|DefaultTime2Wait=2|ErrorRecoveryLevel=0|HeaderDigest=None|IFMarker=No|MaxRecvDataSegmentLength=8192|OFMarker=No|\n\
+    = full\n\
+    I> 44800000 00000010 00000000 00000000 00000001 ffffffff 00000001 00000002 00000000 00000000 00000000 00000000 'SendTargets=All|\n\
+    T> 24800000 00000043 00000000 00000000 00000001 ffffffff 00000002 00000001 00000008 00000000 00000000 00000000 'TargetName=iqn.2026-01.example:disk|TargetAddress=192.0.2.7:3260,1|\n\
+    = full\n\
+    \n\
+    * each key of a discovery session\n\
+    I> 43870000 00000111 40000001 00000000 00000000 00000000 00000001 00000000 00000000 00000000 00000000 00000000 'DataPDUInOrder=No|DataSequenceInOrder=No|DefaultTime2Retain=0|DefaultTime2Wait=5|ErrorRecoveryLevel=2|FirstBurstLength=512|ImmediateData=Yes|InitialR2T=No|InitiatorName=iqn.2026-01.example:host|MaxBurstLength=1024|MaxConnections=4|MaxOutstandingR2T=8|SessionType=Discovery|\n\
+    T> 23870000 000000f4 40000001 00000001 00000000 00000000 00000001 00000001 00000008 00000000 00000000 00000000 'DataPDUInOrder=Yes|DataSequenceInOrder=Yes|DefaultTime2Retain=0|DefaultTime2Wait=5|ErrorRecoveryLevel=0|FirstBurstLength=512|ImmediateData=Yes|InitialR2T=No|MaxBurstLength=1024|MaxConnections=1|MaxOutstandingR2T=1|MaxRecvDataSegmentLength=8192|\n\
+    = full\n\
+    \n\
+    * in a normal session\n\
+    I> 43870000 0000006e 40000001 00000000 00000000 00000000 00000001 00000000 00000000 00000000 00000000 00000000 'AuthMethod=None|InitiatorName=iqn.2026-01.example:host|SessionType=Normal|TargetName=iqn.2026-01.example:disk|\n\
+    T> 23870000 00000045 40000001 00000001 00000000 00000000 00000001 00000001 00000008 00000000 00000000 00000000 'AuthMethod=None|MaxRecvDataSegmentLength=8192|TargetPortalGroupTag=1|\n\
+    = full\n\
+    I> 44800000 0000000d 00000000 00000000 00000001 ffffffff 00000001 00000002 00000000 00000000 00000000 00000000 'SendTargets=|\n\
+    T> 24800000 00000043 00000000 00000000 00000001 ffffffff 00000002 00000001 00000008 00000000 00000000 00000000 'TargetName=iqn.2026-01.example:disk|TargetAddress=192.0.2.7:3260,1|\n\
+    = full\n\
+    I> 44800000 00000025 00000000 00000000 00000002 ffffffff 00000001 00000003 00000000 00000000 00000000 00000000 'SendTargets=iqn.2026-01.example:disk|\n\
+    T> 24800000 00000043 00000000 00000000 00000002 ffffffff 00000003 00000001 00000008 00000000 00000000 00000000 'TargetName=iqn.2026-01.example:disk|TargetAddress=192.0.2.7:3260,1|\n\
+    = full\n\
+    I> 44800000 00000026 00000000 00000000 00000003 ffffffff 00000001 00000004 00000000 00000000 00000000 00000000 'SendTargets=iqn.2026-01.example:other|\n\
+    T> 24800000 00000000 00000000 00000000 00000003 ffffffff 00000004 00000001 00000008 00000000 00000000 00000000\n\
+    = full\n\
+    I> 44800000 0000002d 00000000 00000000 00000004 ffffffff 00000001 00000005 00000000 00000000 00000000 00000000 'A-key=1|SendTargets=All|TargetName=x|X-key=1|\n\
+    T> 24800000 0000006b 00000000 00000000 00000004 ffffffff 00000005 00000001 00000008 00000000 00000000 00000000 'TargetName=iqn.2026-01.example:disk|TargetAddress=192.0.2.7:3260,1|A-key=NotUnderstood|X-key=NotUnderstood|\n\
+    = full\n\
+    I> 44800000 00000010 00000000 00000000 00000005 ffffffff 00000001 00000006 00000000 00000000 00000000 00000000 'A-key=1|X-key=1|\n\
+    T> 24800000 00000028 00000000 00000000 00000005 ffffffff 00000006 00000001 00000008 00000000 00000000 00000000 'A-key=NotUnderstood|X-key=NotUnderstood|\n\
+    = full";
 
 // A target of this name and group that has just begun, and tells initiators this portal.
 fn target_at(
@@ -72,19 +63,23 @@ fn target_at(
 }
 
 // A session, whose stream comes in pieces of this length.
-fn check_told(rt: &impl Abort, alloc: Global, row: &Dialogue, len: usize) {
-    let (name, _, lines) = *row;
+fn check_told(rt: &impl Abort, alloc: Global, row: &Dialogue<'_>, len: usize) {
     let mut target = target_at(rt, alloc, NAME, 1, b"192.0.2.7:3260");
     let mut store = SparseStore::new(alloc, 2048);
-    check(rt, alloc, name, len, &mut target, &mut store, lines);
+    check(rt, alloc, row.name, len, &mut target, &mut store, row.lines);
+}
+
+// The same in pieces of each length.
+fn check_lengths(rt: &impl Abort, alloc: Global, row: &Dialogue<'_>) {
+    for len in LENGTHS {
+        check_told(rt, alloc, row, *len);
+    }
 }
 
 #[test]
 fn told_portals(rt: HostRuntime) {
-    for row in TOLD {
-        for len in LENGTHS {
-            check_told(&rt, rt.alloc(), row, *len);
-        }
+    for row in TOLD.split("\n\n") {
+        check_lengths(&rt, rt.alloc(), &dialogue_of(&rt, row));
     }
 }
 

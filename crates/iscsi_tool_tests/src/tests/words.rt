@@ -7,244 +7,131 @@ use iscsi_tool::{LineFault, read_words};
 use std::alloc::{AllocError, Global};
 use std::process::Abort;
 
-/// Words, parted by one blank each, and the job that they ask for.
-const JOBS: &[(&str, &str)] = &[
-    ("", "Filter(Filter { work: Normalise, hex: true })"),
-    ("show", "Filter(Filter { work: Show, hex: false })"),
-    ("show --hex", "Filter(Filter { work: Show, hex: true })"),
-    (
-        "normalise",
-        "Filter(Filter { work: Normalise, hex: false })",
-    ),
-    (
-        "normalise --hex",
-        "Filter(Filter { work: Normalise, hex: true })",
-    ),
-    (
-        "normalise --text",
-        "Filter(Filter { work: Text, hex: false })",
-    ),
-    (
-        "normalise --text --hex",
-        "Filter(Filter { work: Text, hex: true })",
-    ),
-    (
-        "normalise --hex --text",
-        "Filter(Filter { work: Text, hex: true })",
-    ),
-    (
-        "answer --blocks 1",
-        "Filter(Filter { work: Answer(1), hex: false })",
-    ),
-    (
-        "answer --hex --blocks=1099511627776",
-        "Filter(Filter { work: Answer(1099511627776), hex: true })",
-    ),
-    (
-        "answer --blocks 0008",
-        "Filter(Filter { work: Answer(8), hex: false })",
-    ),
-    (
-        "serve --port 3260 --blocks 2048 --sessions 5",
-        "Serve(ServeJob { storage: Memory { blocks: 2048 }, service: InTurn { port: 3260, sessions: Some(5) }, read_only: false, secrets: None })",
-    ),
-    (
-        "serve --port 3260 --blocks 2048",
-        "Serve(ServeJob { storage: Memory { blocks: 2048 }, service: InTurn { port: 3260, sessions: None }, read_only: false, secrets: None })",
-    ),
-    (
-        "serve --sessions=0 --blocks=1 --port=0",
-        "Serve(ServeJob { storage: Memory { blocks: 1 }, service: InTurn { port: 0, sessions: Some(0) }, read_only: false, secrets: None })",
-    ),
-    (
-        "serve --port 65535 --sessions 065535 --blocks 1099511627776",
-        "Serve(ServeJob { storage: Memory { blocks: 1099511627776 }, service: InTurn { port: 65535, sessions: Some(65535) }, read_only: false, secrets: None })",
-    ),
-    (
-        "serve --port 0 --sessions 1 --file disk.img",
-        "Serve(ServeJob { storage: Image(Image { path: \"disk.img\", origin: Found { blocks: None } }), service: InTurn { port: 0, sessions: Some(1) }, read_only: false, secrets: None })",
-    ),
-    (
-        "serve --file=/a/b --port 0 --sessions 1 --blocks 1099511627776",
-        "Serve(ServeJob { storage: Image(Image { path: \"/a/b\", origin: Found { blocks: Some(1099511627776) } }), service: InTurn { port: 0, sessions: Some(1) }, read_only: false, secrets: None })",
-    ),
-    (
-        "serve --create --blocks 8 --file - --port 0 --sessions 1",
-        "Serve(ServeJob { storage: Image(Image { path: \"-\", origin: New { blocks: 8 } }), service: InTurn { port: 0, sessions: Some(1) }, read_only: false, secrets: None })",
-    ),
-    (
-        "serve --port 1 --sessions 2 --file d --at-once 3",
-        "Serve(ServeJob { storage: Image(Image { path: \"d\", origin: Found { blocks: None } }), service: AtOnce(Options { listen: 127.0.0.1, port: 1, sessions: Some(2), at_once: 3, name: [105, 113, 110, 46, 50, 48, 50, 54, 45, 48, 49, 46, 101, 120, 97, 109, 112, 108, 101, 58, 100, 105, 115, 107], portal: None, unit: None, limits: Limits { idle: None, login_within: Some(30) }, preferences: Preferences { initial_r2t: false, immediate_data: true, max_burst: 262144, first_burst: 65536, time2wait: 2, time2retain: 20, max_recv: 8192 }, memory: 268435456, print_port: false, log: false }), read_only: false, secrets: None })",
-    ),
-    (
-        "serve --port 1 --file d --at-once 3",
-        "Serve(ServeJob { storage: Image(Image { path: \"d\", origin: Found { blocks: None } }), service: AtOnce(Options { listen: 127.0.0.1, port: 1, sessions: None, at_once: 3, name: [105, 113, 110, 46, 50, 48, 50, 54, 45, 48, 49, 46, 101, 120, 97, 109, 112, 108, 101, 58, 100, 105, 115, 107], portal: None, unit: None, limits: Limits { idle: None, login_within: Some(30) }, preferences: Preferences { initial_r2t: false, immediate_data: true, max_burst: 262144, first_burst: 65536, time2wait: 2, time2retain: 20, max_recv: 8192 }, memory: 268435456, print_port: false, log: false }), read_only: false, secrets: None })",
-    ),
-    (
-        "serve --port 1 --sessions 2 --file d --at-once 3 --name n --segment 131072 --burst 131072",
-        "Serve(ServeJob { storage: Image(Image { path: \"d\", origin: Found { blocks: None } }), service: AtOnce(Options { listen: 127.0.0.1, port: 1, sessions: Some(2), at_once: 3, name: [110], portal: None, unit: None, limits: Limits { idle: None, login_within: Some(30) }, preferences: Preferences { initial_r2t: false, immediate_data: true, max_burst: 131072, first_burst: 65536, time2wait: 2, time2retain: 20, max_recv: 131072 }, memory: 268435456, print_port: false, log: false }), read_only: false, secrets: None })",
-    ),
-    (
-        "serve --port 1 --sessions 2 --file d --at-once 3 --name n --burst 512 --segment 1048576 --idle 1 --login-within 65535",
-        "Serve(ServeJob { storage: Image(Image { path: \"d\", origin: Found { blocks: None } }), service: AtOnce(Options { listen: 127.0.0.1, port: 1, sessions: Some(2), at_once: 3, name: [110], portal: None, unit: None, limits: Limits { idle: Some(1), login_within: Some(65535) }, preferences: Preferences { initial_r2t: false, immediate_data: true, max_burst: 512, first_burst: 512, time2wait: 2, time2retain: 20, max_recv: 1048576 }, memory: 268435456, print_port: false, log: false }), read_only: false, secrets: None })",
-    ),
-    (
-        "serve --port 1 --sessions 2 --file d --at-once 3 --name n --first-burst 262144 --no-login-limit",
-        "Serve(ServeJob { storage: Image(Image { path: \"d\", origin: Found { blocks: None } }), service: AtOnce(Options { listen: 127.0.0.1, port: 1, sessions: Some(2), at_once: 3, name: [110], portal: None, unit: None, limits: Limits { idle: None, login_within: None }, preferences: Preferences { initial_r2t: false, immediate_data: true, max_burst: 262144, first_burst: 262144, time2wait: 2, time2retain: 20, max_recv: 8192 }, memory: 268435456, print_port: false, log: false }), read_only: false, secrets: None })",
-    ),
-    (
-        "serve --port 1 --sessions 2 --blocks 8 --at-once 3 --name n --memory 32768 --log",
-        "Serve(ServeJob { storage: Memory { blocks: 8 }, service: AtOnce(Options { listen: 127.0.0.1, port: 1, sessions: Some(2), at_once: 3, name: [110], portal: None, unit: None, limits: Limits { idle: None, login_within: Some(30) }, preferences: Preferences { initial_r2t: false, immediate_data: true, max_burst: 262144, first_burst: 65536, time2wait: 2, time2retain: 20, max_recv: 8192 }, memory: 32768, print_port: false, log: true }), read_only: false, secrets: None })",
-    ),
-    (
-        "serve --port 1 --sessions 2 --blocks 8 --at-once 3 --name n --portal 192.0.2.7:3260",
-        "Serve(ServeJob { storage: Memory { blocks: 8 }, service: AtOnce(Options { listen: 127.0.0.1, port: 1, sessions: Some(2), at_once: 3, name: [110], portal: Some([49, 57, 50, 46, 48, 46, 50, 46, 55, 58, 51, 50, 54, 48]), unit: None, limits: Limits { idle: None, login_within: Some(30) }, preferences: Preferences { initial_r2t: false, immediate_data: true, max_burst: 262144, first_burst: 65536, time2wait: 2, time2retain: 20, max_recv: 8192 }, memory: 268435456, print_port: false, log: false }), read_only: false, secrets: None })",
-    ),
-    (
-        "serve --size 32M",
-        "Serve(ServeJob { storage: Memory { blocks: 65536 }, service: InTurn { port: 3260, sessions: None }, read_only: false, secrets: None })",
-    ),
-    (
-        "serve --size=512T --port 0",
-        "Serve(ServeJob { storage: Memory { blocks: 1099511627776 }, service: InTurn { port: 0, sessions: None }, read_only: false, secrets: None })",
-    ),
-    (
-        "serve --file d",
-        "Serve(ServeJob { storage: Image(Image { path: \"d\", origin: Found { blocks: None } }), service: InTurn { port: 3260, sessions: None }, read_only: false, secrets: None })",
-    ),
-    (
-        "serve --file d --size 3G",
-        "Serve(ServeJob { storage: Image(Image { path: \"d\", origin: Found { blocks: Some(6291456) } }), service: InTurn { port: 3260, sessions: None }, read_only: false, secrets: None })",
-    ),
-    (
-        "serve --read-only --file d --size 4K",
-        "Serve(ServeJob { storage: Image(Image { path: \"d\", origin: Found { blocks: Some(8) } }), service: InTurn { port: 3260, sessions: None }, read_only: true, secrets: None })",
-    ),
-    (
-        "serve --chap f --size 4K",
-        "Serve(ServeJob { storage: Memory { blocks: 8 }, service: InTurn { port: 3260, sessions: None }, read_only: false, secrets: Some(\"f\") })",
-    ),
-    (
-        "serve --nbd host --read-only",
-        "Serve(ServeJob { storage: Nbd(NbdExport { word: \"host\", host: \"host\", port: 10809, name: \"\", blocks: None }), service: InTurn { port: 3260, sessions: None }, read_only: true, secrets: None })",
-    ),
-    (
-        "serve --file d --create --size 010K",
-        "Serve(ServeJob { storage: Image(Image { path: \"d\", origin: New { blocks: 20 } }), service: InTurn { port: 3260, sessions: None }, read_only: false, secrets: None })",
-    ),
-    (
-        "serve --nbd 127.0.0.1:1/disk --port 0",
-        "Serve(ServeJob { storage: Nbd(NbdExport { word: \"127.0.0.1:1/disk\", host: \"127.0.0.1\", port: 1, name: \"disk\", blocks: None }), service: InTurn { port: 0, sessions: None }, read_only: false, secrets: None })",
-    ),
-    (
-        "serve --nbd=host/a/b:c --blocks 8",
-        "Serve(ServeJob { storage: Nbd(NbdExport { word: \"host/a/b:c\", host: \"host\", port: 10809, name: \"a/b:c\", blocks: Some(8) }), service: InTurn { port: 3260, sessions: None }, read_only: false, secrets: None })",
-    ),
-    (
-        "serve --nbd [::1]:65535 --size 4K",
-        "Serve(ServeJob { storage: Nbd(NbdExport { word: \"[::1]:65535\", host: \"::1\", port: 65535, name: \"\", blocks: Some(8) }), service: InTurn { port: 3260, sessions: None }, read_only: false, secrets: None })",
-    ),
-    (
-        "serve --nbd [::1]/",
-        "Serve(ServeJob { storage: Nbd(NbdExport { word: \"[::1]/\", host: \"::1\", port: 10809, name: \"\", blocks: None }), service: InTurn { port: 3260, sessions: None }, read_only: false, secrets: None })",
-    ),
-    (
-        "answer --size 1536",
-        "Filter(Filter { work: Answer(3), hex: false })",
-    ),
-    (
-        "loop --size 1T --piece 1",
-        "Loop { blocks: 2147483648, piece: 1 }",
-    ),
-    (
-        "loop --blocks 2048 --piece 48",
-        "Loop { blocks: 2048, piece: 48 }",
-    ),
-    ("loop --piece=1 --blocks=1", "Loop { blocks: 1, piece: 1 }"),
-    (
-        "loop --piece 04096 --blocks 1099511627776",
-        "Loop { blocks: 1099511627776, piece: 4096 }",
-    ),
-    (
-        "compare a",
-        "Compare(Comparison { first: \"a\", second: None, sameness: Meaning, hex: false })",
-    ),
-    (
-        "compare --hex a --same-job b",
-        "Compare(Comparison { first: \"a\", second: Some(\"b\"), sameness: Job, hex: true })",
-    ),
-    (
-        "connections a",
-        "Capture(CaptureJob { file: \"a\", work: List })",
-    ),
-    (
-        "show --capture a --connection 3 --from target",
-        "Capture(CaptureJob { file: \"a\", work: Show(Wanted { connection: 3, end: Target }) })",
-    ),
-    (
-        "show --capture a",
-        "Capture(CaptureJob { file: \"a\", work: ShowAll { form: Line, only: None } })",
-    ),
-    (
-        "show --capture - --connection 7 --explain",
-        "Capture(CaptureJob { file: \"-\", work: ShowAll { form: Explained, only: Some(7) } })",
-    ),
-    (
-        "show --capture a --connection 3 --from target --json",
-        "Capture(CaptureJob { file: \"a\", work: Tell(Wanted { connection: 3, end: Target }, Json) })",
-    ),
-    (
-        "show --explain --json",
-        "Tell(Telling { form: ExplainedJson, hex: false })",
-    ),
-    (
-        "show --hex --json",
-        "Tell(Telling { form: Json, hex: true })",
-    ),
-    (
-        "answer --capture a --connection 2 --blocks 9",
-        "Capture(CaptureJob { file: \"a\", work: Answer { connection: 2, blocks: 9 } })",
-    ),
-    (
-        "compare --capture a b --connection 1 --from initiator",
-        "CompareCaptures(CaptureComparison { first: \"a\", second: Some(\"b\"), sameness: Meaning, \
-         wanted: Wanted { connection: 1, end: Initiator }, other: Wanted { connection: 1, end: Initiator } })",
-    ),
-    (
-        "compare --same-job --capture a --connection 1,2 --from target",
-        "CompareCaptures(CaptureComparison { first: \"a\", second: None, sameness: Job, \
-         wanted: Wanted { connection: 1, end: Target }, other: Wanted { connection: 2, end: Target } })",
-    ),
-    (
-        "compare --capture - b --connection 0 --from target",
-        "CompareCaptures(CaptureComparison { first: \"-\", second: Some(\"b\"), sameness: Meaning, \
-         wanted: Wanted { connection: 0, end: Target }, other: Wanted { connection: 0, end: Target } })",
-    ),
-    (
-        "normalise --from=initiator --connection=00 --capture=-",
-        "Capture(CaptureJob { file: \"-\", work: Normalise(Wanted { connection: 0, end: Initiator }) })",
-    ),
-];
+/// Words, parted by one blank each, and in the next line the job that they ask for. Rows of texts would be dear to
+/// prove.
+const JOBS: &str = "\n\
+    Filter(Filter { work: Normalise, hex: true })\n\
+    show\n\
+    Filter(Filter { work: Show, hex: false })\n\
+    show --hex\n\
+    Filter(Filter { work: Show, hex: true })\n\
+    normalise\n\
+    Filter(Filter { work: Normalise, hex: false })\n\
+    normalise --hex\n\
+    Filter(Filter { work: Normalise, hex: true })\n\
+    normalise --text\n\
+    Filter(Filter { work: Text, hex: false })\n\
+    normalise --text --hex\n\
+    Filter(Filter { work: Text, hex: true })\n\
+    normalise --hex --text\n\
+    Filter(Filter { work: Text, hex: true })\n\
+    answer --blocks 1\n\
+    Filter(Filter { work: Answer(1), hex: false })\n\
+    answer --hex --blocks=1099511627776\n\
+    Filter(Filter { work: Answer(1099511627776), hex: true })\n\
+    answer --blocks 0008\n\
+    Filter(Filter { work: Answer(8), hex: false })\n\
+    serve --port 3260 --blocks 2048 --sessions 5\n\
+    Serve(ServeJob { storage: Memory { blocks: 2048 }, service: InTurn { port: 3260, sessions: Some(5) }, read_only: false, secrets: None })\n\
+    serve --port 3260 --blocks 2048\n\
+    Serve(ServeJob { storage: Memory { blocks: 2048 }, service: InTurn { port: 3260, sessions: None }, read_only: false, secrets: None })\n\
+    serve --sessions=0 --blocks=1 --port=0\n\
+    Serve(ServeJob { storage: Memory { blocks: 1 }, service: InTurn { port: 0, sessions: Some(0) }, read_only: false, secrets: None })\n\
+    serve --port 65535 --sessions 065535 --blocks 1099511627776\n\
+    Serve(ServeJob { storage: Memory { blocks: 1099511627776 }, service: InTurn { port: 65535, sessions: Some(65535) }, read_only: false, secrets: None })\n\
+    serve --port 0 --sessions 1 --file disk.img\n\
+    Serve(ServeJob { storage: Image(Image { path: \"disk.img\", origin: Found { blocks: None } }), service: InTurn { port: 0, sessions: Some(1) }, read_only: false, secrets: None })\n\
+    serve --file=/a/b --port 0 --sessions 1 --blocks 1099511627776\n\
+    Serve(ServeJob { storage: Image(Image { path: \"/a/b\", origin: Found { blocks: Some(1099511627776) } }), service: InTurn { port: 0, sessions: Some(1) }, read_only: false, secrets: None })\n\
+    serve --create --blocks 8 --file - --port 0 --sessions 1\n\
+    Serve(ServeJob { storage: Image(Image { path: \"-\", origin: New { blocks: 8 } }), service: InTurn { port: 0, sessions: Some(1) }, read_only: false, secrets: None })\n\
+    serve --port 1 --sessions 2 --file d --at-once 3\n\
+    Serve(ServeJob { storage: Image(Image { path: \"d\", origin: Found { blocks: None } }), service: AtOnce(Options { listen: 127.0.0.1, port: 1, sessions: Some(2), at_once: 3, name: [105, 113, 110, 46, 50, 48, 50, 54, 45, 48, 49, 46, 101, 120, 97, 109, 112, 108, 101, 58, 100, 105, 115, 107], portal: None, unit: None, limits: Limits { idle: None, login_within: Some(30) }, preferences: Preferences { initial_r2t: false, immediate_data: true, max_burst: 262144, first_burst: 65536, time2wait: 2, time2retain: 20, max_recv: 8192 }, memory: 268435456, print_port: false, log: false }), read_only: false, secrets: None })\n\
+    serve --port 1 --file d --at-once 3\n\
+    Serve(ServeJob { storage: Image(Image { path: \"d\", origin: Found { blocks: None } }), service: AtOnce(Options { listen: 127.0.0.1, port: 1, sessions: None, at_once: 3, name: [105, 113, 110, 46, 50, 48, 50, 54, 45, 48, 49, 46, 101, 120, 97, 109, 112, 108, 101, 58, 100, 105, 115, 107], portal: None, unit: None, limits: Limits { idle: None, login_within: Some(30) }, preferences: Preferences { initial_r2t: false, immediate_data: true, max_burst: 262144, first_burst: 65536, time2wait: 2, time2retain: 20, max_recv: 8192 }, memory: 268435456, print_port: false, log: false }), read_only: false, secrets: None })\n\
+    serve --port 1 --sessions 2 --file d --at-once 3 --name n --segment 131072 --burst 131072\n\
+    Serve(ServeJob { storage: Image(Image { path: \"d\", origin: Found { blocks: None } }), service: AtOnce(Options { listen: 127.0.0.1, port: 1, sessions: Some(2), at_once: 3, name: [110], portal: None, unit: None, limits: Limits { idle: None, login_within: Some(30) }, preferences: Preferences { initial_r2t: false, immediate_data: true, max_burst: 131072, first_burst: 65536, time2wait: 2, time2retain: 20, max_recv: 131072 }, memory: 268435456, print_port: false, log: false }), read_only: false, secrets: None })\n\
+    serve --port 1 --sessions 2 --file d --at-once 3 --name n --burst 512 --segment 1048576 --idle 1 --login-within 65535\n\
+    Serve(ServeJob { storage: Image(Image { path: \"d\", origin: Found { blocks: None } }), service: AtOnce(Options { listen: 127.0.0.1, port: 1, sessions: Some(2), at_once: 3, name: [110], portal: None, unit: None, limits: Limits { idle: Some(1), login_within: Some(65535) }, preferences: Preferences { initial_r2t: false, immediate_data: true, max_burst: 512, first_burst: 512, time2wait: 2, time2retain: 20, max_recv: 1048576 }, memory: 268435456, print_port: false, log: false }), read_only: false, secrets: None })\n\
+    serve --port 1 --sessions 2 --file d --at-once 3 --name n --first-burst 262144 --no-login-limit\n\
+    Serve(ServeJob { storage: Image(Image { path: \"d\", origin: Found { blocks: None } }), service: AtOnce(Options { listen: 127.0.0.1, port: 1, sessions: Some(2), at_once: 3, name: [110], portal: None, unit: None, limits: Limits { idle: None, login_within: None }, preferences: Preferences { initial_r2t: false, immediate_data: true, max_burst: 262144, first_burst: 262144, time2wait: 2, time2retain: 20, max_recv: 8192 }, memory: 268435456, print_port: false, log: false }), read_only: false, secrets: None })\n\
+    serve --port 1 --sessions 2 --blocks 8 --at-once 3 --name n --memory 32768 --log\n\
+    Serve(ServeJob { storage: Memory { blocks: 8 }, service: AtOnce(Options { listen: 127.0.0.1, port: 1, sessions: Some(2), at_once: 3, name: [110], portal: None, unit: None, limits: Limits { idle: None, login_within: Some(30) }, preferences: Preferences { initial_r2t: false, immediate_data: true, max_burst: 262144, first_burst: 65536, time2wait: 2, time2retain: 20, max_recv: 8192 }, memory: 32768, print_port: false, log: true }), read_only: false, secrets: None })\n\
+    serve --port 1 --sessions 2 --blocks 8 --at-once 3 --name n --portal 192.0.2.7:3260\n\
+    Serve(ServeJob { storage: Memory { blocks: 8 }, service: AtOnce(Options { listen: 127.0.0.1, port: 1, sessions: Some(2), at_once: 3, name: [110], portal: Some([49, 57, 50, 46, 48, 46, 50, 46, 55, 58, 51, 50, 54, 48]), unit: None, limits: Limits { idle: None, login_within: Some(30) }, preferences: Preferences { initial_r2t: false, immediate_data: true, max_burst: 262144, first_burst: 65536, time2wait: 2, time2retain: 20, max_recv: 8192 }, memory: 268435456, print_port: false, log: false }), read_only: false, secrets: None })\n\
+    serve --size 32M\n\
+    Serve(ServeJob { storage: Memory { blocks: 65536 }, service: InTurn { port: 3260, sessions: None }, read_only: false, secrets: None })\n\
+    serve --size=512T --port 0\n\
+    Serve(ServeJob { storage: Memory { blocks: 1099511627776 }, service: InTurn { port: 0, sessions: None }, read_only: false, secrets: None })\n\
+    serve --file d\n\
+    Serve(ServeJob { storage: Image(Image { path: \"d\", origin: Found { blocks: None } }), service: InTurn { port: 3260, sessions: None }, read_only: false, secrets: None })\n\
+    serve --file d --size 3G\n\
+    Serve(ServeJob { storage: Image(Image { path: \"d\", origin: Found { blocks: Some(6291456) } }), service: InTurn { port: 3260, sessions: None }, read_only: false, secrets: None })\n\
+    serve --read-only --file d --size 4K\n\
+    Serve(ServeJob { storage: Image(Image { path: \"d\", origin: Found { blocks: Some(8) } }), service: InTurn { port: 3260, sessions: None }, read_only: true, secrets: None })\n\
+    serve --chap f --size 4K\n\
+    Serve(ServeJob { storage: Memory { blocks: 8 }, service: InTurn { port: 3260, sessions: None }, read_only: false, secrets: Some(\"f\") })\n\
+    serve --nbd host --read-only\n\
+    Serve(ServeJob { storage: Nbd(NbdExport { word: \"host\", host: \"host\", port: 10809, name: \"\", blocks: None }), service: InTurn { port: 3260, sessions: None }, read_only: true, secrets: None })\n\
+    serve --file d --create --size 010K\n\
+    Serve(ServeJob { storage: Image(Image { path: \"d\", origin: New { blocks: 20 } }), service: InTurn { port: 3260, sessions: None }, read_only: false, secrets: None })\n\
+    serve --nbd 127.0.0.1:1/disk --port 0\n\
+    Serve(ServeJob { storage: Nbd(NbdExport { word: \"127.0.0.1:1/disk\", host: \"127.0.0.1\", port: 1, name: \"disk\", blocks: None }), service: InTurn { port: 0, sessions: None }, read_only: false, secrets: None })\n\
+    serve --nbd=host/a/b:c --blocks 8\n\
+    Serve(ServeJob { storage: Nbd(NbdExport { word: \"host/a/b:c\", host: \"host\", port: 10809, name: \"a/b:c\", blocks: Some(8) }), service: InTurn { port: 3260, sessions: None }, read_only: false, secrets: None })\n\
+    serve --nbd [::1]:65535 --size 4K\n\
+    Serve(ServeJob { storage: Nbd(NbdExport { word: \"[::1]:65535\", host: \"::1\", port: 65535, name: \"\", blocks: Some(8) }), service: InTurn { port: 3260, sessions: None }, read_only: false, secrets: None })\n\
+    serve --nbd [::1]/\n\
+    Serve(ServeJob { storage: Nbd(NbdExport { word: \"[::1]/\", host: \"::1\", port: 10809, name: \"\", blocks: None }), service: InTurn { port: 3260, sessions: None }, read_only: false, secrets: None })\n\
+    answer --size 1536\n\
+    Filter(Filter { work: Answer(3), hex: false })\n\
+    loop --size 1T --piece 1\n\
+    Loop { blocks: 2147483648, piece: 1 }\n\
+    loop --blocks 2048 --piece 48\n\
+    Loop { blocks: 2048, piece: 48 }\n\
+    loop --piece=1 --blocks=1\n\
+    Loop { blocks: 1, piece: 1 }\n\
+    loop --piece 04096 --blocks 1099511627776\n\
+    Loop { blocks: 1099511627776, piece: 4096 }\n\
+    compare a\n\
+    Compare(Comparison { first: \"a\", second: None, sameness: Meaning, hex: false })\n\
+    compare --hex a --same-job b\n\
+    Compare(Comparison { first: \"a\", second: Some(\"b\"), sameness: Job, hex: true })\n\
+    connections a\n\
+    Capture(CaptureJob { file: \"a\", work: List })\n\
+    show --capture a --connection 3 --from target\n\
+    Capture(CaptureJob { file: \"a\", work: Show(Wanted { connection: 3, end: Target }) })\n\
+    show --capture a\n\
+    Capture(CaptureJob { file: \"a\", work: ShowAll { form: Line, only: None } })\n\
+    show --capture - --connection 7 --explain\n\
+    Capture(CaptureJob { file: \"-\", work: ShowAll { form: Explained, only: Some(7) } })\n\
+    show --capture a --connection 3 --from target --json\n\
+    Capture(CaptureJob { file: \"a\", work: Tell(Wanted { connection: 3, end: Target }, Json) })\n\
+    show --explain --json\n\
+    Tell(Telling { form: ExplainedJson, hex: false })\n\
+    show --hex --json\n\
+    Tell(Telling { form: Json, hex: true })\n\
+    answer --capture a --connection 2 --blocks 9\n\
+    Capture(CaptureJob { file: \"a\", work: Answer { connection: 2, blocks: 9 } })\n\
+    compare --capture a b --connection 1 --from initiator\n\
+    CompareCaptures(CaptureComparison { first: \"a\", second: Some(\"b\"), sameness: Meaning, wanted: Wanted { connection: 1, end: Initiator }, other: Wanted { connection: 1, end: Initiator } })\n\
+    compare --same-job --capture a --connection 1,2 --from target\n\
+    CompareCaptures(CaptureComparison { first: \"a\", second: None, sameness: Job, wanted: Wanted { connection: 1, end: Target }, other: Wanted { connection: 2, end: Target } })\n\
+    compare --capture - b --connection 0 --from target\n\
+    CompareCaptures(CaptureComparison { first: \"-\", second: Some(\"b\"), sameness: Meaning, wanted: Wanted { connection: 0, end: Target }, other: Wanted { connection: 0, end: Target } })\n\
+    normalise --from=initiator --connection=00 --capture=-\n\
+    Capture(CaptureJob { file: \"-\", work: Normalise(Wanted { connection: 0, end: Initiator }) })";
 
-/// Words of a disk that tells more of itself, and the job that they ask for.
-const UNITS: &[(&str, &str)] = &[
-    (
-        "serve --port 1 --sessions 2 --blocks 8 --at-once 3 --name n --serial DISK0001",
-        "Serve(ServeJob { storage: Memory { blocks: 8 }, service: AtOnce(Options { listen: 127.0.0.1, port: 1, sessions: Some(2), at_once: 3, name: [110], portal: None, unit: Some(UnitOptions { serial: [68, 73, 83, 75, 48, 48, 48, 49], write_protected: false, thin: false, write_back: false }), limits: Limits { idle: None, login_within: Some(30) }, preferences: Preferences { initial_r2t: false, immediate_data: true, max_burst: 262144, first_burst: 65536, time2wait: 2, time2retain: 20, max_recv: 8192 }, memory: 268435456, print_port: false, log: false }), read_only: false, secrets: None })",
-    ),
-    (
-        "serve --port 1 --sessions 2 --blocks 8 --at-once 3 --name n --serial DISK0001 --thin",
-        "Serve(ServeJob { storage: Memory { blocks: 8 }, service: AtOnce(Options { listen: 127.0.0.1, port: 1, sessions: Some(2), at_once: 3, name: [110], portal: None, unit: Some(UnitOptions { serial: [68, 73, 83, 75, 48, 48, 48, 49], write_protected: false, thin: true, write_back: false }), limits: Limits { idle: None, login_within: Some(30) }, preferences: Preferences { initial_r2t: false, immediate_data: true, max_burst: 262144, first_burst: 65536, time2wait: 2, time2retain: 20, max_recv: 8192 }, memory: 268435456, print_port: false, log: false }), read_only: false, secrets: None })",
-    ),
-    (
-        "serve --port 1 --sessions 2 --blocks 8 --at-once 3 --name n --read-only --serial !0123456789abc~}",
-        "Serve(ServeJob { storage: Memory { blocks: 8 }, service: AtOnce(Options { listen: 127.0.0.1, port: 1, sessions: Some(2), at_once: 3, name: [110], portal: None, unit: Some(UnitOptions { serial: [33, 48, 49, 50, 51, 52, 53, 54, 55, 56, 57, 97, 98, 99, 126, 125], write_protected: true, thin: false, write_back: false }), limits: Limits { idle: None, login_within: Some(30) }, preferences: Preferences { initial_r2t: false, immediate_data: true, max_burst: 262144, first_burst: 65536, time2wait: 2, time2retain: 20, max_recv: 8192 }, memory: 268435456, print_port: false, log: false }), read_only: true, secrets: None })",
-    ),
-    (
-        "serve --port 1 --sessions 2 --file d --at-once 3 --name n --serial S --write-back",
-        "Serve(ServeJob { storage: Image(Image { path: \"d\", origin: Found { blocks: None } }), service: AtOnce(Options { listen: 127.0.0.1, port: 1, sessions: Some(2), at_once: 3, name: [110], portal: None, unit: Some(UnitOptions { serial: [83], write_protected: false, thin: false, write_back: true }), limits: Limits { idle: None, login_within: Some(30) }, preferences: Preferences { initial_r2t: false, immediate_data: true, max_burst: 262144, first_burst: 65536, time2wait: 2, time2retain: 20, max_recv: 8192 }, memory: 268435456, print_port: false, log: false }), read_only: false, secrets: None })",
-    ),
-];
+/// Words of a disk that tells more of itself, and in the next line the job that they ask for.
+const UNITS: &str =
+    "serve --port 1 --sessions 2 --blocks 8 --at-once 3 --name n --serial DISK0001\n\
+    Serve(ServeJob { storage: Memory { blocks: 8 }, service: AtOnce(Options { listen: 127.0.0.1, port: 1, sessions: Some(2), at_once: 3, name: [110], portal: None, unit: Some(UnitOptions { serial: [68, 73, 83, 75, 48, 48, 48, 49], write_protected: false, thin: false, write_back: false }), limits: Limits { idle: None, login_within: Some(30) }, preferences: Preferences { initial_r2t: false, immediate_data: true, max_burst: 262144, first_burst: 65536, time2wait: 2, time2retain: 20, max_recv: 8192 }, memory: 268435456, print_port: false, log: false }), read_only: false, secrets: None })\n\
+    serve --port 1 --sessions 2 --blocks 8 --at-once 3 --name n --serial DISK0001 --thin\n\
+    Serve(ServeJob { storage: Memory { blocks: 8 }, service: AtOnce(Options { listen: 127.0.0.1, port: 1, sessions: Some(2), at_once: 3, name: [110], portal: None, unit: Some(UnitOptions { serial: [68, 73, 83, 75, 48, 48, 48, 49], write_protected: false, thin: true, write_back: false }), limits: Limits { idle: None, login_within: Some(30) }, preferences: Preferences { initial_r2t: false, immediate_data: true, max_burst: 262144, first_burst: 65536, time2wait: 2, time2retain: 20, max_recv: 8192 }, memory: 268435456, print_port: false, log: false }), read_only: false, secrets: None })\n\
+    serve --port 1 --sessions 2 --blocks 8 --at-once 3 --name n --read-only --serial !0123456789abc~}\n\
+    Serve(ServeJob { storage: Memory { blocks: 8 }, service: AtOnce(Options { listen: 127.0.0.1, port: 1, sessions: Some(2), at_once: 3, name: [110], portal: None, unit: Some(UnitOptions { serial: [33, 48, 49, 50, 51, 52, 53, 54, 55, 56, 57, 97, 98, 99, 126, 125], write_protected: true, thin: false, write_back: false }), limits: Limits { idle: None, login_within: Some(30) }, preferences: Preferences { initial_r2t: false, immediate_data: true, max_burst: 262144, first_burst: 65536, time2wait: 2, time2retain: 20, max_recv: 8192 }, memory: 268435456, print_port: false, log: false }), read_only: true, secrets: None })\n\
+    serve --port 1 --sessions 2 --file d --at-once 3 --name n --serial S --write-back\n\
+    Serve(ServeJob { storage: Image(Image { path: \"d\", origin: Found { blocks: None } }), service: AtOnce(Options { listen: 127.0.0.1, port: 1, sessions: Some(2), at_once: 3, name: [110], portal: None, unit: Some(UnitOptions { serial: [83], write_protected: false, thin: false, write_back: true }), limits: Limits { idle: None, login_within: Some(30) }, preferences: Preferences { initial_r2t: false, immediate_data: true, max_burst: 262144, first_burst: 65536, time2wait: 2, time2retain: 20, max_recv: 8192 }, memory: 268435456, print_port: false, log: false }), read_only: false, secrets: None })";
 
 const SHOW: &str =
     "error: a capture is shown with '--capture <FILE>', '--capture <FILE> --connection \
@@ -314,185 +201,110 @@ const INITIATOR: &str =
 const MOST_INITIATORS: &str = "is one name too many: '--initiator <IQN>' may stand 64 times\n\n\
     Usage: lanthovur serve ";
 
-/// Words with a value that is refused, in which `''` is an empty word; the value; what follows it.
-const BAD_VALUES: &[(&str, &str, &str)] = &[
-    ("answer --blocks 0", "0", BLOCKS),
-    ("answer --blocks 1099511627777", "1099511627777", BLOCKS),
-    ("answer --blocks +8", "+8", BLOCKS),
-    ("answer --blocks 0x8", "0x8", BLOCKS),
-    ("answer --blocks=", "", BLOCKS),
-    (
-        "answer --blocks 18446744073709551617",
-        "18446744073709551617",
-        BLOCKS,
-    ),
-    ("serve --port 65536 --blocks 1 --sessions 1", "65536", PORT),
-    ("serve --blocks 1 --initiator ''", "", INITIATOR),
-    (
-        "serve --blocks 1 --initiator a --initiator café",
-        "café",
-        INITIATOR,
-    ),
-    (
-        "serve --blocks 1 --at-once 1 --initiator café",
-        "café",
-        INITIATOR,
-    ),
-    ("serve --blocks 1 --at-once 1 --portal ''", "", PORTAL),
-    (
-        "serve --blocks 1 --at-once 1 --portal 192.0.2.7:3260,1",
-        "192.0.2.7:3260,1",
-        PORTAL,
-    ),
-    (
-        "serve --blocks 1 --at-once 1 --portal café:3260",
-        "café:3260",
-        PORTAL,
-    ),
-    ("serve --blocks 1 --at-once 1 --serial ''", "", SERIAL),
-    (
-        "serve --blocks 1 --at-once 1 --serial 12345678901234567",
-        "12345678901234567",
-        SERIAL,
-    ),
-    ("serve --blocks 1 --at-once 1 --serial café", "café", SERIAL),
-    ("serve --port +1 --blocks 1 --sessions 1", "+1", PORT),
-    ("serve --port '' --blocks 1 --sessions 1", "", PORT),
-    ("serve --port 0x10 --blocks 1 --sessions 1", "0x10", PORT),
-    ("serve --port 0 --blocks 0 --sessions 1", "0", BLOCKS),
-    (
-        "serve --port 0 --blocks 1099511627777 --sessions 1",
-        "1099511627777",
-        BLOCKS,
-    ),
-    (
-        "serve --port 0 --blocks 1 --sessions 65536",
-        "65536",
-        SESSIONS,
-    ),
-    (
-        "serve --port 0 --sessions 1 --file d --blocks 0",
-        "0",
-        BLOCKS,
-    ),
-    (
-        "serve --port 0 --sessions 1 --file d --create --blocks 1099511627777",
-        "1099511627777",
-        BLOCKS,
-    ),
-    (
-        "serve --port 0 --blocks 1 --sessions 1 --at-once 1 --memory 32767",
-        "32767",
-        MEMORY,
-    ),
-    (
-        "serve --port 0 --blocks 1 --sessions 1 --at-once 1 --memory 562949953421313",
-        "562949953421313",
-        MEMORY,
-    ),
-    (
-        "serve --port 0 --blocks 1 --sessions 1 --at-once 1 --memory +32768",
-        "+32768",
-        MEMORY,
-    ),
-    (
-        "serve --port 0 --blocks 1 --sessions 1 --at-once 1 --segment 511",
-        "511",
-        SEGMENT,
-    ),
-    (
-        "serve --port 0 --blocks 1 --sessions 1 --at-once 1 --segment 1048577",
-        "1048577",
-        SEGMENT,
-    ),
-    (
-        "serve --port 0 --blocks 1 --sessions 1 --at-once 1 --segment 64k",
-        "64k",
-        SEGMENT,
-    ),
-    (
-        "serve --port 0 --blocks 1 --sessions 1 --at-once 1 --burst 511",
-        "511",
-        BURST,
-    ),
-    (
-        "serve --port 0 --blocks 1 --sessions 1 --at-once 1 --burst 1048577",
-        "1048577",
-        BURST,
-    ),
-    (
-        "serve --port 0 --blocks 1 --sessions 1 --at-once 1 --first-burst 511",
-        "511",
-        FIRST_BURST,
-    ),
-    (
-        "serve --port 0 --blocks 1 --sessions 1 --at-once 1 --first-burst 262145",
-        "262145",
-        FIRST_BURST,
-    ),
-    (
-        "serve --port 0 --blocks 1 --sessions 1 --at-once 1 --first-burst 1025 --burst 1024",
-        "1025",
-        FIRST_BURST,
-    ),
-    ("loop --blocks 2048 --piece 0", "0", PIECE),
-    ("loop --blocks 2048 --piece 4097", "4097", PIECE),
-    ("loop --blocks 2048 --piece +1", "+1", PIECE),
-    ("loop --blocks 2048 --piece ''", "", PIECE),
-    ("loop --blocks 0 --piece 1", "0", BLOCKS),
-    (
-        "loop --blocks 1099511627777 --piece 1",
-        "1099511627777",
-        BLOCKS,
-    ),
-    ("answer --size 0", "0", SIZE),
-    ("answer --size 511", "511", SIZE),
-    ("answer --size 513", "513", SIZE),
-    ("answer --size 513T", "513T", SIZE),
-    ("answer --size 1k", "1k", SIZE),
-    ("answer --size 32MB", "32MB", SIZE),
-    ("answer --size M", "M", SIZE),
-    ("answer --size +1M", "+1M", SIZE),
-    ("answer --size=", "", SIZE),
-    ("answer --size 16777216T", "16777216T", SIZE),
-    ("loop --size 1.5G --piece 1", "1.5G", SIZE),
-    ("serve --size 562949953421824", "562949953421824", SIZE),
-    ("serve --file d --size 1", "1", SIZE),
-    ("serve --nbd ''", "", EXPORT),
-    ("serve --nbd /disk", "/disk", EXPORT),
-    ("serve --nbd host:", "host:", EXPORT),
-    ("serve --nbd host:0/disk", "host:0/disk", EXPORT),
-    ("serve --nbd host:65536", "host:65536", EXPORT),
-    ("serve --nbd host:+1", "host:+1", EXPORT),
-    ("serve --nbd ::1/disk", "::1/disk", EXPORT),
-    ("serve --nbd [::1/disk", "[::1/disk", EXPORT),
-    ("serve --nbd [::1]1/disk", "[::1]1/disk", EXPORT),
-    (
-        "serve --blocks 1 --at-once 65",
-        "65",
-        "is no number of sessions: '--at-once <k>' takes a number from 1 to 64\n\nUsage: ",
-    ),
-    (
-        "serve --blocks 1 --at-once 1 --listen localhost",
-        "localhost",
-        "is no address: '--listen <ADDR>' takes an IPv4 or IPv6 address (default 127.0.0.1)\n\n",
-    ),
-    (
-        "serve --blocks 1 --at-once 1 --name café",
-        "café",
-        "is no name: '--name <IQN>' takes 1 to 223 bytes, each from '!' to '~'\n\nUsage: ",
-    ),
-    (
-        "serve --blocks 1 --at-once 1 --idle 0",
-        "0",
-        "is no number of seconds: '--idle <S>' takes a number from 1 to 65535\n\nUsage: ",
-    ),
-    (
-        "serve --blocks 1 --at-once 1 --login-within 65536",
-        "65536",
-        "is no number of seconds: '--login-within <S>' takes a number from 1 to 65535 (default 30)\n\n",
-    ),
-];
+/// Words with a value that is refused, in which `''` is an empty word, and behind a bar the value. Each list is for
+/// what follows the value.
+const BAD_BLOCKS: &str = "answer --blocks 0 | 0\n\
+    answer --blocks 1099511627777 | 1099511627777\n\
+    answer --blocks +8 | +8\n\
+    answer --blocks 0x8 | 0x8\n\
+    answer --blocks= | \n\
+    answer --blocks 18446744073709551617 | 18446744073709551617\n\
+    serve --port 0 --blocks 0 --sessions 1 | 0\n\
+    serve --port 0 --blocks 1099511627777 --sessions 1 | 1099511627777\n\
+    serve --port 0 --sessions 1 --file d --blocks 0 | 0\n\
+    serve --port 0 --sessions 1 --file d --create --blocks 1099511627777 | 1099511627777\n\
+    loop --blocks 0 --piece 1 | 0\n\
+    loop --blocks 1099511627777 --piece 1 | 1099511627777";
+
+const BAD_PORT: &str = "serve --port 65536 --blocks 1 --sessions 1 | 65536\n\
+    serve --port +1 --blocks 1 --sessions 1 | +1\n\
+    serve --port '' --blocks 1 --sessions 1 | \n\
+    serve --port 0x10 --blocks 1 --sessions 1 | 0x10";
+
+const BAD_INITIATOR: &str = "serve --blocks 1 --initiator '' | \n\
+    serve --blocks 1 --initiator a --initiator café | café\n\
+    serve --blocks 1 --at-once 1 --initiator café | café";
+
+const BAD_PORTAL: &str = "serve --blocks 1 --at-once 1 --portal '' | \n\
+    serve --blocks 1 --at-once 1 --portal 192.0.2.7:3260,1 | 192.0.2.7:3260,1\n\
+    serve --blocks 1 --at-once 1 --portal café:3260 | café:3260";
+
+const BAD_SERIAL: &str = "serve --blocks 1 --at-once 1 --serial '' | \n\
+    serve --blocks 1 --at-once 1 --serial 12345678901234567 | 12345678901234567\n\
+    serve --blocks 1 --at-once 1 --serial café | café";
+
+const BAD_SESSIONS: &str = "serve --port 0 --blocks 1 --sessions 65536 | 65536";
+
+const BAD_MEMORY: &str =
+    "serve --port 0 --blocks 1 --sessions 1 --at-once 1 --memory 32767 | 32767\n\
+    serve --port 0 --blocks 1 --sessions 1 --at-once 1 --memory 562949953421313 | 562949953421313\n\
+    serve --port 0 --blocks 1 --sessions 1 --at-once 1 --memory +32768 | +32768";
+
+const BAD_SEGMENT: &str = "serve --port 0 --blocks 1 --sessions 1 --at-once 1 --segment 511 | 511\n\
+    serve --port 0 --blocks 1 --sessions 1 --at-once 1 --segment 1048577 | 1048577\n\
+    serve --port 0 --blocks 1 --sessions 1 --at-once 1 --segment 64k | 64k";
+
+const BAD_BURST: &str = "serve --port 0 --blocks 1 --sessions 1 --at-once 1 --burst 511 | 511\n\
+    serve --port 0 --blocks 1 --sessions 1 --at-once 1 --burst 1048577 | 1048577";
+
+const BAD_FIRST_BURST: &str =
+    "serve --port 0 --blocks 1 --sessions 1 --at-once 1 --first-burst 511 | 511\n\
+    serve --port 0 --blocks 1 --sessions 1 --at-once 1 --first-burst 262145 | 262145\n\
+    serve --port 0 --blocks 1 --sessions 1 --at-once 1 --first-burst 1025 --burst 1024 | 1025";
+
+const BAD_PIECE: &str = "loop --blocks 2048 --piece 0 | 0\n\
+    loop --blocks 2048 --piece 4097 | 4097\n\
+    loop --blocks 2048 --piece +1 | +1\n\
+    loop --blocks 2048 --piece '' | ";
+
+const BAD_SIZE: &str = "answer --size 0 | 0\n\
+    answer --size 511 | 511\n\
+    answer --size 513 | 513\n\
+    answer --size 513T | 513T\n\
+    answer --size 1k | 1k\n\
+    answer --size 32MB | 32MB\n\
+    answer --size M | M\n\
+    answer --size +1M | +1M\n\
+    answer --size= | \n\
+    answer --size 16777216T | 16777216T\n\
+    loop --size 1.5G --piece 1 | 1.5G\n\
+    serve --size 562949953421824 | 562949953421824\n\
+    serve --file d --size 1 | 1";
+
+const BAD_EXPORT: &str = "serve --nbd '' | \n\
+    serve --nbd /disk | /disk\n\
+    serve --nbd host: | host:\n\
+    serve --nbd host:0/disk | host:0/disk\n\
+    serve --nbd host:65536 | host:65536\n\
+    serve --nbd host:+1 | host:+1\n\
+    serve --nbd ::1/disk | ::1/disk\n\
+    serve --nbd [::1/disk | [::1/disk\n\
+    serve --nbd [::1]1/disk | [::1]1/disk";
+
+const AT_ONCE: &str =
+    "is no number of sessions: '--at-once <k>' takes a number from 1 to 64\n\nUsage: ";
+
+const BAD_AT_ONCE: &str = "serve --blocks 1 --at-once 65 | 65";
+
+const LISTEN: &str =
+    "is no address: '--listen <ADDR>' takes an IPv4 or IPv6 address (default 127.0.0.1)\n\n";
+
+const BAD_LISTEN: &str = "serve --blocks 1 --at-once 1 --listen localhost | localhost";
+
+const NAME: &str =
+    "is no name: '--name <IQN>' takes 1 to 223 bytes, each from '!' to '~'\n\nUsage: ";
+
+const BAD_NAME: &str = "serve --blocks 1 --at-once 1 --name café | café";
+
+const IDLE: &str =
+    "is no number of seconds: '--idle <S>' takes a number from 1 to 65535\n\nUsage: ";
+
+const BAD_IDLE: &str = "serve --blocks 1 --at-once 1 --idle 0 | 0";
+
+const LOGIN: &str =
+    "is no number of seconds: '--login-within <S>' takes a number from 1 to 65535 (default 30)\n\n";
+
+const BAD_LOGIN: &str = "serve --blocks 1 --at-once 1 --login-within 65536 | 65536";
 
 const NO_SIZE: &str =
     "error: the disk size is missing: use '--size <SIZE>', such as '--size 32M', or \
@@ -854,18 +666,26 @@ fn check_job(rt: &impl Abort, alloc: Global, line: &str, job: &str) {
     same(rt, &said.as_str(), &job, &line);
 }
 
+// Goes through a text of words and their jobs.
+fn check_jobs(rt: &impl Abort, alloc: Global, text: &str) {
+    let mut words = None;
+    for line in text.lines() {
+        match words.take() {
+            Some(words) => check_job(rt, alloc, words, line),
+            None => words = Some(line),
+        }
+    }
+    same(rt, &words, &None, &"words without a job");
+}
+
 #[test]
 fn words_that_are_a_job(rt: HostRuntime) {
-    for (line, job) in JOBS {
-        check_job(&rt, rt.alloc(), line, job);
-    }
+    check_jobs(&rt, rt.alloc(), JOBS);
 }
 
 #[test]
 fn words_of_a_disk_that_tells_more(rt: HostRuntime) {
-    for (line, job) in UNITS {
-        check_job(&rt, rt.alloc(), line, job);
-    }
+    check_jobs(&rt, rt.alloc(), UNITS);
 }
 
 /// Words of a service, and the names of initiators that they list.
@@ -938,11 +758,34 @@ fn check_value(rt: &impl Abort, alloc: Global, line: &str, value: &str, text: &s
     same(rt, &is_whole, &true, &(line, said.as_str()));
 }
 
+// Goes through a list of words whose values are refused with this text.
+fn check_values(rt: &impl Abort, alloc: Global, list: &str, text: &str) {
+    for row in list.lines() {
+        let (line, value) = row.split_once(" | ").expect(rt, row);
+        check_value(rt, alloc, line, value, text);
+    }
+}
+
 #[test]
 fn values_that_are_refused(rt: HostRuntime) {
-    for (line, value, text) in BAD_VALUES {
-        check_value(&rt, rt.alloc(), line, value, text);
-    }
+    check_values(&rt, rt.alloc(), BAD_BLOCKS, BLOCKS);
+    check_values(&rt, rt.alloc(), BAD_PORT, PORT);
+    check_values(&rt, rt.alloc(), BAD_INITIATOR, INITIATOR);
+    check_values(&rt, rt.alloc(), BAD_PORTAL, PORTAL);
+    check_values(&rt, rt.alloc(), BAD_SERIAL, SERIAL);
+    check_values(&rt, rt.alloc(), BAD_SESSIONS, SESSIONS);
+    check_values(&rt, rt.alloc(), BAD_MEMORY, MEMORY);
+    check_values(&rt, rt.alloc(), BAD_SEGMENT, SEGMENT);
+    check_values(&rt, rt.alloc(), BAD_BURST, BURST);
+    check_values(&rt, rt.alloc(), BAD_FIRST_BURST, FIRST_BURST);
+    check_values(&rt, rt.alloc(), BAD_PIECE, PIECE);
+    check_values(&rt, rt.alloc(), BAD_SIZE, SIZE);
+    check_values(&rt, rt.alloc(), BAD_EXPORT, EXPORT);
+    check_values(&rt, rt.alloc(), BAD_AT_ONCE, AT_ONCE);
+    check_values(&rt, rt.alloc(), BAD_LISTEN, LISTEN);
+    check_values(&rt, rt.alloc(), BAD_NAME, NAME);
+    check_values(&rt, rt.alloc(), BAD_IDLE, IDLE);
+    check_values(&rt, rt.alloc(), BAD_LOGIN, LOGIN);
 }
 
 fn check_help(rt: &impl Abort, alloc: Global, line: &str, text: &str) {

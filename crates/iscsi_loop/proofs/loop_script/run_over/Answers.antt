@@ -1,4 +1,4 @@
-use Rattle.std.proofs.Common.{[], inl, refl}
+use Rattle.std.proofs.Common.{[], inl, refl, sym}
 use Rattle.std.proofs.KnownBytes.{Appends-nil}
 use Rattle.std.proofs.lemmas.Result.{err_from_is_err_and}
 use Rattle.iscsi_loop.proofs.BlameLemmas.{script_blameless}
@@ -30,10 +30,11 @@ pub returns : goal.returns
 returns g c =
     let k = c.in_ok-commands.ensures.ok in
     let s = c.run_session.ensures.loops k.0 _ k.3 k.2 in
+    let new = rw (sym c.deref_mut.ensures.value) at c.in_ok-ends.ensures.new in
     record {
       loops = (k.0, s.0, k.1, s.1, s.2, s.3);
       on_disk = λ faithful.
-          let d = c.run_session.ensures.on_disk faithful c.args.blocks k.0 c.in_ok-ends.ensures.new k.3 in
+          let d = c.run_session.ensures.on_disk faithful c.args.blocks k.0 new k.3 in
           (k.0, d.0, k.1, d.1, d.2);
-      blameless = λ faithful. c.run_session.ensures.blameless faithful c.args.blocks c.in_ok-ends.ensures.new c.in_ok-commands.ensures.ranges;
+      blameless = λ faithful. c.run_session.ensures.blameless faithful c.args.blocks new c.in_ok-commands.ensures.ranges;
     }
