@@ -1,5 +1,5 @@
 -- What stands at a place of a list that was changed at one place, or got one more at its end.
-use Rattle.std.proofs.Common.{◌≡◌, ◌≢◌, ℕ, zero, suc, ◌<◌, ◌≤◌, List, [], ◌∷◌, ◌++◌, length, set, refl, ap, arith}
+use Rattle.std.proofs.Common.{◌≡◌, ◌≢◌, ℕ, zero, suc, ◌<◌, ◌≤◌, List, [], ◌∷◌, length, set, refl, ap, arith}
 use Rattle.std.specs.Prelude.{slice_get, Some, None}
 
 pub get_set_same : {X : Type 0} (xs : List X) (k : ℕ) (x : X) → k < length xs
@@ -15,22 +15,6 @@ get_set_other (y ∷ ys) zero zero x h = absurd (h refl)
 get_set_other (y ∷ ys) zero (suc k) x h = refl
 get_set_other (y ∷ ys) (suc i) zero x h = refl
 get_set_other (y ∷ ys) (suc i) (suc k) x h = get_set_other ys i k x (λ e. h (ap suc e))
-
-pub get_push_last : {X : Type 0} (xs : List X) (x : X)
-    → slice_get (xs ++ x ∷ []) (length xs) ≡ Some x
-get_push_last [] x = refl
-get_push_last (y ∷ ys) x = get_push_last ys x
-
-pub get_push_other : {X : Type 0} (xs : List X) (k : ℕ) (x : X) → k ≢ length xs
-    → slice_get (xs ++ x ∷ []) k ≡ slice_get xs k
-get_push_other [] zero x h = absurd (h refl)
-get_push_other [] (suc k) x h = refl
-get_push_other (y ∷ ys) zero x h = refl
-get_push_other (y ∷ ys) (suc k) x h = get_push_other ys k x (λ e. h (ap suc e))
-
-pub get_past : {X : Type 0} (xs : List X) → slice_get xs (length xs) ≡ None
-get_past [] = refl
-get_past (y ∷ ys) = get_past ys
 
 pub get_behind : {X : Type 0} (xs : List X) (k : ℕ) → length xs ≤ k → slice_get xs k ≡ None
 get_behind [] k l = refl

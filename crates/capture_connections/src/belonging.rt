@@ -1,6 +1,6 @@
 //! Which connection a segment belongs to.
 
-ghost use Rattle.std.specs.Prelude.{◌≡◌, OnOk, IfOk, IfErr, ℕ, Some, if◌then◌else◌};
+ghost use Rattle.std.specs.Prelude.{◌≡◌, OnOk, IfOk, IfErr, Some, if◌then◌else◌};
 ghost use Rattle.std.specs.HashMap.{get};
 ghost use Rattle.capture_connections.specs.SameEnds.{same_ends};
 ghost use Rattle.capture_connections.specs.declared.ends.Ends.{Ends};

@@ -1,6 +1,6 @@
 //! What a segment says to its connection.
 
-ghost use Rattle.std.specs.Prelude.{◌≡◌, ◌<◌, ◌≤◌, ◌+◌, ◌^◌, ◌%◌, [], length, take, if◌then◌else◌};
+ghost use Rattle.std.specs.Prelude.{◌≡◌, ◌<◌, ◌+◌, ◌^◌, ◌%◌, [], length, take, if◌then◌else◌};
 ghost use Rattle.capture_connections.specs.Directions.{has_some};
 
 use crate::ends::{Ends, Side, ends_of};

@@ -1,6 +1,6 @@
 //! What another program does with `iscsi_access`.
 
-ghost use Rattle.std.specs.Prelude.{◌≡◌, IfOk, IsTrue};
+ghost use Rattle.std.specs.Prelude.{IfOk, IsTrue};
 ghost use Rattle.iscsi_access.specs.Laws.{AnswersChallenge};
 
 use iscsi_access::{Chap, Progress, Verdict};

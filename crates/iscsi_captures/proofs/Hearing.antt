@@ -1,7 +1,7 @@
 -- What a segment adds to the direction that is wanted.
 use Rattle.std.proofs.Common.{◌≡◌, ℕ, Bool, true, false, List, [], refl, sym, ap, ◌∙◌, subst}
-use Rattle.std.proofs.lemmas.Bool.{eqb-true, eqb-false}
-use Rattle.std.specs.Prelude.{◌≢◌, ◌==◌, ◌&&◌, if◌then◌else◌, slice_get, IfSome, IfOk, IfErr, Some, None, Option, Result, Ok, Err}
+use Rattle.std.proofs.lemmas.Bool.{eqb-false}
+use Rattle.std.specs.Prelude.{◌==◌, ◌&&◌, if◌then◌else◌, slice_get, IfSome, IfOk, IfErr, Some, None, Option, Result, Ok, Err}
 use Rattle.capture_connections.specs.declared.connections.Connection.{Connection}
 use Rattle.capture_connections.specs.declared.ends.Side.TheVariants.{Lower, Upper}
 use Rattle.iscsi_captures.specs.declared.captured.Wanted.{Wanted}
@@ -91,21 +91,6 @@ none_there list number heard wanted none =
       meant = λ same. subst P (sym none) tt;
       is_it = not_other (number == wanted.connection) heard.said.side;
     }
-
-not_same : (b : Bool) (number wanted : ℕ) (is : Bool) → (number == wanted) ≡ b → number ≢ wanted
-    → false ≡ ((number == wanted) && is)
-not_same true number wanted is e other = absurd (other (eqb-true number wanted e))
-not_same false number wanted is e other = ap (λ (b : Bool). b && is) (sym e)
-
--- it belongs to another connection
-pub other_there : (list : List Connection) (number : ℕ) (heard : Heard) (wanted : Wanted)
-    → number ≢ wanted.connection → IsFor list number heard wanted false
-other_there list number heard wanted other = record {
-  side = Lower;
-  meant = λ same. absurd (other same);
-  is_it = not_same (number == wanted.connection) number wanted.connection
-      (is_side Lower heard.said.side) refl other;
-}
 
 same_number : (b : Bool) (number wanted : ℕ) (is : Bool) → (number == wanted) ≡ b → number ≡ wanted
     → is ≡ ((number == wanted) && is)

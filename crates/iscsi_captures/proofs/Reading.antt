@@ -1,13 +1,12 @@
 -- A direction that is read on, step by step.
 use Rattle.std.proofs.Common.{◌≡◌, ◌⊎◌, ℕ, Bool, true, false, List, [], ◌∷◌, ◌++◌, length, take, drop, refl, sym, ap, ◌∙◌, subst, inl, inr, append_assoc, append-nil, arith}
-use Rattle.std.specs.Prelude.{◌==◌, Option, Some, None, IfSome, OnOk, OnErr, Result, Ok, Err, not, unwrap_or}
+use Rattle.std.specs.Prelude.{◌==◌, Option, Some, None, IfSome, OnOk, OnErr, Result, Ok, Err, not}
 use Rattle.std.specs.Io.KnownBytes.{IsAtEnd}
 use Rattle.std.proofs.KnownBytes.{Consumes-nil, Consumes-trans}
 use Rattle.std.proofs.lemmas.Bool.{true≢false, eqb-true}
 use Rattle.std.proofs.lemmas.List.{take-append-drop}
 use Rattle.iscsi_captures.specs.declared.captured.Wanted.{Wanted}
 use Rattle.iscsi_captures.specs.declared.fault.CapturesFault.{CapturesFault}
-use Rattle.iscsi_captures.specs.declared.fault.CapturesFault.TheVariants.{Read}
 use Rattle.capture_connections.specs.declared.heard.Heard.{Heard}
 use Rattle.iscsi_captures.specs.Meant.{HearsWanted}
 use Rattle.capture_connections.specs.Following.{Table}
@@ -167,27 +166,6 @@ reads_fault b table kept out left fault none read adds is = record {
   followed = λ e. absurd (none_some fault (sym e));
   ended = λ e. inl e;
   fault = inr is;
-}
-
-or_read : (number : ℕ) (left : Option (List ℕ)) (a b : Option CapturesFault)
-    → IfSome b (λ f. (a ≡ Some f) ⊎ IsFaultOf number left f)
-    → (a ≡ Some (unwrap_or b Read)) ⊎ IsFaultOf number left (unwrap_or b Read)
-or_read number left a None h = inr tt
-or_read number left a (Some f) h = h
-
--- too many steps
-pub reads_long : (a b : Listening) → DirectionReadsOn a b []
-    → DirectionReadsOn a (record b { fault = Some (unwrap_or b.fault Read) }) []
-reads_long a b p = record {
-  wanted = p.wanted;
-  read = p.read;
-  table = p.table;
-  more = p.more;
-  adds = p.adds;
-  bytes = p.bytes;
-  followed = λ e. absurd (none_some (unwrap_or b.fault Read) (sym e));
-  ended = p.ended;
-  fault = or_read a.wanted.connection b.left a.fault b.fault p.fault;
 }
 
 -- the first bytes that are known are given

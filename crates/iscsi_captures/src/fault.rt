@@ -1,6 +1,6 @@
 //! Why a capture is not read on, and why a direction of it is not.
 
-ghost use Rattle.std.specs.Prelude.{◌≡◌, ℕ};
+ghost use Rattle.std.specs.Prelude.{◌≡◌};
 ghost use Rattle.iscsi_captures.specs.declared.fault.CapturesFault.TheVariants.{NoMemory};
 ghost use Rattle.iscsi_captures.specs.Faults.{captures_exit_status};
 

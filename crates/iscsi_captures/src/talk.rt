@@ -1,8 +1,7 @@
 //! What both ends of a connection said, PDU by PDU. One file, since both directions go through the
 //! same steps.
 
-ghost use Rattle.std.specs.Prelude.{◌≡◌, OnOk, OnErr, ℕ, List};
-ghost use Rattle.iscsi_stream.specs.Stream.{Message};
+ghost use Rattle.std.specs.Prelude.{◌≡◌};
 ghost use Rattle.iscsi_explain.specs.Showing.{AppendsSome};
 
 use crate::captured::stop_fault;

@@ -1,6 +1,6 @@
 //! What another program does with `tcp_streams`.
 
-ghost use Rattle.std.specs.Prelude.{◌<◌, ◌^◌, ◌↔◌, ℕ, List, [], length, map, IfOk, IsTrue};
+ghost use Rattle.std.specs.Prelude.{◌<◌, ◌^◌, ◌↔◌, List, [], length, map, IfOk, IsTrue};
 ghost use Rattle.std.specs.List.{All};
 ghost use Rattle.tcp_streams.specs.Pieces.{Piece, DeterminesBytes};
 ghost use Rattle.tcp_streams.specs.Placing.{ArePlaced};

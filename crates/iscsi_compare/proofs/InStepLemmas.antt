@@ -1,7 +1,7 @@
 -- Two streams in step.
 use Rattle.std.proofs.Common.{◌≡◌, ℕ, Bool, true, false, List, [], ◌∷◌, ◌++◌, Option, Some, None, refl, sym, ap, subst, ◌∙◌, append-nil}
 use Rattle.std.specs.Io.KnownBytes.{Consumes}
-use Rattle.std.proofs.KnownBytes.{Consumes-nil, Consumes-trans}
+use Rattle.std.proofs.KnownBytes.{Consumes-trans}
 use Rattle.std.proofs.lemmas.List.{same_from_push}
 use Rattle.std.proofs.lemmas.List.Concat.{flat_map-cons, flat_map-append}
 use Rattle.iscsi_pdu.specs.declared.head.Head.{Head}
@@ -139,24 +139,6 @@ abbrev pub Compared : (ReadInput → ReadInput → Type 0) → Option (List ℕ)
 Compared Holds mine_old mine_new other_old other_new =
     (first : ReadInput) × (second : ReadInput) × GaveInput mine_old mine_new first × GaveInput other_old other_new second
     × Holds first second
-
-pub at_start : (a b : Option (List ℕ)) (first second : Side) (held : List ℕ) → HasRead [] [] first → HasRead [] [] second → IsOpen first → IsOpen second →
-    first.which ≡ First → second.which ≡ Second
-    → InStep (streams a b held) (streams a b held) first second
-at_start a b first second held r s i j w u = record {
-  read = [];
-  other_read = [];
-  ms = [];
-  consumed = Consumes-nil a;
-  other_consumed = Consumes-nil b;
-  has_read = r;
-  other_has_read = s;
-  inside = i;
-  other_inside = j;
-  which = w;
-  other_which = u;
-  same = refl;
-}
 
 pub gave : (old mid new : Option (List ℕ)) (read piece : List ℕ) → Consumes old mid read → Consumes mid new piece → AreBytes (read ++ piece) →
     GaveInput old new (input_of (read ++ piece) new)

@@ -164,19 +164,6 @@ joins_taken cmp there back a b s none taken =
       };
     }
 
-pub joins_known : {K : Type 0} (cmp : K → K → Ordering) → IsTotalOrder cmp → CmpEqualImpliesEq cmp → (there back : BTreeMap K K) (a b x : K) (answer : Bool) →
-    IsSound cmp there back
-    → get cmp there a ≡ Some x → answer ≡ is_eq (cmp x b) → JoinsNames cmp there there back (λ f. f.to a ≡ b) answer
-joins_known cmp o exact there back a b x answer s at is = record {
-  sound = s;
-  learns = record {
-    less = λ f p. p;
-    kept = λ f p e. p;
-    said = λ e f carries. carries a x at ∙ tells_apart exact x b (sym is ∙ e);
-    none = λ e f carries p. apart (itself cmp o b) (ap (λ y. is_eq (cmp y b)) (sym p ∙ carries a x at) ∙ sym is ∙ e);
-  };
-}
-
 none_found : {K : Type 0} (cmp : K → K → Ordering) (m : BTreeMap K K) (a : K) → IsEmpty m → get cmp m a ≡ None
 none_found cmp m a e = rw e refl
 

@@ -4,7 +4,6 @@ use Rattle.std.proofs.Common.{ap, subst, ◌∙◌, arith, append-nil, append_as
 use Rattle.std.specs.Prelude.{IsTrue}
 use Rattle.std.specs.Io.KnownBytes.{Consumes, Keeps, IsAtEnd}
 use Rattle.std.proofs.KnownBytes.{Consumes-nil, Consumes-trans, Consumes-kept}
-use Rattle.std.proofs.lemmas.Bool.{cases_lt}
 use Rattle.std.proofs.lemmas.List.{length-append, length-take, take-append-drop, drop-take, drop_all, nil_from_length}
 use Rattle.iscsi_pdu.specs.declared.head.Head.{Head}
 use Rattle.iscsi_pdu.specs.Meaning.{Means, AreBytes}
@@ -204,14 +203,6 @@ finish_fails stream.Failed which read ms v k left r fails end = absurd (apart fa
 
 -- ---- what feeding leaves
 
-pub all_taken : (v w : Framing) (rest : List ℕ) (n : ℕ) → FramerTakes v rest n w → is_ready w ≡ false → n ≡ length rest
-all_taken v w rest n takes unready =
-    let live : w.failed ≡ false = ap (λ (x : Framing). x.failed) takes.gathered ∙ takes.live in
-    elim (cases_lt n (length rest)) [
-      | inl lt ↦ absurd (apart (takes.stops lt) (unready_of w.failed w.held live unready))
-      | inr le ↦ omega (arith, le, takes.bound)
-    ]
-
 pub held_more : (v w : Framing) (rest : List ℕ) (n : ℕ) → FramerTakes v rest n w → length w.held ≡ length v.held + n
 held_more v w rest n takes =
     omega (
@@ -224,14 +215,6 @@ held_more v w rest n takes =
     )
 
 -- ---- what reading leaves
-
-pub reads_none : (side : Side) (a : Option (List ℕ)) → SideReadsOn side a a (λ x ms. HasRead x.read ms side)
-reads_none side a read ms r = (
-  [],
-  Consumes-nil a,
-  subst AreBytes (sym (append-nil read)) r.bytes,
-  subst (λ (x : List ℕ). HasRead x ms side) (sym (append-nil read)) r,
-)
 
 pub reads_then : (s t : Side) (a b c : Option (List ℕ)) (Holds : ReadInput → List Message → Type 0) → SideReadsOn s a b (λ x ms. HasRead x.read ms t) →
     SideReadsOn t b c Holds → SideReadsOn s a c Holds

@@ -1,7 +1,7 @@
 //! Laws of verdicts: functions that do nothing, whose contracts are the theorems. They speak of the
 //! definitions in `specs`, which the contract of `compare` cites too.
 
-ghost use Rattle.std.specs.Prelude.{◌≡◌, ◌++◌, ℕ, List, Some, Option, Ok, Err, ◌↔◌};
+ghost use Rattle.std.specs.Prelude.{◌≡◌, ℕ, List, Some, Option, Ok, Err, ◌↔◌};
 ghost use Rattle.std.specs.Io.KnownBytes.{IsAtEnd};
 ghost use Rattle.iscsi_pdu.specs.Meaning.{AreBytes};
 ghost use Rattle.iscsi_stream.specs.declared.fault.StreamFault.{StreamFault};

@@ -1,6 +1,5 @@
 //! Two runs of one job.
 
-ghost use Rattle.std.specs.Prelude.{◌≡◌};
 ghost use Rattle.iscsi_compare.specs.Comparing.{ReadInput, GaveInput, AppendsDifference};
 ghost use Rattle.iscsi_compare.specs.SameJobVerdict.{ComparesJobs};
 

@@ -1,6 +1,6 @@
 //! A program of comparisons alone: the words that it takes, and its run.
 
-ghost use Rattle.std.specs.Prelude.{◌≡◌, ℕ, List, Option};
+ghost use Rattle.std.specs.Prelude.{ℕ, List, Option};
 ghost use Rattle.std.specs.Io.KnownBytes.{Appends, Consumes};
 ghost use Rattle.iscsi_comparison.specs.declared.files.Comparison.{Comparison};
 ghost use Rattle.iscsi_comparison.specs.Program.{RunsComparison};

@@ -7,7 +7,6 @@ ghost use Rattle.iscsi_serve_words.specs.Storage.{IsStorage};
 ghost use Rattle.iscsi_disk_service.specs.Disks.{EndsDisk, EndsStorage, disk_status};
 
 use iscsi_event_loop::{serve_at_once, serve_memory_at_once};
-use iscsi_options::Options;
 use iscsi_secrets::{Secrets, SecretsFault};
 use iscsi_serve::serve;
 use iscsi_serve_words::{

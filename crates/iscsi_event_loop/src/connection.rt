@@ -1,6 +1,6 @@
 //! The connection of a slot: what the system told of it, and when a byte went over it.
 
-ghost use Rattle.std.specs.Prelude.{◌≤◌, length};
+ghost use Rattle.std.specs.Prelude.{length};
 ghost use Rattle.iscsi_event_loop.specs.inner.Moving.{MovesAtMost};
 
 use mio::event::Event;

@@ -1,6 +1,6 @@
 //! What is asked of the system: a listener, to be told of sockets that are ready, the time.
 
-ghost use Rattle.std.specs.Prelude.{◌≡◌, IfErr};
+ghost use Rattle.std.specs.Prelude.{IfErr};
 ghost use Rattle.libc.specs.Net.{SockOption};
 ghost use Rattle.iscsi_serving.specs.Faults.{EndsService};
 

@@ -1,6 +1,6 @@
 -- What passing a piece of a stream on leaves.
 use Rattle.std.proofs.Common.{◌≡◌, ℕ, ◌-◌, false, List, [], ◌∷◌, ◌++◌, length, take, drop, refl, sym, ap, subst, ◌∙◌, append-nil, append_assoc}
-use Rattle.std.proofs.lemmas.List.{take-append-drop, take_rest, nil_from_length}
+use Rattle.std.proofs.lemmas.List.{take-append-drop, take_rest}
 use Rattle.iscsi_pdu.specs.declared.head.Head.{Head}
 use Rattle.iscsi_pdu.specs.Meaning.{Means}
 use Rattle.iscsi_stream.specs.Stream.{Message}
@@ -9,7 +9,7 @@ use Rattle.iscsi_stream.proofs.PassingLemmas.{unready_after}
 use Rattle.iscsi_stream.proofs.TakingLemmas.{moves_none, moves_fed, moves_gave, moves_then, taken_at}
 use Rattle.iscsi_explain.specs.declared.form.Form.{Form}
 use Rattle.iscsi_explain.specs.Forms.{IsPduEntry}
-use Rattle.iscsi_explain.specs.Showing.{AreEntries, AppendsSome, PassesEntries}
+use Rattle.iscsi_explain.specs.Showing.{AreEntries, PassesEntries}
 
 pub entries_append : (form : Form) (ms ns : List Message) (a b : List ℕ) → AreEntries form ms a
     → AreEntries form ns b → AreEntries form (ms ++ ns) (a ++ b)
@@ -66,11 +66,6 @@ pub record UpTo (form : Form) (piece rest : List ℕ) (old new : Framing) (befor
   pub parts : piece ≡ begun ++ rest
   pub passes : PassesEntries form old new before after begun more
 
-pub up_to_none : (form : Form) (piece : List ℕ) (old v : Framing) (a b : List ℕ) (more : List Message)
-    → PassesEntries form old v a b [] more → UpTo form piece piece old v a b
-up_to_none form piece old v a b more passes =
-    record { begun = []; more = more; parts = refl; passes = passes }
-
 pub up_to_more : (form : Form) (piece rest : List ℕ) (old v u w : Framing) (a b c : List ℕ) (taken : ℕ)
     (more : List Message) → UpTo form piece rest old v a b → FramerTakes v rest taken u
     → PassesEntries form u w b c [] more
@@ -92,15 +87,3 @@ up_to_more form piece rest old v u w a b c taken more upto takes one = record {
     appended = one.appended;
   });
 }
-
-pub up_to_all : (form : Form) (piece rest : List ℕ) (old v : Framing) (a b : List ℕ) → length rest ≡ 0
-    → UpTo form piece rest old v a b → (more : List Message) × PassesEntries form old v a b piece more
-up_to_all form piece rest old v a b none upto =
-    let same : piece ≡ upto.begun = upto.parts ∙ ap (λ (x : List ℕ). upto.begun ++ x)
-    (nil_from_length rest none) ∙ append-nil upto.begun in
-    (upto.more, subst (λ (x : List ℕ). PassesEntries form old v a b x upto.more) (sym same) upto.passes)
-
-pub up_to_some : (form : Form) (piece rest : List ℕ) (old v : Framing) (a b c : List ℕ)
-    → UpTo form piece rest old v a b → c ≡ b → AppendsSome form a c
-up_to_some form piece rest old v a b c upto is =
-    (upto.more, upto.passes.out, upto.passes.entries, is ∙ upto.passes.appended)

@@ -1,8 +1,8 @@
 -- What showing a stream keeps from read to read.
 use Rattle.std.proofs.Common.{◌≡◌, ℕ, false, List, [], ◌++◌, length, Option, refl, sym, ap, subst, ◌∙◌, append-nil, inl, inr}
 use Rattle.std.specs.Prelude.{IsTrue, ◌⊎◌}
-use Rattle.std.specs.Io.KnownBytes.{Appends, Consumes, Keeps}
-use Rattle.std.proofs.KnownBytes.{Appends-trans, Appends-nil, Consumes-trans, Consumes-kept, Consumes-nil}
+use Rattle.std.specs.Io.KnownBytes.{Appends, Consumes}
+use Rattle.std.proofs.KnownBytes.{Appends-trans, Appends-nil, Consumes-trans, Consumes-nil}
 use Rattle.std.proofs.lemmas.List.{nil_from_length}
 use Rattle.iscsi_stream.specs.Segment.{no_login}
 use Rattle.iscsi_stream.specs.Stream.{Message, StreamMeans, ReadsAs, longest_segment}
@@ -68,11 +68,6 @@ consumed_none : (r0 r1 r2 : Option (List ℕ)) (read : List ℕ) → Consumes r0
     → Consumes r0 r2 read
 consumed_none r0 r1 r2 read p q =
     subst (Consumes r0 r2) (append-nil read) (Consumes-trans r0 r1 r2 read [] p q)
-
-pub read_fails : (form : Form) (v : Framing) (r0 r1 r2 w0 w1 : Option (List ℕ))
-    → ReadUpTo form v r0 r1 w0 w1 → Keeps r1 r2 → Moved r0 r2 w0 w1 Nothing
-read_fails form v r0 r1 r2 w0 w1 up kept =
-    (up.read, up.out, Consumes-kept r0 r1 r2 up.read up.consumed kept, up.written, tt)
 
 pub ends : (form : Form) (v : Framing) (r0 r1 r2 w0 w1 : Option (List ℕ)) → ReadUpTo form v r0 r1 w0 w1
     → Consumes r1 r2 [] → Moved r0 r2 w0 w1 Nothing

@@ -1,6 +1,6 @@
 //! The line of a PDU as one JSON object (RFC 8259).
 
-ghost use Rattle.std.specs.Prelude.{◌≡◌, IfOk};
+ghost use Rattle.std.specs.Prelude.{IfOk};
 ghost use Rattle.iscsi_pdu.specs.Meaning.{HeadFits};
 ghost use Rattle.iscsi_explain.specs.Forms.{IsObject};
 

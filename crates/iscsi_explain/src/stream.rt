@@ -1,10 +1,8 @@
 //! The PDUs of a stream, each in a form.
 
-ghost use Rattle.std.specs.Prelude.{◌≡◌, ◌<◌, ◌^◌, ◌++◌, [], false, length, ℕ, List, OnOk, OnErr, IfOk};
+ghost use Rattle.std.specs.Prelude.{◌≡◌, ◌<◌, [], ℕ, List, OnOk, OnErr};
 ghost use Rattle.std.specs.Io.KnownBytes.{Appends, Consumes};
-ghost use Rattle.iscsi_pdu.specs.Meaning.{HeadFits};
-ghost use Rattle.iscsi_stream.specs.Stream.{Message, StreamMeans, longest_segment};
-ghost use Rattle.iscsi_stream.specs.Framing.{is_ready};
+ghost use Rattle.iscsi_stream.specs.Stream.{Message, StreamMeans};
 ghost use Rattle.iscsi_explain.specs.Showing.{AreEntries, PassesEntries, AppendsSome};
 
 use crate::form::{Form, write_pdu};

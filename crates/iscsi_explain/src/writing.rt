@@ -1,6 +1,6 @@
 //! Lines of text that hold no byte but those that can be printed.
 
-ghost use Rattle.std.specs.Prelude.{◌≡◌, ◌++◌, ◌∷◌, [], map, IfOk, OnOk, ℕ, List};
+ghost use Rattle.std.specs.Prelude.{◌≡◌, ◌++◌, map, IfOk, OnOk, ℕ, List};
 ghost use Rattle.iscsi_explain.specs.Forms.{printable, note, notes_from};
 
 use std::alloc::{AllocError, Global};

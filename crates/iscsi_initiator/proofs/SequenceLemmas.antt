@@ -36,10 +36,6 @@ pieces_next : (n : ℕ) (bytes : List ℕ) → 0 < n → 0 < length bytes → ch
 pieces_next n [] some any = absurd (omega arith)
 pieces_next n (x ∷ xs) some any = chunks_step n x xs some
 
-no_pieces : (n : ℕ) (bytes : List ℕ) → length bytes ≡ 0 → chunks n bytes ≡ []
-no_pieces n [] none = refl
-no_pieces n (x ∷ xs) none = absurd (omega (arith, none))
-
 not_zero : (n : ℕ) (b : Bool) → (suc n == 0) ≡ b → b ≡ false
 not_zero n true e = absurd (omega (arith, eqb-true (suc n) 0 e))
 not_zero n false e = refl

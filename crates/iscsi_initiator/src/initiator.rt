@@ -1,6 +1,6 @@
 //! An initiator's session over a stream.
 
-ghost use Rattle.std.specs.Prelude.{◌≡◌, false, length, take, IfOk, IfErr, OnOk, OnErr};
+ghost use Rattle.std.specs.Prelude.{◌≡◌, false, take, IfOk, IfErr, OnOk, OnErr};
 ghost use Rattle.iscsi_stream.specs.Framing.{FramerTakes, is_ready, stopped};
 ghost use Rattle.iscsi_initiator.specs.State.{is_session_closed};
 ghost use Rattle.iscsi_initiator.specs.Steps.{closed_session};

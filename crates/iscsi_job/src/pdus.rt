@@ -1,6 +1,6 @@
 //! The PDUs of a stream, one after another.
 
-ghost use Rattle.std.specs.Prelude.{◌≤◌, ◌+◌, length, ◌≡◌, IfOk};
+ghost use Rattle.std.specs.Prelude.{◌≤◌, ◌+◌, length, IfOk};
 
 use crate::fault::{JobFault, Which};
 use iscsi_stream::{Framer, LONGEST_SEGMENT, PIECE, Reads, StreamFault};

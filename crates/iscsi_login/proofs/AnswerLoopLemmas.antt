@@ -1,5 +1,5 @@
 -- Answers added pair by pair.
-use Rattle.std.proofs.Common.{◌≡◌, ◌≢◌, ℕ, zero, suc, ◌+◌, ◌<◌, ◌≤◌, List, [], ◌∷◌, ◌++◌, length, take, get_or, Option, Some, None, IsSome, refl, sym, ap}
+use Rattle.std.proofs.Common.{◌≡◌, ◌≢◌, ℕ, zero, suc, ◌+◌, ◌<◌, ◌≤◌, List, [], ◌∷◌, ◌++◌, length, take, get_or, Option, None, IsSome, refl, sym, ap}
 use Rattle.std.proofs.Common.{subst, ◌∙◌, append_assoc, add-one, arith}
 use Rattle.std.specs.List.{flat_map}
 use Rattle.std.proofs.lemmas.List.{append-nil, length-append}
@@ -7,7 +7,7 @@ use Rattle.std.proofs.lemmas.Grind.{flat_map-append}
 use Rattle.iscsi_text.specs.declared.pair.Pair.{Pair}
 use Rattle.iscsi_text.specs.Key.{kind_of, target_address}
 use Rattle.iscsi_text.specs.Value.{Typed}
-use Rattle.iscsi_text.specs.Text.{Pairs, values_of, IsInOrder, ArrangesPairs, IsMeaning}
+use Rattle.iscsi_text.specs.Text.{Pairs, values_of, ArrangesPairs, IsMeaning}
 use Rattle.iscsi_text.specs.Shown.{shown, all_shown}
 use Rattle.iscsi_text.specs.inner.Inside.{InsertsPair}
 use Rattle.iscsi_text.proofs.PairLemmas.{values_of-append, values_of-same}
@@ -19,21 +19,12 @@ use Rattle.iscsi_login.proofs.AnswerLemmas.{values_of-answers, undeclared, answe
 pub arranges_insert : (old : Pairs) (pair : List ℕ × Typed) (new : Pairs) → InsertsPair old pair new → ArrangesPairs (old ++ pair ∷ []) new
 arranges_insert old pair new is = record { in_order = is.in_order; same = λ key. is.values key ∙ sym (values_of-append key old (pair ∷ [])) }
 
-pub arranges_itself : (ps : Pairs) → IsInOrder ps → ArrangesPairs ps ps
-arranges_itself ps order = record { in_order = order; same = λ key. refl }
-
 -- what arranges the arranged pairs and more
 pub arranges_more : (row old more new : Pairs) → ArrangesPairs row old → ArrangesPairs (old ++ more) new → ArrangesPairs (row ++ more) new
 arranges_more row old more new first then = record {
   in_order = then.in_order;
   same = λ key. then.same key ∙ values_of-append key old more ∙ ap (λ vs. vs ++ values_of key more) (first.same key) ∙ sym (values_of-append key row more);
 }
-
-pub declarations_in_order : (tag max_recv : Option ℕ) → IsInOrder (declarations tag max_recv)
-declarations_in_order None None = tt
-declarations_in_order None (Some m) = (tt, tt)
-declarations_in_order (Some t) None = (tt, tt)
-declarations_in_order (Some t) (Some m) = ((refl, tt), (tt, tt))
 
 -- the pair at a place, between those before it and those behind it
 pub record StandsAt (given : Pairs) (n : ℕ) (pair : List ℕ × Typed) : Type 0 where

@@ -30,11 +30,8 @@ use Rattle.iscsi_loop.specs.Reports.{report}
 use Rattle.iscsi_loop.specs.Script.{IsScript, ScriptFails}
 use Rattle.iscsi_serving.specs.declared.fault.ServeFault.{ServeFault}
 use Rattle.iscsi_serving.specs.declared.fault.ServeFault.TheVariants as serve
-use Rattle.iscsi_target.specs.declared.fault.TargetFault.{TargetFault}
 use Rattle.iscsi_target.specs.declared.fault.TargetFault.TheVariants as target
-use Rattle.iscsi_initiator.specs.declared.fault.InitiatorFault.{InitiatorFault}
 use Rattle.iscsi_initiator.specs.declared.fault.InitiatorFault.TheVariants as initiator
-use Rattle.iscsi_serving.specs.Faults.{target_serve_fault, initiator_serve_fault}
 
 -- ---- runs in two parts
 
@@ -298,22 +295,6 @@ done_stops (serve.Target fault) all rest more command m n contents_old contents_
     stops_at (serve.Target fault) w.0 all rest m contents_old contents_now contents_new d w.1
 done_stops (serve.Initiator fault) all rest more command m n contents_old contents_now contents_new d is w =
     stops_at (serve.Initiator fault) w.0 all rest m contents_old contents_now contents_new d w.1
-
--- ---- faults of a session
-
-pub of_target : (fault : TargetFault) → IsSessionFault (target_serve_fault fault)
-of_target target.NoMemory = tt
-of_target (target.Stream fault) = tt
-of_target (target.Protocol rule) = tt
-of_target target.Closed = tt
-
-pub of_initiator : (fault : InitiatorFault) → IsSessionFault (initiator_serve_fault fault)
-of_initiator initiator.NoMemory = tt
-of_initiator (initiator.Stream fault) = tt
-of_initiator (initiator.Protocol rule) = tt
-of_initiator (initiator.Refused status detail) = tt
-of_initiator (initiator.BadAnswer key) = tt
-of_initiator initiator.Closed = tt
 
 -- ---- the ends of a loop
 

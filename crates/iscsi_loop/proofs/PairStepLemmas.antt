@@ -175,9 +175,6 @@ receives_more old new t disk out rest written read n phase fed same within some 
 pub on_and_on : (a b c : BothEnds) → GoOn a b → GoOn b c → GoOn a c
 on_and_on a b c x y = λ blocks requests outcomes h. y blocks requests outcomes (x blocks requests outcomes h)
 
-pub stays_on : (a : BothEnds) → GoOn a a
-stays_on a = λ blocks requests outcomes h. h
-
 -- ---- the login
 
 -- the settings of the programs suit each other, in a normal session

@@ -1,10 +1,8 @@
 //! Scripts: one command a line. One file: the script, its lines, their words and numbers.
 
-ghost use Rattle.std.specs.Prelude.{◌≡◌, ◌≤◌, ◌<◌, ◌∷◌, ℕ, List, length, codes, false, IfOk, IfErr, IfSome, IfNone, option_map};
+ghost use Rattle.std.specs.Prelude.{◌≡◌, ◌≤◌, ◌<◌, ◌∷◌, ℕ, List, length, codes, false, IfOk, IfErr, IfSome, option_map};
 ghost use Rattle.std.specs.Str.{bytes_eq};
 ghost use Rattle.std.specs.Io.KnownBytes.{Consumes, IsAtEnd};
-ghost use Rattle.iscsi_text.specs.Text.{HasNo};
-ghost use Rattle.iscsi_text.specs.Shown.{SplitsAtByte};
 ghost use Rattle.iscsi_loop.specs.Script.{parted, decimal_number, byte_of, test_unit_ready, inquiry_command, read, write, sync, ping_command, alone, command_of_words, meaning, script_lines, longest_script};
 ghost use Rattle.iscsi_loop.specs.Script.{AreCommands, IsTooLongAt, IsScript, ScriptFails};
 ghost use Rattle.iscsi_loop.specs.inner.Script.{LinesFail, IsCommandInRange, AreCommandsInRange};

@@ -1,7 +1,7 @@
 //! A target and an initiator, and the bytes between them. One file, more than half of which is the
 //! contracts of one type.
 
-ghost use Rattle.std.specs.Prelude.{◌≡◌, ◌≤◌, false, Some, None, [], ◌++◌, ◌↔◌, IsTrue, IsSome, OnOk, IfSome, length, drop, map, IfOk, IfErr, MatchOption};
+ghost use Rattle.std.specs.Prelude.{◌≡◌, false, Some, None, [], ◌++◌, ◌↔◌, IsTrue, IsSome, OnOk, IfSome, length, map, IfOk, IfErr, MatchOption};
 ghost use Rattle.iscsi_initiator.specs.declared.fault.InitiatorFault.TheVariants as faults;
 ghost use Rattle.iscsi_pair.specs.World.{IsOpening, SuitEachOther, new_pair, PairEventStep, PairRuns, RunsCalmly, event_of, keeps_no_memory};
 ghost use Rattle.iscsi_initiator.specs.Calls.{InitiatorStartPost};

@@ -1,6 +1,6 @@
 //! Requests that are served one after another, in steps of the pair's own.
 
-ghost use Rattle.std.specs.Prelude.{◌≡◌, ◌⊎◌, [], ℕ, List, None, false, length, map, IfErr, IfOk, OnOk};
+ghost use Rattle.std.specs.Prelude.{◌≡◌, ◌⊎◌, [], List, None, false, length, map, IfErr, IfOk, OnOk};
 ghost use Rattle.std.specs.List.{AllByRecursion};
 ghost use Rattle.scsi_disk.specs.Disk.{disk_of};
 ghost use Rattle.iscsi_initiator.specs.declared.request.Done.{Done};

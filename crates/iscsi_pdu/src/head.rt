@@ -1,11 +1,12 @@
-//! Any head, and the header that it is read from and written to (RFC 7143, section 11.2).
+//! Any head, and the header that it is read from and written to (RFC 7143, section 11.2). One file,
+//! since it is tables of 17 kinds.
 
-ghost use Rattle.std.specs.Prelude.{◌≡◌, ◌↔◌, ◌++◌, ◌<◌, ◌≤◌, ◌^◌, ℕ, false, Ok, Some, IfOk, IfSome, MatchOption, length, replicate};
+ghost use Rattle.std.specs.Prelude.{◌≡◌, ◌++◌, ◌<◌, ◌≤◌, ◌^◌, ℕ, false, Ok, Some, IfOk, IfSome, MatchOption};
 ghost use Rattle.std.specs.Bool.{OnTrue};
 ghost use Rattle.std.specs.Result.{result_err};
 ghost use Rattle.scsi_cdb.specs.Layout.{RowsHold, AreFilled, HaveRoom, put_all, bits_at};
 ghost use Rattle.iscsi_pdu.specs.declared.head.Head.{Head};
-ghost use Rattle.iscsi_pdu.specs.Meaning.{opcode, rows, ones, blocks, frame, header, is_login, is_opcode, head_fault, HeadFits, FitsBlock, HasBlock, ReadsBlock, IsHeader};
+ghost use Rattle.iscsi_pdu.specs.Meaning.{opcode, rows, ones, blocks, header, is_login, is_opcode, head_fault, HeadFits, FitsBlock, HasBlock, ReadsBlock, IsHeader};
 
 mod async_message;
 mod data_in;

@@ -1,5 +1,5 @@
 -- One more piece is fed to a target, and what was counted then.
-use Rattle.std.proofs.Common.{◌≡◌, inl, inr, drop, ℕ, Bool, true, false, List, [], ◌∷◌, ◌++◌, ◌+◌, ◌≤◌, Option, Result, Ok}
+use Rattle.std.proofs.Common.{◌≡◌, inl, inr, drop, ℕ, Bool, true, false, List, [], ◌∷◌, ◌++◌, ◌≤◌, Option, Result, Ok}
 use Rattle.std.proofs.Common.{Err, refl, sym, ap, subst, ◌∙◌, arith, append-nil, append_assoc}
 use Rattle.std.specs.Io.KnownBytes.{Appends, Consumes}
 use Rattle.std.proofs.KnownBytes.{Appends-nil}

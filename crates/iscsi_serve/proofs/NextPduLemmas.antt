@@ -1,5 +1,5 @@
 -- What one PDU more leads to, and its answers.
-use Rattle.std.proofs.Common.{◌≡◌, inr, drop, take-append-drop, ℕ, Bool, true, false, List, [], ◌++◌, ◌+◌, length, ◌≤◌, ◌<◌, take, Option, Result, Ok}
+use Rattle.std.proofs.Common.{◌≡◌, inr, drop, take-append-drop, ℕ, Bool, true, false, List, [], ◌++◌, ◌+◌, length, ◌≤◌, take, Option, Result, Ok}
 use Rattle.std.proofs.Common.{Err, sym, ap, subst, ◌∙◌, arith, append-nil, append_assoc}
 use Rattle.std.proofs.Math.Seq.{take-append-add}
 use Rattle.std.specs.Io.KnownBytes.{Appends}
@@ -35,12 +35,6 @@ pub next_is : (protected : Bool) (b : Bool) (old new : TargetConnection) (before
     → FeedPostIfClosed protected b (scene old before out) (take done.0 piece) (Ok done.1) (scene new after written)
 next_is protected true old new before after out piece written done f = absurd cc
 next_is protected false old new before after out piece written done f = f.fed
-
-pub next_bound : (protected : Bool) (b : Bool) (old new : TargetConnection) (before after : Store) (out piece written : List ℕ) (done : ℕ × Phase)
-    → FeedNextPostIfClosed protected b (scene old before out) piece (Ok done) (scene new after written) → (done.0 ≤ length piece)
-    × (0 < length piece → 0 < done.0)
-next_bound protected true old new before after out piece written done f = absurd cc
-next_bound protected false old new before after out piece written done f = (f.bound, f.some)
 
 abbrev pub as_phase : Result (ℕ × Phase) TargetFault → Result Phase TargetFault
 as_phase (Ok done) = Ok done.1

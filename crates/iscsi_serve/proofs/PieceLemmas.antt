@@ -1,5 +1,5 @@
 -- Bytes behind bytes, and the bytes of one read.
-use Rattle.std.proofs.Common.{◌≡◌, drop, take-append-drop, ℕ, Bool, true, List, [], ◌∷◌, ◌++◌, ◌+◌, length, take, Option}
+use Rattle.std.proofs.Common.{◌≡◌, drop, take-append-drop, ℕ, Bool, true, List, [], ◌∷◌, ◌++◌, length, take, Option}
 use Rattle.std.proofs.Common.{Err, refl, sym, ap, subst, ◌∙◌, arith, append-nil, append_assoc}
 use Rattle.std.specs.Io.KnownBytes.{Appends}
 use Rattle.scsi_disk.specs.Disk.{Disk}

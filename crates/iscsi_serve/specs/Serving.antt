@@ -3,7 +3,6 @@
 -- `protected` says of the store that it refuses each write.
 use Rattle.std.specs.Prelude.{Bool, ◌≡◌, ℕ, List, Result, Ok, Err}
 use Rattle.scsi_disk.specs.Disk.{Disk}
-use Rattle.iscsi_target.specs.declared.fault.TargetFault.{TargetFault}
 use Rattle.iscsi_target.specs.declared.fault.TargetFault.TheVariants as target
 use Rattle.iscsi_target_session.specs.Configured.{TargetSettings}
 use Rattle.iscsi_serve.specs.declared.session_fault.SessionFault.{SessionFault}

@@ -18,12 +18,11 @@ use Rattle.iscsi_target.specs.declared.fault.TargetFault.TheVariants as faults
 use Rattle.iscsi_target_session.specs.Configured.{TargetSettings, no_extras}
 use Rattle.iscsi_target_session.specs.Session.{target_limit}
 use Rattle.iscsi_stream.specs.Canonical.{canon}
-use Rattle.iscsi_target.specs.State.{Execution, TargetStep, opening_machine, unchanged}
+use Rattle.iscsi_target.specs.State.{TargetStep, opening_machine, unchanged}
 use Rattle.iscsi_target.specs.Machine.{answers, is_machine_closed, MayStop}
 use Rattle.iscsi_target.specs.Feed.{TargetConnection, Store, StoreAndOutputReached, beginning, opening_target}
 use Rattle.iscsi_target.specs.Advances.{TargetAdvances, store_of}
 use Rattle.iscsi_target.specs.Crash.{CrashesFed}
-use Rattle.iscsi_target.specs.Laws.{ExecutionsLead}
 use Rattle.iscsi_serve.specs.declared.session_fault.SessionFault.{SessionFault}
 use Rattle.iscsi_serve.specs.declared.session_fault.SessionFault.TheVariants as session
 

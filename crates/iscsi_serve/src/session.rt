@@ -17,8 +17,8 @@ ghost use Rattle.iscsi_serve.specs.inner.SessionSteps.{ServiceGoesOn, BytesClose
 
 use crate::session_fault::SessionFault;
 use iscsi_login::{Phase, Preferences};
-use iscsi_stream::{PIECE, ReadFault, Reads, write_fully};
-use iscsi_target::{Config, FIRST_STAT_SN, Target, TargetFault};
+use iscsi_stream::{PIECE, Reads, write_fully};
+use iscsi_target::{Config, FIRST_STAT_SN, Target};
 use scsi_disk::BlockStore;
 use std::alloc::{AllocError, Global};
 use std::io::{Read, Write};

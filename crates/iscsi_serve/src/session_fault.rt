@@ -3,7 +3,6 @@
 use iscsi_serving::ServeFault;
 use iscsi_stream::ReadFault;
 use iscsi_target::TargetFault;
-use std::alloc::AllocError;
 use thiserror::Error;
 
 /// Why a session over a stream ends early.

@@ -1,5 +1,5 @@
 //! The words of `serve`: of the service of one session after another, and of that of several at a
-//! time.
+//! time. One file, since it has a reader for each word.
 
 ghost use Rattle.std.specs.Prelude.{◌<◌, ◌≤◌, IfOk, IfSome};
 ghost use Rattle.iscsi_login.specs.Name.{IsName};

@@ -1,7 +1,6 @@
 -- Who may log in at a service.
-use Rattle.std.specs.Prelude.{◌≡◌, ℕ, List, Option, None, Some, map}
+use Rattle.std.specs.Prelude.{◌≡◌, ℕ, List, Option, None, Some}
 use Rattle.iscsi_secrets.specs.Secrets.{Secrets, demand_of}
-use Rattle.iscsi_serving.specs.declared.access.Access.{Access}
 use Rattle.iscsi_target_session.specs.Configured.{TargetSettings}
 
 -- The settings with these names of initiators, where names are listed.

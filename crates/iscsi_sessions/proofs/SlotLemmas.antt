@@ -1,8 +1,8 @@
 -- The slots of a table.
-use Rattle.std.proofs.Common.{inl, inr, ◌≡◌, ◌<◌, ℕ, zero, suc, Bool, true, false, ◌==◌, List, [], ◌∷◌, length, Option, None, Some, refl, sym, ap, ◌∙◌, arith}
+use Rattle.std.proofs.Common.{inl, inr, ◌≡◌, ◌<◌, ℕ, zero, suc, true, false, ◌==◌, List, [], ◌∷◌, length, Option, None, Some, refl, sym, ap, ◌∙◌, arith}
 use Rattle.std.proofs.Common.{get_or, set, is_some}
 use Rattle.std.proofs.lemmas.Option.{none-some}
-use Rattle.std.proofs.lemmas.Bool.{eqb-false, eqb-true}
+use Rattle.std.proofs.lemmas.Bool.{eqb-false}
 use Rattle.std.proofs.lemmas.List.{get_or-set_same, get_or-set_other}
 use Rattle.std.proofs.lemmas.List.Quantifiers.{position-Some}
 use Rattle.std.specs.Prelude.{is_none, Result, Ok, Err}
@@ -11,8 +11,8 @@ use Rattle.iscsi_target_session.specs.Configured.{TargetSettings}
 use Rattle.iscsi_target.specs.declared.fault.TargetFault.{TargetFault}
 use Rattle.iscsi_target.specs.declared.fault.TargetFault.TheVariants as faults
 use Rattle.iscsi_target.specs.Feed.{TargetConnection, TargetFinishPost}
-use Rattle.iscsi_sessions.specs.Slots.{Slot, SessionTable, SlotFinishes, opening_slot, slot_at, with_slot, may_read_at, may_take_at, SlotChanges}
-use Rattle.iscsi_sessions.specs.Turns.{Comes, Ends, Goes, HappensIn, IsEnded, OthersStay, SameMachines, machine_in, machines}
+use Rattle.iscsi_sessions.specs.Slots.{Slot, SessionTable, SlotFinishes, opening_slot, slot_at, with_slot, SlotChanges}
+use Rattle.iscsi_sessions.specs.Turns.{Comes, Ends, HappensIn, IsEnded, OthersStay, machine_in, machines}
 
 -- a taken slot is one of the table
 pub some_within : (xs : List (Option Slot)) (k : ℕ) (s : Slot) → get_or xs k None ≡ Some s → k < length xs
@@ -24,20 +24,6 @@ pub taken_within : (xs : List (Option Slot)) (k : ℕ) → is_some (get_or xs k 
 taken_within [] k e = absurd cc
 taken_within (x ∷ xs) zero e = omega arith
 taken_within (x ∷ xs) (suc k) e = let h : k < length xs = taken_within xs k e in omega arith
-
-taken_if_read : (o : Option Slot) → may_read_at o ≡ true → is_some o ≡ true
-taken_if_read None e = absurd cc
-taken_if_read (Some s) e = refl
-
-taken_if_take : (o : Option Slot) → may_take_at o ≡ true → is_some o ≡ true
-taken_if_take None e = absurd cc
-taken_if_take (Some s) e = refl
-
-pub read_within : (xs : List (Option Slot)) (k : ℕ) → may_read_at (get_or xs k None) ≡ true → k < length xs
-read_within xs k e = taken_within xs k (taken_if_read (get_or xs k None) e)
-
-pub take_within : (xs : List (Option Slot)) (k : ℕ) → may_take_at (get_or xs k None) ≡ true → k < length xs
-take_within xs k e = taken_within xs k (taken_if_take (get_or xs k None) e)
 
 -- the slot that changed
 pub changed_same : (place : ℕ) (old new : SessionTable) (o : Option Slot) → place < length old.slots → new.slots ≡ set old.slots place o → slot_at new place ≡ o
@@ -71,20 +57,6 @@ comes_in old new place settings e n =
       refl,
     )
 
-set_none : (xs : List (Option Slot)) (k : ℕ) → get_or (set xs k None) k None ≡ None
-set_none [] k = refl
-set_none (x ∷ xs) zero = refl
-set_none (x ∷ xs) (suc k) = set_none xs k
-
-pub goes_in : (old new : SessionTable) (place : ℕ) → new ≡ with_slot old place None → HappensIn (Goes place) old new
-goes_in old new place n =
-    let slots : new.slots ≡ set old.slots place None = ap (λ (h : SessionTable). h.slots) n in
-    λ protected store. (
-      ap machine_in (ap (λ (x : List (Option Slot)). get_or x place None) slots ∙ set_none old.slots place),
-      others_stay place old new None slots,
-      refl,
-    )
-
 finish_ends : (old new : TargetConnection) (result : Result (Unit {0}) TargetFault) → TargetFinishPost old result new → IsEnded old.machine new.machine
 finish_ends old new (Ok done) f = inl (ap (λ (c : TargetConnection). c.machine) f.1)
 finish_ends old new (Err faults.Closed) f = inl (ap (λ (c : TargetConnection). c.machine) f.1)
@@ -107,17 +79,3 @@ ends_in old new place result c =
       },
       refl,
     )
-
--- a session whose machine stays
-same_at : (t : Bool) (place k : ℕ) (old new : SessionTable) (b a : Slot) → (place == k) ≡ t → slot_at old place ≡ Some b
-    → new.slots ≡ set old.slots place (Some a) → a.connection ≡ b.connection → machines new k ≡ machines old k
-same_at false place k old new b a e was now same = ap machine_in (changed_other place k old new (Some a) e now)
-same_at true place k old new b a e was now same =
-    let at : place ≡ k = eqb-true place k e in
-    let within : place < length old.slots = some_within old.slots place b was in
-    ap (machines new) (sym at) ∙ ap machine_in (changed_same place old new (Some a) within now)
-    ∙ ap (λ (c : TargetConnection). Some c.machine) same ∙ sym (ap machine_in was) ∙ ap (machines old) at
-
-pub same_machines : (place : ℕ) (old new : SessionTable) (b a : Slot) → slot_at old place ≡ Some b → new.slots ≡ set old.slots place (Some a)
-    → a.connection ≡ b.connection → SameMachines old new
-same_machines place old new b a was now same = λ k. same_at (place == k) place k old new b a refl was now same

@@ -1,14 +1,14 @@
 -- What is due for PDUs: more of it for more PDUs, and how much it is at most.
-use Rattle.std.proofs.Common.{◌≡◌, ℕ, ◌*◌, ◌≤◌, List, [], ◌∷◌, ◌++◌, length, refl, sym, ap, ◌∙◌, arith, append-nil, append_assoc}
+use Rattle.std.proofs.Common.{ℕ, ◌*◌, ◌≤◌, List, [], ◌∷◌, ◌++◌, length, refl, sym, ap, ◌∙◌, arith, append_assoc}
 use Rattle.std.proofs.lemmas.List.{length-append}
-use Rattle.std.proofs.lemmas.List.Concat.{flat_map-cons, flat_map-append}
+use Rattle.std.proofs.lemmas.List.Concat.{flat_map-append}
 use Rattle.iscsi_pdu.specs.Meaning.{AreBytes}
 use Rattle.iscsi_stream.specs.declared.logins.Logins.{Logins}
 use Rattle.iscsi_stream.specs.declared.normalising.Form.{Form}
 use Rattle.iscsi_stream.specs.declared.normalising.Form.TheVariants.{Canonical, Line}
 use Rattle.iscsi_stream.specs.Stream.{Message, ReadsAs}
 use Rattle.iscsi_stream.specs.Canonical.{canon, canonical_bytes}
-use Rattle.iscsi_stream.specs.Shown.{IsShownLine, AreLines}
+use Rattle.iscsi_stream.specs.Shown.{AreLines}
 use Rattle.iscsi_stream.specs.inner.Passing.{IsDueOutput}
 use Rattle.iscsi_stream.proofs.OneMeaningLaw.{canon-shorter, count-shorter}
 
@@ -25,12 +25,6 @@ pub due_append : (form : Form) (ms ns : List Message) (a b : List ℕ) → IsDue
 due_append Canonical ms ns a b due more = ap (λ (x : List ℕ). x ++ b) due ∙ ap (λ (x : List ℕ). canon ms ++ x) more
     ∙ sym (flat_map-append canonical_bytes ms ns)
 due_append Line ms ns a b due more = lines_append ms ns a b due more
-
-pub due_canonical : (m : Message) (bytes : List ℕ) → bytes ≡ canonical_bytes m → IsDueOutput Canonical (m ∷ []) bytes
-due_canonical m bytes is = is ∙ sym (flat_map-cons canonical_bytes m [] ∙ append-nil (canonical_bytes m))
-
-pub due_line : (m : Message) (line : List ℕ) → IsShownLine line → IsDueOutput Line (m ∷ []) line
-due_line m line is = (line, [], is, sym (append-nil line), refl)
 
 lines_short : (ms : List Message) (bytes : List ℕ) → AreLines ms bytes → length bytes ≤ 320 * length ms
 lines_short [] bytes none = omega (arith, ap length none)

@@ -3,7 +3,7 @@ use Rattle.std.proofs.Common.{◌≡◌, ℕ, ◌+◌, ◌-◌, ◌<◌, ◌≤�
 use Rattle.std.proofs.Common.{arith, append-nil, append_assoc, inl, inr}
 use Rattle.std.specs.Prelude.{not, ◌&&◌, Some}
 use Rattle.std.proofs.lemmas.Bool.{cases_lt}
-use Rattle.std.proofs.lemmas.List.{length-append, length-take, take_all, take-append-drop, take_rest, nil_from_length}
+use Rattle.std.proofs.lemmas.List.{length-append, length-take, take_all, take-append-drop, take_rest}
 use Rattle.iscsi_pdu.specs.declared.head.Head.{Head}
 use Rattle.iscsi_pdu.specs.declared.head.HeadFault.{HeadFault}
 use Rattle.iscsi_pdu.specs.Meaning.{IsHeader, Means, head_fault, AreBytes}
@@ -167,13 +167,6 @@ takes_some v rest n u unready takes some =
 pub passed_none : (form : Form) (piece : List ℕ) (v : Framing) (out : List ℕ) (k : Counts) → is_ready v ≡ false →
     PassedUpTo form piece piece (passing_progress v out k) (passing_progress v out k)
 passed_none form piece v out k unready = record { before = []; more = []; parts = refl; passes = pass_none form v out k unready }
-
-pub passed_all : (form : Form) (piece rest : List ℕ) (old v : Framing) (a b : List ℕ) (k m : Counts) → length rest ≡ 0 →
-    PassedUpTo form piece rest (passing_progress old a k) (passing_progress v b m) → (more : List Message)
-    × PassesOn form (passing_progress old a k) (passing_progress v b m) piece more
-passed_all form piece rest old v a b k m none upto =
-    let same : piece ≡ upto.before = upto.parts ∙ ap (λ (x : List ℕ). upto.before ++ x) (nil_from_length rest none) ∙ append-nil upto.before in
-    (upto.more, subst (λ (x : List ℕ). PassesOn form (passing_progress old a k) (passing_progress v b m) x upto.more) (sym same) upto.passes)
 
 -- ---- where it stops
 

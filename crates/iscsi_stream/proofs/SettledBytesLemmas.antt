@@ -78,9 +78,6 @@ IsBegun-same limit a b front len begun long =
       },
     )
 
-pub IsBegun-settled : (limit : ℕ) (b : List ℕ) → IsBegun limit b → IsBegun limit (settled b)
-IsBegun-settled limit b = IsBegun-same limit b (settled b) (sym (take48-settled b)) (sym (length-settled b))
-
 pub IsBegun-from_settled : (limit : ℕ) (b : List ℕ) → IsBegun limit (settled b) → IsBegun limit b
 IsBegun-from_settled limit b = IsBegun-same limit (settled b) b (take48-settled b) (length-settled b)
 

@@ -1,6 +1,6 @@
 -- A framer that stops at the end of a header, and whose caller takes the rest of the PDU.
 use Rattle.std.proofs.Common.{◌≡◌, ℕ, ◌+◌, ◌-◌, ◌<◌, ◌≤◌, Bool, false, true, List, [], ◌++◌, length, take, drop, min, max, replicate, refl, sym, ap, subst, ◌∙◌, arith, inl, inr}
-use Rattle.std.proofs.Common.{append_assoc, append-nil}
+use Rattle.std.proofs.Common.{append_assoc}
 use Rattle.std.specs.Prelude.{Result, Ok, Err, IfOk, IfErr}
 use Rattle.std.proofs.lemmas.Bool.{cases_lt}
 use Rattle.std.proofs.lemmas.List.{length-append, length-take, length-drop, take-append-drop, take-append-le, take_all}
@@ -120,28 +120,6 @@ takes_both old mid new piece rest n m is h t =
       stops = λ lt. t.stops (omega (arith, size));
     }
 
--- behind a header that was taken no byte is refused
-pub none_fails : (old mid : Framing) (piece rest : List ℕ) (n : ℕ) (e : StreamFault) → rest ≡ drop n piece → TakesHeader old piece n mid → FramerFeedFails
-    mid rest e → ⊥
-none_fails old mid piece rest n e is h f = at e f
-  where
-    size : length rest ≡ length piece - n
-    size = ap length is ∙ length-drop n piece
-
-    never : ReachesHeader mid.held rest → ⊥
-    never r = elim (cases_lt n (length piece)) [
-      | inl lt ↦ omega (arith, h.stops lt, r.before)
-      | inr ge ↦ omega (arith, r.before, r.reached, length-append mid.held rest, size)
-    ]
-
-    at : (e : StreamFault) → FramerFeedFails mid rest e → ⊥
-    at faults.NoMemory f = never f.1.2.reaches
-    at (faults.Head fault place) f = never f.1
-    at (faults.OverLimit place) f = never f.1.2.reaches
-    at (faults.Truncated place) f = f
-    at faults.Failed f = absurd (let failed : mid.failed ≡ true = f in let live : mid.failed ≡ false = ap (λ (x : Framing). x.failed) h.takes.gathered ∙
-        h.takes.live in cc)
-
 -- ---- a PDU that is given up at its header
 
 pub skipped_is : (v : Framing) (limit place : ℕ) (logins : Logins) (room : ℕ) (h : Head) (len : ℕ) → limit ≡ v.limit → place ≡ min (v.place + pdu_len len)
@@ -196,10 +174,3 @@ given_up-skipped v segment padded h len body full all =
     let size : pdu_len len ≡ length (v.held ++ (segment ++ replicate padded 0)) =
     omega (arith, length-body v.held segment padded body.says.size, body.no_more, body.no_more_padding, full, all) in
     rw size refl
-
--- a body of which nothing came
-pub no_body : (v : Framing) → with_body v [] 0 ≡ v
-no_body v = held_is v (v.held ++ []) (append-nil v.held)
-  where
-    held_is : (v : Framing) (b : List ℕ) → b ≡ v.held → (let x : Framing = record v { held = b } in x ≡ v)
-    held_is v b e = rw e refl

@@ -1,5 +1,5 @@
 -- What a framer's `Model` shows of its header, its segment and its padding.
-use Rattle.std.specs.Prelude.{ℕ, ◌+◌, List, ◌++◌, take, replicate}
+use Rattle.std.specs.Prelude.{ℕ, List, ◌++◌, take, replicate}
 use Rattle.iscsi_stream.specs.declared.gathering.Stage.{Stage}
 use Rattle.iscsi_stream.specs.declared.gathering.Stage.TheVariants.{Header, Body}
 

@@ -1,6 +1,6 @@
 //! The canonical form of a PDU.
 
-ghost use Rattle.std.specs.Prelude.{◌≡◌, ◌≤◌, ◌<◌, ◌+◌, ◌^◌, ◌++◌, ℕ, List, Option, None, Some, true, false, not, ◌&&◌, length, IfOk, IfSome, IsOk, OnOk, OnErr, take, replicate, vec_len, vec_capacity};
+ghost use Rattle.std.specs.Prelude.{◌≡◌, ◌≤◌, ◌<◌, ◌+◌, ◌^◌, ◌++◌, Option, None, Some, true, false, length, IfOk, IfSome, IsOk, OnOk, OnErr, take, replicate, vec_len, vec_capacity};
 ghost use Rattle.iscsi_text.specs.Canonical.{canonical_text};
 ghost use Rattle.iscsi_pdu.specs.Meaning.{HeadFits, header, padding, whole};
 ghost use Rattle.iscsi_stream.specs.Segment.{is_last_login_pdu, text_or_bytes, segment_of};

@@ -1,5 +1,5 @@
 -- SCSI commands, and the data that writes take (RFC 7143, sections 11.3, 11.7 and 11.8).
-use Rattle.std.specs.Prelude.{ℕ, Bool, false, not, ◌&&◌, ◌||◌, nat_lt, nat_le, if◌then◌else◌, List, [], ◌∷◌, length, Option}
+use Rattle.std.specs.Prelude.{ℕ, Bool, false, not, ◌&&◌, ◌||◌, nat_lt, nat_le, if◌then◌else◌, List, [], ◌∷◌, Option}
 use Rattle.scsi_disk.specs.Disk.{Disk}
 use Rattle.scsi_disk.specs.Plan.{plan_of}
 use Rattle.scsi_disk.specs.declared.order.Order.{Order}
@@ -21,7 +21,7 @@ use Rattle.iscsi_target_session.specs.declared.inbound.Asks.TheVariants as asks
 use Rattle.iscsi_target.specs.Write.{Write}
 use Rattle.iscsi_target.specs.declared.tasks.Task.{Task}
 use Rattle.iscsi_target.specs.declared.tasks.Task.TheVariants.{Command, Data, Request}
-use Rattle.iscsi_target.specs.State.{Machine, TargetStep, unchanged, unit_of, waiting_tasks}
+use Rattle.iscsi_target.specs.State.{Machine, TargetStep, unchanged, waiting_tasks}
 use Rattle.iscsi_target.specs.declared.due.Due.TheVariants.{Nothing, Unsolicited}
 use Rattle.iscsi_target.specs.Transfer.{bytes_received, with_piece, is_whole_write, with_r2t, desired, is_nothing_due}
 use Rattle.iscsi_target.specs.Execution.{Device, execute}

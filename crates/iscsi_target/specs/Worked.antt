@@ -1,6 +1,6 @@
 -- Words of worked sessions: bytes by hex text, the PDUs that an initiator sends, the session that
 -- they begin in, and what is stated of them.
-use Rattle.std.specs.Prelude.{◌≡◌, ℕ, ◌+◌, ◌-◌, ◌*◌, ◌==◌, nat_le, Bool, true, false, not, List, [], ◌∷◌, ◌++◌, filter, map, replicate, Option, Some, None, if◌then◌else◌, codes}
+use Rattle.std.specs.Prelude.{◌≡◌, ℕ, ◌+◌, ◌-◌, ◌*◌, ◌==◌, nat_le, Bool, true, false, not, List, [], ◌∷◌, ◌++◌, filter, map, replicate, Option, Some, if◌then◌else◌, codes}
 use Rattle.scsi_cdb.specs.declared.cdb.Cdb.{Cdb}
 use Rattle.iscsi_text.specs.Key.{is_among, known_keys}
 use Rattle.scsi_disk.specs.Disk.{Disk, zeros}

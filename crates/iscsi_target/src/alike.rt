@@ -1,7 +1,6 @@
 //! Whole streams, each with a target of its own: streams of one meaning are answered alike.
 
 ghost use Rattle.std.specs.Prelude.{◌≡◌, ◌↔◌, [], ℕ, List, map, IfOk};
-ghost use Rattle.scsi_disk.specs.Disk.{Disk};
 ghost use Rattle.iscsi_stream.specs.Stream.{Message, SplitsStream, StreamMeans, longest_segment};
 ghost use Rattle.iscsi_login.specs.Negotiation.{ArePreferencesInRange};
 ghost use Rattle.iscsi_target_session.specs.Session.{target_limit};

@@ -1,6 +1,6 @@
 //! A write that takes the segment of a Data-Out as it comes (RFC 7143, section 11.7).
 
-ghost use Rattle.std.specs.Prelude.{◌≡◌, ◌↔◌, ◌<◌, ◌≤◌, ◌+◌, ℕ, [], true, length, IsTrue};
+ghost use Rattle.std.specs.Prelude.{◌≡◌, ◌↔◌, ◌<◌, ◌+◌, ℕ, [], true, IsTrue};
 ghost use Rattle.iscsi_stream.specs.inner.Gathering.{filling, FillsBody};
 ghost use Rattle.iscsi_target.specs.Asking.{asks_task};
 ghost use Rattle.iscsi_target.specs.Transfer.{bytes_received, is_in_sequence, with_data, joined_write};

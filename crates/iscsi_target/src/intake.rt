@@ -1,7 +1,7 @@
 //! A session and the stream that it takes. One file, since the calls share the steps by which bytes
 //! are taken.
 
-ghost use Rattle.std.specs.Prelude.{◌≡◌, ◌⊎◌, [], List, ℕ, Option, Some, None, false, true, IfOk, IfErr, IfSome, IfNone, OnOk, OnErr, IsTrue};
+ghost use Rattle.std.specs.Prelude.{◌≡◌, ◌⊎◌, [], Option, Some, None, false, true, IfOk, IfErr, IfSome, IfNone, OnOk, OnErr};
 ghost use Rattle.iscsi_stream.specs.Framing.{FramerTakes, is_ready, stopped, FinishFails};
 ghost use Rattle.iscsi_stream.specs.Headers.{TakesHeader};
 ghost use Rattle.iscsi_target_session.specs.Session.{target_limit};

@@ -1,6 +1,6 @@
 //! A target between two PDUs: its session and its tasks.
 
-ghost use Rattle.std.specs.Prelude.{◌≡◌, ◌<◌, ◌^◌, ◌≤◌, None, Some, length};
+ghost use Rattle.std.specs.Prelude.{◌≡◌, ◌<◌, ◌^◌, ◌≤◌, None, Some};
 ghost use Rattle.scsi_disk.specs.Disk.{Disk};
 ghost use Rattle.iscsi_target.specs.State.{opening_machine, max_cmd_sn, closed_machine, left, on, waiting_tasks};
 ghost use Rattle.iscsi_target_session.specs.Session.{stat_sn_advanced};

@@ -1,7 +1,7 @@
 //! A target's session over a stream. One file, since the calls share the steps by which a piece is
 //! taken.
 
-ghost use Rattle.std.specs.Prelude.{◌≡◌, ◌⊎◌, ◌++◌, ℕ, List, false, true, IfOk, IfErr, OnOk, OnErr};
+ghost use Rattle.std.specs.Prelude.{◌≡◌, ◌⊎◌, ◌++◌, ℕ, List, false, true, IfOk, IfErr, OnOk};
 ghost use Rattle.iscsi_stream.specs.Framing.{is_ready};
 ghost use Rattle.iscsi_target_session.specs.Session.{target_limit};
 ghost use Rattle.iscsi_target.specs.Machine.{is_machine_closed};

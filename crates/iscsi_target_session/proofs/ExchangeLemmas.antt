@@ -1,6 +1,6 @@
 -- A whole text, by what CHAP demands.
-use Rattle.std.proofs.Common.{◌≡◌, ◌⊎◌, inl, inr, true, false, length, Option, Some, None, refl, ap, ◌∙◌}
-use Rattle.std.specs.Prelude.{nat_lt, is_some}
+use Rattle.std.proofs.Common.{◌≡◌, ◌⊎◌, inl, inr, false, length, Option, Some, None, refl, ap, ◌∙◌}
+use Rattle.std.specs.Prelude.{nat_lt}
 use Rattle.scsi_disk.specs.Plan.{first_reason}
 use Rattle.iscsi_text.specs.Text.{Pairs}
 use Rattle.iscsi_text.specs.Canonical.{canonical_text}
@@ -20,15 +20,6 @@ use Rattle.iscsi_target_session.proofs.CaseLemmas.{by_cases}
 pub open_text : (s : Session) (r : Request) (pairs : Pairs) → s.settings.extras.chap ≡ None
     → whole_text s r (Some pairs) ≡ refuse_or (first_reason (text_refusals s pairs)) s r (pairs_answered s r pairs)
 open_text s r pairs none = ap (λ (o : Option Chap). text_by o s r pairs) none
-
--- by whether it is demanded
-pub where_demanded : (P : Option Chap → Type 0) (o : Option Chap) → is_some o ≡ true → ((c : Chap) → o ≡ Some c → P (Some c)) → P o
-where_demanded P None is f = absurd (cc is)
-where_demanded P (Some c) is f = f c refl
-
-pub where_open : (P : Option Chap → Type 0) (o : Option Chap) → is_some o ≡ false → P None → P o
-where_open P None is p = p
-where_open P (Some c) is p = absurd (cc is)
 
 -- the verdict is followed where nothing else refuses the text
 pub exchange_is : (c : Chap) (s : Session) (r : Request) (pairs rest : Pairs) (v : Verdict) → rest ≡ rest_of pairs → None ≡ first_reason (text_refusals s rest)

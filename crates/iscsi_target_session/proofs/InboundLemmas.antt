@@ -1,5 +1,5 @@
 -- A request and the head of its PDU.
-use Rattle.std.proofs.Common.{◌≡◌, ℕ, Bool, true, false, Option, Some, None, refl, ap, subst}
+use Rattle.std.proofs.Common.{◌≡◌, Bool, false, Option, Some, None, refl, ap, subst}
 use Rattle.iscsi_pdu.specs.declared.head.Head.{Head}
 use Rattle.iscsi_pdu.specs.declared.head.Head.TheVariants.{DataOut, LoginRequest, LoginResponse, LogoutRequest, NopOut, ScsiCommand, TaskRequest, TextRequest}
 use Rattle.iscsi_pdu.specs.declared.head.data_out.DataOut.{DataOut as DataPdu}

@@ -1,5 +1,5 @@
 -- What a login text has of a key.
-use Rattle.std.proofs.Common.{◌<◌, ◌≤◌, ◌+◌, ◌++◌, length, take, drop, get_or, arith, append_assoc, ◌≡◌, ℕ, zero, suc, List, [], ◌∷◌, Bool, true, false, refl}
+use Rattle.std.proofs.Common.{◌<◌, ◌≤◌, ◌+◌, ◌++◌, length, take, drop, get_or, arith, append_assoc, ◌≡◌, ℕ, List, [], ◌∷◌, Bool, true, false, refl}
 use Rattle.std.proofs.Common.{sym, ap, ◌∙◌}
 use Rattle.std.specs.Prelude.{slice_get, is_some, not, ◌&&◌, ◌||◌, slice_set}
 use Rattle.std.proofs.lemmas.List.{drop_more, drop_all, take_all, take_more_set, append-nil}
@@ -64,8 +64,3 @@ pub seen_all : (seen now : List Bool) (n : ℕ) (ps : Pairs) → length known_ke
 seen_all seen now n ps le size h =
     sym (append-nil now) ∙ ap (λ (x : List Bool). x ++ []) (sym (take_all n now (omega (arith, le, size))))
     ∙ ap (λ (keys : List (List ℕ)). take n now ++ seen_with keys (drop n seen) ps) (sym (drop_all n known_keys le)) ∙ h
-
-pub past_end : (keys : List (List ℕ)) (n : ℕ) → length keys ≤ n → get_or keys n [] ≡ []
-past_end [] n le = refl
-past_end (key ∷ keys) zero le = absurd (omega (arith, le))
-past_end (key ∷ keys) (suc n) le = past_end keys n (omega (arith, le))

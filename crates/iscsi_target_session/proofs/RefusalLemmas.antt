@@ -1,6 +1,6 @@
 -- The reasons to refuse a login request and its text, each by its name.
 use Rattle.std.proofs.Common.{◌≡◌, refl}
-use Rattle.std.specs.Prelude.{Bool, false, not, ◌==◌, ◌&&◌, nat_lt, List, [], ◌∷◌, length, Option, Some, None, is_none, codes}
+use Rattle.std.specs.Prelude.{Bool, false, not, ◌==◌, ◌&&◌, nat_lt, List, [], ◌∷◌, length, None, is_none, codes}
 use Rattle.std.specs.List.{AllByRecursion}
 use Rattle.iscsi_text.specs.Key.{known_keys}
 use Rattle.iscsi_text.specs.Text.{Pairs}

@@ -2,7 +2,7 @@
 use Rattle.std.proofs.Common.{◌≡◌, ◌≢◌, ℕ, ◌-◌, ◌<◌, Bool, true, false, cond, not, ◌||◌, List, [], ◌∷◌, ◌++◌, length, Option, Some, None, Bor}
 use Rattle.std.proofs.Common.{refl, sym, ap, subst, ◌∙◌, inl, inr, append_assoc, arith}
 use Rattle.std.specs.Option.{option_map}
-use Rattle.std.specs.List.{flat_map, list_any}
+use Rattle.std.specs.List.{flat_map}
 use Rattle.std.specs.Ordering.{nat_cmp, is_eq}
 use Rattle.std.specs.Str.{bytes_eq}
 use Rattle.std.specs.declared.cmp.Ordering.TheVariants.{Less, Equal, Greater}
@@ -17,16 +17,16 @@ use Rattle.std.specs.BTreeMap.{is_at}
 use Rattle.std.specs.declared.cmp.Ordering.{Ordering}
 use Rattle.std.proofs.lemmas.List.{append-nil, length-append}
 use Rattle.iscsi_text.specs.declared.fault.TextFault.{TextFault}
-use Rattle.iscsi_text.specs.declared.fault.TextFault.TheVariants.{NoMemory, Unterminated, NoEquals, BadKey, Repeated}
+use Rattle.iscsi_text.specs.declared.fault.TextFault.TheVariants.{Repeated}
 use Rattle.iscsi_text.specs.Key.{target_address}
 use Rattle.iscsi_text.specs.Value.{Typed}
 use Rattle.iscsi_text.specs.Text.{Pairs, values_of, Field, entry_bytes, IsTextEntry, IsSingle, IsInOrder, ArrangesPairs, pairs_of, TextMeans}
-use Rattle.iscsi_text.specs.Fault.{IsFaulty, IsFirstFault}
-use Rattle.iscsi_text.specs.inner.Inside.{ReadsEntry, IsWrong, GathersTo, GathersRow}
+use Rattle.iscsi_text.specs.Fault.{IsFirstFault}
+use Rattle.iscsi_text.specs.inner.Inside.{ReadsEntry, GathersTo, GathersRow}
 use Rattle.iscsi_text.specs.Reading.{has_key, in_order}
 use Rattle.iscsi_text.proofs.PairLemmas.{values_of-append, key_cases}
 use Rattle.iscsi_text.proofs.KeyLemmas.{bytes_eq_same, bytes_eq_other}
-use Rattle.iscsi_text.proofs.ReadInvariant.{pairs_of-append, gathers_none, gathers_more, single_more}
+use Rattle.iscsi_text.proofs.ReadInvariant.{pairs_of-append, gathers_more, single_more}
 use Rattle.iscsi_text.proofs.RowLemmas.{compared, entry_some}
 use Rattle.iscsi_text.proofs.OrderLemmas.{in_order_is, values_in_order}
 use Rattle.iscsi_text.proofs.ReadingLemmas.{has_decides}
@@ -89,24 +89,6 @@ goes_on bytes rest pairs never row single ended = never (in_order pairs) (means_
 
 -- ---- faults
 
--- what is wrong with an entry alone is so behind any pairs
-anywhere : (pairs : Pairs) (rest : List ℕ) (fault : TextFault) → IsFaulty [] rest fault → IsFaulty pairs rest fault
-anywhere pairs rest (Unterminated at) faulty = faulty
-anywhere pairs rest (NoEquals at) faulty = faulty
-anywhere pairs rest (BadKey at) faulty = faulty
-anywhere pairs rest (Repeated at) faulty = absurd (omega (arith, faulty.again))
-anywhere pairs rest NoMemory faulty = faulty
-
-pub wrong_first : (bytes rest : List ℕ) (pairs : Pairs) (fault : TextFault) → GathersTo bytes rest pairs → IsSingle pairs →
-    IsWrong rest (length bytes - length rest) fault → IsFirstFault bytes fault
-wrong_first bytes rest pairs fault row single wrong = record {
-  entries = row.entries;
-  rest = rest;
-  row = record { spelled = row.spelled; each = row.each; single = subst IsSingle row.gathered single };
-  place = omega (arith, wrong.place, ap length row.spelled, length-append (flat_map entry_bytes row.entries) rest);
-  faulty = anywhere (pairs_of row.entries) rest fault wrong.faulty;
-}
-
 pub repeated_first : (bytes rest more : List ℕ) (pairs : Pairs) (p : List ℕ × Typed) (at : ℕ) → GathersTo bytes rest pairs → IsSingle pairs → at
     ≡ length bytes - length rest → ReadsEntry rest (Some p) more → p.0 ≢ target_address → has_key p.0 pairs ≡ true → IsFirstFault bytes (Repeated at)
 repeated_first bytes rest more pairs p at row single is next other there = by next.entry next.spelled next.good next.shows
@@ -141,14 +123,6 @@ pub record Seen (bytes rest : List ℕ) (keys : BTreeSet (Bor (List ℕ))) : Typ
   pub row : GathersTo bytes rest pairs
   pub single : IsSingle pairs
   pub holds : (q : Bor (List ℕ)) → q.now ≢ target_address → contains key_cmp keys q ≡ has_key q.now pairs
-
-pub seen_none : (bytes : List ℕ) (keys : BTreeSet (Bor (List ℕ))) → keys.keys ≡ [] → Seen bytes bytes keys
-seen_none bytes keys none = record {
-  pairs = [];
-  row = gathers_none bytes;
-  single = λ key other. omega arith;
-  holds = λ q other. ap (λ ks. list_any (is_at (key_cmp q)) ks) none;
-}
 
 at_key : (a b : List ℕ) → is_eq (slice_cmp nat_cmp a b) ≡ bytes_eq a b
 at_key a b = elim (key_cases a b) [
@@ -222,10 +196,6 @@ was_there true added is old = refl
 was_there false added is old = absurd (false≢true (sym old ∙ is))
 
 -- ---- the faults behind what was seen
-
-pub seen_wrong : (bytes rest : List ℕ) (keys : BTreeSet (Bor (List ℕ))) (fault : TextFault) → Seen bytes rest keys →
-    IsWrong rest (length bytes - length rest) fault → IsFirstFault bytes fault
-seen_wrong bytes rest keys fault seen wrong = wrong_first bytes rest seen.pairs fault seen.row seen.single wrong
 
 pub seen_repeated : (bytes rest more : List ℕ) (keys : BTreeSet (Bor (List ℕ))) (key : Bor (List ℕ)) (v : Typed) → Seen bytes rest keys →
     ReadsEntry rest (Some (key.now, v)) more → key.now ≢ target_address → contains key_cmp keys key ≡ true →

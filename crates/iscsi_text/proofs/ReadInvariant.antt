@@ -88,9 +88,6 @@ bad_key rest entry more key value at at_end at_equals bad = record {
 
 -- ---- a row, entry by entry
 
-pub gathers_none : (bytes : List ℕ) → GathersTo bytes bytes []
-gathers_none bytes = record { entries = []; spelled = refl; each = tt; gathered = refl }
-
 -- a spare byte adds no pair, another entry its own
 pub gathers_more : (bytes rest more : List ℕ) (pairs : Pairs) (pair : Option (List ℕ × Typed)) → GathersTo bytes rest pairs → ReadsEntry rest pair more →
     GathersTo bytes more (pairs ++ option_to_list pair)

@@ -1,7 +1,7 @@
 //! Laws of numerals and texts: functions with no work, whose contracts are of the definitions
 //! alone.
 
-ghost use Rattle.std.specs.Prelude.{◌≡◌, ◌≢◌, ◌≤◌, ◌<◌, ◌^◌, ◌↔◌, ℕ, List, length, Some, None};
+ghost use Rattle.std.specs.Prelude.{◌≡◌, ◌≤◌, ◌<◌, ◌^◌, ◌↔◌, ℕ, List, length, Some, None};
 ghost use Rattle.iscsi_text.specs.declared.fault.TextFault.{TextFault};
 ghost use Rattle.iscsi_text.specs.Numeral.{SpellsNumber, canonical_number};
 ghost use Rattle.iscsi_text.specs.Text.{Pairs, TextMeans, IsMeaning};

@@ -1,6 +1,6 @@
 //! Numerals, read and written in their canonical form (RFC 7143, section 6.1).
 
-ghost use Rattle.std.specs.Prelude.{◌≡◌, ◌≢◌, ℕ, ◌^◌, ◌<◌, ◌≤◌, ◌++◌, ◌∷◌, length, MatchOption, OnOk, OnErr, SomeIff, List, drop, false};
+ghost use Rattle.std.specs.Prelude.{◌≡◌, ℕ, ◌^◌, ◌<◌, ◌≤◌, ◌++◌, ◌∷◌, length, MatchOption, OnOk, OnErr, SomeIff, List, drop, false};
 ghost use Rattle.std.specs.Fmt.{digits, digit_glyph};
 ghost use Rattle.std.specs.Str.Parse.{IsNumeral, digits_value};
 ghost use Rattle.iscsi_text.specs.Numeral.{SpellsNumber, hexadecimal, canonical_number};

@@ -15,7 +15,7 @@ use Rattle.iscsi_tool.specs.Answering.{AnswersAllPdus, AnswersFirstPdus, Answers
 use Rattle.iscsi_tool.specs.inner.Answering.{filter_fault}
 use Rattle.iscsi_tool.specs.inner.Spelling.{LineEndWritten}
 use Rattle.iscsi_filters.specs.Filters.{CutAtEnd}
-use Rattle.iscsi_filters.specs.HexText.{BytesOf, HexTextFails}
+use Rattle.iscsi_filters.specs.HexText.{HexTextFails}
 use Rattle.std.specs.Io.KnownBytes.{IsAtEnd}
 use Rattle.iscsi_tool.proofs.SpellingLemmas.{lent_took}
 
@@ -71,23 +71,6 @@ spells blocks bytes taken rest answered ending outcome result is_cut held whole 
     let done : SpellsAnswers blocks outcome bytes (encode_lower answered ++ line_end outcome) =
     record { taken = taken; rest = rest; whole = whole; answered = answered; answers = answers; ends = ends; cut = cut; spelled = refl } in
     inr (rw (f.0, f.1, f.2) done)
-
-unless : {P : Type 0} (outcome : Result (Unit {0}) ToolFault) → (outcome ≡ Err tool.Write → ⊥) → (outcome ≡ Err tool.Write) ⊎ P → P
-unless outcome other (inl e) = absurd (other e)
-unless outcome other (inr p) = p
-
--- the text was read, and its bytes are answered
-pub text_answered : (blocks : ℕ) (outcome : Result (Unit {0}) ToolFault) (read bytes written : List ℕ) → BytesOf read bytes
-    → (outcome ≡ Err tool.Write) ⊎ SpellsAnswers blocks outcome bytes written → AnswersHex blocks outcome read written
-text_answered blocks (Ok done) read bytes written m s = (bytes, m, unless (Ok done) (λ e. cc e) s)
-text_answered blocks (Err tool.NoMemory) read bytes written m s = inr (bytes, m, unless (Err tool.NoMemory) (λ e. cc e) s)
-text_answered blocks (Err (tool.Stream fault)) read bytes written m s = (bytes, m, unless (Err (tool.Stream fault)) (λ e. cc e) s)
-text_answered blocks (Err (tool.Text fault)) read bytes written m s = (bytes, m, unless (Err (tool.Text fault)) (λ e. cc e) s)
-text_answered blocks (Err tool.TextTooLong) read bytes written m s = (bytes, m, unless (Err tool.TextTooLong) (λ e. cc e) s)
-text_answered blocks (Err tool.Read) read bytes written m s = inr (bytes, m, unless (Err tool.Read) (λ e. cc e) s)
-text_answered blocks (Err tool.Write) read bytes written m s = tt
-text_answered blocks (Err tool.NotHex) read bytes written m s = absurd (unless (Err tool.NotHex) (λ e. cc e) s).answers
-text_answered blocks (Err (tool.Protocol rule)) read bytes written m s = (bytes, m, unless (Err (tool.Protocol rule)) (λ e. cc e) s)
 
 -- the text could not be read, or is not hex
 pub text_refused : (blocks : ℕ) (fault : ToolFault) (read : List ℕ) → HexTextFails fault read → AnswersHex blocks (Err fault) read []

@@ -1,6 +1,6 @@
 //! Two captures compared: one direction of a connection of each.
 
-ghost use Rattle.std.specs.Prelude.{◌≡◌, ℕ, List, Result};
+ghost use Rattle.std.specs.Prelude.{ℕ, List, Result};
 ghost use Rattle.std.specs.Io.KnownBytes.{Appends};
 ghost use Rattle.iscsi_tool.specs.CaptureComparisons.{ComparesCaptures};
 ghost use Rattle.iscsi_comparison.specs.declared.comparing.ComparisonFault.{ComparisonFault};

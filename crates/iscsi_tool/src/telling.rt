@@ -1,6 +1,6 @@
 //! The lines of a stream with notes, or as JSON.
 
-ghost use Rattle.std.specs.Prelude.{◌≡◌, ℕ, List, OnOk, IsOk};
+ghost use Rattle.std.specs.Prelude.{ℕ, List};
 ghost use Rattle.std.specs.Io.KnownBytes.{Appends, Consumes};
 ghost use Rattle.iscsi_tool.specs.Telling.{TellingOutput};
 

@@ -17,7 +17,6 @@ use iscsi_test_support::{Broken, Full};
 use iscsi_text::TextFault;
 use iscsi_tool::{Filter, Work, run_filter, status};
 use std::alloc::Global;
-use std::io;
 use std::io::{Read, Write};
 use std::process::Abort;
 

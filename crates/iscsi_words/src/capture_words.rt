@@ -1,6 +1,6 @@
 //! The jobs over capture files, and their words. One file, since the jobs share most words.
 
-ghost use Rattle.std.specs.Prelude.{◌<◌, ◌≤◌, IfOk, IfSome};
+ghost use Rattle.std.specs.Prelude.{◌<◌, IfOk, IfSome};
 ghost use Rattle.iscsi_words.specs.Jobs.{CanWork, IsJob};
 
 use crate::capture_comparing::{CaptureComparison, STDIN, named};

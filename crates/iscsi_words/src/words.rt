@@ -1,4 +1,4 @@
-//! What the words of a command line ask for.
+//! What the words of a command line ask for. One file, since it has a reader for each command.
 
 ghost use Rattle.std.specs.Prelude.{◌≡◌, ◌<◌, ◌≤◌, [], true, Ok, IfOk, IfSome};
 ghost use Rattle.iscsi_words.specs.Jobs.{HasDisk, IsJob};
@@ -21,8 +21,8 @@ use iscsi_comparison::{Comparison, Sameness};
 use iscsi_explain::Form;
 use iscsi_options::{LONGEST_PIECE, number_of};
 use iscsi_serve_words::{
-    LineFault, ServeJob, Service, Storage, bad_number, bad_size, bad_value, bare_command,
-    needed_blocks, serve_program, service_of, usage,
+    LineFault, ServeJob, bad_number, bad_size, bad_value, bare_command, needed_blocks,
+    serve_program, service_of, usage,
 };
 use std::alloc::{AllocError, Global};
 use std::convert::AsStr;

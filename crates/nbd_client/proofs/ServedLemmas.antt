@@ -1,19 +1,11 @@
 -- What a server in this process did is what it was asked for.
-use Rattle.std.proofs.Common.{◌≡◌, ◌≤◌, ◌<◌, ◌^◌, ℕ, List, ◌++◌, Ok, Result, refl, sym, ap, subst, ◌∙◌, arith, inl}
+use Rattle.std.proofs.Common.{◌≡◌, ◌≤◌, ◌<◌, ◌^◌, ℕ, List, ◌++◌, Ok, Result, sym, ap, subst, ◌∙◌, arith}
 use Rattle.scsi_disk.specs.Disk.{Disk, most_blocks}
-use Rattle.nbd_wire.specs.declared.request.Command.{Command}
-use Rattle.nbd_wire.specs.declared.request.Command.TheVariants.{Read, Write, Flush}
 use Rattle.nbd_wire.specs.declared.request.Request.{Request}
 use Rattle.nbd_wire.specs.declared.request.RequestFault.{RequestFault}
 use Rattle.nbd_wire.specs.Transmission.{reply_bytes, request_at}
 use Rattle.nbd_wire.proofs.TransmissionLemmas.{request_again}
 use Rattle.nbd_client.specs.Serving.{ServerReply, AreRequestBytes, IsCommandDone, IsPlaced, MayDo}
-
--- Where nothing is done, no block changes.
-pub may_nothing : (c : Command) (lba : ℕ) (bytes : List ℕ) (disk : Disk) (kept : ℕ → List ℕ → Type 0) → MayDo c lba bytes disk kept disk kept
-may_nothing Read lba bytes disk kept = record { disk = refl; lasting = λ n b l. l }
-may_nothing Write lba bytes disk kept = record { each = record { count = refl; tells = refl; each = λ n. inl refl }; lasting = λ n b l. inl l }
-may_nothing Flush lba bytes disk kept = record { disk = refl; lasting = λ n b l. l }
 
 abbrev ok_of : Request → Result Request RequestFault
 ok_of r = Ok r

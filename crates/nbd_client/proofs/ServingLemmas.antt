@@ -3,7 +3,7 @@ use Rattle.std.proofs.Common.{◌≡◌, ◌≤◌, ◌<◌, ◌+◌, ◌*◌, �
 use Rattle.std.proofs.lemmas.List.{take-append-drop, take_all, take_at, drop_at}
 use Rattle.scsi_disk.proofs.OverlayLemmas.{written_none as written_empty}
 use Rattle.scsi_disk.proofs.PlanLemmas.{length-joined}
-use Rattle.scsi_disk.specs.Disk.{Disk, IsDisk, blocks_from, joined_blocks, disk_written, IsOldOrNew}
+use Rattle.scsi_disk.specs.Disk.{Disk, IsDisk, blocks_from, joined_blocks, disk_written}
 use Rattle.scsi_disk.specs.Lasting.{Within}
 use Rattle.nbd_wire.specs.declared.request.Command.{Command}
 use Rattle.nbd_wire.specs.declared.request.Command.TheVariants.{Read, Write, Flush}
@@ -13,16 +13,6 @@ use Rattle.nbd_wire.specs.declared.reply.ReplyMagic.{ReplyMagic}
 use Rattle.nbd_wire.specs.Transmission.{reply_bytes, simple_reply_at}
 use Rattle.nbd_wire.proofs.TransmissionLemmas.{reply_again}
 use Rattle.nbd_client.specs.Serving.{MayDo, IsCommandDone, ServerReply, UntoldRises}
-
--- What a request may have done still holds where the blocks stay, and a crash leaves no more.
-pub may_later : (c : Command) (lba : ℕ) (bytes : List ℕ) (old : Disk) (kept : ℕ → List ℕ → Type 0)
-    (mid : Disk) (left : ℕ → List ℕ → Type 0) (new : Disk) (later : ℕ → List ℕ → Type 0)
-    → MayDo c lba bytes old kept mid left → new ≡ mid → Within left later
-    → MayDo c lba bytes old kept new later
-may_later Read lba bytes old kept mid left new later m same w = record { disk = same ∙ m.disk; lasting = λ n b l. m.lasting n b (w n b l) }
-may_later Write lba bytes old kept mid left new later m same w =
-    record { each = subst (λ (d : Disk). IsOldOrNew old (disk_written lba bytes old) d) (sym same) m.each; lasting = λ n b l. m.lasting n b (w n b l) }
-may_later Flush lba bytes old kept mid left new later m same w = record { disk = same ∙ m.disk; lasting = λ n b l. m.lasting n b (w n b l) }
 
 -- No request changes whether a server tells.
 pub may_tells : (c : Command) (lba : ℕ) (bytes : List ℕ) (old : Disk) (kept : ℕ → List ℕ → Type 0)

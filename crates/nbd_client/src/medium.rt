@@ -1,10 +1,8 @@
 //! The blocks of an NBD server as a medium.
 
-ghost use Rattle.std.specs.Prelude.{◌≡◌, ℕ, true, ◌+◌, ◌*◌, ◌/◌, ◌%◌, ◌≤◌, length, OnOk, IfErr, IfOk, IfSome, IsSome, Some, Err};
-ghost use Rattle.scsi_disk.specs.Disk.{Disk};
-ghost use Rattle.scsi_disk.specs.Lasting.{Within};
+ghost use Rattle.std.specs.Prelude.{◌≡◌, true, ◌+◌, ◌*◌, ◌%◌, ◌≤◌, length, OnOk, IfSome, IsSome, Some, Err};
 ghost use Rattle.nbd_wire.specs.declared.request.Command.TheVariants.{Write as IsWrite};
-ghost use Rattle.nbd_client.specs.Serving.{AreRequestBytes, IsCommandDone, MayDo, UntoldRises};
+ghost use Rattle.nbd_client.specs.Serving.{IsCommandDone, MayDo, UntoldRises};
 
 use crate::exchange::exchange;
 use crate::fault::{MediumFault, Report};

@@ -1,6 +1,6 @@
 //! A server in this process, as a line.
 
-ghost use Rattle.std.specs.Prelude.{◌≡◌, ℕ, List, true, false, Ok, ◌+◌, ◌*◌, ◌%◌, ◌≤◌, ◌++◌, length, OnOk, IfOk, IfSome, IsTrue};
+ghost use Rattle.std.specs.Prelude.{◌≡◌, true, false, Ok, ◌+◌, ◌*◌, ◌%◌, ◌≤◌, ◌++◌, length, OnOk, IfOk, IfSome, IsTrue};
 ghost use Rattle.scsi_disk.specs.Disk.{IsDisk, most_blocks};
 ghost use Rattle.nbd_wire.specs.declared.request.Command.TheVariants.{Write as IsWrite};
 ghost use Rattle.nbd_wire.specs.Transmission.{reply_bytes, request_at};

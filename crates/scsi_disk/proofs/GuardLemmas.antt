@@ -1,6 +1,5 @@
 -- Plans on a store that refuses writes.
 use Rattle.std.proofs.Common.{◌≡◌, ◌∙◌, ℕ, Bool, true, false, ap, refl}
-use Rattle.scsi_cdb.specs.declared.sense.Sense.{Sense}
 use Rattle.scsi_cdb.specs.declared.sense.Sense.TheVariants.{WriteProtected}
 use Rattle.scsi_disk.specs.declared.order.Plan.{Plan}
 use Rattle.scsi_disk.specs.declared.order.Plan.TheVariants.{Refuse, Take, Give}
@@ -13,19 +12,6 @@ gives false n = refl
 -- a plan to give is the same
 pub plan_stays : (protected : Bool) (plan : Plan) (n : ℕ) → plan ≡ Give n → guarded protected plan ≡ Give n
 plan_stays protected plan n e = ap (guarded protected) e ∙ gives protected n
-
-refuses : (protected : Bool) (sense : Sense) → guarded protected (Refuse sense) ≡ Refuse sense
-refuses true sense = refl
-refuses false sense = refl
-
--- so is a refusal
-pub plan_refuses : (protected : Bool) (plan : Plan) (sense : Sense) → plan ≡ Refuse sense → guarded protected plan ≡ Refuse sense
-plan_refuses protected plan sense e = ap (guarded protected) e ∙ refuses protected sense
-
--- a store that takes writes has each plan
-pub plan_goes : (protected : Bool) (plan : Plan) → protected ≡ false → guarded protected plan ≡ plan
-plan_goes true plan e = absurd (let h : true ≡ false = e in cc)
-plan_goes false plan e = refl
 
 -- a plan that takes nothing takes nothing
 pub takes_none : (protected : Bool) (plan : Plan) → ((n : ℕ) → plan ≡ Take n → ⊥) → (n : ℕ) → guarded protected plan ≡ Take n → ⊥

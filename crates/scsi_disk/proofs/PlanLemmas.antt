@@ -9,7 +9,6 @@ use Rattle.scsi_cdb.specs.declared.sense.Sense.{Sense}
 use Rattle.scsi_disk.specs.declared.order.Order.{Order}
 use Rattle.scsi_disk.specs.declared.order.Plan.TheVariants.{Refuse, Take, Give}
 use Rattle.scsi_disk.specs.Disk.{Disk, IsDisk, joined_blocks, blocks_from}
-use Rattle.scsi_disk.specs.declared.order.Plan.{Plan}
 use Rattle.scsi_disk.specs.declared.reading.BlockRange.{BlockRange}
 use Rattle.scsi_disk.specs.Effect.{good_outcome, outcome_by, wanted_data}
 use Rattle.scsi_disk.specs.Found.{NamesFewBlocks}

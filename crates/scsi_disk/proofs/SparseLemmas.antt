@@ -148,9 +148,6 @@ all_zeros (x ∷ xs) zeros =
 pub all_blank : (blocks : ℕ) (bytes : List ℕ) → blocks ≡ 64 → length bytes ≡ 512 * blocks → AreZeros bytes → IsBlank bytes
 all_blank blocks bytes e long zeros = blank blocks bytes e (all_zeros bytes zeros ∙ ap (λ n. replicate n 0) long)
 
-pub zero_range : (a b : ℕ) (bytes : List ℕ) → AreZeros bytes → AreZeros (take b (drop a bytes))
-zero_range a b bytes zeros = All-take (λ byte. byte ≡ 0) b (drop a bytes) (All-drop (λ byte. byte ≡ 0) a bytes zeros)
-
 -- what the extents are after an insert
 pub get_inserted : (es fs : List (ℕ × List ℕ)) (k : ℕ) (v : List ℕ) → ((q : ℕ) → lookup (is_at (nat_cmp q)) fs
     ≡ cond (is_at (nat_cmp k) q) (Some v) (lookup (is_at (nat_cmp q)) es))

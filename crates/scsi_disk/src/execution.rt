@@ -7,7 +7,7 @@ ghost use Rattle.scsi_disk.specs.Lasting.{CrashAddsDisk, LastsOnceSynced, Within
 ghost use Rattle.scsi_disk.specs.Plan.{named_transfer, is_read, taken_length, expected_length, plan_of};
 ghost use Rattle.scsi_disk.specs.Found.{IsFound, NamesFewBlocks, plan_by_work};
 ghost use Rattle.scsi_disk.specs.declared.found.Work.TheVariants.{Read, Write};
-ghost use Rattle.scsi_disk.specs.Effect.{Effect, IsSupplied, IsSuppliedBy, OrderExecuted, write_block_data, effect, residual_of, good_outcome, data_given, check_condition, HasOtherData, disk_by, outcome_by};
+ghost use Rattle.scsi_disk.specs.Effect.{IsSupplied, IsSuppliedBy, OrderExecuted, write_block_data, effect, residual_of, good_outcome, data_given, check_condition, HasOtherData, disk_by, outcome_by};
 
 use crate::found::{Found, Work};
 use crate::order::{Order, Outcome, Plan};

@@ -1,6 +1,6 @@
 //! A store that keeps each block in memory.
 
-ghost use Rattle.std.specs.Prelude.{◌≡◌, refl, ◌+◌, ◌*◌, ◌/◌, ◌%◌, ◌^◌, ◌<◌, ◌≤◌, ◌++◌, length, IsOk, IfOk, OnOk, OnErr};
+ghost use Rattle.std.specs.Prelude.{◌≡◌, refl, ◌+◌, ◌*◌, ◌/◌, ◌%◌, ◌<◌, ◌≤◌, ◌++◌, length, IsOk, IfOk, OnOk, OnErr};
 ghost use Rattle.scsi_disk.specs.Disk.{joined_blocks, overlaid, cut, zeros, disk_of, blocks_from, disk_written};
 
 use crate::store::{BlockStore, StoreFault};

@@ -1,6 +1,6 @@
 //! What an order leads to, before a block is touched (SPC-4 and SBC-3).
 
-ghost use Rattle.std.specs.Prelude.{◌≡◌, ◌+◌, ◌*◌, ◌-◌, ◌<◌, ◌≤◌, ◌||◌, ◌&&◌, ◌==◌, not, nat_lt, is_none, is_some, option_map, bit_and, None, length, take};
+ghost use Rattle.std.specs.Prelude.{◌≡◌, ◌*◌, ◌-◌, ◌<◌, ◌≤◌, ◌||◌, ◌&&◌, is_none, is_some, option_map, None};
 ghost use Rattle.scsi_disk.specs.Plan.{named_transfer, synchronized, taken_length, is_write, is_read, is_unknown, is_standard_inquiry, parameter_data, first_refusal, expected_length, plan_of};
 ghost use Rattle.scsi_disk.specs.Found.{IsFound};
 ghost use Rattle.scsi_disk.specs.inner.Found.{named_blocks};

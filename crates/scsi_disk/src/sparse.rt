@@ -1,9 +1,9 @@
 //! A store that keeps only what was written. One file, since reads, writes and the room for them go
 //! over the same extents.
 
-ghost use Rattle.std.specs.Prelude.{◌≡◌, refl, ◌+◌, ◌*◌, ◌/◌, ◌%◌, ◌^◌, ◌<◌, ◌≤◌, ◌⊎◌, ◌++◌, length, take, ℕ, true, IsTrue, ◌↔◌, IsOk, IfOk, IsSome, OnOk, OnErr, IsErrOf};
+ghost use Rattle.std.specs.Prelude.{◌≡◌, refl, ◌+◌, ◌*◌, ◌/◌, ◌%◌, ◌<◌, ◌≤◌, ◌⊎◌, ◌++◌, length, take, ℕ, true, IsTrue, ◌↔◌, IsOk, IfOk, IsSome, OnOk, OnErr, IsErrOf};
 ghost use Rattle.std.specs.FinMap.{get};
-ghost use Rattle.scsi_disk.specs.Disk.{Disk, IsOldOrNew, StoreTellsFailures, most_blocks, zeros, blocks_from, disk_written, cut, overlaid};
+ghost use Rattle.scsi_disk.specs.Disk.{IsOldOrNew, StoreTellsFailures, most_blocks, zeros, blocks_from, disk_written, cut, overlaid};
 ghost use Rattle.scsi_disk.specs.Lasting.{CrashAddsDisk, Within};
 ghost use Rattle.scsi_disk.specs.Sparse.{extents_disk, AreZeros, HasBlocks};
 ghost use Rattle.scsi_disk.specs.inner.Sparse.{IsBlank};

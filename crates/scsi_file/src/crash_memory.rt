@@ -1,10 +1,9 @@
 //! A medium in memory that can crash.
 
-ghost use Rattle.std.specs.Prelude.{◌≡◌, ℕ, List, [], true, ◌⊎◌, refl, length, OnOk, ◌*◌, ◌%◌, ◌+◌, ◌≤◌};
+ghost use Rattle.std.specs.Prelude.{◌≡◌, ℕ, [], true, refl, length, ◌*◌, ◌+◌, ◌≤◌};
 ghost use Rattle.std.proofs.Common.{inl};
 ghost use Rattle.scsi_disk.specs.Disk.{cut, disk_of, AreBlocks};
-ghost use Rattle.scsi_disk.specs.Lasting.{SettledDisk};
-ghost use Rattle.scsi_file.specs.Past.{HadBeen, MayBe};
+ghost use Rattle.scsi_file.specs.Past.{MayBe};
 
 use crate::medium::Medium;
 use scsi_disk::{StoreFault, read_blocks, write_blocks};

@@ -1,7 +1,6 @@
 //! A store on a medium, whose writes last once it is synced.
 
-ghost use Rattle.std.specs.Prelude.{◌≡◌, ℕ, true, false, List, ◌+◌, ◌*◌, ◌/◌, ◌%◌, ◌<◌, ◌≤◌, length, OnOk, IfOk, IsErrOf, IsTrue};
-ghost use Rattle.scsi_disk.specs.Disk.{Disk, blocks_from, disk_written};
+ghost use Rattle.std.specs.Prelude.{◌≡◌, true, false, ◌+◌, ◌*◌, ◌<◌, ◌≤◌, IfOk, IsTrue};
 ghost use Rattle.scsi_disk.specs.Lasting.{LastsOnceSynced, SettledDisk};
 
 use crate::medium::Medium;

@@ -5,7 +5,7 @@
 //! is that the store asks the right things in the right order, and nothing more after a sync that
 //! failed. What is left to read is that each call below asks the system for what its name says.
 
-ghost use Rattle.std.specs.Prelude.{◌≡◌, true, ◌<◌, ◌≤◌, ◌*◌, ◌^◌, IfErr, IfOk, OnErr, OnOk};
+ghost use Rattle.std.specs.Prelude.{◌≡◌, true, ◌<◌, ◌≤◌, ◌*◌, IfErr, IfOk, OnErr, OnOk};
 ghost use Rattle.scsi_disk.specs.Disk.{most_blocks};
 
 use crate::medium::Medium;

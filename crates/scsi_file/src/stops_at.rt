@@ -1,6 +1,6 @@
 //! A medium that stops for good, for trying out what that leaves.
 
-ghost use Rattle.std.specs.Prelude.{◌≡◌, ℕ, List, ◌+◌, ◌*◌, ◌/◌, ◌%◌, ◌≤◌, length, OnOk, IsErrOf, IsTrue};
+ghost use Rattle.std.specs.Prelude.{◌≡◌};
 
 use crate::medium::Medium;
 use scsi_disk::StoreFault;

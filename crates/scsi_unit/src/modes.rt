@@ -1,7 +1,7 @@
 //! The data of MODE SENSE (SPC-4, sections 6.11 and 6.12).
 
 ghost use Rattle.std.specs.Prelude.{◌≡◌, ◌≤◌, length, option_map, IfSome};
-ghost use Rattle.scsi_unit.specs.Modes.{asked_page, behind_long_header, behind_short_header, caching_page, control_page, device_specific, is_enabled, mode_pages};
+ghost use Rattle.scsi_unit.specs.Modes.{asked_page, behind_long_header, behind_short_header, caching_page, device_specific, mode_pages};
 
 use crate::data::{Data, data, joined};
 use crate::unit::LogicalUnit;

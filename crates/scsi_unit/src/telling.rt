@@ -1,7 +1,7 @@
 //! What a unit answers of itself.
 
 ghost use Rattle.std.specs.Prelude.{◌≡◌, ◌≤◌, IfOk, IfSome, length, option_map};
-ghost use Rattle.scsi_disk.specs.Plan.{first_reason, is_standard_inquiry};
+ghost use Rattle.scsi_disk.specs.Plan.{first_reason};
 ghost use Rattle.scsi_unit.specs.Telling.{unit_block_data, capacity_told, data_told, no_sense, told_refusals, unit_outcome};
 
 use crate::data::{Data, cut, data};

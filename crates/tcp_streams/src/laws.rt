@@ -1,8 +1,7 @@
 //! Laws of reassembly: functions that do nothing, whose contracts are the theorems. They speak of
 //! the definitions in `specs`, which the contracts of the working functions cite too.
 
-ghost use Rattle.std.specs.Prelude.{◌≡◌, ◌<◌, ℕ, List, [], length, IfOk};
-ghost use Rattle.std.specs.List.{All};
+ghost use Rattle.std.specs.Prelude.{◌≡◌, ℕ, List, []};
 ghost use Rattle.tcp_streams.specs.Pieces.{Piece, IsCutFrom, AreCutFrom, is_covered, Clash, DeterminesBytes};
 ghost use Rattle.tcp_streams.specs.Placing.{IsCoveredFront};
 ghost use Rattle.tcp_streams.specs.Reassembly.{Taking, opening_direction, HasReassembled};

@@ -1,6 +1,6 @@
 //! The stream of a whole list of segments.
 
-ghost use Rattle.std.specs.Prelude.{◌≡◌, ◌<◌, ◌^◌, ℕ, List, [], length, map, IfErr, IfOk};
+ghost use Rattle.std.specs.Prelude.{◌≡◌, ◌<◌, ◌^◌, List, [], length, map, IfErr, IfOk};
 ghost use Rattle.std.specs.List.{All};
 ghost use Rattle.tcp_streams.specs.Pieces.{Piece, DeterminesBytes};
 ghost use Rattle.tcp_streams.specs.Placing.{ArePlaced, Numbered};

@@ -1,6 +1,6 @@
 //! Whether the segments of two PDUs mean the same.
 
-ghost use Rattle.std.specs.Prelude.{◌≡◌, IfOk, true, false};
+ghost use Rattle.std.specs.Prelude.{◌≡◌, IfOk, false};
 ghost use Rattle.iscsi_text.specs.Canonical.{canonical_text};
 ghost use Rattle.iscsi_stream.specs.Segment.{segment_of};
 ghost use Rattle.iscsi_compare.specs.inner.SameJobLearning.{AnswersTruly};

@@ -15,7 +15,6 @@ use crate::system::watch;
 use iscsi_serving::{AccessFault, SessionEnd, configuration};
 use iscsi_target::Config;
 use mio::net::TcpStream;
-use std::alloc::Global;
 use std::io;
 use std::net::SocketAddr;
 use std::time::Instant;

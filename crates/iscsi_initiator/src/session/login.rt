@@ -1,7 +1,7 @@
 //! The login (RFC 7143, sections 6.3, 11.12 and 11.13). One file, since each step of a login hands
 //! on to the next.
 
-ghost use Rattle.std.specs.Prelude.{◌≡◌, ◌≢◌, ℕ, List, ◌≤◌, ◌<◌, ◌^◌, ◌++◌, [], length, take, drop, None, Some, OnOk, OnErr, IfOk};
+ghost use Rattle.std.specs.Prelude.{◌≡◌, ◌≢◌, ℕ, List, ◌≤◌, ◌<◌, ◌++◌, [], length, take, drop, None, Some, OnOk, OnErr, IfOk};
 ghost use Rattle.std.specs.Option.{option_map};
 ghost use Rattle.iscsi_pdu.specs.Meaning.{HeadFits, whole};
 ghost use Rattle.iscsi_pdu.specs.declared.head.Head.TheVariants as heads;

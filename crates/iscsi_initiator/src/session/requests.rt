@@ -2,7 +2,7 @@
 //! request, and what all of them need.
 
 ghost use Rattle.std.specs.Prelude.{◌≡◌, ◌<◌, ◌≤◌, ◌+◌, ◌++◌, false, length, None, OnOk, OnErr, IfErr};
-ghost use Rattle.scsi_cdb.specs.Blocks.{CdbFits as FitsTable, record_of};
+ghost use Rattle.scsi_cdb.specs.Blocks.{CdbFits as FitsTable};
 ghost use Rattle.iscsi_pdu.specs.Meaning.{HeadFits};
 ghost use Rattle.iscsi_pdu.specs.declared.head.Head.TheVariants as heads;
 ghost use Rattle.iscsi_stream.specs.Canonical.{canon};

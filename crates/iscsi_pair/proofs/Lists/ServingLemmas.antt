@@ -288,11 +288,6 @@ first_runs : (c : Opening) → RunsServed (new_pair c) [] (new_pair c) []
 unfolding RunsServed
 first_runs c = (refl, refl)
 
--- nor does a login
-pub not_failed : (c : Opening) → IsNormal c
-    → ((c' : Opening) (events : List PairEvent) (outcomes : List Done) → IsNormal c' → RunsServed (new_pair c') events (new_pair c) outcomes → ⊥) → ⊥
-not_failed c o refuted = refuted c [] [] o (first_runs c)
-
 -- ---- lists that can be served
 
 -- the requests before the last one that was handed in are none of logout

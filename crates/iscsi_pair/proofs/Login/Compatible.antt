@@ -1,6 +1,5 @@
 -- Two ends that suit each other: the target refuses nothing, and the initiator finds no fault in an answer.
 use Rattle.std.proofs.Common.{◌≡◌, ◌≢◌, ◌≤◌, ◌⊎◌, inl, inr, ℕ, Bool, true, false, List, [], ◌∷◌, length, Option, Some, None, refl, sym, ap, ◌∙◌, subst, arith}
-use Rattle.std.proofs.Common.{replicate}
 use Rattle.std.specs.Prelude.{not, ◌&&◌, nat_lt, is_none, if◌then◌else◌, unwrap_or, codes}
 use Rattle.std.specs.List.{AllByRecursion}
 use Rattle.std.proofs.lemmas.Bool.{le-leb}
@@ -26,7 +25,6 @@ use Rattle.iscsi_text.proofs.KeyLemmas.{bytes_eq_same}
 use Rattle.iscsi_text.proofs.OrderLemmas.{all_in_order}
 use Rattle.iscsi_pair.proofs.Wire.TextSizes.{IsShort, text_short, length-in_order, security_short, operational_short, single_short}
 use Rattle.iscsi_target_session.specs.Configured.{is_allowed}
-use Rattle.iscsi_target_session.specs.declared.status.Status.{Status}
 use Rattle.iscsi_target_session.specs.Session.{Session as TargetSession}
 use Rattle.scsi_disk.specs.Plan.{first_reason}
 use Rattle.iscsi_text.specs.Key.{known_keys}

@@ -1,5 +1,5 @@
 -- A Data-Out and a sequence of them: written, read and taken (RFC 7143, section 11.7).
-use Rattle.std.specs.Prelude.{IfSome, ◌-◌, min, if◌then◌else◌, is_some}
+use Rattle.std.specs.Prelude.{IfSome, min, if◌then◌else◌, is_some}
 use Rattle.std.specs.Bool.{then_some}
 use Rattle.std.specs.List.{AllByRecursion}
 use Rattle.std.proofs.Common.{◌≡◌, ◌⊎◌, inl, inr, ◌<◌, ◌≤◌, ℕ, zero, suc, ◌+◌, ◌^◌, Bool, true, false, List, [], ◌∷◌, ◌++◌, length, take, drop, Option}

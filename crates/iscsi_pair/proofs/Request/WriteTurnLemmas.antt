@@ -1,5 +1,5 @@
 -- A write, from turn to turn: an R2T goes out, and its sequence comes.
-use Rattle.std.specs.Prelude.{◌-◌, ◌==◌}
+use Rattle.std.specs.Prelude.{◌==◌}
 use Rattle.std.specs.Bool.{then_some}
 use Rattle.std.proofs.Common.{◌≡◌, inl, ◌<◌, ◌≤◌, ℕ, zero, suc, ◌+◌, ◌^◌, Bool, true, false, List, [], ◌∷◌, ◌++◌, length, take, drop, Some}
 use Rattle.std.proofs.Common.{None, refl, sym, ap, ◌∙◌, subst, arith}
@@ -50,7 +50,6 @@ use Rattle.iscsi_pair.proofs.Request.AnswersInOrder.{short_message}
 use Rattle.iscsi_pair.proofs.Request.ReadLemmas.{counted_on, command_written, in_step_again, ready}
 use Rattle.iscsi_pair.proofs.Request.DataInLemmas.{Awaits, finished, next_small, outcome_received}
 use Rattle.iscsi_pair.proofs.Request.DataInLemmas.{told_window, waiting}
-use Rattle.iscsi_pair.proofs.Request.ReadLemmas.{window_now}
 use Rattle.iscsi_pair.proofs.Request.Invariant.{between}
 use Rattle.iscsi_pair.proofs.Request.DataOutLemmas.{writer, solicited, SequenceTaken, sequence_written, lun_fits, batch_taken}
 

@@ -7,7 +7,6 @@ use Rattle.iscsi_stream.specs.declared.fault.StreamFault.TheVariants as faults
 use Rattle.iscsi_stream.specs.declared.gathering.Stage.{Stage}
 use Rattle.iscsi_stream.specs.declared.gathering.Stage.TheVariants.{Header, Body}
 use Rattle.iscsi_stream.specs.Framing.{settled, is_whole_pdu, IsBegun, ReachesHeader, CompletesHeader}
-use Rattle.iscsi_stream.specs.Gathering.{gathered}
 
 -- what there is of a PDU's body: bytes of the segment, and how many of its padding
 pub record Filling : Type 0 where

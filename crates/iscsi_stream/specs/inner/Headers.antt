@@ -1,5 +1,5 @@
 -- More of `Headers`, of which no public contract speaks.
-use Rattle.std.specs.Prelude.{ℕ, ◌+◌, List, ◌++◌, replicate}
+use Rattle.std.specs.Prelude.{ℕ, List, ◌++◌, replicate}
 use Rattle.iscsi_stream.specs.Framing.{Framing}
 
 -- The framer with what came of the segment of that PDU, and of its padding, elsewhere.

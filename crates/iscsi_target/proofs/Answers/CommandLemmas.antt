@@ -1,16 +1,16 @@
 -- The steps of commands and Data-Out, case by case.
 use Rattle.std.proofs.Common.{◌≡◌, ◌∙◌, ℕ, List, [], ◌∷◌, ◌++◌, Bool, true, false, length, Option, None, refl, sym, ap, subst}
-use Rattle.std.specs.Prelude.{◌==◌, ◌||◌, if◌then◌else◌}
+use Rattle.std.specs.Prelude.{◌==◌, ◌||◌}
 use Rattle.scsi_disk.specs.Disk.{Disk}
 use Rattle.iscsi_pdu.specs.declared.head.scsi_command.ScsiCommand.{ScsiCommand}
 use Rattle.iscsi_stream.specs.Stream.{Message}
 use Rattle.iscsi_target.specs.Write.{Write}
 use Rattle.iscsi_target.specs.State.{Machine, TargetStep, unchanged, waiting_tasks, unit_of}
 use Rattle.iscsi_target.specs.declared.tasks.Task.TheVariants.{Data}
-use Rattle.iscsi_target.specs.Transfer.{bytes_received, is_whole_write, is_nothing_due}
+use Rattle.iscsi_target.specs.Transfer.{is_whole_write, is_nothing_due}
 use Rattle.iscsi_target.specs.Execution.{Device, as_told, execute, send_outcome}
 use Rattle.iscsi_target.specs.Command.{order_of, order_said, proceed, send_r2t, led_by}
-use Rattle.scsi_disk.specs.Plan.{plan_of, is_read, is_write}
+use Rattle.scsi_disk.specs.Plan.{is_read, is_write}
 use Rattle.scsi_disk.specs.declared.order.Order.{Order}
 use Rattle.scsi_unit.specs.LogicalUnit.{LogicalUnit}
 use Rattle.scsi_unit.specs.Telling.{outcome_with_unit}

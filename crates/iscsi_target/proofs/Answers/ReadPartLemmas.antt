@@ -3,7 +3,7 @@ use Rattle.std.proofs.Common.{Bool, ◌≡◌, ◌<◌, ◌≤◌, ℕ, ◌+◌,
 use Rattle.std.proofs.Common.{append_assoc, Result, Ok, Err, OnOk}
 use Rattle.std.specs.Prelude.{◌==◌}
 use Rattle.std.proofs.lemmas.Bool.Decides.{nat_tests}
-use Rattle.std.proofs.lemmas.List.{append-nil, drop_at, drop-drop, length-append, length-drop, length-take-le, take_all, take_at}
+use Rattle.std.proofs.lemmas.List.{append-nil, drop_at, drop-drop, length-append, take_all, take_at}
 use Rattle.std.proofs.Math.Seq.{take-add}
 use Rattle.scsi_cdb.specs.declared.sense.Sense.TheVariants.{ReadError}
 use Rattle.scsi_disk.specs.Disk.{AppendsBytes, Disk, IsDisk, StoreTellsFailures, blocks_from}
@@ -23,7 +23,7 @@ use Rattle.iscsi_login.specs.Held.{max_burst}
 use Rattle.iscsi_target.specs.State.{Machine, waiting_tasks}
 use Rattle.iscsi_target.specs.Feed.{Store}
 use Rattle.iscsi_target.specs.Advances.{store_of}
-use Rattle.iscsi_target.specs.Execution.{command_answers, data_in_head, data_in_parts, data_ins, response_head, sense_segment, sequence_parts}
+use Rattle.iscsi_target.specs.Execution.{data_in_head, data_in_parts, data_ins, response_head, sense_segment, sequence_parts}
 use Rattle.iscsi_target.specs.inner.Reads.{AnswersRead, CanBeCut, GivenSource, HasPart, IsGivenPart, IsPart, ReadReply, SendsAnswers, SendsData, SendsPart, SendsSequence, given_by_source, reply, source_len}
 use Rattle.iscsi_target.specs.declared.machine.data_in.Sent.{Sent}
 use Rattle.iscsi_target.specs.declared.machine.source.Source.{Source}
@@ -74,19 +74,7 @@ part_more (Blocks range) disk before mid after at a b x y low high p q =
           (read_more disk (range.first + at / 512) (a / 512) (b / 512) before mid after x y low high p.2 next),
     )
 
--- the first n bytes of those that are left, where it can be cut there
-pub part_first : (source : Source) (blocks at end most n : ℕ) → CanBeCut source most → at ≤ end → n ≡ min most (end - at) → HasPart source blocks at (end - at)
-    → HasPart source blocks at n
-part_first (Bytes all) blocks at end most n cut low is has = omega (arith, low, is, has)
-part_first (Blocks range) blocks at end most n cut low is has = (
-  has.0,
-  omega (arith, is, cut, has.1),
-  omega (arith, is, has.2),
-  has.3,
-  has.4,
-)
-
--- and the others
+-- what is left behind the first n bytes of them, where they can be cut there
 pub part_left : (source : Source) (blocks at end most n : ℕ) → CanBeCut source most → at ≤ end → n ≡ min most (end - at) → HasPart source blocks at (end - at)
     → HasPart source blocks (at + n) (end - (at + n))
 part_left (Bytes all) blocks at end most n cut low is has = omega (arith, low, is, has)
@@ -107,17 +95,6 @@ on_disk source disk mid before after at n bytes same is = subst (λ (d : Disk). 
 
 no_padding : (n : ℕ) → n % 512 ≡ 0 → replicate {A = ℕ} (padding n) 0 ≡ []
 no_padding n is = ap (λ (m : ℕ). replicate {A = ℕ} m 0) (let none : padding n ≡ 0 = omega (arith, is) in none)
-
--- bytes that are there went out
-pub bytes_sent : {T : Type 0} (r : Result T StoreFault) (head : Head) (disk : Disk) (all : List ℕ) (source : Source) (failures at n : ℕ) (old new part : List ℕ)
-    → ((bytes : List ℕ) → length bytes ≡ n → bytes ≡ take n (drop at all) → IsPart source disk failures failures at n bytes) → at + n ≤ length all
-    → part ≡ take n (drop at all) → OnOk r (new ≡ old ++ whole head part) → OnOk r (SendsPart head (given_by_source source disk failures failures) at n old new)
-bytes_sent (Ok x) head disk all source failures at n old new part is fits same out = record {
-  bytes = part;
-  is_of = is part (ap length same ∙ length-take-le n (drop at all) (omega (arith, length-drop at all, fits))) same;
-  output = out;
-}
-bytes_sent (Err f) head disk all source failures at n old new part is fits same out = tt
 
 -- blocks were read behind the head
 pub blocks_sent : {T : Type 0} (r : Result T StoreFault) (head : Head) (disk : Disk) (range : BlockRange) (before after ub ua at from n : ℕ)
@@ -348,17 +325,6 @@ answers_sent s tag outcome from count head old new now out is_head is_now = reco
   is_of = out.is_of;
   output = told_order s tag (record outcome { bytes = out.bytes }) out.bytes count head old new now refl out.counted out.output is_head is_now;
 }
-
--- the outcome's own bytes were sent
-pub answers_own : (s : Machine) (tag : ℕ) (outcome : Outcome) (source : Source) (disk : Disk) (fb fa : ℕ) (old now : List ℕ)
-    → ((bytes : List ℕ) → IsPart source disk fb fa 0 (source_len source) bytes → (bytes ≡ outcome.bytes) × (fa ≡ fb))
-    → SendsAnswers (reply s tag old now) outcome (given_by_source source disk fb fa)
-    → (now ≡ old ++ canon (command_answers s.session (waiting_tasks s.tasks) tag outcome (data_in_parts s.session.held outcome.bytes))) × (fa ≡ fb)
-answers_own s tag outcome source disk fb fa old now own out =
-    let facts = own out.bytes out.is_of in (
-      out.output ∙ ap (λ (b : List ℕ). old ++ canon (command_answers s.session (waiting_tasks s.tasks) tag outcome (data_in_parts s.session.held b))) facts.0,
-      facts.1,
-    )
 
 -- a READ whose blocks were sent
 pub answers_read : (protected : Bool) (s : Machine) (tag : ℕ) (order : Order) (disk now_disk : Disk) (range : BlockRange) (fb fa : ℕ)

@@ -6,7 +6,7 @@ use Rattle.std.specs.Option.{IfSome}
 use Rattle.iscsi_text.specs.Text.{Pairs}
 use Rattle.iscsi_text.specs.Reading.{text_in}
 use Rattle.iscsi_pdu.specs.declared.head.Head.{Head}
-use Rattle.iscsi_pdu.specs.declared.head.Head.TheVariants.{LoginRequest, NopOut, TaskRequest, TextRequest, LogoutRequest}
+use Rattle.iscsi_pdu.specs.declared.head.Head.TheVariants.{LoginRequest}
 use Rattle.iscsi_pdu.specs.declared.head.login_request.LoginRequest.{LoginRequest as LoginPdu}
 use Rattle.iscsi_pdu.specs.declared.head.nop_out.NopOut.{NopOut as Ping}
 use Rattle.iscsi_pdu.specs.declared.head.task_request.TaskRequest.{TaskRequest as TaskPdu}

@@ -1,6 +1,5 @@
 -- Room in a window of eight commands.
 use Rattle.std.proofs.Common.{◌≡◌, ◌<◌, ◌≤◌, ℕ, suc, ◌+◌, ◌-◌, ◌^◌, ◌%◌, List, [], ◌∷◌, length, Bool, true, false, refl, ap, arith, rules}
-use Rattle.std.specs.Prelude.{not, filter}
 use Rattle.iscsi_pdu.specs.Serial.{distance, is_within}
 use Rattle.iscsi_target.specs.declared.tasks.Task.{Task}
 use Rattle.iscsi_target.specs.State.{Machine, takes_place, waiting_tasks, max_cmd_sn}
@@ -14,11 +13,6 @@ has_room exp waits lt most near = omega (arith, lt, most, near)
 all_wait : (tasks : List Task) → TakePlaces tasks → waiting_tasks tasks ≡ length tasks
 all_wait [] p = refl
 all_wait (task ∷ more) p = rw p.0 (ap (λ (n : ℕ). suc n) (all_wait more p.1))
-
-first_waits : (task : Task) (more : List Task) (b : Bool) → takes_place task ≡ b → TakePlaces more → waiting_tasks (task ∷ more)
-    + length (filter (λ (x : Bool). not x) (b ∷ [])) ≡ suc (length more)
-first_waits task more true e p = rw e (let f = all_wait more p in omega (arith, f))
-first_waits task more false e p = rw e (let f = all_wait more p in omega (arith, f))
 
 -- with the first alone immediate, they are one more at most than those that wait
 pub few_more : (tasks : List Task) → TakePlaces (tasks_behind tasks) → length tasks ≤ waiting_tasks tasks + 1

@@ -1,5 +1,5 @@
 -- Writes that take the segments of Data-Outs as they come.
-use Rattle.std.proofs.Common.{◌≡◌, ◌≤◌, ◌<◌, inl, inr, ◌⊎◌, ℕ, zero, suc, ◌+◌, List, [], ◌∷◌, ◌++◌, Bool, true, false, length, take, drop, Option, Some, None, refl, sym, ap, ◌∙◌, subst, arith}
+use Rattle.std.proofs.Common.{◌≡◌, ◌≤◌, ◌<◌, inl, inr, ◌⊎◌, ℕ, zero, suc, ◌+◌, List, [], ◌∷◌, ◌++◌, Bool, true, false, length, take, Option, Some, None, refl, sym, ap, ◌∙◌, subst, arith}
 use Rattle.std.specs.Prelude.{◌==◌, nat_lt, not, ◌&&◌, ◌||◌, if◌then◌else◌, insert, replicate, Result, Ok, Err, IfOk, IfSome, OnSome, IsTrue}
 use Rattle.std.specs.List.{list_any}
 use Rattle.std.proofs.Math.Seq.{take-append_seam}
@@ -20,11 +20,11 @@ use Rattle.iscsi_stream.specs.Stream.{Message, message}
 use Rattle.iscsi_stream.specs.Framing.{Framing, FramerTakes, FinishFails, is_ready, is_whole_pdu, pdu_given_up, message_of}
 use Rattle.iscsi_stream.specs.Pieces.{Pieces, piece_data}
 use Rattle.iscsi_stream.specs.inner.Gathering.{filling, FillsBody}
-use Rattle.iscsi_stream.specs.Headers.{TakesHeader, skipped}
+use Rattle.iscsi_stream.specs.Headers.{skipped}
 use Rattle.iscsi_stream.proofs.HeadLemmas.{header-length}
 use Rattle.iscsi_stream.proofs.ReadyLemmas.{apart, and_left, and_right, is_whole-is, unready_of, whole_of}
 use Rattle.iscsi_stream.proofs.PassingLemmas.{unready_after}
-use Rattle.iscsi_stream.proofs.SkippingLemmas.{fills, none_fails, body_ready, body_unready, body_stands, given_up-skipped}
+use Rattle.iscsi_stream.proofs.SkippingLemmas.{fills, body_ready, body_unready, body_stands, given_up-skipped}
 use Rattle.iscsi_login.specs.declared.phase.Phase.{Phase}
 use Rattle.iscsi_login.specs.Held.{first_burst}
 use Rattle.iscsi_login.specs.Stage.{is_closed_phase}
@@ -46,9 +46,7 @@ use Rattle.iscsi_target.specs.Machine.{Met, Queued, on_data_out, full_met, is_ma
 use Rattle.iscsi_target.specs.Crash.{CrashLeavesBlocks, commands_at, commands_by, commands_in, commands_of}
 use Rattle.iscsi_target.specs.inner.Crash.{CrashesReady}
 use Rattle.iscsi_target.specs.Feed.{TargetConnection, Store, scene}
-use Rattle.iscsi_target.specs.declared.fault.TargetFault.{TargetFault}
-use Rattle.iscsi_target.specs.declared.fault.TargetFault.TheVariants as faults
-use Rattle.iscsi_target.specs.inner.Inside.{AreInPlace, MessagePost, AnswersReady, MessageRanOut, IsAnswered, Moment, TargetRestFails, TargetShutsReady, TasksPost, target_connection, moment}
+use Rattle.iscsi_target.specs.inner.Inside.{AreInPlace, MessagePost, AnswersReady, MessageRanOut, IsAnswered, Moment, TargetShutsReady, TasksPost, target_connection, moment}
 use Rattle.iscsi_target.specs.inner.Arrival.{Arrival, ArrivesForWrite, IsDataOutDue, IsTaken, IsSegmentThere, MayArrive, TakesData, connected}
 use Rattle.iscsi_target.proofs.Steps.TurnLemmas.{with_tasks}
 use Rattle.iscsi_target.proofs.Queue.TaskPlaceLemmas.{tag_found, with_same}
@@ -125,14 +123,6 @@ staged_behind first w h order found total old bytes new r2t_count due due_new is
 
 -- ---- bytes that come
 
--- behind a header that was taken no byte is refused
-pub rest_never : (old mid : Framing) (piece rest : List ℕ) (n : ℕ) (fault : TargetFault) → rest ≡ drop n piece → TakesHeader old piece n mid →
-    TargetRestFails mid rest fault → ⊥
-rest_never old mid piece rest n faults.NoMemory is h f = none_fails old mid piece rest n stream.NoMemory is h f
-rest_never old mid piece rest n (faults.Stream fault) is h f = none_fails old mid piece rest n fault is h f.1
-rest_never old mid piece rest n (faults.Protocol rule) is h f = f
-rest_never old mid piece rest n faults.Closed is h f = f
-
 -- with so much of the segment and of the padding
 abbrev arrived : Arrival → List ℕ → ℕ → Arrival
 arrived a segment padded = record a { segment = segment; padded = padded }
@@ -174,11 +164,6 @@ filled s v a b piece n h place write head len f =
     subst (λ (x : Arrival). FramerTakes (connected s v (Some a)).framing piece n (connected s v (Some x)).framing × ArrivesForWrite s v x)
     (arrival_is a.place b.place a.write b.write a.head b.head a.len b.len b.segment b.padded place write head len)
     (arrives_more s v a b.segment b.padded piece n h f)
-
-pub machine_stays : (s : Machine) (v : Framing) (a b : Arrival) → b.place ≡ a.place → b.write ≡ a.write →
-    (connected s v (Some b)).machine ≡ (connected s v (Some a)).machine
-machine_stays s v a b place write = ap (λ (p : ℕ). with_tasks s.session (insert s.tasks p (Data b.write))) place
-    ∙ ap (λ (w : Write). with_tasks s.session (insert s.tasks a.place (Data w))) write
 
 connected_is : (session session' : Session) (tasks tasks' : List Task) (v : Framing) (held held' : List ℕ) → session ≡ session' → tasks ≡ tasks' → held ≡
     held' →

@@ -1,5 +1,5 @@
 -- What a crash leaves, command by command.
-use Rattle.std.proofs.Common.{◌≡◌, ◌⊎◌, inl, inr, ℕ, ◌*◌, ◌-◌, List, [], ◌∷◌, ◌++◌, Bool, true, false, length, refl, sym, ap, ◌∙◌, subst, Option}
+use Rattle.std.proofs.Common.{◌≡◌, ◌⊎◌, inl, inr, ℕ, ◌*◌, ◌-◌, List, [], ◌∷◌, ◌++◌, Bool, true, false, length, refl, sym, ap, ◌∙◌, subst}
 use Rattle.std.specs.Prelude.{nat_lt, if◌then◌else◌}
 use Rattle.scsi_disk.specs.Disk.{Disk, cut, overlaid}
 use Rattle.scsi_disk.specs.Plan.{plan_of, named_transfer}
@@ -63,14 +63,6 @@ pub read_behind : (protected : Bool) (orders : List Supplied) (before after now 
 read_behind protected orders before after now old mid new h same within = record {
   count = ap (λ (d : Disk). d.count) same ∙ h.count;
   adds = λ n c k. h.adds n c (within n c k);
-}
-
-pub any_orders : (protected : Bool) (orders : List Supplied) (before after : Disk) (old new : ℕ → List ℕ → Type 0)
-    → CrashLeavesBlocks protected [] before after old new →
-    CrashLeavesBlocks protected orders before after old new
-any_orders protected orders before after old new h = record {
-  count = h.count;
-  adds = λ n c k. elim (h.adds n c k) [ inl was ↦ inl was | inr none ↦ absurd none ];
 }
 
 -- ---- on another disk

@@ -1,5 +1,5 @@
 -- What a call keeps from PDU to PDU, and where it ends.
-use Rattle.std.proofs.Common.{◌≡◌, ◌≤◌, ◌<◌, Bool, ◌⊎◌, inl, inr, ◌∙◌, ℕ, ◌+◌, ◌-◌, List, [], ◌∷◌, ◌++◌, true, false, length, take, drop, Some, None}
+use Rattle.std.proofs.Common.{◌≡◌, ◌≤◌, ◌<◌, Bool, ◌⊎◌, inl, inr, ◌∙◌, ℕ, ◌-◌, List, [], ◌∷◌, ◌++◌, true, false, length, take, drop, Some, None}
 use Rattle.std.proofs.Common.{refl, sym, ap, subst, arith, append-nil, append_assoc}
 use Rattle.std.specs.Prelude.{Result, Ok, Err}
 use Rattle.std.proofs.lemmas.List.{length-append, length-take, take-append-drop, take_at, take_all, drop_all}
@@ -20,7 +20,7 @@ use Rattle.iscsi_target_session.specs.Session.{Session}
 use Rattle.iscsi_target.specs.declared.tasks.Task.{Task}
 use Rattle.iscsi_target.specs.State.{Machine, TargetStep, unchanged, closed_machine}
 use Rattle.iscsi_target.specs.State.{writes_joined}
-use Rattle.iscsi_target.specs.Machine.{Next, Dropped, Answered, Queued, full_met, done_first, answers, MayAnswer, MayStop}
+use Rattle.iscsi_target.specs.Machine.{Next, Dropped, Answered, Queued, full_met, done_first, MayAnswer, MayStop}
 use Rattle.iscsi_target.specs.Machine.{ExecutionsRun, is_machine_closed}
 use Rattle.iscsi_target.specs.Laws.{joined_stepped}
 use Rattle.iscsi_target.specs.Feed.{AsksForMemory, Scene, scene, call_progress, remainder, TargetConnection, Store, AnswersPdus, StopsForMemory, CallLeaves, IsShut, CallEnds, FeedsFirstBytes, FeedsOnePdu, IsLive}

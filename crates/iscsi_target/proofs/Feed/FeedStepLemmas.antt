@@ -1,5 +1,5 @@
 -- What a PDU leads to within a call, and what bytes that complete none do.
-use Rattle.std.proofs.Common.{◌≡◌, ◌≤◌, Bool, inl, inr, ◌∙◌, ℕ, ◌+◌, ◌-◌, List, [], ◌∷◌, ◌++◌, true, false, length, take, drop, Option, Some, None}
+use Rattle.std.proofs.Common.{◌≡◌, ◌≤◌, Bool, inl, inr, ◌∙◌, ℕ, ◌+◌, List, [], ◌∷◌, ◌++◌, true, false, length, take, drop, Option, Some, None}
 use Rattle.std.proofs.Common.{refl, sym, ap, subst, arith, append-nil, append_assoc}
 use Rattle.std.proofs.lemmas.List.{length-append}
 use Rattle.std.proofs.lemmas.List.Concat.{flat_map-append}

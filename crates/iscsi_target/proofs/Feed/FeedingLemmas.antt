@@ -30,7 +30,6 @@ use Rattle.iscsi_target.specs.Machine.{is_machine_closed, is_over_limit, answers
 use Rattle.iscsi_target.specs.Feed.{Scene, TargetConnection, Store, CallEnds, FeedsFirstBytes, TargetFeedPost, HasAnswered, GoesWell, FeedsAllPieces, FeedPostIfClosed, ClosedTargetStays, TargetReaches}
 use Rattle.iscsi_target.specs.Feed.{Beginning, beginning, opening_target, scene, StoreAndOutputReached, TargetReachesOrClosed, RefusesHeader, SameSession}
 use Rattle.iscsi_target_session.proofs.CaseLemmas.{by_cases}
-use Rattle.iscsi_login.specs.Stage.{is_closed_phase}
 use Rattle.iscsi_target.proofs.Steps.NumberLaws.{answers_settings}
 use Rattle.iscsi_target.proofs.Steps.ClosingLemmas.{answers_close}
 use Rattle.iscsi_target.proofs.Feed.PrefixLemmas.{long_bytes, Leaves, prefix_split, header_or_none}

@@ -13,7 +13,6 @@ use Rattle.iscsi_login.specs.declared.phase.Phase.{Phase}
 use Rattle.iscsi_login.specs.declared.phase.Phase.TheVariants as phases
 use Rattle.iscsi_target.specs.declared.fault.TargetFault.{TargetFault}
 use Rattle.iscsi_target.specs.declared.tasks.Task.{Task}
-use Rattle.iscsi_target_session.specs.Session.{Session}
 use Rattle.iscsi_target.specs.State.{Machine, TargetStep, unchanged, writes_joined}
 use Rattle.iscsi_target.specs.Execution.{Device}
 use Rattle.iscsi_target.specs.Machine.{Next, Dropped, Answered, Queued, full_met, step_on, done_first, then_stepped, MayAnswer, is_machine_closed}
@@ -21,7 +20,7 @@ use Rattle.iscsi_target.specs.Laws.{joined_stepped}
 use Rattle.iscsi_target.specs.Feed.{Scene, scene, TargetConnection, Store, FeedsFirstBytes}
 use Rattle.iscsi_target.specs.Advances.{TargetAdvances}
 use Rattle.iscsi_target.specs.inner.Inside.{Moment, moment, target_connection, AnswersReady, NextRanOut, MessageRanOut, TakesOnePdu, FeedOneFails}
-use Rattle.iscsi_target.specs.Crash.{IsBehindCommand, CrashesNext, CrashesFed, IsMidCommandBlock, commands_by, commands_in, commands_at, commands_of}
+use Rattle.iscsi_target.specs.Crash.{IsBehindCommand, CrashesNext, CrashesFed, IsMidCommandBlock, commands_by, commands_in, commands_at}
 use Rattle.iscsi_target.proofs.Steps.AppendLemmas.{may_append}
 use Rattle.iscsi_target.proofs.Turns.ServingLemmas.{runs_as, runs_rise}
 use Rattle.iscsi_target.proofs.Writes.JoiningLemmas.{SameNext, joined_then, joined_twice}

@@ -2,17 +2,15 @@
 use Rattle.std.proofs.Common.{Bool, ◌≡◌, inl, inr, ◌∙◌, ℕ, List, ◌++◌, true, false, length, take, sym, ap, subst, arith}
 use Rattle.std.specs.Prelude.{Result, Ok, Err}
 use Rattle.std.proofs.lemmas.List.{take_all}
-use Rattle.scsi_disk.specs.Disk.{Disk}
 use Rattle.iscsi_stream.specs.Framing.{Framing, HasTaken}
 use Rattle.iscsi_stream.proofs.ReadyLemmas.{apart}
 use Rattle.iscsi_login.specs.declared.phase.Phase.{Phase}
 use Rattle.iscsi_target.specs.declared.fault.TargetFault.{TargetFault}
 use Rattle.iscsi_target.specs.declared.fault.TargetFault.TheVariants as faults
-use Rattle.iscsi_target_session.specs.Configured.{TargetSettings}
 use Rattle.iscsi_target.specs.State.{TargetStep}
 use Rattle.iscsi_target.specs.State.{writes_joined}
 use Rattle.iscsi_target.specs.Machine.{is_machine_closed, answers}
-use Rattle.iscsi_target.specs.Feed.{Beginning, Scene, OutputStands, TargetConnection, Store, FeedsFirstBytes, CallEnds, HasAnswered, beginning, scene}
+use Rattle.iscsi_target.specs.Feed.{Beginning, Scene, OutputStands, FeedsFirstBytes, CallEnds, HasAnswered}
 use Rattle.iscsi_target.proofs.Steps.ClosingLemmas.{answers_close}
 use Rattle.iscsi_target.proofs.Feed.FedStreamLemmas.{told}
 

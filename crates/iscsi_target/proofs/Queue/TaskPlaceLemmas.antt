@@ -1,10 +1,10 @@
 -- Tasks as a program keeps them.
-use Rattle.std.proofs.Common.{◌≡◌, ◌<◌, inl, inr, ℕ, zero, suc, ◌+◌, List, [], ◌∷◌, length, Bool, true, false, Option, Some, None, refl, sym, ap, ◌∙◌, subst}
+use Rattle.std.proofs.Common.{◌≡◌, ◌<◌, ℕ, zero, suc, List, [], ◌∷◌, length, Bool, true, false, Option, Some, None, refl, sym, ap, ◌∙◌}
 use Rattle.std.proofs.Common.{arith}
 use Rattle.std.specs.Prelude.{◌==◌, ◌||◌, not, map, drop, insert, remove, slice_index_or}
 use Rattle.iscsi_target.specs.State.{takes_place, joined_task}
 use Rattle.iscsi_target.specs.Transfer.{joined_write}
-use Rattle.std.proofs.lemmas.Bool.{eqb-true, cases_lt}
+use Rattle.std.proofs.lemmas.Bool.{eqb-true}
 use Rattle.iscsi_target.specs.Write.{Write}
 use Rattle.iscsi_target.specs.declared.tasks.Task.{Task}
 use Rattle.iscsi_target.specs.declared.tasks.Task.TheVariants.{Command, Data, Request}
@@ -17,13 +17,6 @@ use Rattle.iscsi_target_session.proofs.CaseLemmas.{by_cases}
 -- none of the first n tasks is a write with the tag
 abbrev pub NoneBefore : ℕ → List Task → ℕ → Type 0
 NoneBefore tag tasks place = (i : ℕ) (other : Task) → i < place → is_write_with tag (slice_index_or tasks i other) ≡ false
-
-pub none_more : (tag : ℕ) (tasks : List Task) (place : ℕ) → NoneBefore tag tasks place →
-    ((other : Task) → is_write_with tag (slice_index_or tasks place other) ≡ false) → NoneBefore tag tasks (place + 1)
-none_more tag tasks place before here i other lt = elim (cases_lt i place) [
-  | inl less ↦ before i other less
-  | inr ge ↦ (let same : place ≡ i = omega (arith, ge, lt) in subst (λ (k : ℕ). is_write_with tag (slice_index_or tasks k other) ≡ false) same (here other))
-]
 
 first_is : (tag : ℕ) (task : Task) (more : List Task) → is_write_with tag task ≡ true → IsWriteAt tag (task ∷ more) 0
 first_is tag (Command t o) more e = absurd cc

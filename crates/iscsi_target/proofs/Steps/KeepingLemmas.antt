@@ -10,7 +10,7 @@ use Rattle.iscsi_pdu.specs.declared.head.logout_request.LogoutRequest.{LogoutReq
 use Rattle.iscsi_target_session.specs.TextRequests.{on_text_request, text_reply_to, reply_text}
 use Rattle.iscsi_target_session.specs.Requests.{on_nop_out, on_logout_request}
 use Rattle.iscsi_pdu.specs.declared.head.Head.{Head}
-use Rattle.iscsi_pdu.specs.declared.head.Head.TheVariants.{LoginRequest, NopOut, TaskRequest, TextRequest, LogoutRequest, ScsiCommand, DataOut}
+use Rattle.iscsi_pdu.specs.declared.head.Head.TheVariants.{LoginRequest}
 use Rattle.iscsi_pdu.specs.declared.head.login_request.LoginRequest.{LoginRequest as Request}
 use Rattle.iscsi_stream.specs.Segment.{Segment, segment_bytes}
 use Rattle.iscsi_stream.specs.Stream.{Message}

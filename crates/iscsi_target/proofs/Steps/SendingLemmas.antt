@@ -23,11 +23,9 @@ use Rattle.iscsi_target.specs.declared.tasks.Task.{Task}
 use Rattle.iscsi_target.specs.State.{Machine, Execution, TargetStep, on, unchanged, shut_down, waiting_tasks, unit_of}
 use Rattle.iscsi_stream.specs.Pieces.{Pieces, piece_data, data_piece, data_pieces}
 use Rattle.iscsi_pdu.specs.Serial.{next_sn}
-use Rattle.iscsi_pdu.specs.Rules.{data_out_of_order}
 use Rattle.iscsi_target.specs.inner.State.{breaks}
 use Rattle.iscsi_target_session.specs.Login.{target_login_step}
 use Rattle.iscsi_target.specs.Execution.{Device, device_next, device_after, execute, data_in_parts, data_ins, response_head, sense_segment, as_told}
-use Rattle.iscsi_target.specs.Command.{order_of}
 use Rattle.iscsi_target.specs.Machine.{is_machine_closed, step_on, task_begun, done_in_turn, having_accepted, then_stepped}
 use Rattle.iscsi_target.specs.Tiles.{TileBytes, GivesTiles, data_in_tag, data_in_tags}
 use Rattle.iscsi_target.specs.Laws.{stat_sns, stat_sn_of, response_tag, response_tags, cmd_sns, given_number, HasCmdSn}

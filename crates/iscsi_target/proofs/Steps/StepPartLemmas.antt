@@ -4,7 +4,7 @@ use Rattle.std.specs.Prelude.{◌==◌}
 use Rattle.std.proofs.lemmas.Bool.{eqb-true}
 use Rattle.scsi_disk.specs.Disk.{Disk}
 use Rattle.iscsi_pdu.specs.declared.head.Head.{Head}
-use Rattle.iscsi_pdu.specs.declared.head.Head.TheVariants.{NopOut, ScsiCommand, TaskRequest, TextRequest, DataOut, LogoutRequest}
+use Rattle.iscsi_pdu.specs.declared.head.Head.TheVariants.{DataOut}
 use Rattle.iscsi_pdu.specs.declared.head.data_out.DataOut.{DataOut as DataPdu}
 use Rattle.iscsi_stream.specs.Segment.{segment_bytes}
 use Rattle.iscsi_stream.specs.Stream.{Message}
@@ -65,11 +65,6 @@ pub record Parts (device : Device) (disk : Disk) (P : Machine → Message → Ta
 -- what comes of a PDU
 abbrev met : Device → Machine → Disk → Met → TargetStep
 met device s disk x = having_accepted x.accepted (next_step device s disk x.next)
-
--- the target that goes on has the tasks that there were
-same_tasks : (s : Machine) (m : Message) (t : Machine) → Accepts s m t → t.tasks ≡ s.tasks
-same_tasks s m _ (Immediately c e) = refl
-same_tasks s m _ (InTurn n c w e) = refl
 
 admitted_parts : (device : Device) (disk : Disk) (P : Machine → Message → TargetStep → Type 0) → Parts device disk P → (s t : Machine) (m : Message) →
     Accepts s m t → (tasks : t.tasks ≡ s.tasks) (r : InboundRequest) → IsRequest r m.head → P s m

@@ -146,13 +146,3 @@ pub runs_append : (protected : Bool) (device : Device) (before now after : ℕ) 
     ExecutionsRun protected device before (a ++ b) after
 runs_append protected device before now after [] b x y = subst (λ (n : ℕ). ExecutionsRun protected device n b after) x y
 runs_append protected device before now after (e ∷ es) b x y = (x.0, x.1, runs_append protected (device_next device) x.0 now after es b x.2 y)
-
--- And as at once, in two parts.
-pub runs_split : (protected : Bool) (device : Device) (before after : ℕ) (a b : List Execution) → ExecutionsRun protected device before (a ++ b) after
-    → (now : ℕ) × ExecutionsRun protected device before a now × ExecutionsRun protected (device_after a device) now b after
-runs_split protected device before after [] b x = (before, refl, x)
-runs_split protected device before after (e ∷ es) b x =
-    let more : (now : ℕ) × ExecutionsRun protected (device_next device) x.0 es now
-    × ExecutionsRun protected (device_after es (device_next device)) now b after =
-    runs_split protected (device_next device) x.0 after es b x.2 in
-    (more.0, (x.0, x.1, more.1), more.2)

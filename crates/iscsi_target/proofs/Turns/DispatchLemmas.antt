@@ -1,6 +1,6 @@
 -- The steps of a session by the kind of PDU, case by case.
-use Rattle.std.proofs.Common.{◌≡◌, ◌<◌, ◌≤◌, ◌∙◌, ℕ, ◌^◌, List, Bool, true, false, not, length, Option, Some, None, refl, sym, ap, rules, subst}
-use Rattle.std.specs.Prelude.{◌==◌, ◌&&◌, nat_lt, if◌then◌else◌, ◌↔◌, IsTrue, Result}
+use Rattle.std.proofs.Common.{◌≡◌, ◌≤◌, ◌∙◌, ℕ, List, Bool, true, false, not, length, Option, Some, None, refl, sym, ap, subst}
+use Rattle.std.specs.Prelude.{◌==◌, ◌&&◌, nat_lt, if◌then◌else◌, Result}
 use Rattle.std.proofs.lemmas.Bool.{le-ltb}
 use Rattle.scsi_disk.specs.Disk.{Disk}
 use Rattle.iscsi_text.specs.Text.{Pairs}
@@ -15,7 +15,7 @@ use Rattle.iscsi_stream.specs.Segment.{segment_if, segment_of, segment_bytes, te
 use Rattle.iscsi_stream.specs.Stream.{Message, message}
 use Rattle.iscsi_login.specs.declared.phase.Phase.{Phase}
 use Rattle.iscsi_target_session.specs.Session.{Session, target_limit}
-use Rattle.iscsi_target.specs.State.{Machine, TargetStep, on, unchanged, shut_down, waiting_tasks, max_cmd_sn, unit_of}
+use Rattle.iscsi_target.specs.State.{Machine, TargetStep, on, unchanged, shut_down, max_cmd_sn, unit_of}
 use Rattle.std.proofs.Common.{inl, inr, arith}
 use Rattle.std.specs.Prelude.{Ok, Err}
 use Rattle.iscsi_login.specs.declared.phase.Phase.TheVariants.{Login, Full}
@@ -52,13 +52,10 @@ use Rattle.iscsi_target.specs.Command.{write_opened, order_of, breaks_burst_rule
 use Rattle.iscsi_target.specs.Execution.{Device}
 use Rattle.std.proofs.lemmas.List.{append-nil}
 use Rattle.iscsi_target.specs.Crash.{command_of_task, commands_of}
-use Rattle.std.specs.Prelude.{◌≢◌, [], ◌∷◌, ◌++◌}
-use Rattle.iscsi_stream.specs.Pieces.{Pieces, piece_data}
+use Rattle.std.specs.Prelude.{[], ◌∷◌, ◌++◌}
 use Rattle.iscsi_pdu.specs.Rules.{data_out_of_order}
 use Rattle.iscsi_target.specs.declared.tasks.Task.{Task}
-use Rattle.iscsi_target.specs.State.{takes_place, joined_task}
-use Rattle.iscsi_target.specs.Transfer.{with_piece}
-use Rattle.iscsi_target.proofs.Writes.OpenWriteLemmas.{data_of_one}
+use Rattle.iscsi_target.specs.State.{takes_place}
 use Rattle.iscsi_target.specs.Machine.{beside, Dropped, Answered, Queued, broken, is_tag_of, is_busy, immediate_request, advanced}
 use Rattle.iscsi_target.specs.Machine.{admitted, request_in_turn, on_data_out, due_met, inbound_met, full_met, may_come, is_segment_too_long, is_over_limit, phase_step, is_machine_closed, step_on}
 use Rattle.iscsi_target_session.proofs.KindLemmas.{bytes_of, plain, head_of}
@@ -96,13 +93,6 @@ inside s count m r b is e f = sym (rw (sym is ∙ e, f) refl)
 -- what comes of a PDU by what it is
 came_as : (s : Machine) (count : ℕ) (m : Message) (pdu : Option Inbound) → inbound m.head ≡ pdu → full_met s count m ≡ inbound_met s count m pdu
 came_as s count m pdu e = ap (inbound_met s count m) e
-
-pub not_inbound : (s : Machine) (count : ℕ) (m : Message) → inbound m.head ≡ None → (full_met s count m).next ≡ broken s kind_not_due m
-not_inbound s count m e = ap (λ (x : Met). x.next) (came_as s count m None e)
-
-pub not_due : (s : Machine) (count : ℕ) (m : Message) (pdu : Inbound) → inbound m.head ≡ Some pdu → may_come s.session.session_type pdu ≡ false
-    → (full_met s count m).next ≡ broken s kind_not_due m
-not_due s count m pdu e may = ap (λ (x : Met). x.next) (came_as s count m (Some pdu) e) ∙ rw may refl
 
 too_long_is : (s : Machine) (c : Bool) (hd : Head) (bytes : List ℕ) (m : Message) (is : message c hd bytes ≡ m) (pdu : Inbound) → inbound m.head ≡ Some pdu →
     is_segment_too_long s m ≡ nat_lt s.session.held.target_max_recv (length bytes)
@@ -160,24 +150,6 @@ takes_by unit count m tag other (asks.Session q) e = refl
 pub takes_as : (unit : Option LogicalUnit) (count : ℕ) (m : Message) (r : InboundRequest) → IsRequest r m.head → r.immediate ≡ false
     → takes_place (task_of unit (presented count m r)) ≡ true
 takes_as unit count m r is e = takes_by unit count m r.initiator_task_tag r.immediate r.asks (immediate_is m.head r is ∙ e)
-
--- its bytes stand as one piece
-joined_planned : (h : Command) (order : Order) (bytes : List ℕ) (plan : Plan) → joined_task (task_planned h order bytes plan) ≡ task_planned h order bytes plan
-joined_planned h order bytes (Take total) = ap (λ (p : Pieces). Data (record (write_opened h order total bytes) { pieces = p })) (joined_piece bytes)
-  where
-    joined_piece : (bytes : List ℕ) → with_piece [] 0 (piece_data (with_piece [] 0 bytes)) ≡ with_piece [] 0 bytes
-    joined_piece bytes = ap (with_piece [] 0) (data_of_one bytes)
-joined_planned h order bytes (Refuse sense) = refl
-joined_planned h order bytes (Give given) = refl
-
-joined_by : (unit : Option LogicalUnit) (count : ℕ) (m : Message) (tag : Option ℕ) (asked : Asks) → joined_task (task_by unit count m tag asked) ≡ task_by
-    unit count m tag asked
-joined_by unit count m tag (asks.Command h) = joined_planned h (order_of unit h) (segment_bytes m.segment) (plan_of (order_of unit h) count)
-joined_by unit count m tag (asks.Session q) = refl
-
-pub joined_as : (unit : Option LogicalUnit) (count : ℕ) (m : Message) (r : InboundRequest) → joined_task (task_of unit (presented count m r)) ≡ task_of unit
-    (presented count m r)
-joined_as unit count m r = joined_by unit count m r.initiator_task_tag r.asks
 
 -- the task of a command, by its plan
 pub task_takes : (unit : Option LogicalUnit) (count total : ℕ) (h : Command) (bytes : List ℕ) → plan_of (order_of unit h) count ≡ Take total →

@@ -8,8 +8,8 @@ use Rattle.scsi_disk.specs.Effect.{Effect, OrderExecuted, effect}
 use Rattle.scsi_disk.specs.declared.order.Order.{Order}
 use Rattle.iscsi_stream.specs.Stream.{Message}
 use Rattle.iscsi_stream.specs.Canonical.{canon}
-use Rattle.iscsi_target_session.specs.Session.{Session, Reply, stat_sn_advanced, ended_session}
-use Rattle.iscsi_target.specs.State.{Machine, TargetStep, Execution, on, unchanged, left, closed_machine, waiting_tasks, unit_of}
+use Rattle.iscsi_target_session.specs.Session.{Session, Reply, stat_sn_advanced}
+use Rattle.iscsi_target.specs.State.{Machine, TargetStep, Execution, on, unchanged, waiting_tasks, unit_of}
 use Rattle.iscsi_stream.specs.Pieces.{Pieces, piece_data}
 use Rattle.iscsi_target.specs.State.{writes_joined}
 use Rattle.iscsi_target.specs.Execution.{Device, reliable, device_next, execute, command_answers, data_in_parts, as_told}
@@ -19,7 +19,6 @@ use Rattle.iscsi_target.specs.Feed.{Store}
 use Rattle.iscsi_target.specs.declared.tasks.Task.{Task}
 use Rattle.iscsi_target.specs.Advances.{store_of}
 use Rattle.iscsi_target.specs.inner.Inside.{Moment, moment, MessageServed, DisklessPost, TaskPost, TasksPost, NextPost, NextRanOut}
-use Rattle.iscsi_target_session.specs.Replies.{ReplyPost, ReplyAttemptPost}
 use Rattle.iscsi_target.proofs.Writes.OpenWriteLemmas.{data_of_one}
 use Rattle.iscsi_target.proofs.Steps.TurnLemmas.{with_tasks}
 use Rattle.iscsi_target_session.proofs.CaseLemmas.{by_ok}
@@ -64,30 +63,6 @@ pub unchanged_serves : (protected : Bool) (n : ℕ) (s : Machine) (f : Device �
     ≡ s → MessageServed protected n out f None (moment new (store_of disk n) out)
 unchanged_serves protected n s f disk new out is e = leaves_serves protected n (unchanged s disk) f disk None new out out is refl refl e
     (sym (append-nil out)) refl
-
-pub attempts : {E : Type 0} (r : Reply) (result : Result (Option ℕ) E) (old new : Session) (before after : List ℕ) → ReplyPost r result old new before after →
-    ReplyAttemptPost r result old new before after
-attempts r (Ok rule) old new before after h = record { ok = h.ok; err = tt; unwritten = tt }
-attempts r (Err e) old new before after h = record { ok = tt; err = ap ended_session h.err; unwritten = h.unwritten }
-
--- what a session replied is what the target did, whose tasks go with the session
-pub relays : {E : Type 0} (r : Reply) (result : Result (Option ℕ) E) (old new : Machine) (session : Session) (disk : Disk) (before after : List ℕ)
-    → ReplyAttemptPost r result old.session session before after → new ≡ record { session = session; tasks = left session old.tasks } →
-    DisklessPost (on disk old.tasks r) result old new before after
-relays r (Ok rule) old new session disk before after h e = record {
-  machine = e ∙ ap (λ (s : Session). record { session = s; tasks = left s old.tasks }) h.ok.session;
-  output = h.ok.output;
-  rule_is = h.ok.rule_is;
-  err = tt;
-  unwritten = tt;
-}
-relays r (Err x) old new session disk before after h e = record {
-  machine = tt;
-  output = tt;
-  rule_is = tt;
-  err = ap closed_machine e ∙ ap (λ (s : Session). record { session = s; tasks = [] }) h.err;
-  unwritten = h.unwritten;
-}
 
 -- ---- the same step
 
@@ -146,16 +121,6 @@ serves_if protected result fb fa f g new now before after is h =
     by_ok (λ b. MessageServed protected fb before g b (moment new (store_of now fa) after))
     (λ b. MessageServed protected fb before f b (moment new (store_of now fa) after)) result
     (λ b. serves_same protected fb fa f g b new now before after (λ d. ap joined_stepped (is d))) h
-
-pub same_if : {E : Type 0} (protected : Bool) (result : Result (Option ℕ) E) (fb fa : ℕ) (f g : Device → TargetStep) (new : Machine) (now : Disk)
-    (before after : List ℕ)
-    → ((d : Device) → joined_stepped (g d) ≡ joined_stepped (f d)) → IfOk result
-    (λ b. MessageServed protected fb before g b (moment new (store_of now fa) after)) →
-    IfOk result (λ b. MessageServed protected fb before f b (moment new (store_of now fa) after))
-same_if protected result fb fa f g new now before after is h =
-    by_ok (λ b. MessageServed protected fb before g b (moment new (store_of now fa) after))
-    (λ b. MessageServed protected fb before f b (moment new (store_of now fa) after)) result
-    (λ b. serves_same protected fb fa f g b new now before after is) h
 
 pub accepts_by : (protected : Bool) (fb fa : ℕ) (ms : List Message) (g : Device → TargetStep) (broken : Option ℕ) (new : Machine) (now : Disk)
     (before after : List ℕ)

@@ -1,5 +1,5 @@
 -- What a target with at most one task does with a PDU that is due.
-use Rattle.std.proofs.Common.{◌≡◌, ◌∙◌, ℕ, List, [], ◌∷◌, Bool, true, false, length, Option, Some, refl, ap}
+use Rattle.std.proofs.Common.{◌≡◌, ◌∙◌, ℕ, List, [], ◌∷◌, true, false, length, Option, Some, refl, ap}
 use Rattle.std.specs.Prelude.{◌+◌, ◌==◌}
 use Rattle.std.proofs.lemmas.Bool.{eq-eqb}
 use Rattle.scsi_disk.specs.Disk.{Disk}

@@ -1,7 +1,7 @@
 -- Tasks in their turn over a store, one after another.
 use Rattle.std.proofs.Common.{◌≡◌, ◌≤◌, ◌⊎◌, inl, inr, ℕ, zero, suc, ◌+◌, List, [], ◌∷◌, ◌++◌, length, Bool, true, false, Option, Some, None, refl, sym, ap}
 use Rattle.std.proofs.Common.{◌∙◌, subst, arith, append_assoc}
-use Rattle.std.specs.Prelude.{◌==◌, ◌||◌, nat_lt, if◌then◌else◌, Result, Ok, Err}
+use Rattle.std.specs.Prelude.{◌==◌, ◌||◌, nat_lt, Result, Ok, Err}
 use Rattle.std.proofs.lemmas.List.{append-nil}
 use Rattle.scsi_disk.specs.Disk.{Disk}
 use Rattle.iscsi_stream.proofs.ReadyLemmas.{apart}
@@ -10,7 +10,7 @@ use Rattle.iscsi_target_session.specs.Session.{Session}
 use Rattle.iscsi_target.specs.Write.{Write}
 use Rattle.iscsi_target.specs.declared.tasks.Task.{Task}
 use Rattle.iscsi_target.specs.declared.tasks.Task.TheVariants.{Command, Data, Request}
-use Rattle.iscsi_target.specs.State.{Machine, Execution, TargetStep, on, unchanged, waiting_tasks, closed_machine}
+use Rattle.iscsi_target.specs.State.{Machine, Execution, TargetStep, on, waiting_tasks, closed_machine}
 use Rattle.iscsi_target.specs.Execution.{Device, reliable, device_next, device_after}
 use Rattle.iscsi_target.specs.State.{joined_task}
 use Rattle.iscsi_target.specs.Transfer.{joined_write}
@@ -26,7 +26,6 @@ use Rattle.iscsi_stream.proofs.WritingLemmas.{canon_append}
 use Rattle.iscsi_target.specs.Laws.{joined_stepped}
 use Rattle.iscsi_target.proofs.Answers.CommandLemmas.{proceeds_asking, proceeds_waiting}
 use Rattle.iscsi_target.proofs.Queue.AcceptedOrderLaw.{begun_leads}
-use Rattle.iscsi_target.proofs.Steps.KeepingLemmas.{begun_settings}
 use Rattle.iscsi_target.proofs.Writes.JoiningLemmas.{ones, idem, size_same, done_same, first_same}
 use Rattle.iscsi_target.proofs.Turns.DispatchLemmas.{session_of}
 use Rattle.iscsi_target.proofs.Turns.ServingLemmas.{runs_as, serves_same, unchanged_serves}
@@ -192,15 +191,6 @@ pub left_behind : (protected : Bool) (old : Moment) (task : Task) (rule : Option
 left_behind protected old task rule new g =
     (leads protected old.store.failures (moment new.machine new.store new.output) old.machine.session old.store.disk task old.machine.tasks rule old.output
     g).ones_
-
--- the session has what it was configured with
-pub settings_left : (protected : Bool) (old : Moment) (task : Task) (rule : Option ℕ) (new : Moment) → Goes protected old task rule new
-    → new.machine.session.settings ≡ old.machine.session.settings
-settings_left protected old task rule new g =
-    let l = leads protected old.store.failures (moment new.machine new.store new.output) old.machine.session old.store.disk task old.machine.tasks rule
-    old.output g in
-    ap (λ (t : Session). t.settings) l.session
-    ∙ begun_settings g.serves.device old.machine.session old.store.disk task old.machine.tasks
 
 pub then_serves : (protected : Bool) (from : Store) (here to : Moment) (s : Session) (task : Task) (more : List Task) (rule : Option ℕ)
     (before : List ℕ) (broken : Option ℕ)

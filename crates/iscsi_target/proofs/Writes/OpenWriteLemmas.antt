@@ -143,8 +143,3 @@ data_with (p ∷ pieces) at (b ∷ bytes) = ap (λ (x : List ℕ). p.1 ++ x) (da
 
 pub data_of_one : (bytes : List ℕ) → piece_data (with_piece [] 0 bytes) ≡ bytes
 data_of_one bytes = data_with [] 0 bytes
-
--- a write with one piece, and more behind it, joined again
-pub joined_more : (bytes more : List ℕ) (at : ℕ) → with_piece [] 0 (piece_data (with_piece (with_piece [] 0 bytes) at more)) ≡ with_piece [] 0 (bytes ++ more)
-joined_more bytes more at =
-    ap (λ (x : List ℕ). with_piece [] 0 x) (data_with (with_piece [] 0 bytes) at more ∙ ap (λ (x : List ℕ). x ++ more) (data_of_one bytes))

@@ -5,7 +5,6 @@ use Rattle.std.proofs.lemmas.Grind.{flat_map-append}
 use Rattle.scsi_disk.specs.Disk.{Disk}
 use Rattle.scsi_disk.specs.Effect.{Effect}
 use Rattle.scsi_disk.specs.declared.order.Order.{Order}
-use Rattle.iscsi_pdu.specs.Rules.{data_out_of_order}
 use Rattle.iscsi_pdu.specs.declared.head.Head.{Head}
 use Rattle.iscsi_pdu.specs.declared.head.Head.TheVariants.{ScsiResponse}
 use Rattle.iscsi_stream.specs.Pieces.{Pieces, piece_data}
@@ -17,7 +16,6 @@ use Rattle.iscsi_target_session.specs.Rejecting.{reject_and_close}
 use Rattle.iscsi_target.specs.declared.tasks.Task.{Task}
 use Rattle.iscsi_target.specs.State.{Machine, Execution, TargetStep, on, waiting_tasks, unit_of}
 use Rattle.iscsi_target.specs.Execution.{Device, reliable, device_after, execute, data_in_parts, data_ins, response_head, sense_segment, as_told}
-use Rattle.iscsi_target.specs.Command.{order_of}
 use Rattle.iscsi_target.specs.Machine.{target_step, answers, task_begun, done_in_turn}
 use Rattle.iscsi_target.specs.Laws.{ToldResponse, answer_told, told_in, told_of, due_for, response_tag, response_tags}
 use Rattle.iscsi_target.proofs.Steps.TurnLemmas.{Begins, begins, Turns, turns, with_tasks}

@@ -8,7 +8,7 @@ use Rattle.scsi_cdb.specs.declared.sense.Sense.{Sense}
 use Rattle.scsi_disk.specs.Disk.{Disk}
 use Rattle.scsi_disk.specs.Effect.{guarded, Effect, effect, disk_by}
 use Rattle.scsi_disk.specs.Runs.{disk_after}
-use Rattle.scsi_disk.specs.Plan.{plan_of, plan_by, first_refusal, refusals, is_write, taken_length}
+use Rattle.scsi_disk.specs.Plan.{plan_of, plan_by, first_refusal, is_write, taken_length}
 use Rattle.scsi_disk.specs.declared.order.Order.{Order}
 use Rattle.scsi_disk.specs.declared.order.Plan.{Plan}
 use Rattle.scsi_disk.specs.declared.order.Plan.TheVariants.{Refuse, Take, Give}

@@ -1,13 +1,11 @@
 -- More of `Worked`, of which no public contract speaks.
-use Rattle.std.specs.Prelude.{◌≡◌, ℕ, true, false, List, Option, Some, None, codes}
+use Rattle.std.specs.Prelude.{ℕ, true, List, Some, None, codes}
 use Rattle.iscsi_pdu.specs.declared.head.Head.TheVariants as heads
 use Rattle.iscsi_stream.specs.Segment.{Bytes}
 use Rattle.iscsi_stream.specs.Stream.{Message}
-use Rattle.iscsi_stream.specs.Canonical.{canon}
 use Rattle.iscsi_target_session.specs.Configured.{no_extras}
 use Rattle.iscsi_target.specs.State.{Machine, opening_machine}
-use Rattle.iscsi_target.specs.Machine.{answers}
-use Rattle.iscsi_target.specs.Worked.{segment, settings, blank}
+use Rattle.iscsi_target.specs.Worked.{settings}
 
 -- ---- PDUs of an initiator
 
@@ -46,10 +44,3 @@ volunteers offset bytes = record {
 abbrev pub told_opening : Machine
 told_opening = opening_machine
     (record settings { extras = record no_extras { portal = Some (codes "192.0.2.7:3260") } }) 1
-
--- ---- what is stated of a row
-
--- The messages are answered by these bytes; this rule is broken, if one is.
-abbrev pub WorkedAnswers : Machine → List Message → List ℕ → Option ℕ → Type 0
-WorkedAnswers s ms output rule =
-    (canon (answers false s blank ms).answers ≡ output) × ((answers false s blank ms).rule ≡ rule)

@@ -1,6 +1,6 @@
 //! Data-Outs that are taken as they come (RFC 7143, section 11.7).
 
-ghost use Rattle.std.specs.Prelude.{◌≡◌, ◌<◌, ◌≤◌, ℕ, [], length, insert, IfNone, IfSome, OnSome, IsTrue};
+ghost use Rattle.std.specs.Prelude.{◌≡◌, ◌<◌, ◌≤◌, [], length, insert, IfNone, IfSome, OnSome, IsTrue};
 ghost use Rattle.iscsi_login.specs.Held.{first_burst};
 ghost use Rattle.iscsi_target.specs.declared.tasks.Task.TheVariants.{Data};
 ghost use Rattle.iscsi_target.specs.inner.Arrival.{IsDataOutDue, IsTaken, TakesData};

@@ -1,7 +1,7 @@
 //! The checks on a PDU in full feature phase, in the order in which they are made (RFC 7143,
 //! sections 4.2 and 11).
 
-ghost use Rattle.std.specs.Prelude.{◌≡◌, ◌↔◌, ◌<◌, ◌≤◌, ◌^◌, None, Some, nat_lt, IsTrue, false};
+ghost use Rattle.std.specs.Prelude.{◌≡◌, ◌<◌, None, Some, nat_lt, false};
 ghost use Rattle.iscsi_pdu.specs.Serial.{is_within};
 ghost use Rattle.iscsi_stream.specs.Stream.{Message};
 ghost use Rattle.iscsi_target_session.specs.Inbound.{IsRequest};

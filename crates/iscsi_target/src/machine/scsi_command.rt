@@ -1,6 +1,6 @@
 //! SCSI commands, and what they answer (RFC 7143, sections 11.3 and 11.4).
 
-ghost use Rattle.std.specs.Prelude.{◌≡◌, ◌∷◌, ◌≢◌, ◌<◌, ◌≤◌, ◌^◌, ◌++◌, ℕ, [], false, length, OnOk, OnErr, IfOk};
+ghost use Rattle.std.specs.Prelude.{◌≡◌, ◌≢◌, ◌<◌, ◌≤◌, ◌^◌, ◌++◌, ℕ, [], false, length, OnOk, OnErr, IfOk};
 ghost use Rattle.scsi_disk.specs.Disk.{IsDisk};
 ghost use Rattle.scsi_disk.specs.Plan.{plan_of};
 ghost use Rattle.scsi_disk.specs.Found.{IsFound};

@@ -1,6 +1,6 @@
 //! Where the data of a command come from (RFC 7143, section 11.7).
 
-ghost use Rattle.std.specs.Prelude.{◌≡◌, ◌<◌, ◌^◌, length, OnOk};
+ghost use Rattle.std.specs.Prelude.{◌≡◌, ◌<◌, ◌^◌, OnOk};
 ghost use Rattle.iscsi_pdu.specs.Meaning.{HeadFits};
 ghost use Rattle.iscsi_target.specs.Advances.{store_of};
 ghost use Rattle.iscsi_target.specs.inner.Reads.{HasPart, ReadsOnto, SendsPart, given_by_source, source_len};

@@ -1,14 +1,14 @@
 //! The login (RFC 7143, sections 6.3, 11.12 and 11.13). One file, since each step of a login hands
 //! on to the next.
 
-ghost use Rattle.std.specs.Prelude.{◌≡◌, ◌↔◌, ◌<◌, ◌≤◌, ◌+◌, ◌^◌, ◌++◌, [], length, IsTrue, OnErr, OnOk, IfOk, IfSome, Some, false};
+ghost use Rattle.std.specs.Prelude.{◌≡◌, ◌↔◌, ◌<◌, ◌≤◌, ◌+◌, ◌^◌, ◌++◌, [], length, IsTrue, OnErr, OnOk, IfOk, Some, false};
 ghost use Rattle.iscsi_text.specs.Text.{Pairs};
 ghost use Rattle.iscsi_text.specs.Canonical.{canonical_text};
 ghost use Rattle.iscsi_pdu.specs.Meaning.{HeadFits};
 ghost use Rattle.iscsi_pdu.specs.declared.head.login_request.LoginRequest.{LoginRequest};
 ghost use Rattle.iscsi_pdu.specs.declared.head.Head.TheVariants as heads;
 ghost use Rattle.iscsi_login.specs.Answer.{DeclaresWell};
-ghost use Rattle.iscsi_stream.specs.Segment.{Bytes, Text as Whole, segment_of, text_or_bytes};
+ghost use Rattle.iscsi_stream.specs.Segment.{Bytes, Text as Whole};
 ghost use Rattle.iscsi_target_session.specs.Session.{stat_sn_advanced, ended_session};
 ghost use Rattle.scsi_disk.specs.Plan.{first_reason};
 ghost use Rattle.iscsi_target_session.specs.Login.{stage_named, is_due_stage, is_move, stage_asked, stage_after, tsih_at, phase_at, login_response_to, refuse, after_text, text_answered_by, plain_text, whole_text, segment_taken, request_refusals, on_login_request, target_login_step};

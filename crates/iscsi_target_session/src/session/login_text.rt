@@ -1,7 +1,7 @@
 //! What a login text declares, and why it is refused (RFC 7143, sections 6.3, 11.13.5 and 13). One
 //! file, since all of it reads the same text.
 
-ghost use Rattle.std.specs.Prelude.{◌≡◌, ◌<◌, ◌≤◌, not, ◌&&◌, ◌||◌, [], slice_index_or, false, None, Some, is_none, IfSome, IfOk, length, codes};
+ghost use Rattle.std.specs.Prelude.{◌≡◌, ◌<◌, ◌≤◌, not, ◌&&◌, ◌||◌, [], false, None, Some, is_none, IfSome, IfOk, length, codes};
 ghost use Rattle.std.specs.Option.{option_map};
 ghost use Rattle.std.specs.Str.{bytes_eq};
 ghost use Rattle.iscsi_text.specs.Key.{known_keys, target_address};

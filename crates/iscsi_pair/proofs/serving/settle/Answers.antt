@@ -1,4 +1,4 @@
-use Rattle.std.proofs.Common.{false, inl, inr, arith}
+use Rattle.std.proofs.Common.{inl, inr, arith}
 use Rattle.iscsi_stream.proofs.ReadyLemmas.{apart}
 use Rattle.iscsi_pair.proofs.Lists.ServingLemmas.{at_last, none_turned, turned_more}
 use Rattle.iscsi_pair.proofs.serving.settle.Goals as goal

@@ -1,4 +1,4 @@
-use Rattle.std.proofs.Common.{false, ◌≡◌, ℕ, min, length, drop, sym, ap, ◌∙◌, subst, refl, arith}
+use Rattle.std.proofs.Common.{◌≡◌, ℕ, min, length, drop, sym, ap, ◌∙◌, subst, refl, arith}
 use Rattle.std.proofs.lemmas.List.{length-take-le}
 use Rattle.iscsi_pair.specs.World.{World, PairEventStep, ToInitiator}
 use Rattle.iscsi_pair.specs.contracts.pair.Ends.{the_view}

@@ -1,4 +1,4 @@
-use Rattle.std.proofs.Common.{◌≡◌, true, false, sym, ◌∙◌, rules}
+use Rattle.std.proofs.Common.{◌≡◌, true, false, sym, rules}
 use Rattle.std.specs.Prelude.{◌==◌}
 use Rattle.iscsi_target.proofs.Answers.WindowLemmas.{room_within}
 use Rattle.iscsi_target.proofs.Turns.DispatchLemmas.{outside, out_of_turn, inside}

@@ -1,6 +1,4 @@
-use Rattle.std.proofs.Common.{◌≡◌, Bool, length, sym, ◌∙◌}
-use Rattle.iscsi_stream.specs.Segment.{segment_bytes}
-use Rattle.iscsi_target.specs.Command.{breaks_rules}
+use Rattle.std.proofs.Common.{sym, ◌∙◌}
 use Rattle.iscsi_target.proofs.Turns.DispatchLemmas.{rules_are, refused_tag, refused_rules, not_refused}
 use Rattle.iscsi_target.proofs.machine.Machine.refusal.Goals as goal
 

@@ -1,5 +1,4 @@
-use Rattle.std.proofs.Common.{◌≡◌, List, refl, sym, ap, ◌∙◌, subst, rules}
-use Rattle.scsi_disk.specs.Runs.{Supplied}
+use Rattle.std.proofs.Common.{◌≡◌, refl, ap, subst, rules}
 use Rattle.iscsi_target_session.specs.Requests.{request_answered}
 use Rattle.iscsi_target_session.specs.declared.inbound.Asks.TheVariants as asks
 use Rattle.iscsi_target_session.proofs.InboundLemmas.{request_plain}

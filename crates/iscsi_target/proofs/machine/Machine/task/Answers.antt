@@ -1,4 +1,4 @@
-use Rattle.std.proofs.Common.{◌≡◌, sym, ap, ◌∙◌, subst, rules}
+use Rattle.std.proofs.Common.{◌≡◌, sym, ap, ◌∙◌, subst}
 use Rattle.std.specs.Prelude.{IfOk}
 use Rattle.iscsi_target_session.specs.declared.inbound.Asks.TheVariants as asks
 use Rattle.iscsi_target_session.proofs.InboundLemmas.{request_plain}

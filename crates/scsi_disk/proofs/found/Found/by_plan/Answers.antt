@@ -1,8 +1,5 @@
 use Rattle.std.proofs.Common.{◌≡◌, ◌∙◌, inl, inr, sym}
-use Rattle.scsi_cdb.specs.declared.sense.Sense.{Sense}
-use Rattle.scsi_disk.specs.declared.order.Plan.{Plan}
 use Rattle.scsi_disk.specs.declared.order.Plan.TheVariants.{Refuse, Take, Give}
-use Rattle.scsi_disk.specs.Plan.{plan_of}
 use Rattle.scsi_disk.proofs.PlanLemmas.{not_refused}
 use Rattle.scsi_disk.proofs.found.Found.by_plan.Goals as goal
 
