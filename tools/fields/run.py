@@ -20,7 +20,6 @@ import tempfile
 from pathlib import Path
 
 TOP = Path(__file__).resolve().parents[2]
-LONGEST = 60_000
 # The kinds by their opcodes, and which end sends them.
 KINDS = {
     0x00: ("NOP-Out", "initiator"), 0x01: ("SCSI-Command", "initiator"), 0x02: ("Task-Request", "initiator"),

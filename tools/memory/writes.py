@@ -11,7 +11,6 @@ write the same blocks, so that the disk takes 4 MiB at the end. Each line has th
 at most, and in the process's data segments at most (memory that was asked for is there before it is touched), with
 their limits. The exit status is 1 where a limit is passed or an answer isn't due. It takes some seconds.
 """
-import os
 import subprocess
 import sys
 import threading
