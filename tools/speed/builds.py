@@ -19,6 +19,9 @@ time           the processor time for a command that NEW took over that of OLD, 
 A cell is lower if NEW has less than 0.95 of OLD's median and the difference is more than that between OLD's two. The last
 line is 'N cells hold, M are lower, K runs failed'. The client looks at each byte that it reads, and a run that finds a wrong
 one fails. The status is 1 if a cell is lower or a run failed.
+
+A shorter run says less. With two rounds of slices of 0.1 s, on a host that took part of the time, one program was called lower
+than itself in 6 of 16 cells. So measure OLD beside OLD first on a machine that isn't known.
 """
 import argparse
 import itertools
