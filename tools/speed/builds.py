@@ -8,7 +8,7 @@ crates/lanthovur_serve/out/lanthovur_serve. A cell is `serve` or `serve --at-onc
 or 8 outstanding. --only names one of the two: serve or at-once.
 
 A machine's speed can change by half within seconds. So OLD, NEW and OLD once more take turns by short slices, in each order
-equally often. Each has a processor of its own, and the client another. A round's rate is the mean of its N slices (12) of S
+equally often. They share one processor, and the client has another. A round's rate is the mean of its N slices (12) of S
 seconds each (0.25). A round has new processes. The table has, over N rounds (5):
 
 new / old      the median rate of NEW over the mean of OLD's two
