@@ -4,7 +4,7 @@
     tools/gate_times/gate_times.py [WORD ..]
 
 At the top of the repository: runs `rt ci`, or the words that are given, and passes its lines on. While it runs, the
-processes of the prover and the compilers below it are looked at once a second. At the end there is a table on
+processes of the prover and the compilers that it started are looked at once a second. At the end there is a table on
 standard error: for each crate and part of the gate (proof, tests, edits) how many checks there were, their seconds of
 processor, the wall seconds from the first to the last, and the most memory of one; and the dearest checks of edits by
 name. What a process does within the second before it ends is not seen. The exit status is that of the command.
@@ -69,6 +69,15 @@ def edit_of(words):
     return f"{crate}: {names[int(number)]}" if int(number) < len(names) else None
 
 
+def is_below(process, top, seen):
+    """Whether `top` started the process, or one that it stands below, by what was seen of each process."""
+    for _ in range(20):
+        if process == top:
+            return True
+        process = seen[process][0] if seen.get(process) else "0"
+    return False
+
+
 class Part:
     """What was seen of a part of the gate."""
 
@@ -89,12 +98,12 @@ class Table:
         self.known = {}
         self.began = time.time()
 
-    def look(self):
-        """Looks at each process once."""
+    def look(self, top):
+        """Looks once at each process that the process `top` started, or one that it started."""
         now = time.time() - self.began
-        for process in filter(str.isdigit, os.listdir("/proc")):
-            times = times_of(process)
-            if times is None:
+        seen = {process: times_of(process) for process in os.listdir("/proc") if process.isdigit()}
+        for process, times in seen.items():
+            if times is None or not is_below(process, top, seen):
                 continue
             parent, start, seconds, memory = times
             key = process, start
@@ -144,7 +153,7 @@ def main(words):
 
     def watch():
         while not ended.wait(1):
-            table.look()
+            table.look(str(run.pid))
 
     watcher = threading.Thread(target=watch)
     watcher.start()
