@@ -1,20 +1,21 @@
 #!/usr/bin/env python3
 """A quick look, before the gate, at what changed since a commit. It is no gate: it trusts what out/ keeps.
 
-    tools/gate_changed/gate_changed.py [--since COMMIT] [--lanes N] [--above] [--no-tests] [--edits N] [--list] [NAME..]
+    tools/gate_changed/gate_changed.py [--since COMMIT] [--lanes N] [--above] [--no-tests] [--no-edits] [--list] [NAME..]
 
 At the top of the repository. In N lanes (2 if not said), each crate that changed since COMMIT (HEAD if not said: what
 is not committed), or each NAME, in the order of crates.txt: its check, its tests with those of NAME_tests (or of
-the crates of tests that stand on it, where there is no such one), and its must-fail edits. A crate whose must-fail/
-alone changed has only the changed edits tried. First it says which crates have files that are not as rt fmt writes
-them. --above also checks, with tests and no edits, the crates above those. Each line has the wall seconds. The last
-line is 'N well, M not'.
+the crates of tests that stand on it, where there is no such one), and its wrong bodies, those of the gate and those of
+tools/wrong_bodies/NAME. A crate of which only wrong bodies changed has only those tried. First it says which crates
+have files that are not as rt fmt writes them. --above also checks, with tests and no wrong bodies, the crates above
+those. Each line has the wall seconds. The last line is 'N well, M not', in which each check, each run of tests and each
+wrong body counts as one.
 
-Each edit is tried by rt's own code over a fresh copy of the work that the check kept, so none pays for what the one
-before it broke (the gate tries a crate's edits in turn over one folder). --edits N tries at most N of a crate, spread
-over its list. --list says what would be done, and does nothing.
+Wrong bodies of different functions are tried in one check (tools/wrong_bodies/bodies.py says how), over a copy of what
+the crate's check kept. --list says what would be done, and does nothing.
 """
 import argparse
+import glob
 import importlib.machinery
 import importlib.util
 import os
@@ -26,6 +27,9 @@ import threading
 import time
 
 sys.dont_write_bytecode = True
+sys.path.insert(0, os.path.join(os.path.dirname(os.path.dirname(os.path.abspath(__file__))), "wrong_bodies"))
+import bodies
+
 RT = os.path.realpath(shutil.which("rt"))
 loader = importlib.machinery.SourceFileLoader("rt_of_kit", RT)
 rt = importlib.util.module_from_spec(importlib.util.spec_from_loader("rt_of_kit", loader))
@@ -47,7 +51,7 @@ def asked():
     parser.add_argument("--lanes", type=int, default=2, metavar="N")
     parser.add_argument("--above", action="store_true", help="also the crates above those that changed")
     parser.add_argument("--no-tests", action="store_true")
-    parser.add_argument("--edits", type=int, default=0, metavar="N", help="at most so many edits of a crate")
+    parser.add_argument("--no-edits", action="store_true")
     parser.add_argument("--list", action="store_true", help="say what would be done")
     parser.add_argument("names", nargs="*", metavar="NAME")
     return parser.parse_args()
@@ -60,11 +64,10 @@ def changed_since(commit):
     return [it for lines in told for it in lines if it]
 
 
-def some_of(edits, most):
-    """At most so many edits, spread over the list; all of them where 0 is asked for."""
-    if not 0 < most < len(edits):
-        return edits
-    return [edits[at * len(edits) // most] for at in range(most)]
+def wrong_bodies_of(crate):
+    """The crate's wrong bodies, in the gate and beside it."""
+    places = f"{crate.folder}/must-fail", f"tools/wrong_bodies/{crate.name}"
+    return [os.path.abspath(it) for place in places for it in sorted(glob.glob(f"{place}/*.edit"))]
 
 
 class Plan:
@@ -89,12 +92,12 @@ class Plan:
         self.looked = made | tests | upper
         self.edits = {}
         for crate in crates:
-            good, bad = rt.edits_of(crate)
+            _, bad = rt.edits_of(crate)
             FAILED.extend(bad)
-            told = {os.path.abspath(it) for it in touches(crate, "must-fail/")}
-            wanted = good if crate.name in made else [it for it in good if os.path.abspath(it) in told]
-            if wanted:
-                self.edits[crate.name] = some_of(wanted, words.edits)
+            told = {os.path.abspath(it) for it in paths}
+            wanted = [it for it in wrong_bodies_of(crate) if crate.name in made or it in told]
+            if wanted and not words.no_edits:
+                self.edits[crate.name] = wanted
         self.has_tests = not words.no_tests
         self.crates = [it for it in crates if it.name in self.looked or it.name in self.edits]
 
@@ -111,16 +114,15 @@ def command(label, crate, *verb):
     return not ran.returncode
 
 
-def try_edit(crate, edit):
-    """Tries an edit over a copy of what the crate's check kept."""
-    start = time.time()
-    with tempfile.TemporaryDirectory(prefix="gate-changed-") as room:
-        shutil.copytree(f"{crate.folder}/out/incremental", f"{room}/kept")
-        is_well, text = rt.must_fail(crate, edit, ["--jobs", "1"], f"{room}/kept")
-    # One that did not reach the prover says nothing of a contract.
-    is_well = is_well and "BAD EDIT" not in text
-    (WELL if is_well else FAILED).append(os.path.basename(edit))
-    say(f"{'ok ' if is_well else 'NOT'} {text[:170]} ({time.time() - start:.1f} s)")
+def try_edits(crate, edits):
+    """Tries wrong bodies over what the crate's check kept."""
+
+    def tell(is_refused, text):
+        if is_refused is not None:
+            (WELL if is_refused else FAILED).append(text.split(":")[0])
+        say(text if is_refused is None else f"{'ok ' if is_refused else 'NOT'} {text}")
+
+    bodies.try_all(rt, crate, edits, tell)
 
 
 def look_at_layout(crates):
@@ -134,7 +136,7 @@ def look_at_layout(crates):
         (WELL if is_well else FAILED).append(f"layout {crate.name}")
 
 
-def tasks_of(crates, plan, lanes):
+def tasks_of(crates, plan):
     """The tasks for rt's lanes: what each waits for, its size, the memory that it needs, and the call."""
 
     def libraries_stand(crate, given):
@@ -144,7 +146,7 @@ def tasks_of(crates, plan, lanes):
         return lambda given, jobs: libraries_stand(crate, given) and command(label, crate, *verb)
 
     def tried(crate, edits):
-        return lambda given, jobs: given[crate.name, "check"] and [try_edit(crate, it) for it in edits]
+        return lambda given, jobs: given[crate.name, "check"] and try_edits(crate, edits)
 
     tasks, below = {}, {dep.name for it in plan.crates for dep in it.below()}
     for crate in crates:
@@ -160,10 +162,9 @@ def tasks_of(crates, plan, lanes):
         waits = [*waits, (crate.name, "check")]
         if plan.has_tests and crate.name in plan.looked and crate.has_tests():
             tasks[crate.name, "tests"] = (waits, *size, run("tests", crate, "test"))
-        for lane in range(lanes):
-            edits = plan.edits.get(crate.name, [])[lane::lanes]
-            if edits:
-                tasks[crate.name, "edits", lane] = (waits, *size, tried(crate, edits))
+        edits = plan.edits.get(crate.name, [])
+        if edits:
+            tasks[crate.name, "edits"] = (waits, *size, tried(crate, edits))
     return tasks
 
 
@@ -178,12 +179,12 @@ def main():
         sys.exit(f"no crate is named {' '.join(sorted(unknown))}")
     plan = Plan(crates, words)
     for crate in plan.crates:
-        say(f"{crate.name}: {'check, tests' if crate.name in plan.looked else 'check'}, {len(plan.edits.get(crate.name, []))} edits")
+        say(f"{crate.name}: {'check, tests' if crate.name in plan.looked else 'check'}, {len(plan.edits.get(crate.name, []))} wrong bodies")
     if words.list or not plan.crates:
         return 0
     look_at_layout(crates)
     os.environ["RT_JOBS"] = str(words.lanes)
-    rt.in_lanes(tasks_of(crates, plan, words.lanes))
+    rt.in_lanes(tasks_of(crates, plan))
     say(f"FAILED: {' '.join(FAILED)}" if FAILED else "all well; rt ci is the gate")
     print(f"{len(WELL)} well, {len(FAILED)} not")
     return 1 if FAILED else 0
