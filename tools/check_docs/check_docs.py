@@ -13,6 +13,7 @@ It looks at:
   against the code in the gate (rt ci takes no link in the place of a file);
 - the figures of docs/TRUST.md: they are those that tools/reach counts;
 - wrong bodies, in the gate and beside it: each old text stands in its file once;
+- the table of promises in docs/GATE.md: it names each wrong body of the gate, with its crate, and no other;
 - src/asserts.rt of the test crates: what several of them have is one text;
 - other helpers that stand in several test crates: each is one text, wherever it stands;
 - the names of definitions: no two have one name;
@@ -265,6 +266,20 @@ def check_edits():
                     texts[path] = texts[path].replace(old, rest)
 
 
+def check_promises():
+    page = read("docs/GATE.md")
+    told = set()
+    for line in page[page.index("| Promise |"):].split("\n\n")[0].split("\n")[2:]:
+        _, crate, names = cells_of(line)
+        told |= {(crate.strip("`"), name) for name in re.findall(r"`(\w+)`", names)}
+    there = {(edit.parent.parent.name, edit.name.split(".")[1]) for edit in CRATES.glob("*/must-fail/*.edit")}
+    for crate, name in sorted(told - there):
+        look(False, "docs/GATE.md", f"no wrong body {name} in crates/{crate}/must-fail")
+    for crate, name in sorted(there - told):
+        look(False, f"crates/{crate}/must-fail", f"no promise in docs/GATE.md names {name}")
+    look(True, "docs/GATE.md", "")
+
+
 # ---- what tests assert
 
 def check_asserts():
@@ -401,6 +416,7 @@ def main():
     check_keys()
     check_figures()
     check_edits()
+    check_promises()
     check_asserts()
     check_repeated()
     check_names()

@@ -2,14 +2,19 @@
 """Runs the gate and tells where its time goes.
 
     tools/gate_times/gate_times.py [WORD ..]
+    tools/gate_times/gate_times.py --page FILE ..
 
 At the top of the repository: runs `rt ci`, or the words that are given, and passes its lines on. While it runs, the
 processes of the prover and the compilers that it started are looked at once a second. At the end there is a table on
 standard error: for each crate and part of the gate (proof, tests, edits) how many checks there were, their seconds of
 processor, the wall seconds from the first to the last, and the most memory of one; and the dearest checks of edits by
 name. What a process does within the second before it ends is not seen. The exit status is that of the command.
+
+With --page it runs nothing, but writes the table of docs/GATE.md from such tables, which stand in files. Where two files
+have a part of a crate, the later one counts.
 """
 import os
+import re
 import subprocess
 import sys
 import threading
@@ -147,7 +152,66 @@ class Table:
         print(f"all: {total / 60:.1f} minutes of processor, {wall / 60:.1f} of wall", file=sys.stderr)
 
 
+# The rows of the table in docs/GATE.md, and the line of sums behind it.
+PAGE_TABLE = re.compile(r"(?<=\|---\|---\|---\|---\|---\|---\|---\|\n)(\| `.*\n)+\n.*\n")
+
+
+def library_names():
+    """Each crate of crates.txt with those that it stands on, the lowest first."""
+    with open("crates.txt", encoding="utf-8") as file:
+        lines = [line.split() for line in file if line[:1].isalpha()]
+    crates = {line[0].rstrip(":") for line in lines}
+    return {line[0].rstrip(":"): [it for it in line[1:] if it in crates] for line in lines}
+
+
+def standing_on(name, libraries):
+    """The crates that stand on a crate, at any height."""
+    found = {name}
+    for crate, below in libraries.items():
+        if found & {*below}:
+            found.add(crate)
+    return found - {name}
+
+
+def write_page(files):
+    """Writes the table of docs/GATE.md from the tables in these files."""
+    seconds, memory = {}, {}
+    for path in files:
+        with open(path, encoding="utf-8") as file:
+            for crate, part, _, cpu, _, _, most in re.findall(r"^(\w+) +(proof|tests|edits)" + r" +(\d+)" * 5, file.read(), re.M):
+                seconds[crate, part], memory[crate, part] = int(cpu), int(most)
+    libraries = library_names()
+    cost = {name: sum(seconds.get((name, part), 0) for part in ("proof", "tests", "edits")) for name in libraries}
+    rows, sums = [], [0, 0, 0]
+    for name in libraries:
+        if name.endswith("_tests") and name.removesuffix("_tests") in libraries:
+            continue
+        tests = f"{name}_tests"
+        parts = [
+            seconds.get((name, "proof"), 0),
+            seconds.get((name, "tests"), 0) + cost.get(tests, 0),
+            seconds.get((name, "edits"), 0),
+        ]
+        sums = [one + other for one, other in zip(sums, parts)]
+        most = max(memory.get((it, part), 0) for it in (name, tests) for part in ("proof", "tests", "edits"))
+        edits = len([it for it in os.listdir(f"crates/{name}/must-fail")]) if os.path.isdir(f"crates/{name}/must-fail") else 0
+        change = cost[name] + sum(cost[it] for it in standing_on(name, libraries))
+        cells = [f"`{name}`", parts[0], parts[1] or "", edits or "", parts[2] or "", f"{most:,}", round(change / 60)]
+        rows.append("| " + " | ".join(str(it) for it in cells) + " |")
+    told = "So proofs are {} minutes of processor, tests {}, and wrong bodies {}: {} in all.".format(
+        *(round(it / 60) for it in sums), round(sum(sums) / 60)
+    )
+    with open("docs/GATE.md", encoding="utf-8") as file:
+        page = file.read()
+    page = PAGE_TABLE.sub(lambda _: "\n".join(rows).replace("|  |", "| |") + f"\n\n{told}\n", page, count=1)
+    with open("docs/GATE.md", "w", encoding="utf-8") as file:
+        file.write(page)
+
+
 def main(words):
+    if words[:1] == ["--page"]:
+        write_page(words[1:])
+        return 0
     table, ended = Table(), threading.Event()
     run = subprocess.Popen(words or ["rt", "ci"])
 
