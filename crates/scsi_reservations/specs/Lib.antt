@@ -1,0 +1,4 @@
+pub mod Reservations
+pub mod Blocks
+pub mod Data
+pub mod Worked
