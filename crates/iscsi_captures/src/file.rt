@@ -1,6 +1,7 @@
 //! A capture file of any length, packet by packet.
 
-ghost use Rattle.std.specs.Prelude.{ℕ, List, Option, IfOk, IfErr};
+ghost use Rattle.std.specs.Prelude.{◌≡◌, ℕ, List, Option, false, IfOk, IfErr};
+ghost use Rattle.std.specs.Io.KnownBytes.{IsAtEnd};
 ghost use Rattle.iscsi_captures.specs.Giving.{IsEndOf, IsFileFault, IsSegmentOf, WasRead};
 
 use crate::fault::CapturesFault;
@@ -78,23 +79,40 @@ impl CaptureFile {
         ensures end { IfOk result (IsEndOf (R.remaining file.new)) }
         ensures fault { IfErr result (IsFileFault (R.remaining file.new)) }
     {
-        self.window.give_up(self.taken);
-        self.taken = 0;
-        match self.window.fill(file, self.needed) {
-            Err(_) => return Err(CapturesFault::Read),
-            Ok(true) => {}
-            Ok(false) => {
-                return match self.begun() {
-                    Some(at) => Err(CapturesFault::Truncated { at }),
-                    None => Ok(Stood::End),
-                };
-            }
-        }
-        if self.skip > 0 {
-            self.pass();
-            return Ok(Stood::Other);
+        if !self.read_on(file)? {
+            return Ok(Stood::End);
         }
         self.stand()
+    }
+
+    /// Whether the bytes of the next step are at hand, so that it reads nothing.
+    pub(crate) fn is_at_hand(&self) -> bool {
+        self.window.bytes().len().saturating_sub(self.taken) >= self.needed
+    }
+
+    /// Reads on until the bytes of the next step are at hand, as often as that needs, and the last
+    /// read may wait for long. Returns `false` if the file has ended. The faults are `Truncated` and
+    /// `Read`, as in `step`.
+    pub(crate) fn read_on<R: Read>(&mut self, file: &mut R) -> Result<bool, CapturesFault>
+        ensures reads { WasRead (R.remaining file.old) (R.remaining file.new) }
+        ensures end { IfOk result (λ more. more ≡ false → IsAtEnd (R.remaining file.new)) }
+        ensures fault { IfErr result (IsFileFault (R.remaining file.new)) }
+    {
+        self.give_up_taken();
+        match self.window.fill(file, self.needed) {
+            Err(_) => Err(CapturesFault::Read),
+            Ok(true) => Ok(true),
+            Ok(false) => match self.begun() {
+                Some(at) => Err(CapturesFault::Truncated { at }),
+                None => Ok(false),
+            },
+        }
+    }
+
+    // Gives up the bytes of the last packet.
+    fn give_up_taken(&mut self) {
+        self.window.give_up(self.taken);
+        self.taken = 0;
     }
 
     // Where the record or block begins of which a part was read; `None` if there is none.
@@ -115,11 +133,17 @@ impl CaptureFile {
         self.needed = 1;
     }
 
-    // What stands at the first byte at hand.
-    fn stand(&mut self) -> Result<Stood<'_>, CapturesFault>
+    /// What stands at the first byte at hand, or something else that is passed over. Nothing is
+    /// read. The faults are the others of `step`.
+    pub(crate) fn stand(&mut self) -> Result<Stood<'_>, CapturesFault>
         ensures on { (left : Option (List ℕ)) → IfOk result (IsEndOf left) }
         ensures fault { (left : Option (List ℕ)) → IfErr result (IsFileFault left) }
     {
+        self.give_up_taken();
+        if self.skip > 0 {
+            self.pass();
+            return Ok(Stood::Other);
+        }
         let at = self.window.at();
         self.needed = 1;
         match self.capture.step(self.window.bytes()) {

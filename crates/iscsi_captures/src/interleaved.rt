@@ -1,5 +1,7 @@
 //! Both directions of a capture's connections, in the order of the capture.
 
+ghost use Rattle.std.specs.Prelude.{◌≡◌, [], OnOk};
+ghost use Rattle.std.specs.Io.KnownBytes.{Appends};
 ghost use Rattle.iscsi_captures.specs.Written.{WroteBytes};
 ghost use Rattle.iscsi_explain.specs.Showing.{AppendsSome};
 
@@ -67,7 +69,7 @@ impl Stage {
         }
     }
 
-    // Reads to the end of the file. What was gathered is written before more of the file is read.
+    // Reads to the end of the file.
     #[tactic(auto, using(crate::proofs::Shown::wrote_none, crate::proofs::Shown::wrote_more))]
     fn read_all<R: Read, W: Write>(
         &mut self,
@@ -86,7 +88,8 @@ impl Stage {
         Ok(())
     }
 
-    // One step of the file; says whether it goes on.
+    // One step of the file; says whether it goes on. What was gathered is written before more of
+    // the file is read, and where it is much.
     fn step<R: Read, W: Write>(
         &mut self,
         file: &mut CaptureFile,
@@ -95,18 +98,39 @@ impl Stage {
     ) -> Result<bool, CapturesFault>
         ensures moves { WroteBytes (W.contents w.old) (W.contents w.new) }
     {
-        match file.step(source)? {
-            Stood::End => return Ok(false),
-            Stood::Other => {}
-            Stood::Packet(packet) => {
-                self.hear(packet)?;
-                if self.out.len() < GATHERED {
-                    return Ok(true);
-                }
-            }
+        if !file.is_at_hand() {
+            write_gathered(&mut self.out, w)?;
+            return self.read_on(file, source);
         }
-        write_gathered(&mut self.out, w)?;
+        if let Stood::Packet(packet) = file.stand()? {
+            self.hear(packet)?;
+        }
+        self.write_much(w)?;
         Ok(true)
+    }
+
+    // Writes what was gathered, if it is much.
+    fn write_much<W: Write>(&mut self, w: &mut W) -> Result<(), CapturesFault>
+        ensures moves { WroteBytes (W.contents w.old) (W.contents w.new) }
+    {
+        if self.out.len() < GATHERED {
+            return Ok(());
+        }
+        let out = &mut self.out;
+        write_gathered(out, w)
+    }
+
+    // Reads on in the file, which may wait for long: nothing that was gathered is unwritten. No
+    // other function of a stage is given the reader but those that call this one. Says whether the
+    // file goes on.
+    fn read_on<R: Read>(
+        &mut self,
+        file: &mut CaptureFile,
+        source: &mut R,
+    ) -> Result<bool, CapturesFault>
+        requires written { self.old.out.items ≡ [] }
+    {
+        file.read_on(source)
     }
 
     // Takes a packet.
@@ -207,6 +231,8 @@ fn heard_by(
 // Writes what was gathered.
 fn write_gathered<W: Write>(out: &mut Vec<u8>, w: &mut W) -> Result<(), CapturesFault>
     ensures moves { WroteBytes (W.contents w.old) (W.contents w.new) }
+    ensures all { OnOk result (Appends (W.contents w.old) (W.contents w.new) out.old.items) }
+    ensures none { OnOk result (out.new.items ≡ []) }
 {
     if write_fully(w, out.as_slice()).is_err() {
         return Err(CapturesFault::Write);

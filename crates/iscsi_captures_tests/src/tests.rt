@@ -6,6 +6,7 @@ mod failing;
 mod files;
 mod interleaved;
 mod listings;
+mod live;
 mod segments;
 mod streams;
 

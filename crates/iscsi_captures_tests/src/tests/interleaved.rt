@@ -11,11 +11,12 @@ use std::alloc::Global;
 use std::process::Abort;
 
 /// The login request, whose line follows the time of the packet that completes it.
-const LOGIN_LINE: &str =
+pub const LOGIN_LINE: &str =
     "0 Login-Request t=0 c=0 csg=1 vmax=00 vmin=00 isid=400001370000 tsih=0000 \
     itt=00000001 cid=0000 cmdsn=00000001 expstatsn=00000000 data=0\n";
 
-const PING_LINE: &str =
+/// The line of the ping, behind its time.
+pub const PING_LINE: &str =
     "0 NOP-Out i=1 itt=00000001 ttt=ffffffff cmdsn=00000005 expstatsn=00000002 data=0\n";
 
 /// A capture, the connection that is asked for, the parts of what is written, and the fault.

@@ -2,7 +2,7 @@ use Rattle.iscsi_captures.proofs.file.CaptureFile.step.Goals as goal
 
 pub returns : goal.returns
 returns g c = record {
-  reads = c.fill.ensures.reads;
-  end = c.stand.ensures.on (g.R.Read.remaining c.fill.new.file);
-  fault = c.stand.ensures.fault (g.R.Read.remaining c.fill.new.file);
+  reads = c.read_on.ensures.reads;
+  end = c.stand.ensures.on (g.R.Read.remaining c.read_on.new.file);
+  fault = c.stand.ensures.fault (g.R.Read.remaining c.read_on.new.file);
 }
