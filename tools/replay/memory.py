@@ -5,7 +5,7 @@
 
 `job` reads each connection of the captured session (docs/session), out of the capture and out of two files. `replay` does a job
 with each kind of request again, some of which differ, at `serve`. A run in which memory is refused ends with status 3, and wrote
-the first lines of what is due, where an outcome that was not read is `was none`; or it ends as without that. The refusals are
+the first lines of what is due, where an outcome that was not read is `was unanswered`; or it ends as without that. The refusals are
 those of tools/refused_memory/refuse.c, which wants `gcc`. PROGRAM is crates/lanthovur/out/lanthovur if none is named. The last
 line says how many runs ended wrongly.
 """
@@ -58,7 +58,7 @@ def is_front(written, due):
     lines, others = written.splitlines(), due.splitlines()
     if len(lines) > len(others):
         return False
-    return all(line in (other, "  was none") if other.startswith("  was ") else line == other for line, other in zip(lines, others))
+    return all(line in (other, "  was unanswered") if other.startswith("  was ") else line == other for line, other in zip(lines, others))
 
 
 class Sweep:

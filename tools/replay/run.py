@@ -247,6 +247,25 @@ class Closes(Bug):
         raise OSError
 
 
+class Pings(Bug):
+    """Pings in place of an answer, three times a second, for half a minute."""
+
+    def changed(self, pdu):
+        for _ in range(90):
+            # No answer is asked for, and StatSN is the next one.
+            yield bytes([0x20, 0x80]) + bytes(14) + b"\xff" * 8 + pdu[24:36] + bytes(12)
+            time.sleep(1 / 3)
+
+
+class Drips(Bug):
+    """Gives an answer byte by byte, two a second."""
+
+    def changed(self, pdu):
+        for byte in pdu:
+            yield bytes([byte])
+            time.sleep(0.5)
+
+
 # ---- cases
 
 
@@ -339,7 +358,7 @@ def live(cases):
                 differ = [line for ran in rans for line in ran.stdout.splitlines()]
                 failed = [ran.stderr.strip() for ran in rans if ran.returncode not in (0, 1) or "login" in ran.stderr]
                 if other is kind:
-                    failed += [line for line in differ if not re.fullmatch(r"0 of \d+ differ", line)]
+                    failed += [line for line in differ if not re.fullmatch(r"0 of \d+ differ, \d+ passed over", line)]
                 cases.say(f"replay of {name} to {other.title}: {'; '.join(line for line in differ if ' of ' in line and 'differ' in line)}", failed)
                 if other is not kind:
                     for line in differ:
@@ -393,13 +412,21 @@ def bugs(cases):
         proxy.close()
         fine = ran.returncode == 4 and "request 3: the target closed the connection" in ran.stderr
         cases.say(f"a closed connection: {ran.stderr.strip()}", [] if fine else [f"status {ran.returncode}", ran.stdout[:300]])
+        for title, bug in (("pings in place of an answer", Pings(3)), ("an answer byte by byte", Drips(3))):
+            proxy, began = Proxy(target.port, bug), time.monotonic()
+            ran = cases.replay(proxy.port, job, "--writes", "--wait", "2")
+            took = time.monotonic() - began
+            proxy.close()
+            fine = ran.returncode == 4 and "request 3: the target does not answer" in ran.stderr and 2 <= took < 5
+            cases.say(f"{title}, at most two seconds: {ran.stderr.strip()}", [] if fine else [f"status {ran.returncode}, {took:.1f} s", ran.stdout[:300]])
         refusals(cases, room, target, job)
+        together(cases, room, target)
     finally:
         target.close()
 
 
 def refusals(cases, room, target, job):
-    rows = (("a job that writes", ["--to", f"127.0.0.1:{target.port}", job], 1, "request 2: write 0 1 5a: writes"),
+    rows = (("a job that writes", ["--to", f"127.0.0.1:{target.port}", job], 1, "request 2: write 0 1 5a: may write"),
             ("nobody listens", ["--to", f"127.0.0.1:{free_port()}", "--writes", job], 4, "not reached"),
             ("another name", ["--to", f"127.0.0.1:{target.port}", "--name", "iqn.2026-01.example:other", "--writes", job], 1, "login refused: 0203"),
             ("no such file", ["--to", f"127.0.0.1:{target.port}", room / "none"], 4, "read failed"))
@@ -407,6 +434,18 @@ def refusals(cases, room, target, job):
         ran = cases.run("replay", *words)
         fine = ran.returncode == status and text in ran.stderr and not ran.stdout
         cases.say(f"{title}: {ran.stderr.strip()}", [] if fine else [f"status {ran.returncode}, not {status}", ran.stdout[:300]])
+
+
+def together(cases, room, target):
+    """Two at once have two sessions; with one ISID the second one ends the first."""
+    job = room / "long"
+    job.write_text("tur 0\n  was good\n" * 20000 + "logout\n  was closed\n")
+    for title, words, due in (("random ISIDs", [], [0, 0]), ("one ISID", ["--isid", "800000000001"], [0, 4])):
+        command = [cases.program, "replay", "--to", f"127.0.0.1:{target.port}", *words, job]
+        both = [subprocess.Popen(list(map(str, command)), stdout=subprocess.PIPE, stderr=subprocess.PIPE, text=True) for _ in range(2)]
+        told = [one.communicate(timeout=SECONDS) for one in both]
+        ended = sorted(one.returncode for one in both)
+        cases.say(f"two at once with {title}: {ended}", [] if ended == due else [str(told)[:300]])
 
 
 def rate(cases, count=2000):

@@ -1,1 +1,3 @@
-pub mod inner
+pub mod Jobs
+pub mod Requests
+pub mod Answers

@@ -1,87 +1,67 @@
 //! What the PDUs of a target answer.
 
-ghost use Rattle.std.specs.Prelude.{◌≡◌, ◌≤◌, ◌++◌, IfOk, IfSome, OnOk, OnErr, None, Some};
+ghost use Rattle.std.specs.Prelude.{◌≡◌, ◌++◌, IfOk, OnOk, OnErr, None, Some};
 ghost use Rattle.std.specs.Option.{option_map};
 ghost use Rattle.iscsi_initiator.specs.Full.{residual, sense_of};
 ghost use Rattle.iscsi_job.specs.declared.item.Ended.TheVariants.{Ping as IsPing};
-ghost use Rattle.iscsi_job.specs.inner.Answers.{item_answered, item_on_data, on_sense, item_on_text};
+ghost use Rattle.iscsi_job.specs.Answers.{item_answered, item_on_data, on_sense, item_on_text};
 
 use crate::fault::Reason;
 use crate::item::{Asked, Ended, Item, Moves};
-use crate::recording::{MOST_OPEN, Noted};
+use crate::recording::Noted;
 use iscsi_pdu::{DataIn, Head, RESERVED_TAG, ScsiResponse, TextResponse};
+use iscsi_tasks::Tasks;
 use scsi_cdb::Residual;
 use std::alloc::AllocError;
 
-/// Notes what a PDU of the target answers, or says why it has no place in a job. No request before
-/// `first_open` is without an answer. If memory runs out, nothing is noted of it.
+/// Notes what a PDU of the target answers, or says why it has no place in a job. If memory runs out,
+/// nothing is noted of it.
 pub(crate) fn take(
     noted: &mut Vec<Noted>,
-    first_open: &mut usize,
+    tasks: &mut Tasks,
     head: &Head,
     bytes: &[u8],
 ) -> Result<Option<Reason>, AllocError> {
-    let tag = match tag_of(head) {
-        Ok(tag) => tag,
-        Err(said) => return Ok(said),
-    };
-    if tag == RESERVED_TAG {
-        return Ok(None);
+    let found = tasks.hear(head);
+    match is_answer(head) {
+        Ok(true) => answer(noted, found, head, bytes),
+        Ok(false) => Ok(None),
+        Err(reason) => Ok(Some(reason)),
     }
-    let Some(index) = open_with(noted, *first_open, tag) else {
+}
+
+// Whether a PDU answers a request; of one that has no place in a job, why.
+fn is_answer(head: &Head) -> Result<bool, Reason> {
+    match head {
+        Head::NopIn(head) => Ok(head.initiator_task_tag != RESERVED_TAG),
+        Head::ScsiResponse(_)
+        | Head::TaskResponse(_)
+        | Head::TextResponse(_)
+        | Head::DataIn(_)
+        | Head::LogoutResponse(_) => Ok(true),
+        Head::LoginResponse(_) | Head::ReadyToTransfer(_) | Head::AsyncMessage(_) => Ok(false),
+        Head::Reject(_) => Err(Reason::Rejected),
+        _ => Err(Reason::Kind),
+    }
+}
+
+// Notes what a PDU answers to the request with this index, which is still without an answer.
+fn answer(
+    noted: &mut Vec<Noted>,
+    index: Option<usize>,
+    head: &Head,
+    bytes: &[u8],
+) -> Result<Option<Reason>, AllocError> {
+    let Some(index) = index else {
         return Ok(Some(Reason::Unasked));
     };
-    if index - *first_open > MOST_OPEN {
-        return Ok(Some(Reason::Open));
-    }
     let Some(found) = noted.get_mut(index) else {
         return Ok(Some(Reason::Unasked));
     };
-    let said = answered(&mut found.item, head, bytes)?;
-    *first_open = next_open(noted, *first_open);
-    Ok(said)
-}
-
-// The tag of the request that a PDU answers; of one that answers none, why it has no place in a job, if
-// it has none.
-fn tag_of(head: &Head) -> Result<u32, Option<Reason>> {
-    match head {
-        Head::NopIn(head) => Ok(head.initiator_task_tag),
-        Head::ScsiResponse(head) => Ok(head.initiator_task_tag),
-        Head::TaskResponse(head) => Ok(head.initiator_task_tag),
-        Head::TextResponse(head) => Ok(head.initiator_task_tag),
-        Head::DataIn(head) => Ok(head.initiator_task_tag),
-        Head::LogoutResponse(head) => Ok(head.initiator_task_tag),
-        Head::LoginResponse(_) | Head::ReadyToTransfer(_) | Head::AsyncMessage(_) => Err(None),
-        Head::Reject(_) => Err(Some(Reason::Rejected)),
-        _ => Err(Some(Reason::Kind)),
+    if found.item.ended.is_some() {
+        return Ok(Some(Reason::Unasked));
     }
-}
-
-// The index of the first request with a tag that is without an answer, from this one on.
-fn open_with(noted: &[Noted], from: usize, tag: u32) -> Option<usize>
-    ensures behind { IfSome result (λ index. from ≤ index) }
-{
-    for index in from..noted.len() {
-        let Some(found) = noted.get(index) else {
-            return None;
-        };
-        if found.tag == tag && found.item.ended.is_none() {
-            return Some(index);
-        }
-    }
-    None
-}
-
-// The index of the first request without an answer, from this one on.
-fn next_open(noted: &[Noted], from: usize) -> usize {
-    for index in from..noted.len() {
-        match noted.get(index) {
-            Some(found) if found.item.ended.is_some() => {}
-            _ => return index,
-        }
-    }
-    from.max(noted.len())
+    answered(&mut found.item, head, bytes)
 }
 
 // Notes what a PDU answers to its request.

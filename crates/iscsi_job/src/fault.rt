@@ -42,15 +42,10 @@ pub enum Reason {
     Bidirectional,
     /// A text goes on in a further PDU.
     Parts,
-    /// No open request has the tag, or it is of a kind that is not answered so.
+    /// No open request is answered by it, or it is of a kind that is not answered so.
     Unasked,
-    /// More than 65,536 requests stand between the first one without an answer and the one that is
-    /// answered.
-    Open,
     /// The target rejects a PDU.
     Rejected,
-    /// Not all data of the write were recorded.
-    Lacking,
 }
 
 impl Display for Reason {
@@ -63,9 +58,7 @@ impl Display for Reason {
             Reason::Bidirectional => "both directions",
             Reason::Parts => "text in parts",
             Reason::Unasked => "no such request",
-            Reason::Open => "over 65536 requests open",
             Reason::Rejected => "rejected",
-            Reason::Lacking => "data missing",
         };
         f.write_str(text)
     }

@@ -1,6 +1,7 @@
 //! A request of a job, and what came of it.
 
 ghost use Rattle.std.specs.Prelude.{◌≡◌, IfOk};
+ghost use Rattle.iscsi_job.specs.Jobs.{lacks_data};
 
 use iscsi_initiator::{Done, Request};
 use scsi_cdb::{Bytes, Residual};
@@ -80,7 +81,7 @@ pub struct Item {
     pub asked: Asked,
     /// The data of a write, the data of a ping or the text that was sent.
     pub sent: Vec<u8>,
-    /// How it ended; none where the recording ends before that.
+    /// How it ended; none where it was not answered.
     pub ended: Option<Ended>,
     /// The sense data that came.
     pub sense: Vec<u8>,
@@ -89,7 +90,7 @@ pub struct Item {
 }
 
 impl Model for Item {
-    ghost use Rattle.iscsi_job.specs.inner.Jobs.{Item as JobItem};
+    ghost use Rattle.iscsi_job.specs.Jobs.{Item as JobItem};
 
     ghost Value = { JobItem };
 
@@ -113,8 +114,27 @@ impl Item {
         })
     }
 
-    /// The request that an initiator is asked for to do it again; none for task management.
+    /// Whether it is a write of which fewer bytes were sent than it was to send. A target may end a write
+    /// early, or the initiator may give it up.
+    pub fn lacks_data(&self) -> bool
+        ensures value { result ≡ lacks_data self.now }
+    {
+        match self.asked {
+            Asked::Command {
+                moves: Moves::Out,
+                expected,
+                ..
+            } => self.sent.len() < expected as usize,
+            _ => false,
+        }
+    }
+
+    /// The request that an initiator is asked for to do it again; none for task management, and for a
+    /// write that lacks data.
     pub fn request(&self, alloc: Global) -> Result<Option<Request>, AllocError> {
+        if self.lacks_data() {
+            return Ok(None);
+        }
         match self.asked {
             Asked::Command {
                 lun,

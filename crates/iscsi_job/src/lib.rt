@@ -11,4 +11,4 @@ mod requests;
 
 pub use fault::{JobFault, Reason, Which};
 pub use item::{Asked, Ended, Item, Moves, Outcome, outcome_of};
-pub use recording::{MOST_OPEN, Noted, Recording};
+pub use recording::{Noted, Recording};

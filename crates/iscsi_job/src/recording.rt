@@ -4,16 +4,14 @@ ghost use Rattle.iscsi_pdu.specs.Meaning.{HeadFits};
 
 use crate::answers;
 use crate::fault::{JobFault, Reason, Which};
-use crate::item::{Asked, Item, Moves};
+use crate::item::{Asked, Item};
 use crate::pdus::Pdus;
 use crate::requests::{Heard, give, note, said_by};
 use iscsi_pdu::Head;
+use iscsi_tasks::{Tasks, Use, acknowledged};
 use std::alloc::{AllocError, Global};
 use std::io::Read;
 use std::marker::Model;
-
-/// How many requests may stand between the first one without an answer and one that is answered.
-pub const MOST_OPEN: usize = 65_536;
 
 /// A request of a recording, with its tag.
 #[derive(Drop)]
@@ -29,7 +27,7 @@ pub struct Noted {
 }
 
 impl Model for Noted {
-    ghost use Rattle.iscsi_job.specs.inner.Jobs.{NotedRequest as NotedItem};
+    ghost use Rattle.iscsi_job.specs.Jobs.{NotedRequest as NotedItem};
 
     ghost Value = { NotedItem };
 
@@ -41,8 +39,7 @@ impl Model for Noted {
 pub struct Recording {
     alloc: Global,
     noted: Vec<Noted>,
-    // No request before this one is without an answer.
-    first_open: usize,
+    tasks: Tasks,
 }
 
 impl Recording {
@@ -51,7 +48,7 @@ impl Recording {
         Recording {
             alloc,
             noted: Vec::new(alloc),
-            first_open: 0,
+            tasks: Tasks::new(alloc),
         }
     }
 
@@ -111,20 +108,6 @@ impl Recording {
         }
     }
 
-    /// Ends the recording: a write of which not all data were recorded is refused, with its place, and
-    /// the requests from it on are dropped.
-    pub fn end(&mut self) -> Result<(), JobFault> {
-        let Some(index) = self.noted.iter().position(|noted| lacks_data(&noted.item)) else {
-            return Ok(());
-        };
-        let fault = match self.noted.get(index) {
-            Some(noted) => refused(Which::Initiator, Reason::Lacking, noted.place, noted.pdu),
-            None => return Ok(()),
-        };
-        self.noted.truncate(index);
-        Err(fault)
-    }
-
     // Notes what a PDU of the initiator asks, or says why it has no place in a job.
     fn take_request(
         &mut self,
@@ -135,14 +118,29 @@ impl Recording {
         requires fits { HeadFits head.now }
     {
         match said_by(head, bytes) {
-            Heard::Asks(tag, asked) => {
-                note(self.alloc, &mut self.noted, at, tag, asked, bytes)?;
-                Ok(None)
-            }
+            Heard::Asks(tag, asked) => self.begin(at, tag, asked, head, bytes),
             Heard::Gives(tag, offset) => Ok(self.pass_on(tag, offset, bytes)?),
             Heard::Nothing => Ok(None),
             Heard::Refuses(reason) => Ok(Some(reason)),
         }
+    }
+
+    // Notes a request, and that it uses its tag from now on.
+    fn begin(
+        &mut self,
+        at: (u64, u64),
+        tag: u32,
+        asked: Asked,
+        head: &Head,
+        bytes: &[u8],
+    ) -> Result<Option<Reason>, JobFault> {
+        let Some(known) = acknowledged(head) else {
+            return Ok(Some(Reason::Kind));
+        };
+        let request = self.noted.len();
+        self.tasks.begin(tag, Use { request, known })?;
+        note(self.alloc, &mut self.noted, at, tag, asked, bytes)?;
+        Ok(None)
     }
 
     // Gives bytes to the last request with a tag.
@@ -152,7 +150,7 @@ impl Recording {
         offset: u32,
         bytes: &[u8],
     ) -> Result<Option<Reason>, AllocError> {
-        let Some(index) = self.noted.iter().rposition(|noted| noted.tag == tag) else {
+        let Some(index) = self.tasks.latest(tag) else {
             return Ok(Some(Reason::Unasked));
         };
         match self.noted.get_mut(index) {
@@ -163,7 +161,7 @@ impl Recording {
 
     // Notes what a PDU of the target answers, or says why it has no place in a job.
     fn take_answer(&mut self, head: &Head, bytes: &[u8]) -> Result<Option<Reason>, JobFault> {
-        Ok(answers::take(&mut self.noted, &mut self.first_open, head, bytes)?)
+        Ok(answers::take(&mut self.noted, &mut self.tasks, head, bytes)?)
     }
 }
 
@@ -182,17 +180,5 @@ fn is_login(which: Which, head: &Head) -> bool {
     match which {
         Which::Initiator => matches!(head, Head::LoginRequest(_)),
         Which::Target => matches!(head, Head::LoginResponse(_)),
-    }
-}
-
-// Whether a write has fewer bytes than it was to send.
-fn lacks_data(item: &Item) -> bool {
-    match item.asked {
-        Asked::Command {
-            moves: Moves::Out,
-            expected,
-            ..
-        } => item.sent.len() < expected as usize,
-        _ => false,
     }
 }

@@ -3,7 +3,7 @@
 ghost use Rattle.std.specs.Prelude.{◌≡◌, ◌++◌, ◌∷◌, [], None, Ok, IfOk, IsSome, OnOk, OnErr};
 ghost use Rattle.scsi_cdb.specs.Blocks.{CdbFits as FitsTable};
 ghost use Rattle.iscsi_pdu.specs.Meaning.{HeadFits};
-ghost use Rattle.iscsi_job.specs.inner.Requests.{asked_item, commanded, gives, said_by, texted};
+ghost use Rattle.iscsi_job.specs.Requests.{asked_item, commanded, gives, said_by, texted};
 
 use crate::fault::{JobFault, Reason};
 use crate::item::{Asked, Item, Moves};

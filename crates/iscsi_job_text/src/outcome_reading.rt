@@ -16,7 +16,7 @@ fn take_words(alloc: Global, item: &mut Item, words: &mut Words<'_>) -> Result<(
     if !words.take_if("was") {
         return Err(LineFault::Refused(LineReason::Outcome));
     }
-    if !words.take_if("none") {
+    if !words.take_if("unanswered") && !words.take_if("none") {
         let ended = ended(alloc, item, words)?;
         item.ended = Some(ended);
     }

@@ -18,7 +18,7 @@ pub fn write_outcome(
     text: &mut String,
 ) -> Result<(), AllocError> {
     let Some(outcome) = outcome else {
-        return writeln!(text, "  {word} none");
+        return writeln!(text, "  {word} unanswered");
     };
     write!(text, "  {word} ")?;
     write_end(alloc, outcome, text)?;

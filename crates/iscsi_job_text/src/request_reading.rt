@@ -75,9 +75,23 @@ fn moved_in(alloc: Global, words: &mut Words<'_>) -> Result<(Moves, u32, Vec<u8>
 }
 
 fn moved_out(alloc: Global, words: &mut Words<'_>) -> Result<(Moves, u32, Vec<u8>), LineFault> {
-    let sent = words.bytes_if_any(alloc)?;
-    match u32::try_from(sent.len()) {
-        Ok(expected) => Ok((Moves::Out, expected, sent)),
-        Err(_) => Err(LineFault::Refused(LineReason::Hex)),
+    let sent = words.bytes_before(alloc, "of")?;
+    let expected = expected_of(sent.len(), words)?;
+    Ok((Moves::Out, expected, sent))
+}
+
+// How many bytes a command that sent so many was to send: more than those if `of` stands there.
+fn expected_of(sent: usize, words: &mut Words<'_>) -> Result<u32, LineReason> {
+    let Ok(sent) = u32::try_from(sent) else {
+        return Err(LineReason::Hex);
+    };
+    if !words.take_if("of") {
+        return Ok(sent);
+    }
+    let expected = words.number(u64::from(u32::MAX))? as u32;
+    if expected > sent {
+        Ok(expected)
+    } else {
+        Err(LineReason::Number)
     }
 }

@@ -160,10 +160,16 @@ fn write_moved(alloc: Global, item: &Item, text: &mut String) -> Result<(), Allo
         } if expected > 0 => write!(text, " in {expected}"),
         Asked::Command {
             moves: Moves::Out,
+            expected,
             ..
         } => {
             text.push_str(" out")?;
-            write_hex(alloc, " ", &item.sent, text)
+            write_hex(alloc, " ", &item.sent, text)?;
+            if item.lacks_data() {
+                write!(text, " of {expected}")
+            } else {
+                Ok(())
+            }
         }
         _ => text.push_str(" none"),
     }

@@ -103,6 +103,15 @@ impl<'a> Words<'a> {
         }
     }
 
+    /// Takes bytes in hex; none if no word is left, or if the next one is this.
+    pub(crate) fn bytes_before(&mut self, alloc: Global, word: &str) -> Result<Vec<u8>, LineFault> {
+        if self.next == Some(word) {
+            Ok(Vec::new(alloc))
+        } else {
+            self.bytes_if_any(alloc)
+        }
+    }
+
     /// Takes a LUN: the number of a unit below 256, or all 8 bytes in hex (SAM-5, section 4.7).
     pub(crate) fn lun(&mut self) -> Result<u64, LineReason> {
         let Some(digits) = self.take() else {

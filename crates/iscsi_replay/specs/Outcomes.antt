@@ -14,9 +14,15 @@ without_residual end = end
 abbrev pub compared_end : Bool → Ended → Ended
 compared_end ignores_data end = if ignores_data then without_residual end else end
 
--- What is compared of the data that came.
-abbrev pub compared_data : Bool → List ℕ → List ℕ
-compared_data ignores_data bytes = if ignores_data then [] else bytes
+-- A command ended with CHECK CONDITION (SAM-5, section 5.3.1).
+abbrev pub is_check_condition : Ended → Bool
+is_check_condition (ended.Command response status _) = (response == 0) && (status == 2)
+is_check_condition _ = false
+
+-- What is compared of the data that came with an ending; none beside a CHECK CONDITION.
+abbrev pub compared_data : Bool → Ended → List ℕ → List ℕ
+compared_data ignores_data end bytes =
+    if ignores_data || is_check_condition end then [] else bytes
 
 -- Two outcomes are the same: how the request ended, the sense and the data. If data are left out, those
 -- and the residual count may differ.
@@ -24,7 +30,8 @@ abbrev pub AreSame : Bool → Outcome → Outcome → Type 0
 AreSame ignores_data recorded live =
     (compared_end ignores_data recorded.ended ≡ compared_end ignores_data live.ended)
     × (recorded.sense.now ≡ live.sense.now)
-    × (compared_data ignores_data recorded.«data».now ≡ compared_data ignores_data live.«data».now)
+    × (compared_data ignores_data recorded.ended recorded.«data».now
+    ≡ compared_data ignores_data live.ended live.«data».now)
 
 -- The sense key that sense data have: that of byte 2 in fixed format, of byte 1 in descriptor format,
 -- with the bit VALID or without (SPC-4, sections 4.5.2 and 4.5.3).

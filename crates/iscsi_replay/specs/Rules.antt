@@ -1,32 +1,31 @@
--- Which requests may change what a disk holds, and which data may differ between targets, by operation
+-- Which requests may change a target, and which data may differ between targets, by operation
 -- code (SPC-4, SBC-3).
-use Rattle.std.specs.Prelude.{ℕ, Bool, true, false, ◌||◌, ◌==◌, if◌then◌else◌, List, [], ◌∷◌}
+use Rattle.std.specs.Prelude.{ℕ, Bool, true, false, not, ◌||◌, ◌==◌, List, [], ◌∷◌, slice_index_or}
 use Rattle.std.specs.List.{list_any}
 use Rattle.iscsi_job.specs.declared.item.Asked.{Asked}
 use Rattle.iscsi_job.specs.declared.item.Asked.TheVariants as asked
 use Rattle.iscsi_job.specs.declared.item.Moves.TheVariants as moves
 use Rattle.iscsi_replay.specs.declared.ignoring.Ignored.{Ignored}
 
--- The operation codes that change a medium: FORMAT UNIT, the WRITE family, ERASE, UNMAP, WRITE SAME,
--- SANITIZE and COMPARE AND WRITE.
-abbrev pub writing_codes : List ℕ
-writing_codes = 0x04 ∷ 0x0a ∷ 0x19 ∷ 0x2a ∷ 0x2e ∷ 0x3f ∷ 0x41 ∷ 0x42 ∷ 0x48
-    ∷ 0x89 ∷ 0x8a ∷ 0x8e ∷ 0x93 ∷ 0xaa ∷ 0xae ∷ []
+-- The operation codes that are harmless: TEST UNIT READY, REQUEST SENSE, the READ family, INQUIRY, MODE
+-- SENSE, READ CAPACITY, VERIFY, SYNCHRONIZE CACHE, READ DEFECT DATA, READ BUFFER, LOG SENSE, PERSISTENT
+-- RESERVE IN, SERVICE ACTION IN(16), REPORT LUNS and MAINTENANCE IN.
+abbrev pub harmless_codes : List ℕ
+harmless_codes = 0x00 ∷ 0x03 ∷ 0x08 ∷ 0x12 ∷ 0x1a ∷ 0x25 ∷ 0x28 ∷ 0x2f ∷ 0x35 ∷ 0x37 ∷ 0x3c ∷ 0x4d
+    ∷ 0x5a ∷ 0x5e ∷ 0x88 ∷ 0x91 ∷ 0x9e ∷ 0xa0 ∷ 0xa3 ∷ 0xa8 ∷ []
 
--- A descriptor block is of a command that changes a medium: its first byte says so.
-abbrev pub changes : List ℕ → Bool
-changes (code ∷ _) = list_any (λ n. n == code) writing_codes
-changes [] = false
+-- A descriptor block is of a command that is known to be harmless: its first byte says so.
+abbrev pub is_harmless : List ℕ → Bool
+is_harmless (code ∷ _) = list_any (λ n. n == code) harmless_codes
+is_harmless [] = false
 
--- A request may change what a disk holds: it sends data with a command, or its command changes a medium.
+-- A request may change a target: it sends data with a command, or its command is not known to be harmless.
 abbrev pub may_write : Asked → Bool
 may_write (asked.Command lun cdb moves.Out n) = true
-may_write (asked.Command lun cdb moves.In n) = changes cdb
+may_write (asked.Command lun cdb moves.In n) = not (is_harmless cdb)
 may_write _ = false
 
--- The operation codes whose data are left out, by what is asked for: INQUIRY, REPORT LUNS, MODE SENSE.
+-- The data of a command with this operation code are left out: those of all commands are, or those of
+-- this code.
 abbrev pub ignores : Ignored → ℕ → Bool
-ignores i code =
-    if code == 0x12 then i.inquiry
-    else (if code == 0xa0 then i.report_luns
-    else (if (code == 0x1a) || (code == 0x5a) then i.mode_sense else false))
+ignores ignored code = ignored.«data» || slice_index_or ignored.codes code false

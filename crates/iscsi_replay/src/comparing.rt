@@ -1,7 +1,7 @@
 //! Whether two outcomes of a request are the same.
 
 ghost use Rattle.std.specs.Prelude.{◌≡◌, ◌↔◌, true};
-ghost use Rattle.iscsi_replay.specs.Outcomes.{AreSame, compared_data, compared_end, is_unit_attention_end, sense_key, without_residual};
+ghost use Rattle.iscsi_replay.specs.Outcomes.{AreSame, compared_data, compared_end, is_check_condition, is_unit_attention_end, sense_key, without_residual};
 ghost use Rattle.iscsi_replay.specs.inner.Outcomes.{is_good_end};
 
 use iscsi_job::{Ended, Outcome};
@@ -11,13 +11,14 @@ use scsi_cdb::Residual;
 const CHECK_CONDITION: u8 = 2;
 
 /// Whether a recorded outcome and a live one are the same. If data are ignored, those and the
-/// residual count are left out.
+/// residual count are left out. Data beside a CHECK CONDITION are never compared: they say nothing
+/// (SAM-5, section 5.3.1), and some targets send what lay in memory.
 pub fn are_same(recorded: Outcome<'_>, live: Outcome<'_>, ignores_data: bool) -> bool
     ensures same { (result ≡ true) ↔ AreSame ignores_data recorded.entry live.entry }
 {
     compared_end(recorded.ended, ignores_data) == compared_end(live.ended, ignores_data)
         && recorded.sense == live.sense
-        && compared_data(recorded.data, ignores_data) == compared_data(live.data, ignores_data)
+        && compared_data(recorded, ignores_data) == compared_data(live, ignores_data)
 }
 
 // What is compared of how a request ended.
@@ -49,10 +50,28 @@ fn without_residual(ended: Ended) -> Ended
 }
 
 // What is compared of the data that came.
-fn compared_data(bytes: &[u8], ignores_data: bool) -> &[u8]
-    ensures { result.now ≡ compared_data ignores_data bytes.now }
+fn compared_data<'a>(outcome: Outcome<'a>, ignores_data: bool) -> &'a [u8]
+    ensures { result.now ≡ compared_data ignores_data outcome.entry.ended outcome.entry.«data».now }
 {
-    if ignores_data { &[] } else { bytes }
+    if ignores_data || is_check_condition(outcome.ended) {
+        &[]
+    } else {
+        outcome.data
+    }
+}
+
+// Whether a command ended with CHECK CONDITION.
+fn is_check_condition(ended: Ended) -> bool
+    ensures { result ≡ is_check_condition ended }
+{
+    match ended {
+        Ended::Command {
+            response,
+            status,
+            ..
+        } => response == 0 && status == CHECK_CONDITION,
+        Ended::Ping | Ended::Text | Ended::Closed | Ended::Task(_) => false,
+    }
 }
 
 /// Whether a command was answered with a unit attention: CHECK CONDITION with sense key 6, in fixed
@@ -81,6 +100,24 @@ pub(crate) fn is_good(outcome: Outcome<'_>) -> bool
             ..
         } => response == 0 && status == 0,
         Ended::Ping | Ended::Text | Ended::Closed | Ended::Task(_) => false,
+    }
+}
+
+// The additional sense code of sense data, and its qualifier: bytes 12 and 13 in fixed format, 2 and 3 in
+// descriptor format; 0 where they are not there.
+pub(crate) fn additional_sense(sense: &[u8]) -> (u8, u8) {
+    match byte_at(sense, 0) % 128 {
+        0x70 | 0x71 => (byte_at(sense, 12), byte_at(sense, 13)),
+        0x72 | 0x73 => (byte_at(sense, 2), byte_at(sense, 3)),
+        _ => (0, 0),
+    }
+}
+
+// A byte of sense data; 0 where they are shorter.
+fn byte_at(sense: &[u8], index: usize) -> u8 {
+    match sense.get(index) {
+        Some(byte) => *byte,
+        None => 0,
     }
 }
 

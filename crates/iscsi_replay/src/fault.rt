@@ -16,7 +16,7 @@ pub enum Lost {
     /// The target closed it.
     #[error("the target closed the connection")]
     Closed,
-    /// The target neither took nor sent a byte for as long as one waits for it.
+    /// The target did not answer a request within the time that one waits for it.
     #[error("the target does not answer")]
     Late,
     /// It failed otherwise.

@@ -9,8 +9,6 @@ use std::alloc::Global;
 
 /// How many bytes are asked for at a time.
 const PIECE: usize = 65_536;
-/// The initiator's part of the session's identifier (RFC 7143, section 11.12.5).
-const ISID: [u8; 6] = [0x40, 0, 0, 2, 0, 0];
 /// The CmdSN of the login and of the first request.
 const FIRST_CMD_SN: u32 = 1;
 
@@ -21,6 +19,9 @@ pub struct Account<'a> {
     pub initiator: &'a [u8],
     /// The target's name: 1 to 223 bytes, each of `!` to `~`.
     pub target: &'a [u8],
+    /// ISID, the initiator's part of the session's identifier (RFC 7143, section 11.12.5). A session of
+    /// the same initiator at the same target with the same one ends.
+    pub isid: [u8; 6],
 }
 
 /// A session with a live target: one request at a time.
@@ -51,6 +52,7 @@ impl<P: Peer> Live<P> {
 
     // Logs in.
     pub(crate) fn log_in(&mut self) -> Result<(), LiveFault> {
+        self.begin()?;
         self.out.clear();
         if let Err(fault) = self.initiator.start(&mut self.out) {
             return Err(LiveFault::Session(fault, 0));
@@ -67,6 +69,7 @@ impl<P: Peer> Live<P> {
 
     // Does a request, and returns what came of it.
     pub(crate) fn perform(&mut self, request: Request) -> Result<Done, LiveFault> {
+        self.begin()?;
         self.submit(request)?;
         for _ in 0..u64::MAX {
             if let Some(done) = self.initiator.outcome() {
@@ -78,6 +81,14 @@ impl<P: Peer> Live<P> {
             self.hear()?;
         }
         Err(LiveFault::Lost(Lost::Failed, self.place))
+    }
+
+    // Has the time that one waits for the target count from now on.
+    fn begin(&mut self) -> Result<(), LiveFault> {
+        match self.peer.begin() {
+            Ok(()) => Ok(()),
+            Err(lost) => Err(LiveFault::Lost(lost, self.place)),
+        }
     }
 
     // Whether requests can still be done.
@@ -168,7 +179,7 @@ fn config_of(alloc: Global, account: Account<'_>) -> Result<Config, ConfigFault>
         alloc,
         offers,
         Stage::Security,
-        ISID,
+        account.isid,
         FIRST_CMD_SN,
         LOGIN_SEGMENT,
     )

@@ -3,12 +3,15 @@
 ghost use Rattle.std.specs.Prelude.{◌≡◌, ◌≤◌, length, IfOk};
 
 use crate::fault::Lost;
-use std::io::{self, Read, Write};
+use std::io::{ErrorKind, Read, Write};
 use std::net::TcpStream;
-use std::time::Duration;
+use std::time::{Duration, Instant};
 
 /// The other end of a connection.
 pub trait Peer: Drop {
+    /// Begins a request, or the login: the time that one waits for the other end counts from now on.
+    fn begin(&mut self) -> Result<(), Lost>;
+
     /// Sends all of the bytes.
     fn send(&mut self, bytes: &[u8]) -> Result<(), Lost>;
 
@@ -20,39 +23,80 @@ pub trait Peer: Drop {
 
 /// A TCP connection to a target.
 #[derive(Drop)]
-pub struct Tcp {
+pub struct Tcp<'a> {
+    rt: &'a HostRuntime,
     stream: TcpStream,
+    wait: Duration,
+    begun: Instant,
 }
 
-impl Tcp {
-    /// Connects to the target at a port of a host. Each wait for the target ends after `seconds`,
-    /// and the connection is lost then.
-    pub fn open(rt: &HostRuntime, host: &str, port: u16, seconds: u32) -> Result<Tcp, Lost> {
+impl<'a> Tcp<'a> {
+    /// Connects to the target at a port of a host. The connection is lost once a request, or the login,
+    /// has taken `seconds`, whatever the target sends or takes meanwhile.
+    pub fn open(rt: &'a HostRuntime, host: &str, port: u16, seconds: u32) -> Result<Tcp<'a>, Lost> {
         let stream = TcpStream::connect(rt, (host, port))?;
-        prepare(&stream, seconds)?;
-        Ok(Tcp { stream })
+        // A request is not to wait for the one before it to be acknowledged.
+        stream.set_nodelay(true)?;
+        Ok(Tcp {
+            rt,
+            stream,
+            wait: Duration::from_secs(u64::from(seconds)),
+            begun: Instant::now(rt)?,
+        })
+    }
+
+    // How long one still waits. Returns `Late` if that time is over.
+    fn time_left(&self) -> Result<Duration, Lost> {
+        let taken = self.begun.elapsed(self.rt)?;
+        match self.wait.checked_sub(taken) {
+            Some(left) if !left.is_zero() => Ok(left),
+            _ => Err(Lost::Late),
+        }
+    }
+
+    // Sends some of the bytes, and returns how many. A send that a signal interrupts goes on.
+    fn send_some(&mut self, bytes: &[u8]) -> Result<usize, Lost> {
+        for _ in 0..u64::MAX {
+            self.stream.set_write_timeout(Some(self.time_left()?))?;
+            match (&self.stream).write(bytes) {
+                Ok(count) => return Ok(count),
+                Err(error) if error.kind() == ErrorKind::Interrupted => {}
+                Err(error) => return Err(Lost::from(error)),
+            }
+        }
+        Err(Lost::Failed)
     }
 }
 
-// Sets how long a connection waits. A request is not to wait for the one before it to be acknowledged.
-fn prepare(stream: &TcpStream, seconds: u32) -> io::Result<()> {
-    stream.set_nodelay(true)?;
-    let wait = Some(Duration::from_secs(u64::from(seconds)));
-    stream.set_read_timeout(wait)?;
-    stream.set_write_timeout(wait)
-}
-
-impl Peer for Tcp {
-    fn send(&mut self, bytes: &[u8]) -> Result<(), Lost> {
-        (&self.stream).write_all(bytes)?;
+impl Peer for Tcp<'_> {
+    fn begin(&mut self) -> Result<(), Lost> {
+        self.begun = Instant::now(self.rt)?;
         Ok(())
     }
 
-    fn receive(&mut self, out: &mut [u8]) -> Result<usize, Lost> {
-        match (&self.stream).read(out) {
-            Ok(0) => Err(Lost::Closed),
-            Ok(count) => Ok(count),
-            Err(error) => Err(Lost::from(error)),
+    fn send(&mut self, bytes: &[u8]) -> Result<(), Lost> {
+        let mut rest = bytes;
+        for _ in 0..u64::MAX {
+            if rest.is_empty() {
+                return Ok(());
+            }
+            let count = self.send_some(rest)?;
+            rest = rest.get(count..).unwrap_or(&[]);
         }
+        Err(Lost::Failed)
+    }
+
+    // A read that a signal interrupts goes on.
+    fn receive(&mut self, out: &mut [u8]) -> Result<usize, Lost> {
+        for _ in 0..u64::MAX {
+            self.stream.set_read_timeout(Some(self.time_left()?))?;
+            match (&self.stream).read(out) {
+                Ok(0) => return Err(Lost::Closed),
+                Ok(count) => return Ok(count),
+                Err(error) if error.kind() == ErrorKind::Interrupted => {}
+                Err(error) => return Err(Lost::from(error)),
+            }
+        }
+        Err(Lost::Failed)
     }
 }

@@ -1,6 +1,6 @@
 //! A job, done again request by request. One file, since its steps share one state.
 
-use crate::comparing::{are_same, is_good, is_unit_attention};
+use crate::comparing::{additional_sense, are_same, is_good, is_unit_attention};
 use crate::fault::ReplayFault;
 use crate::ignoring::Ignored;
 use crate::live::Live;
@@ -21,15 +21,21 @@ pub struct Plan {
     pub all: bool,
     /// The logical unit of each command; none: that which was recorded.
     pub unit: Option<u8>,
+    /// How many unit attentions of the live target may be passed over.
+    pub attentions: u32,
 }
 
-/// How many requests were done, and of how many the outcome differs.
+/// How many requests were done, of how many the outcome differs, and how many were passed over.
 #[derive(Clone, Copy)]
 pub struct Tally {
     /// Requests that were done.
     pub done: u64,
     /// Of these, those with an outcome that differs from the recorded one.
     pub differ: u64,
+    /// Task management and writes that lack data, which are not done again.
+    pub passed: u64,
+    /// Unit attentions that were passed over: the command was done again behind each.
+    pub attentions: u64,
 }
 
 // How far a job was done.
@@ -68,11 +74,12 @@ enum Shown {
 /// Logs in, does the requests of a job one at a time, in their order, and ends the session. Lines on
 /// differences go to `w`, and what is told beside them to `errors`.
 ///
-/// Without `all` it stops behind the first request whose outcome differs. A unit attention in front of
-/// the first command is taken once and told: the command is done again then. If the recorded first
-/// command met one, and the live one is done with status GOOD, that is told, too, and is no difference:
-/// of its data nothing was recorded. Neither is one that the live command meets with another sense.
-/// Task management is told and passed over.
+/// Without `all` it stops behind the first request whose outcome differs. As many unit attentions as the
+/// plan says are passed over where none was recorded: each is told, and the command is done again. If the
+/// recorded first command met one, and the live one is done with status GOOD, that is told, too, and is
+/// no difference: of its data nothing was recorded. Neither is one that the live command meets with
+/// another sense.
+/// Task management, and a write of which not all data were recorded, are told and passed over.
 pub fn replay<P: Peer, W: Write, E: Write>(
     alloc: Global,
     items: &[Item],
@@ -98,7 +105,12 @@ fn redo_all<P: Peer, W: Write, E: Write>(
     w: &mut W,
     errors: &mut E,
 ) -> Result<Tally, ReplayFault> {
-    let mut tally = Tally { done: 0, differ: 0 };
+    let mut tally = Tally {
+        done: 0,
+        differ: 0,
+        passed: 0,
+        attentions: 0,
+    };
     let mut place = Place {
         number: 0,
         is_due: true,
@@ -132,7 +144,8 @@ impl Tally {
     // Counts a request.
     fn count(&mut self, shown: Shown) {
         match shown {
-            Shown::Nothing | Shown::Attention => {}
+            Shown::Nothing => self.passed = self.passed.saturating_add(1),
+            Shown::Attention => self.attentions = self.attentions.saturating_add(1),
             Shown::Same => self.done = self.done.saturating_add(1),
             Shown::Other => {
                 self.done = self.done.saturating_add(1);
@@ -159,7 +172,8 @@ fn may_meet_attention(item: &Item) -> bool {
 }
 
 impl Step<'_> {
-    // Does the request again, counts it, and writes its lines if its outcome differs.
+    // Does the request again, and once more behind each unit attention that may be passed over. It is
+    // counted, and its lines are written if its outcome differs.
     fn carry_out<P: Peer, W: Write, E: Write>(
         &self,
         alloc: Global,
@@ -168,44 +182,46 @@ impl Step<'_> {
         errors: &mut E,
         tally: &mut Tally,
     ) -> Result<(), ReplayFault> {
-        let shown = self.redo(alloc, live, w, errors)?;
-        tally.count(shown);
+        let most = u64::from(self.plan.attentions);
+        for _ in 0..=most {
+            let passes = tally.attentions < most;
+            let shown = self.attempt(alloc, live, w, errors, passes)?;
+            tally.count(shown);
+            if !matches!(shown, Shown::Attention) {
+                return Ok(());
+            }
+        }
         Ok(())
     }
 
-    // Does the request again; once more behind a unit attention in front of the first command.
-    fn redo<P: Peer, W: Write, E: Write>(
-        &self,
-        alloc: Global,
-        live: &mut Live<P>,
-        w: &mut W,
-        errors: &mut E,
-    ) -> Result<Shown, ReplayFault> {
-        match self.attempt(alloc, live, w, errors, self.is_first)? {
-            Shown::Attention => self.attempt(alloc, live, w, errors, false),
-            shown => Ok(shown),
-        }
-    }
-
-    // Does the request once. `takes` says whether a unit attention is taken, not compared.
+    // Does the request once. `passes` says whether a unit attention is passed over, not compared.
     fn attempt<P: Peer, W: Write, E: Write>(
         &self,
         alloc: Global,
         live: &mut Live<P>,
         w: &mut W,
         errors: &mut E,
-        takes: bool,
+        passes: bool,
     ) -> Result<Shown, ReplayFault> {
         match self.perform(alloc, live)? {
-            Some(done) => self.show(alloc, outcome_of(&done), w, errors, takes),
+            Some(done) => self.show(alloc, outcome_of(&done), w, errors, passes),
             None => {
-                self.tell("task management, passed over", errors);
+                self.tell(self.passed_over(), errors);
                 Ok(Shown::Nothing)
             }
         }
     }
 
-    // Does the request once; nothing of task management.
+    // Why the request is not done again.
+    fn passed_over(&self) -> &'static str {
+        if self.item.lacks_data() {
+            "not all data of the write, passed over"
+        } else {
+            "task management, passed over"
+        }
+    }
+
+    // Does the request once; nothing of one that is passed over.
     fn perform<P: Peer>(
         &self,
         alloc: Global,
@@ -230,9 +246,9 @@ impl Step<'_> {
         live: Outcome<'_>,
         w: &mut W,
         errors: &mut E,
-        takes: bool,
+        passes: bool,
     ) -> Result<Shown, ReplayFault> {
-        let shown = self.judged(live, errors, takes);
+        let shown = self.judged(live, errors, passes);
         if matches!(shown, Shown::Other) {
             self.write_lines(alloc, live, w)?;
         }
@@ -240,18 +256,41 @@ impl Step<'_> {
     }
 
     // What an outcome shows, with what is told of it. If nothing was recorded, nothing differs.
-    fn judged<E: Write>(&self, live: Outcome<'_>, errors: &mut E, takes: bool) -> Shown {
-        match self.item.outcome() {
-            Some(recorded) if takes && is_unit_attention(recorded) => {
+    fn judged<E: Write>(&self, live: Outcome<'_>, errors: &mut E, passes: bool) -> Shown {
+        let Some(recorded) = self.item.outcome() else {
+            return self.unrecorded(live, errors, passes);
+        };
+        if is_unit_attention(recorded) {
+            if self.is_first {
                 self.beside_attention(recorded, live, errors)
+            } else {
+                self.compared(recorded, live)
             }
-            _ if takes && is_unit_attention(live) => {
-                self.tell("unit attention, taken once", errors);
-                Shown::Attention
-            }
-            Some(recorded) => self.compared(recorded, live),
-            None => Shown::Same,
+        } else if passes && is_unit_attention(live) {
+            self.pass_over(live, errors)
+        } else {
+            self.compared(recorded, live)
         }
+    }
+
+    // What an outcome shows of which nothing was recorded.
+    fn unrecorded<E: Write>(&self, live: Outcome<'_>, errors: &mut E, passes: bool) -> Shown {
+        if passes && is_unit_attention(live) {
+            self.pass_over(live, errors)
+        } else {
+            Shown::Same
+        }
+    }
+
+    // Tells which unit attention is passed over. If that fails, nothing changes.
+    fn pass_over<E: Write>(&self, live: Outcome<'_>, errors: &mut E) -> Shown {
+        let number = self.number;
+        let (code, qualifier) = additional_sense(live.sense);
+        let _ = writeln!(
+            errors,
+            "request {number}: unit attention {code:02x}/{qualifier:02x}, passed over"
+        );
+        Shown::Attention
     }
 
     // What an outcome shows where a unit attention was recorded in front. A command that was done in

@@ -1,18 +1,21 @@
-//! Requests that change what a disk holds.
+//! Requests that may change a target.
 
 ghost use Rattle.std.specs.Prelude.{◌≡◌, ◌↔◌, false, All, IsTrue};
-ghost use Rattle.iscsi_replay.specs.Rules.{changes, may_write};
+ghost use Rattle.iscsi_replay.specs.Rules.{is_harmless, may_write};
 
 use iscsi_job::{Asked, Item, Moves};
 
-/// Operation codes that change a medium: FORMAT UNIT, the WRITE family, ERASE, UNMAP, WRITE SAME,
-/// SANITIZE and COMPARE AND WRITE (SPC-4, SBC-3 and SSC-3).
-const WRITING: &[u8] = &[
-    0x04, 0x0a, 0x19, 0x2a, 0x2e, 0x3f, 0x41, 0x42, 0x48, 0x89, 0x8a, 0x8e, 0x93, 0xaa, 0xae,
+/// Operation codes that change neither a medium nor what others may do (SPC-4, SBC-3): TEST UNIT READY,
+/// REQUEST SENSE, the READ family, INQUIRY, MODE SENSE, READ CAPACITY, VERIFY, SYNCHRONIZE CACHE, READ
+/// DEFECT DATA, READ BUFFER, LOG SENSE, PERSISTENT RESERVE IN, SERVICE ACTION IN(16), REPORT LUNS and
+/// MAINTENANCE IN.
+const HARMLESS: &[u8] = &[
+    0x00, 0x03, 0x08, 0x12, 0x1a, 0x25, 0x28, 0x2f, 0x35, 0x37, 0x3c, 0x4d, 0x5a, 0x5e, 0x88, 0x91,
+    0x9e, 0xa0, 0xa3, 0xa8,
 ];
 
-/// Whether doing the request again may change what a disk holds: it is a command that sends data, or
-/// one of an operation code that changes a medium.
+/// Whether doing the request again may change a target: it is a command that sends data, or one of an
+/// operation code that is not known to be harmless.
 pub fn writes(item: &Item) -> bool
     ensures value { result ≡ may_write item.now.asked }
 {
@@ -21,7 +24,7 @@ pub fn writes(item: &Item) -> bool
             moves: Moves::Out,
             ..
         } => true,
-        Asked::Command { cdb, .. } => changes(cdb),
+        Asked::Command { cdb, .. } => !is_harmless(cdb),
         Asked::Ping | Asked::Text | Asked::Logout | Asked::Task(_) => false,
     }
 }
@@ -38,13 +41,13 @@ pub fn first_write(items: &[Item]) -> Option<usize> {
     items.iter().position(|item| writes(item))
 }
 
-// Whether the command of a descriptor block changes a medium.
-fn changes(block: [u8; 16]) -> bool
-    ensures { result ≡ changes block }
+// Whether the command of a descriptor block is known to be harmless.
+fn is_harmless(block: [u8; 16]) -> bool
+    ensures { result ≡ is_harmless block }
 {
     let bytes: &[u8] = &block;
     match bytes {
-        [operation_code, ..] => WRITING.contains(operation_code),
+        [operation_code, ..] => HARMLESS.contains(operation_code),
         [] => false,
     }
 }

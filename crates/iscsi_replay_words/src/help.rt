@@ -28,10 +28,12 @@ pub(crate) const REPLAY: &str =
     --to <ADDR:PORT>         Target's address; the port is 3260 if it is left out\n      \
     --name <IQN>             Target's name (default iqn.2026-01.example:disk)\n      \
     --initiator-name <IQN>   Initiator's name (default iqn.2026-01.example:host)\n      \
+    --isid <HEX>             ISID, 12 hex digits (default a random one)\n      \
     --lun <N>                Send each command to unit N, 0 to 255, instead of the recorded one\n      \
     --all                    Go on behind a difference, and print their number at the end\n      \
-    --ignore <COMMAND>       Let the data of a command differ: inquiry, report-luns or\n                           \
-    mode-sense; may be repeated\n      \
-    --writes                 Let the job change the disk\n      \
-    --wait <SECONDS>         Longest wait for the target, 1 to 65535 (default 30)\n  \
+    --ignore <COMMAND>       Let the data of a command differ: inquiry, report-luns, mode-sense, an\n                             \
+    operation code in hex, or data for all; may be repeated\n      \
+    --writes                 Let the job change the target\n      \
+    --attentions <N>         Pass over N unit attentions, 0 to 65535 (default 1)\n      \
+    --wait <SECONDS>         Longest time for a request, 1 to 65535 (default 30)\n  \
     -h, --help               Print help\n";

@@ -26,22 +26,9 @@ pub(crate) fn write_job<W: Write>(rt: &HostRuntime, source: Source<'_>, w: &mut 
 
 // Reads a recorded session to its end, or up to a fault.
 fn read_session(rt: &HostRuntime, recording: &mut Recording, source: Source<'_>) -> Ending {
-    let ending = match source {
+    match source {
         Source::Streams(first, second) => read_streams(rt, recording, first, second),
         Source::Capture(file, connection) => read_capture(rt, recording, file, connection),
-    };
-    match recording.end() {
-        Err(fault) if matches!(ending, Ending::Done) => {
-            without_job(rt.alloc(), name_of(source), &fault)
-        }
-        _ => ending,
-    }
-}
-
-// The name of the initiator's stream.
-fn name_of<'a>(source: Source<'a>) -> &'a str {
-    match source {
-        Source::Streams(name, _) | Source::Capture(name, _) => name,
     }
 }
 

@@ -1,14 +1,18 @@
 //! The words of `replay`.
 
 use crate::words::{Refusal, text_of};
+use hex::FromHex;
 use iscsi_job_text::number_of;
 use iscsi_login::is_name;
-use iscsi_replay::{Account, Ignored, Plan};
+use iscsi_replay::{Ignored, Plan};
 use std::convert::AsStr;
 
 /// The port of a target, if none is said (RFC 7143, section 2.2).
 const PORT: u16 = 3260;
-/// How many seconds one waits for a byte of a target, if no other number is said (own rule).
+/// How many unit attentions are passed over, if no other number is said: many targets have one for the
+/// first command of a session (SAM-5, section 5.14).
+const ATTENTIONS: u32 = 1;
+/// How many seconds a request may take, if no other number is said (own rule).
 const SECONDS: u32 = 30;
 
 const TARGET: &str = "iqn.2026-01.example:disk";
@@ -26,13 +30,17 @@ pub(crate) struct Replay<'a> {
     pub(crate) host: &'a str,
     /// Its port.
     pub(crate) port: u16,
-    /// Who logs in, and to which target.
-    pub(crate) account: Account<'a>,
+    /// The target's name.
+    pub(crate) name: &'a str,
+    /// The initiator's name.
+    pub(crate) initiator: &'a str,
+    /// ISID; a random one if none is said.
+    pub(crate) isid: Option<[u8; 6]>,
     /// How the job is done again.
     pub(crate) plan: Plan,
     /// Whether the job may write.
     pub(crate) writes: bool,
-    /// The longest wait, in seconds, at least 1.
+    /// The longest time for a request, in seconds, at least 1.
     pub(crate) seconds: u32,
 }
 
@@ -43,6 +51,7 @@ struct Said<'a> {
     to: Option<&'a str>,
     name: &'a str,
     initiator: &'a str,
+    isid: Option<[u8; 6]>,
     plan: Plan,
     writes: bool,
     seconds: u32,
@@ -70,10 +79,12 @@ fn nothing_said<'a>() -> Said<'a> {
         to: None,
         name: TARGET,
         initiator: INITIATOR,
+        isid: None,
         plan: Plan {
             ignored: Ignored::NONE,
             all: false,
             unit: None,
+            attentions: ATTENTIONS,
         },
         writes: false,
         seconds: SECONDS,
@@ -83,7 +94,14 @@ fn nothing_said<'a>() -> Said<'a> {
 fn takes_value(option: &str) -> bool {
     matches!(
         option,
-        "--to" | "--name" | "--initiator-name" | "--lun" | "--ignore" | "--wait"
+        "--to"
+            | "--name"
+            | "--initiator-name"
+            | "--isid"
+            | "--lun"
+            | "--attentions"
+            | "--ignore"
+            | "--wait"
     )
 }
 
@@ -135,16 +153,30 @@ impl<'a> Said<'a> {
                 self.initiator = value;
                 is_name(value.as_bytes())
             }
+            "--isid" => {
+                self.isid = <[u8; 6]>::from_hex(value).ok();
+                self.isid.is_some()
+            }
             "--ignore" => ignore(&mut self.plan.ignored, value),
             "--lun" => {
                 self.plan.unit = unit_of(value);
                 self.plan.unit.is_some()
             }
+            "--attentions" => self.takes_attentions(value),
             _ => {
                 self.seconds = seconds_of(value);
                 self.seconds > 0
             }
         }
+    }
+
+    // Takes a number of unit attentions, and says whether it is one.
+    fn takes_attentions(&mut self, value: &str) -> bool {
+        let Some(number) = number_of(value, 65_535) else {
+            return false;
+        };
+        self.plan.attentions = number as u32;
+        true
     }
 
     // What the words ask for, once all are read.
@@ -160,10 +192,9 @@ impl<'a> Said<'a> {
             to,
             host,
             port,
-            account: Account {
-                initiator: self.initiator.as_bytes(),
-                target: self.name.as_bytes(),
-            },
+            name: self.name,
+            initiator: self.initiator,
+            isid: self.isid,
             plan: self.plan,
             writes: self.writes,
             seconds: self.seconds,
@@ -171,15 +202,29 @@ impl<'a> Said<'a> {
     }
 }
 
-// Lets the data of a command differ, if one has this name.
+// Lets the data of commands differ: of all, of those of a name, or of those of an operation code. Says
+// whether the word names some.
 fn ignore(ignored: &mut Ignored, name: &str) -> bool {
     match name {
-        "inquiry" => ignored.inquiry = true,
-        "report-luns" => ignored.report_luns = true,
-        "mode-sense" => ignored.mode_sense = true,
-        _ => return false,
+        "data" => ignored.data = true,
+        "inquiry" => ignored.codes[0x12] = true,
+        "report-luns" => ignored.codes[0xa0] = true,
+        "mode-sense" => {
+            ignored.codes[0x1a] = true;
+            ignored.codes[0x5a] = true;
+        }
+        digits => match code_of(digits) {
+            Some(code) => ignored.codes[usize::from(code)] = true,
+            None => return false,
+        },
     }
     true
+}
+
+// The operation code that two hex digits mean.
+fn code_of(digits: &str) -> Option<u8> {
+    let bytes = <[u8; 1]>::from_hex(digits).ok()?;
+    Some(bytes[0])
 }
 
 // The host and the port of a target; an IPv6 address stands in brackets.

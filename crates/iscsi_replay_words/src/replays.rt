@@ -4,11 +4,14 @@ use crate::ending::Ending;
 use crate::replay_words::Replay;
 use iscsi_job::Item;
 use iscsi_job_text::{TextFault, read_job, write_request};
-use iscsi_replay::{Live, Lost, ReplayFault, Tally, Tcp, first_write, replay, writes_nothing};
+use iscsi_replay::{
+    Account, Live, Lost, ReplayFault, Tally, Tcp, first_write, replay, writes_nothing,
+};
 use iscsi_stream::write_fully;
 use std::alloc::{AllocError, Global};
 use std::fs;
 use std::io::Write;
+use std::random::RandomSource;
 
 /// How many bytes of the line of a request that writes are shown.
 const SHOWN: usize = 60;
@@ -59,10 +62,29 @@ fn replay_items<W: Write, E: Write>(
     if !asked.writes && !writes_nothing(items) {
         return Ending::told(1, refused_write(rt.alloc(), items));
     }
+    let Some(isid) = isid_of(rt, asked.isid) else {
+        return Ending::told(4, String::from_str(rt.alloc(), "no random bytes\n"));
+    };
+    let account = Account {
+        initiator: asked.initiator.as_bytes(),
+        target: asked.name.as_bytes(),
+        isid,
+    };
     match Tcp::open(rt, asked.host, asked.port, asked.seconds) {
-        Ok(peer) => replay_to(rt.alloc(), asked, items, peer, w, errors),
+        Ok(peer) => replay_to(rt.alloc(), asked, account, items, peer, w, errors),
         Err(lost) => Ending::told(4, unreached(rt.alloc(), asked.to, lost)),
     }
+}
+
+// The ISID that is asked for, or a random one (RFC 7143, section 11.12.5: T is 2).
+fn isid_of(rt: &HostRuntime, asked: Option<[u8; 6]>) -> Option<[u8; 6]> {
+    if asked.is_some() {
+        return asked;
+    }
+    let mut isid = [0; 6];
+    rt.fill_bytes(&mut isid[1..]).ok()?;
+    isid[0] = 0x80;
+    Some(isid)
 }
 
 // That a target is not reached, and why.
@@ -79,7 +101,7 @@ fn refused_write(alloc: Global, items: &[Item]) -> Result<String, AllocError> {
     }
     let shown = front_of(line.as_str());
     let number = (index as u64).saturating_add(1);
-    format!(in alloc; "request {number}: {shown}: writes, which '--writes' allows\n")
+    format!(in alloc; "request {number}: {shown}: may write, which '--writes' allows\n")
 }
 
 // The first 60 bytes of a line.
@@ -94,12 +116,13 @@ fn front_of(line: &str) -> &str {
 fn replay_to<W: Write, E: Write>(
     alloc: Global,
     asked: Replay<'_>,
+    account: Account<'_>,
     items: &[Item],
-    peer: Tcp,
+    peer: Tcp<'_>,
     w: &mut W,
     errors: &mut E,
 ) -> Ending {
-    match Live::new(alloc, asked.account, peer) {
+    match Live::new(alloc, account, peer) {
         Ok(mut live) => replay_over(alloc, asked, items, &mut live, w, errors),
         Err(_) => Ending::NoMemory,
     }
@@ -109,7 +132,7 @@ fn replay_over<W: Write, E: Write>(
     alloc: Global,
     asked: Replay<'_>,
     items: &[Item],
-    live: &mut Live<Tcp>,
+    live: &mut Live<Tcp<'_>>,
     w: &mut W,
     errors: &mut E,
 ) -> Ending {
@@ -133,8 +156,13 @@ fn failed(alloc: Global, to: &str, fault: &ReplayFault) -> Ending {
 // How a job ends that was done, with the count if one goes on behind differences.
 fn counted<W: Write>(alloc: Global, all: bool, tally: Tally, w: &mut W) -> Ending {
     if all {
-        let Tally { done, differ } = tally;
-        let Ok(line) = format!(in alloc; "{differ} of {done} differ\n") else {
+        let Tally {
+            done,
+            differ,
+            passed,
+            ..
+        } = tally;
+        let Ok(line) = format!(in alloc; "{differ} of {done} differ, {passed} passed over\n") else {
             return Ending::NoMemory;
         };
         if write_fully(w, line.as_bytes()).is_err() {

@@ -4,8 +4,8 @@ use crate::asserts::{same, same_bytes};
 use iscsi_job::{Ended, Item, Outcome};
 use iscsi_job_text::read_job;
 use iscsi_replay::{
-    Account, Ignored, Live, Lost, Peer, Plan, ReplayFault, Tally, first_write, is_unit_attention,
-    replay,
+    Account, Ignored, Live, Lost, Peer, Plan, ReplayFault, Tally, are_same, first_write,
+    is_unit_attention, replay,
 };
 use iscsi_test_support::{SESSION, marked};
 use scsi_cdb::Residual;
@@ -22,6 +22,10 @@ pub(crate) struct Told {
 }
 
 impl Peer for Told {
+    fn begin(&mut self) -> Result<(), Lost> {
+        Ok(())
+    }
+
     fn send(&mut self, _bytes: &[u8]) -> Result<(), Lost> {
         self.takes = self.takes.checked_sub(1).ok_or(Lost::Late)?;
         Ok(())
@@ -137,6 +141,15 @@ const ROWS: &[Row] = &[
         told: "request 2: task management, passed over\nrequest 3: the recorded unit attention did not come; the command was done (data not compared)\n",
     },
     Row {
+        name: "a write of which not all data were recorded",
+        job: "ping 616263\n was ping 616263\ncommand 0 2a out 5a of 8\n was status 02\nwrite 0 4 5a\n was good\n",
+        was: "",
+        is: "",
+        all: false,
+        written: "",
+        told: "request 2: not all data of the write, passed over\n",
+    },
+    Row {
         name: "another status in place of a unit attention",
         job: "ping 616263\n was ping 616263\nwrite 0 4 5a\n was status 02 sense 70000600\n",
         was: "T> 21800000 00000000 00000000 00000000 00000002",
@@ -177,6 +190,7 @@ const ROWS: &[Row] = &[
 const ACCOUNT: Account<'static> = Account {
     initiator: b"iqn.2026-01.example:host",
     target: b"iqn.2026-01.example:disk",
+    isid: [0x80, 1, 2, 3, 0, 0],
 };
 
 /// The bytes of the target in the session, in which `was` is another text.
@@ -203,13 +217,25 @@ pub(crate) fn replayed(
     all: bool,
     output: &mut Output,
 ) -> Result<Tally, ReplayFault> {
-    let Ok(mut live) = Live::new(alloc, ACCOUNT, peer) else {
-        return Err(ReplayFault::NoMemory);
-    };
     let plan = Plan {
         ignored: Ignored::NONE,
         all,
         unit: None,
+        attentions: 1,
+    };
+    replayed_so(alloc, items, peer, plan, output)
+}
+
+// Does a job again at a target, by a plan.
+fn replayed_so(
+    alloc: Global,
+    items: &[Item],
+    peer: Told,
+    plan: Plan,
+    output: &mut Output,
+) -> Result<Tally, ReplayFault> {
+    let Ok(mut live) = Live::new(alloc, ACCOUNT, peer) else {
+        return Err(ReplayFault::NoMemory);
     };
     replay(
         alloc,
@@ -241,6 +267,160 @@ fn check_row(rt: &impl Abort, alloc: Global, row: &Row) {
 fn jobs_that_are_done_again(rt: HostRuntime) {
     for row in ROWS {
         check_row(&rt, rt.alloc(), row);
+    }
+}
+
+/// What a target answers behind the login of the session: a unit attention to each of the first two
+/// commands, GOOD, a unit attention in descriptor format, and GOOD.
+const ATTENTIVE: &str = "\
+    T> 21800002 00000014 00000000 00000000 00000001 00000000 00000003 00000002 00000009 00000000 00000000 00000000 0012 70000600 0000000a 00000000 29000000 0000\n\
+    T> 21800002 00000014 00000000 00000000 00000002 00000000 00000004 00000003 0000000a 00000000 00000000 00000000 0012 f0000600 0000000a 00000000 2a010000 0000\n\
+    T> 21800000 00000000 00000000 00000000 00000003 00000000 00000005 00000004 0000000b 00000000 00000000 00000000\n\
+    T> 21800002 0000000a 00000000 00000000 00000004 00000000 00000006 00000005 0000000c 00000000 00000000 00000000 0008 72063f0e 00000000\n\
+    T> 21800000 00000000 00000000 00000000 00000005 00000000 00000007 00000006 0000000d 00000000 00000000 00000000\n";
+
+/// A recorded and a live outcome, whether data are left out, and whether they are the same: how the
+/// command ended, its sense and its data.
+struct Pair {
+    recorded: (u8, &'static [u8], &'static [u8]),
+    live: (u8, &'static [u8], &'static [u8]),
+    ignores_data: bool,
+    due: bool,
+}
+
+const PAIRS: &[Pair] = &[
+    Pair {
+        recorded: (0, &[], &[1]),
+        live: (0, &[], &[1]),
+        ignores_data: false,
+        due: true,
+    },
+    Pair {
+        recorded: (0, &[], &[1]),
+        live: (0, &[], &[2]),
+        ignores_data: false,
+        due: false,
+    },
+    Pair {
+        recorded: (0, &[], &[1]),
+        live: (0, &[], &[2, 3]),
+        ignores_data: true,
+        due: true,
+    },
+    Pair {
+        recorded: (2, &[0x70, 0, 5], &[1]),
+        live: (2, &[0x70, 0, 5], &[2]),
+        ignores_data: false,
+        due: true,
+    },
+    Pair {
+        recorded: (2, &[0x70, 0, 5], &[1]),
+        live: (2, &[0x70, 0, 4], &[1]),
+        ignores_data: true,
+        due: false,
+    },
+    Pair {
+        recorded: (8, &[], &[1]),
+        live: (8, &[], &[2]),
+        ignores_data: false,
+        due: false,
+    },
+];
+
+fn outcome_so<'a>(of: &(u8, &'a [u8], &'a [u8])) -> Outcome<'a> {
+    let (status, sense, data) = *of;
+    Outcome {
+        ended: Ended::Command {
+            response: 0,
+            status,
+            residual: Residual::Exact,
+        },
+        sense,
+        data,
+    }
+}
+
+#[test]
+fn outcomes_that_are_the_same(rt: HostRuntime) {
+    for pair in PAIRS {
+        let said = are_same(
+            outcome_so(&pair.recorded),
+            outcome_so(&pair.live),
+            pair.ignores_data,
+        );
+        same(&rt, &said, &pair.due, &pair.live.1);
+    }
+}
+
+/// How many unit attentions are passed over, what is written and told then, and how many were.
+struct AttentionRow {
+    attentions: u32,
+    written: &'static str,
+    told: &'static str,
+    passed: u64,
+}
+
+const ATTENTIVE_ROWS: &[AttentionRow] = &[
+    AttentionRow {
+        attentions: 0,
+        written: "request 1: tur 0\n  was good\n  now status 02 sense 700006000000000a00000000290000000000\n",
+        told: "",
+        passed: 0,
+    },
+    AttentionRow {
+        attentions: 1,
+        written: "request 1: tur 0\n  was good\n  now status 02 sense f00006000000000a000000002a0100000000\n",
+        told: "request 1: unit attention 29/00, passed over\n",
+        passed: 1,
+    },
+    AttentionRow {
+        attentions: 2,
+        written: "request 2: tur 0\n  was good\n  now status 02 sense 72063f0e00000000\n",
+        told: "request 1: unit attention 29/00, passed over\nrequest 1: unit attention 2a/01, passed over\n",
+        passed: 2,
+    },
+    AttentionRow {
+        attentions: 9,
+        written: "",
+        told: "request 1: unit attention 29/00, passed over\nrequest 1: unit attention 2a/01, passed over\nrequest 2: unit attention 3f/0e, passed over\n",
+        passed: 3,
+    },
+];
+
+// The bytes of that target.
+fn attentive(rt: &impl Abort, alloc: Global) -> Vec<u8> {
+    let (login, _) = SESSION.split_once("! ping").expect(rt, "a login");
+    let dialogue = format!(in alloc; "{login}{ATTENTIVE}").expect(rt, "a dialogue");
+    marked(alloc, dialogue.as_str(), "T> ").expect(rt, "lines of the target")
+}
+
+fn check_attentions(rt: &impl Abort, alloc: Global, row: &AttentionRow) {
+    let peer = Told {
+        bytes: attentive(rt, alloc),
+        from: 0,
+        takes: u32::MAX,
+    };
+    let items = items_of(rt, alloc, "tur 0\n was good\ntur 0\n was good\n");
+    let mut output = Output {
+        written: Vec::new(alloc),
+        told: Vec::new(alloc),
+    };
+    let plan = Plan {
+        ignored: Ignored::NONE,
+        all: false,
+        unit: None,
+        attentions: row.attentions,
+    };
+    let tally = replayed_so(alloc, &items, peer, plan, &mut output).expect(rt, "a tally");
+    same_bytes(rt, &output.written, row.written.as_bytes(), &row.attentions);
+    same_bytes(rt, &output.told, row.told.as_bytes(), &row.attentions);
+    same(rt, &tally.attentions, &row.passed, &row.attentions);
+}
+
+#[test]
+fn unit_attentions_that_are_passed_over(rt: HostRuntime) {
+    for row in ATTENTIVE_ROWS {
+        check_attentions(&rt, rt.alloc(), row);
     }
 }
 
@@ -343,6 +523,29 @@ const WRITES: &[(&str, Option<usize>)] = &[
     ("tur 0\ncommand 0 5f out 00\n", Some(1)),
     ("command 0 420000 none\n", Some(0)),
     ("command 0 93 none\n", Some(0)),
+    ("tur 0\ncommand 0 1b none\n", Some(1)),
+    ("command 0 16 none\n", Some(0)),
+    ("command 0 56 none\n", Some(0)),
+    ("command 0 1e00000001 none\n", Some(0)),
+    ("command 0 34 none\n", Some(0)),
+    ("command 0 90 none\n", Some(0)),
+    ("command 0 c0 in 4\n", Some(0)),
+    (
+        "inquiry 0 36\nluns\ncapacity\ncapacity16\nread 4294967296 1\n",
+        None,
+    ),
+    (
+        "command 0 03 in 18\ncommand 0 08 in 512\ncommand 0 1a in 4\ncommand 0 2f none\n",
+        None,
+    ),
+    (
+        "command 0 37 in 8\ncommand 0 3c in 8\ncommand 0 4d in 8\ncommand 0 5a in 8\n",
+        None,
+    ),
+    (
+        "command 0 5e in 8\ncommand 0 91 none\ncommand 0 a3 in 8\ncommand 0 a8 in 512\n",
+        None,
+    ),
 ];
 
 #[test]

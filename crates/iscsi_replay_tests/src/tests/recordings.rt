@@ -63,9 +63,9 @@ const ROWS: &[Row] = &[
         due: "initiator: data out of order at 208 (PDU 3)",
     },
     Row {
-        name: "511 of 512 bytes of a write",
-        dialogue: "I> @login\nT> @answer\nI> 01a10000 000001ff 00000000 00000000 00000010 00000200 00000001 00000001 2a000000 00000000 01000000 00000000 5a*511",
-        due: "initiator: data missing at 160 (PDU 2)",
+        name: "a second answer",
+        dialogue: "I> @login\nT> @answer\nI> 01810000 00000000 00000000 00000000 00000010 00000000 00000001 00000002 00000000 00000000 00000000 00000000\nT> 21800000 00000000 00000000 00000000 00000010 00000000 00000002 00000002 00000009 00000000 00000000 00000000\nT> 21800000 00000000 00000000 00000000 00000010 00000000 00000003 00000002 00000009 00000000 00000000 00000000",
+        due: "target: no such request at 136 (PDU 3)",
     },
     Row {
         name: "a text that goes on",
@@ -115,8 +115,7 @@ pub(crate) fn recorded(
     let mut recording = Recording::new(alloc);
     let asked = recording.ask(&mut initiator.as_slice());
     let answered = recording.answer(asked.is_ok(), &mut target.as_slice());
-    let ended = recording.end();
-    (recording, asked.and(answered).and(ended))
+    (recording, asked.and(answered))
 }
 
 fn check_row(rt: &impl Abort, alloc: Global, row: &Row) {

@@ -44,10 +44,10 @@ const JOB: &str = "tur 0\n  was status 02 sense 700006000000000a0000000029000000
     text 53656e64546172676574733d416c6c\n  was text\n\
     command 4001000000000000 28000000000000000100 in 512\n  was response 01 over 512\n\
     logout\n  was closed\n\
-    tur 0\n  was none\n";
+    tur 0\n  was unanswered\n";
 
-// The text of a recorded session.
-fn text_of(rt: &impl Abort, alloc: Global, dialogue: &str) -> String {
+/// The text of a recorded session.
+pub(crate) fn text_of(rt: &impl Abort, alloc: Global, dialogue: &str) -> String {
     let (recording, said) = recorded(rt, alloc, dialogue);
     said.expect(rt, "a job");
     let mut text = String::new(alloc);
@@ -80,19 +80,21 @@ const KEPT: &[&str] = &[
     JOB,
     "inquiry 255 65535\n  was good\n",
     "capacity\n  was good data 000007ff00000200\n",
-    "capacity16\n  was none\n",
-    "luns\n  was none\n",
-    "read 18446744073709551615 8192\n  was none\n",
-    "read 4294967295 1\n  was none\n",
-    "write 4294967296 1 00\n  was none\n",
+    "capacity16\n  was unanswered\n",
+    "luns\n  was unanswered\n",
+    "read 18446744073709551615 8192\n  was unanswered\n",
+    "read 4294967295 1\n  was unanswered\n",
+    "write 4294967296 1 00\n  was unanswered\n",
     "sync 4294967295 65535\n  was good\n",
     "ping\n  was ping\n",
     "text\n  was text 6100\n",
-    "task ff\n  was none\n",
+    "task ff\n  was unanswered\n",
     "tur 255\n  was response 01 status 02 sense 70 over 4294967295 data 00\n",
-    "command 0 88000000000000000000000000010000 in 512\n  was none\n",
-    "command 0 2a000000000000000100 out\n  was none\n",
-    "command 0 12008000ff0000000000000000000001 in 4294967295\n  was none\n",
+    "command 0 88000000000000000000000000010000 in 512\n  was unanswered\n",
+    "command 0 2a000000000000000100 out\n  was unanswered\n",
+    "command 0 2a000000000000000100 out of 4294967295\n  was unanswered\n",
+    "command 0 2a000000000000000100 out 5a5b of 3\n  was status 02\n",
+    "command 0 12008000ff0000000000000000000001 in 4294967295\n  was unanswered\n",
 ];
 
 fn check_kept(rt: &impl Abort, alloc: Global, text: &str) {
@@ -114,11 +116,12 @@ const MEANT: &[(&str, &str)] = &[
         "tur 0 # ready?\n\twas   good # yes\n",
         "tur 0\n  was good\n",
     ),
-    ("tur 0", "tur 0\n  was none\n"),
-    ("command 7 000000000000 none\n", "tur 7\n  was none\n"),
+    ("tur 0", "tur 0\n  was unanswered\n"),
+    ("tur 0\n was none\n", "tur 0\n  was unanswered\n"),
+    ("command 7 000000000000 none\n", "tur 7\n  was unanswered\n"),
     (
         "command 000000000000002a 00 none\n",
-        "command 000000000000002a 000000000000 none\n  was none\n",
+        "command 000000000000002a 000000000000 none\n  was unanswered\n",
     ),
     (
         "command 1 1A in 4\n was good data ABCD\n",
@@ -126,7 +129,7 @@ const MEANT: &[(&str, &str)] = &[
     ),
     (
         "command 0 2a000000000000000100 out 5a5a\n",
-        "command 0 2a000000000000000100 out 5a5a\n  was none\n",
+        "command 0 2a000000000000000100 out 5a5a\n  was unanswered\n",
     ),
 ];
 
@@ -172,6 +175,9 @@ const REFUSED: &[(&str, &str)] = &[
     ("command 0 12 in", "line 1: no number"),
     ("command 0 12 in 4294967296", "line 1: no number"),
     ("command 0 2a out 5", "line 1: no hex"),
+    ("command 0 2a out 5a of 1", "line 1: no number"),
+    ("command 0 2a out of", "line 1: no number"),
+    ("command 0 2a out 5a for 2", "line 1: too many words"),
     ("command 0 12 none 4", "line 1: too many words"),
     ("task 1", "line 1: no hex"),
     (" was good", "line 1: outcome of no request"),

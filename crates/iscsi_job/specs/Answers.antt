@@ -13,7 +13,7 @@ use Rattle.iscsi_job.specs.declared.item.Asked.TheVariants as asked
 use Rattle.iscsi_job.specs.declared.item.Ended.{Ended}
 use Rattle.iscsi_job.specs.declared.item.Ended.TheVariants as ended
 use Rattle.iscsi_job.specs.declared.item.Moves.TheVariants as moves
-use Rattle.iscsi_job.specs.inner.Jobs.{Item}
+use Rattle.iscsi_job.specs.Jobs.{Item}
 
 -- What a PDU makes of the request that it answers, and why it has no place in a job, if it has none.
 pub record AnsweredItem : Type 0 where

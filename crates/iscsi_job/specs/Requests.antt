@@ -13,7 +13,7 @@ use Rattle.iscsi_job.specs.declared.item.Asked.TheVariants as asked
 use Rattle.iscsi_job.specs.declared.item.Moves.TheVariants as moves
 use Rattle.iscsi_job.specs.declared.requests.Heard.{Heard}
 use Rattle.iscsi_job.specs.declared.requests.Heard.TheVariants as heard
-use Rattle.iscsi_job.specs.inner.Jobs.{Item}
+use Rattle.iscsi_job.specs.Jobs.{Item}
 
 -- which way the data of a command go: bit W says to the target, if it sends any
 abbrev pub is_out : ScsiCommand → Bool

@@ -1,3 +1,0 @@
-pub mod Jobs
-pub mod Requests
-pub mod Answers

@@ -1,0 +1,3 @@
+pub mod Numbering
+pub mod Uses
+pub mod Tasks
