@@ -1,3 +1,4 @@
 pub mod Jobs
 pub mod Requests
 pub mod Answers
+pub mod Recordings

@@ -5,6 +5,7 @@ ghost use Rattle.std.specs.Option.{option_map};
 ghost use Rattle.iscsi_initiator.specs.Full.{residual, sense_of};
 ghost use Rattle.iscsi_job.specs.declared.item.Ended.TheVariants.{Ping as IsPing};
 ghost use Rattle.iscsi_job.specs.Answers.{item_answered, item_on_data, on_sense, item_on_text};
+ghost use Rattle.iscsi_job.specs.Recordings.{answered_once, is_answer, kind_refusal, noted_answered, noted_heard, noted_unrefused, TasksHear};
 
 use crate::fault::Reason;
 use crate::item::{Asked, Ended, Item, Moves};
@@ -21,27 +22,72 @@ pub(crate) fn take(
     tasks: &mut Tasks,
     head: &Head,
     bytes: &[u8],
-) -> Result<Option<Reason>, AllocError> {
+) -> Result<Option<Reason>, AllocError>
+    ensures refusal { IfOk result (λ refusal.
+        refusal ≡ (noted_heard tasks.old noted.old.items head.now bytes.now).refusal) }
+    ensures noted { OnOk result (noted.new.items
+        ≡ (noted_heard tasks.old noted.old.items head.now bytes.now).noted) }
+    ensures err { OnErr result (noted.new.items ≡ noted.old.items) }
+    ensures tasks { TasksHear tasks.old head.now tasks.new }
+{
     let found = tasks.hear(head);
-    match is_answer(head) {
-        Ok(true) => answer(noted, found, head, bytes),
-        Ok(false) => Ok(None),
-        Err(reason) => Ok(Some(reason)),
+    match kind_refusal(head) {
+        Some(reason) => Ok(Some(reason)),
+        None => answer_if_any(noted, found, head, bytes),
     }
 }
 
-// Whether a PDU answers a request; of one that has no place in a job, why.
-fn is_answer(head: &Head) -> Result<bool, Reason> {
+// Notes what a PDU answers, if it is an answer.
+fn answer_if_any(
+    noted: &mut Vec<Noted>,
+    found: Option<usize>,
+    head: &Head,
+    bytes: &[u8],
+) -> Result<Option<Reason>, AllocError>
+    ensures refusal { IfOk result (λ refusal.
+        refusal ≡ (noted_unrefused None noted.old.items found head.now bytes.now).refusal) }
+    ensures noted { OnOk result (noted.new.items
+        ≡ (noted_unrefused None noted.old.items found head.now bytes.now).noted) }
+    ensures err { OnErr result (noted.new.items ≡ noted.old.items) }
+{
+    if is_answer(head) {
+        answer(noted, found, head, bytes)
+    } else {
+        Ok(None)
+    }
+}
+
+// Why a PDU has no place in a job, by its kind.
+fn kind_refusal(head: &Head) -> Option<Reason>
+    ensures value { result ≡ kind_refusal head.now }
+{
     match head {
-        Head::NopIn(head) => Ok(head.initiator_task_tag != RESERVED_TAG),
+        Head::NopIn(_)
+        | Head::ScsiResponse(_)
+        | Head::TaskResponse(_)
+        | Head::LoginResponse(_)
+        | Head::TextResponse(_)
+        | Head::DataIn(_)
+        | Head::LogoutResponse(_)
+        | Head::ReadyToTransfer(_)
+        | Head::AsyncMessage(_) => None,
+        Head::Reject(_) => Some(Reason::Rejected),
+        _ => Some(Reason::Kind),
+    }
+}
+
+// Whether a PDU answers a request.
+fn is_answer(head: &Head) -> bool
+    ensures value { result ≡ is_answer head.now }
+{
+    match head {
+        Head::NopIn(head) => head.initiator_task_tag != RESERVED_TAG,
         Head::ScsiResponse(_)
         | Head::TaskResponse(_)
         | Head::TextResponse(_)
         | Head::DataIn(_)
-        | Head::LogoutResponse(_) => Ok(true),
-        Head::LoginResponse(_) | Head::ReadyToTransfer(_) | Head::AsyncMessage(_) => Ok(false),
-        Head::Reject(_) => Err(Reason::Rejected),
-        _ => Err(Reason::Kind),
+        | Head::LogoutResponse(_) => true,
+        _ => false,
     }
 }
 
@@ -51,17 +97,33 @@ fn answer(
     index: Option<usize>,
     head: &Head,
     bytes: &[u8],
-) -> Result<Option<Reason>, AllocError> {
+) -> Result<Option<Reason>, AllocError>
+    ensures refusal { IfOk result (λ refusal.
+        refusal ≡ (noted_answered noted.old.items index head.now bytes.now).refusal) }
+    ensures noted { OnOk result (noted.new.items
+        ≡ (noted_answered noted.old.items index head.now bytes.now).noted) }
+    ensures err { OnErr result (noted.new.items ≡ noted.old.items) }
+{
     let Some(index) = index else {
         return Ok(Some(Reason::Unasked));
     };
     let Some(found) = noted.get_mut(index) else {
         return Ok(Some(Reason::Unasked));
     };
-    if found.item.ended.is_some() {
-        return Ok(Some(Reason::Unasked));
+    answered_once(&mut found.item, head, bytes)
+}
+
+// Notes what a PDU answers to a request, unless that has ended.
+fn answered_once(item: &mut Item, head: &Head, bytes: &[u8]) -> Result<Option<Reason>, AllocError>
+    ensures refusal { IfOk result (λ refusal.
+        refusal ≡ (answered_once item.old head.now bytes.now).refusal) }
+    ensures item { OnOk result (item.new ≡ (answered_once item.old head.now bytes.now).item) }
+    ensures err { OnErr result (item.new ≡ item.old) }
+{
+    match item.ended {
+        Some(_) => Ok(Some(Reason::Unasked)),
+        None => answered(item, head, bytes),
     }
-    answered(&mut found.item, head, bytes)
 }
 
 // Notes what a PDU answers to its request.

@@ -1,6 +1,7 @@
 //! A request of a job, and what came of it.
 
-ghost use Rattle.std.specs.Prelude.{◌≡◌, IfOk};
+ghost use Rattle.std.specs.Prelude.{◌≡◌, IfOk, IfSome};
+ghost use Rattle.std.specs.Option.{option_map};
 ghost use Rattle.iscsi_job.specs.Jobs.{lacks_data};
 
 use iscsi_initiator::{Done, Request};
@@ -105,7 +106,11 @@ impl Model for Item {
 
 impl Item {
     /// What came of it, if anything did.
-    pub fn outcome(&self) -> Option<Outcome<'_>> {
+    pub fn outcome(&self) -> Option<Outcome<'_>>
+        ensures ended { option_map (λ outcome. outcome.ended) result ≡ self.now.ended }
+        ensures sense { IfSome result (λ outcome. outcome.sense.now ≡ self.now.sense) }
+        ensures data { IfSome result (λ outcome. outcome.«data».now ≡ self.now.received) }
+    {
         let ended = self.ended?;
         Some(Outcome {
             ended,

@@ -1,6 +1,6 @@
 //! The PDUs of a stream, one after another.
 
-ghost use Rattle.std.specs.Prelude.{◌≤◌, ◌+◌, length, IfOk};
+ghost use Rattle.std.specs.Prelude.{◌≡◌, ◌≤◌, ◌+◌, length, IfOk};
 
 use crate::fault::{JobFault, Which};
 use iscsi_stream::{Framer, LONGEST_SEGMENT, PIECE, Reads, StreamFault};
@@ -24,7 +24,9 @@ pub(crate) struct Pdus {
 
 impl Pdus {
     /// A stream of which nothing is read yet. It takes no memory.
-    pub(crate) fn new(alloc: Global, which: Which) -> Pdus {
+    pub(crate) fn new(alloc: Global, which: Which) -> Pdus
+        ensures which { result.which ≡ which }
+    {
         Pdus {
             which,
             framer: Framer::new(alloc, LONGEST_SEGMENT),
@@ -38,7 +40,9 @@ impl Pdus {
 
     /// Gives the PDU that was ready up, and reads on until the next one is. Says whether there is
     /// one: if not, the stream has ended behind the PDUs before.
-    pub(crate) fn advance<R: Read>(&mut self, r: &mut R) -> Result<bool, JobFault> {
+    pub(crate) fn advance<R: Read>(&mut self, r: &mut R) -> Result<bool, JobFault>
+        ensures which { self.new.which ≡ self.old.which }
+    {
         self.framer.take();
         for _ in 0..u64::MAX {
             if self.feed()? {
@@ -54,7 +58,9 @@ impl Pdus {
 
     // Has the framer take what is left of the piece, up to the end of a PDU. Says whether one is
     // ready.
-    fn feed(&mut self) -> Result<bool, JobFault> {
+    fn feed(&mut self) -> Result<bool, JobFault>
+        ensures which { self.new.which ≡ self.old.which }
+    {
         let taken = match feed_part(&mut self.framer, &self.piece, self.from, self.to) {
             Ok(taken) => taken,
             Err(fault) => return Err(JobFault::of_stream(self.which, fault)),
@@ -64,7 +70,9 @@ impl Pdus {
     }
 
     // Reads the next piece. Says whether there is one: if not, the stream has ended.
-    fn fill<R: Read>(&mut self, r: &mut R) -> Result<bool, JobFault> {
+    fn fill<R: Read>(&mut self, r: &mut R) -> Result<bool, JobFault>
+        ensures which { self.new.which ≡ self.old.which }
+    {
         match self.reads.next(r, &mut self.piece) {
             Ok(Some(count)) => {
                 self.from = 0;

@@ -1,6 +1,11 @@
 //! The recording of a session, out of which its job is found.
 
+ghost use Rattle.std.specs.Prelude.{◌≡◌, ℕ, [], IfOk, None, OnErr, OnOk};
 ghost use Rattle.iscsi_pdu.specs.Meaning.{HeadFits};
+ghost use Rattle.iscsi_tasks.specs.Numbering.{acknowledged};
+ghost use Rattle.iscsi_tasks.specs.Tasks.{next_of, uses_of};
+ghost use Rattle.iscsi_job.specs.declared.fault.Which.TheVariants.{Initiator, Target};
+ghost use Rattle.iscsi_job.specs.Recordings.{AnswerStep, AsksKnown, AskStep, GivesData, HearsPdu, HearsSome, noted_given, recorded};
 
 use crate::answers;
 use crate::fault::{JobFault, Reason, Which};
@@ -44,7 +49,11 @@ pub struct Recording {
 
 impl Recording {
     /// A recording of which nothing was read. It takes no memory.
-    pub fn new(alloc: Global) -> Recording {
+    pub fn new(alloc: Global) -> Recording
+        ensures noted { (recorded result).noted ≡ [] }
+        ensures uses { (tag : ℕ) → uses_of (recorded result).tasks tag ≡ [] }
+        ensures next { next_of (recorded result).tasks ≡ None }
+    {
         Recording {
             alloc,
             noted: Vec::new(alloc),
@@ -53,7 +62,9 @@ impl Recording {
     }
 
     /// The requests so far, with what came of them.
-    pub fn noted(&self) -> &[Noted] {
+    pub fn noted(&self) -> &[Noted]
+        ensures { result.now ≡ (recorded self.now).noted }
+    {
         &self.noted
     }
 
@@ -61,7 +72,9 @@ impl Recording {
     /// with its data.
     ///
     /// A fault comes behind the requests of all PDUs before it.
-    pub fn ask<R: Read>(&mut self, r: &mut R) -> Result<(), JobFault> {
+    pub fn ask<R: Read>(&mut self, r: &mut R) -> Result<(), JobFault>
+        ensures hears { HearsSome Initiator (recorded self.old) (recorded self.new) }
+    {
         let mut pdus = Pdus::new(self.alloc, Which::Initiator);
         self.read(&mut pdus, true, r)
     }
@@ -71,13 +84,17 @@ impl Recording {
     /// read are passed over.
     ///
     /// A fault comes behind the answers of all PDUs before it.
-    pub fn answer<R: Read>(&mut self, whole: bool, r: &mut R) -> Result<(), JobFault> {
+    pub fn answer<R: Read>(&mut self, whole: bool, r: &mut R) -> Result<(), JobFault>
+        ensures hears { HearsSome Target (recorded self.old) (recorded self.new) }
+    {
         let mut pdus = Pdus::new(self.alloc, Which::Target);
         self.read(&mut pdus, whole, r)
     }
 
     // Reads a stream to its end.
-    fn read<R: Read>(&mut self, pdus: &mut Pdus, whole: bool, r: &mut R) -> Result<(), JobFault> {
+    fn read<R: Read>(&mut self, pdus: &mut Pdus, whole: bool, r: &mut R) -> Result<(), JobFault>
+        ensures hears { HearsSome pdus.old.which (recorded self.old) (recorded self.new) }
+    {
         for _ in 0..u64::MAX {
             if !pdus.advance(r)? {
                 return Ok(());
@@ -88,23 +105,38 @@ impl Recording {
     }
 
     // Takes the PDU that is ready.
-    fn take(&mut self, pdus: &Pdus, whole: bool) -> Result<(), JobFault> {
+    fn take(&mut self, pdus: &Pdus, whole: bool) -> Result<(), JobFault>
+        ensures hears { HearsPdu pdus.now.which (recorded self.old) (recorded self.new) }
+    {
         let (which, place, number) = (pdus.which, pdus.framer.place(), pdus.number);
         let Some(pdu) = pdus.framer.pdu() else {
             return Ok(());
         };
-        let said = if number == 1 && !is_login(which, &pdu.head) {
-            Some(Reason::Late)
-        } else {
-            match which {
-                Which::Initiator => self.take_request((place, number), &pdu.head, pdu.bytes)?,
-                Which::Target => self.take_answer(&pdu.head, pdu.bytes)?,
-            }
-        };
+        let said = self.hear(which, (place, number), &pdu.head, pdu.bytes)?;
         match said {
             None => Ok(()),
             Some(Reason::Unasked) if !whole => Ok(()),
             Some(reason) => Err(refused(which, reason, place, number)),
+        }
+    }
+
+    // Hears a PDU of an end, or says why it has no place in a job.
+    fn hear(
+        &mut self,
+        which: Which,
+        at: (u64, u64),
+        head: &Head,
+        bytes: &[u8],
+    ) -> Result<Option<Reason>, JobFault>
+        requires fits { HeadFits head.now }
+        ensures hears { HearsPdu which (recorded self.old) (recorded self.new) }
+    {
+        if at.1 == 1 && !is_login(which, head) {
+            return Ok(Some(Reason::Late));
+        }
+        match which {
+            Which::Initiator => self.take_request(at, head, bytes),
+            Which::Target => self.take_answer(head, bytes),
         }
     }
 
@@ -116,6 +148,9 @@ impl Recording {
         bytes: &[u8],
     ) -> Result<Option<Reason>, JobFault>
         requires fits { HeadFits head.now }
+        ensures step { IfOk result (λ refusal.
+            AskStep (recorded self.old) at head.now bytes.now refusal (recorded self.new)) }
+        ensures err { OnErr result ((recorded self.new).noted ≡ (recorded self.old).noted) }
     {
         match said_by(head, bytes) {
             Heard::Asks(tag, asked) => self.begin(at, tag, asked, head, bytes),
@@ -133,7 +168,11 @@ impl Recording {
         asked: Asked,
         head: &Head,
         bytes: &[u8],
-    ) -> Result<Option<Reason>, JobFault> {
+    ) -> Result<Option<Reason>, JobFault>
+        ensures step { IfOk result (λ refusal. AsksKnown (acknowledged head.now) (recorded self.old) at
+            tag asked bytes.now refusal (recorded self.new)) }
+        ensures err { OnErr result ((recorded self.new).noted ≡ (recorded self.old).noted) }
+    {
         let Some(known) = acknowledged(head) else {
             return Ok(Some(Reason::Kind));
         };
@@ -144,25 +183,45 @@ impl Recording {
     }
 
     // Gives bytes to the last request with a tag.
-    fn pass_on(
-        &mut self,
-        tag: u32,
-        offset: u32,
-        bytes: &[u8],
-    ) -> Result<Option<Reason>, AllocError> {
-        let Some(index) = self.tasks.latest(tag) else {
-            return Ok(Some(Reason::Unasked));
-        };
-        match self.noted.get_mut(index) {
-            Some(noted) => give(&mut noted.item, offset, bytes),
-            None => Ok(Some(Reason::Unasked)),
-        }
+    fn pass_on(&mut self, tag: u32, offset: u32, bytes: &[u8]) -> Result<Option<Reason>, AllocError>
+        ensures step { IfOk result (λ refusal.
+            GivesData (recorded self.old) tag offset bytes.now refusal (recorded self.new)) }
+        ensures err { OnErr result ((recorded self.new).noted ≡ (recorded self.old).noted) }
+    {
+        let latest = self.tasks.latest(tag);
+        give_to(&mut self.noted, latest, offset, bytes)
     }
 
     // Notes what a PDU of the target answers, or says why it has no place in a job.
-    fn take_answer(&mut self, head: &Head, bytes: &[u8]) -> Result<Option<Reason>, JobFault> {
+    fn take_answer(&mut self, head: &Head, bytes: &[u8]) -> Result<Option<Reason>, JobFault>
+        ensures step { IfOk result (λ refusal.
+            AnswerStep (recorded self.old) head.now bytes.now refusal (recorded self.new)) }
+        ensures err { OnErr result ((recorded self.new).noted ≡ (recorded self.old).noted) }
+    {
         Ok(answers::take(&mut self.noted, &mut self.tasks, head, bytes)?)
     }
+}
+
+// Gives bytes to the request with an index.
+fn give_to(
+    noted: &mut Vec<Noted>,
+    index: Option<usize>,
+    offset: u32,
+    bytes: &[u8],
+) -> Result<Option<Reason>, AllocError>
+    ensures refusal { IfOk result (λ refusal.
+        refusal ≡ (noted_given noted.old.items index offset bytes.now).refusal) }
+    ensures noted { OnOk result (noted.new.items
+        ≡ (noted_given noted.old.items index offset bytes.now).noted) }
+    ensures err { OnErr result (noted.new.items ≡ noted.old.items) }
+{
+    let Some(index) = index else {
+        return Ok(Some(Reason::Unasked));
+    };
+    let Some(found) = noted.get_mut(index) else {
+        return Ok(Some(Reason::Unasked));
+    };
+    give(&mut found.item, offset, bytes)
 }
 
 // The fault of a PDU that has no place in a job.
