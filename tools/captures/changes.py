@@ -7,7 +7,8 @@ The captures are a classic one and a pcapng one of libiscsi and tgt, from crates
 `connections -` and to `show --capture -` by standard input.
 
 Cut off, a capture has the lines of the packets that are whole before the cut, and the bytes that a walk of this script
-counts. If the cut is within a record or block, the fault is `truncated at P`, with its offset; else there is none.
+counts. If the cut is within a record or block, the fault is `truncated at P`, with its offset. Else a file without a byte is
+`empty`, and `show` has `no iSCSI connection` before the initiator's first byte.
 
 With a header byte changed to N other values (8, if not said: each bit turned), the program ends with lines of the form of
 docs/FORMATS.md, section 14, and either no fault or one of its faults. If nobody is to look at the byte, such as those of a
@@ -38,7 +39,7 @@ FREE = {"ethernet": range(0, 12), "ip": [1, 4, 5, 8, 10, 11], "tcp": [*range(8, 
 
 NUMBER = "[0-9]+"
 FAULTS = re.compile(
-    rf"standard input: (capture: (unknown format|bad length|truncated|unknown interface) at {NUMBER}"
+    rf"standard input: (capture: (unknown format|bad length|truncated|unknown interface) at {NUMBER}|capture: no iSCSI connection"
     rf"|capture: link type {NUMBER} at {NUMBER} \(packet {NUMBER}\)|capture: (fragment|cut) at {NUMBER} \(packet {NUMBER}\)"
     rf"|capture: connection {NUMBER} begins before the capture|connection {NUMBER}: (gap|conflict) at {NUMBER} \(packet {NUMBER}\)"
     rf"|connection {NUMBER}: stream: .*)\n")
@@ -99,16 +100,18 @@ def cut(checks, name, data, starts, packets, length):
     """One cut."""
     within = length not in starts
     start = max(start for start in starts if start <= length)
-    fault = f"standard input: capture: truncated at {start}\n" if within else ""
+    fault = f"standard input: capture: truncated at {start}\n" if within else "" if length else "standard input: capture: empty\n"
     first = packets[0][2]
     counts = [sum(one[3] for one in packets if one[1] <= length and (one[2] == first) == mine) for mine in (True, False)]
     status, lines, err = run("connections", data[:length])
     due = [" ".join([*line.split(" ")[:3], *map(str, counts), *(["login"] if counts[0] else [])]) for line in run("connections", data)[1]]
     due = due if any(one[1] <= length for one in packets) else []
-    checks.check(f"{name}: connections, {length} bytes", (status, lines, err) == (int(within), due, fault), (status, lines, err))
+    checks.check(f"{name}: connections, {length} bytes", (status, lines, err) == (int(fault != ""), due, fault), (status, lines, err))
+    if not fault and not counts[0]:
+        fault = "standard input: capture: no iSCSI connection\n"
     status, lines, err = run("show", data[:length])
     whole, at_start = run("show", data)[1], run("show", data[:start])[1]
-    is_so = (status, err) == (int(within), fault) and lines == at_start == whole[:len(lines)]
+    is_so = (status, err) == (int(fault != ""), fault) and lines == at_start == whole[:len(lines)]
     checks.check(f"{name}: show, {length} bytes", is_so, (status, len(lines), err))
 
 

@@ -1,8 +1,8 @@
 -- What a direction and a connection do with their segments.
-use Rattle.std.specs.Prelude.{◌≡◌, ◌≢◌, ◌⊎◌, ◌<◌, ℕ, ◌+◌, max, length, slice_get, List, [], ◌∷◌, Option, Some, None, nat_lt, if◌then◌else◌}
+use Rattle.std.specs.Prelude.{◌≡◌, ◌≢◌, ◌⊎◌, ◌<◌, ℕ, ◌+◌, max, min, MatchOption, length, slice_get, List, [], ◌∷◌, Option, Some, None, nat_lt, if◌then◌else◌}
 use Rattle.std.specs.Map.{lookup}
 use Rattle.tcp_streams.specs.Placing.{Numbered}
-use Rattle.tcp_streams.specs.Reassembly.{Taking, opening_direction, TakesSegment}
+use Rattle.tcp_streams.specs.Reassembly.{Taking, held, opening_direction, TakesSegment}
 use Rattle.capture_connections.specs.declared.heard.Heard.{Heard}
 use Rattle.capture_connections.specs.declared.belonging.Start.{Start}
 use Rattle.capture_connections.specs.declared.belonging.Start.TheVariants.{Unknown, Bytes, Syn}
@@ -34,6 +34,14 @@ unheard = record {
   cut_in = 0;
 }
 
+-- how much waits in a direction of which so much was taken, up to what may
+abbrev pub waiting_of : Taking → ℕ
+waiting_of taking = min (held taking.waiting) most_waiting_in_direction
+
+-- What is counted as waiting in a direction is what it holds.
+abbrev pub CountsHeld : Half → Type 0
+CountsHeld half = MatchOption half.direction (half.waiting ≡ 0) (λ taking. half.waiting ≡ waiting_of taking)
+
 -- What was taken of a direction that begins so: it opens with its first bytes.
 abbrev pub direction_opened : Option Taking → Start → Option Taking
 direction_opened (Some taking) start = Some taking
@@ -61,12 +69,13 @@ FeedsSome old heard (byte ∷ bytes) new before after =
 
 -- A direction took a segment: the beginning of the direction is that of its own segments. As long
 -- as the direction is followed, the bytes that are known more are those that its own segments
--- determine.
+-- determine. What is counted as waiting stays what the direction holds.
 pub record HalfTakes (old : Half) (heard : Heard) (new : Half) (before after : List ℕ) : Type 0 where
   pub start : new.start ≡ start_after old.start heard.said
   pub fed : new.stop ≡ None → (old.stop ≡ None)
       × FeedsSome old heard heard.bytes.now new before after
   pub stopped : old.stop ≢ None → (new.stop ≡ old.stop) × (after ≡ before)
+  pub counted : CountsHeld old → CountsHeld new
 
 -- what the lower end's direction is before a segment of the connection
 abbrev pub lower_of : Option Connection → Half

@@ -17,8 +17,6 @@ use std::alloc::Global;
 use std::collections::HashMap;
 use std::marker::Model;
 
-/// How many connections are followed.
-pub const MOST_CONNECTIONS: usize = 65_536;
 /// How many bytes may wait in all directions together, as in `WAITING`: 64 MiB.
 pub const MOST_WAITING: usize = 64 * WAITING;
 
@@ -209,9 +207,6 @@ fn hear_first(
         × ConnectionStep None heard.now connection out.old.items out.new.items) }
     ensures fault { IfErr result (λ fault. fault ≡ NoMemory) }
 {
-    if list.len() >= MOST_CONNECTIONS {
-        return Err(ConnectionsFault::NoMemory);
-    }
     let mut connection = Connection::begun(heard);
     connection.take(alloc, heard, out)?;
     list.push(connection)?;
@@ -241,8 +236,8 @@ impl Connections {
     /// Takes the next segment of the capture, and says which connection it belongs to. Appends to
     /// `out` the bytes of its sender's stream that are known now and were not before.
     ///
-    /// Returns `NoMemory` alone, if memory runs out or there are more than 65,536 connections.
-    /// After that do not use the connections: no clause says what they are.
+    /// Returns `NoMemory` alone, if memory runs out. After that do not use the connections: no
+    /// clause says what they are.
     pub fn take(&mut self, heard: Heard<'_>, out: &mut Vec<u8>) -> Result<usize, ConnectionsFault>
         requires { length heard.bytes.now < 2 ^ 32 }
         ensures hears { IfOk result (λ number. TableStep self.old heard.entry number self.new

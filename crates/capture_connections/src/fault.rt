@@ -8,7 +8,7 @@ use std::alloc::{AllocError, AllocFailed};
 /// Why a segment is not taken.
 #[derive(Clone, Copy)]
 pub enum ConnectionsFault {
-    /// Memory ran out, or there are more than 65,536 connections.
+    /// Memory ran out.
     NoMemory,
 }
 

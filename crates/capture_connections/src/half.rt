@@ -1,7 +1,7 @@
 //! One direction of a connection, as far as it is followed.
 
 ghost use Rattle.std.specs.Prelude.{◌≡◌, ◌<◌, ◌^◌, OnOk, IfErr, IsSome, IsTrue, ◌↔◌, length, None, Some};
-ghost use Rattle.capture_connections.specs.Following.{HalfTakes, direction_given_up, direction_opened, stop_at_end, unheard};
+ghost use Rattle.capture_connections.specs.Following.{HalfTakes, direction_given_up, direction_opened, stop_at_end, unheard, waiting_of};
 ghost use Rattle.capture_connections.specs.declared.fault.ConnectionsFault.TheVariants.{NoMemory};
 
 use crate::belonging::Start;
@@ -37,9 +37,9 @@ pub struct Half {
     pub known: u64,
     /// The first byte of its stream, once it is known.
     pub first_byte: Option<u8>,
-    /// How much came since a byte is missing, by the count of `WAITING`; 0 where none is.
+    /// How much waits behind a missing byte, by the count of `WAITING`; 0 where none is missing.
     pub waiting: u32,
-    /// The packet that came first since then.
+    /// The packet of the first segment since nothing waited.
     pub waits_from: u64,
     /// The first packet of which bytes were not captured; 0: there was none.
     pub cut_in: u64,
@@ -113,26 +113,24 @@ impl Half {
     fn note(&mut self, direction: &Direction, heard: &Heard<'_>, out: &[u8], before: usize)
         ensures start { self.new.start ≡ self.old.start }
         ensures stop { self.new.stop ≡ self.old.stop }
+        ensures waits { self.new.waiting ≡ waiting_of direction.now }
     {
         if self.known == 0 {
             self.first_byte = out.get(before).copied();
         }
         self.known = direction.count();
-        if !direction.has_gap() {
-            self.waiting = 0;
-            return;
-        }
         if self.waiting == 0 {
             self.waits_from = heard.packet;
         }
-        let cost = heard.bytes.len().saturating_add(64).min(WAITING) as u32;
-        self.waiting = self.waiting.saturating_add(cost).min(WAITING as u32);
+        self.waiting = direction.held().min(WAITING) as u32;
     }
 
     // Follows the direction no further.
     fn end(&mut self, fault: SegmentFault, packet: u64) -> Result<(), ConnectionsFault>
         ensures start { self.new.start ≡ self.old.start }
         ensures stop { OnOk result (IsSome self.new.stop) }
+        ensures none { OnOk result (self.new.direction ≡ None) }
+        ensures waits { OnOk result (self.new.waiting ≡ 0) }
         ensures fault { IfErr result (λ fault. fault ≡ NoMemory) }
     {
         let since = if self.waiting == 0 {

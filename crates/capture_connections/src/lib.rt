@@ -10,7 +10,7 @@ mod heard;
 mod laws;
 
 pub use belonging::{Last, Start};
-pub use connections::{Connection, Connections, MOST_CONNECTIONS, MOST_WAITING, PORT};
+pub use connections::{Connection, Connections, MOST_WAITING, PORT};
 pub use ends::{Ends, Side};
 pub use fault::ConnectionsFault;
 pub use half::{Half, Stop, WAITING};

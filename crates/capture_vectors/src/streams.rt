@@ -40,7 +40,6 @@ fn is_told(fault: Option<CapturesFault>, row: Row<'_>, count: u64) -> bool {
             all && row.remark == "conflict:388" && offset == 388
         }
         Some(CapturesFault::Begun { .. }) => row.file == "midstream.pcap" && count == 0,
-        Some(CapturesFault::Fragment { packet: 11, .. }) => row.file == "fragment.pcap",
         Some(_) => false,
     }
 }

@@ -89,6 +89,10 @@ pub lists_all : (left : Option (List ℕ)) (result : Result (Unit {0}) CapturesF
 lists_all left (Ok done) old new h w = w
 lists_all left (Err faults.NoMemory) old new h w = inr w
 lists_all left (Err faults.Read) old new h w = w
+lists_all left (Err faults.Directory) old new h w = w
+lists_all left (Err (faults.Reads a)) old new h w = w
+lists_all left (Err faults.Empty) old new h w = w
+lists_all left (Err faults.NoSession) old new h w = w
 lists_all left (Err faults.Write) old new h w = absurd (h 0)
 lists_all left (Err (faults.Format a)) old new h w = w
 lists_all left (Err (faults.Length a)) old new h w = w

@@ -60,6 +60,10 @@ pub on_err : {T E : Type 0} (result : Result T E) (P : Type 0) → P → OnErr r
 on_err (Ok done) P p = tt
 on_err (Err e) P p = p
 
+pub on_ok : {T E : Type 0} (result : Result T E) (P : Type 0) → P → OnOk result P
+on_ok (Ok done) P p = p
+on_ok (Err e) P p = tt
+
 pub ok_one : {T E : Type 0} (result : Result T E) (wanted : Wanted) (old new : Table) (heard : Heard)
     (given : List ℕ) → OnOk result (HearsWanted old heard wanted new given)
     → OnOk result (AddsSome wanted old new given)

@@ -9,5 +9,7 @@ abbrev pub captures_exit_status : CapturesFault → ℕ
 captures_exit_status faults.NoMemory = 3
 captures_exit_status faults.Read = 4
 captures_exit_status faults.Write = 4
+captures_exit_status faults.Directory = 4
+captures_exit_status (faults.Reads connection) = 4
 captures_exit_status (faults.NoConnection connection) = 2
 captures_exit_status _ = 1

@@ -73,16 +73,19 @@ IsWhole table wanted = (connection : Connection) × (side : Side)
 
 -- What a fault of a direction of the connection with this number says, if the file has this left: it
 -- names that connection. The end of the file is told only there. What a failed read or want of memory
--- says is nothing, and no fault is one of writing or of PDUs.
+-- says is nothing, and no fault is one of writing, of PDUs or of a capture without a login.
 abbrev pub IsFaultOf : ℕ → Option (List ℕ) → CapturesFault → Type 0
 IsFaultOf number left faults.Write = ⊥
 IsFaultOf number left (faults.Stream connection fault) = ⊥
 IsFaultOf number left (faults.Protocol connection rule) = ⊥
+IsFaultOf number left faults.NoSession = ⊥
 IsFaultOf number left (faults.Truncated at) = IsAtEnd left
+IsFaultOf number left faults.Empty = IsAtEnd left
 IsFaultOf number left (faults.NoConnection connection) = (connection ≡ number) × IsAtEnd left
 IsFaultOf number left (faults.Gap connection offset packet) = connection ≡ number
 IsFaultOf number left (faults.Conflict connection offset packet) = connection ≡ number
 IsFaultOf number left (faults.Long connection) = connection ≡ number
+IsFaultOf number left (faults.Reads connection) = ⊥
 IsFaultOf number left (faults.Begun connection) = connection ≡ number
 IsFaultOf number left _ = Unit {0}
 

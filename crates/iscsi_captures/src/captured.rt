@@ -15,9 +15,11 @@ ghost use Rattle.iscsi_captures.specs.Meant.{HearsWanted, IsMeant};
 ghost use Rattle.iscsi_captures.specs.inner.Meant.{IsFor};
 ghost use Rattle.capture_connections.specs.declared.ends.Side.{Side};
 
+use crate::beginning::{answers_before, is_headless, sends_before};
 use crate::fault::CapturesFault;
 use crate::file::{CaptureFile, Numbered, Stood};
-use capture_connections::{Connection, Connections, Heard, Side, Start, Stop, heard_of};
+use crate::passed::PassedOver;
+use capture_connections::{Connection, Connections, Half, Heard, Side, Stop, heard_of};
 use std::alloc::{AllocError, Global};
 use std::io::{self, ErrorKind, Read};
 use std::marker::Model;
@@ -48,6 +50,7 @@ pub struct Captured<'a, R: Read> {
     file: CaptureFile,
     connections: Connections,
     wanted: Wanted,
+    passed: PassedOver,
     out: Vec<u8>,
     given: usize,
     ended: bool,
@@ -84,6 +87,7 @@ impl<'a, R: Read> Captured<'a, R> {
             file: CaptureFile::new(alloc)?,
             connections: Connections::new(alloc),
             wanted,
+            passed: PassedOver::new(),
             out: Vec::new(alloc),
             given: 0,
             ended: false,
@@ -141,6 +145,7 @@ impl<'a, R: Read> Captured<'a, R> {
                 self.source,
                 &mut self.connections,
                 self.wanted,
+                &mut self.passed,
                 &mut self.out,
             ) {
                 Ok(more) => self.ended = !more,
@@ -176,6 +181,7 @@ fn step<R: Read>(
     source: &mut R,
     connections: &mut Connections,
     wanted: Wanted,
+    passed: &mut PassedOver,
     out: &mut Vec<u8>,
 ) -> Result<bool, CapturesFault>
     ensures reads { WasRead (R.remaining source.old) (R.remaining source.new) }
@@ -189,21 +195,23 @@ fn step<R: Read>(
     match file.step(source)? {
         Stood::Other => Ok(true),
         Stood::Packet(packet) => {
-            hear(connections, packet, wanted, out)?;
+            hear(connections, packet, wanted, passed, out)?;
             Ok(true)
         }
         Stood::End => {
-            at_end(connections, wanted)?;
+            at_end(connections, wanted, passed)?;
             Ok(false)
         }
     }
 }
 
-// Takes a packet, and leaves what it adds to the direction that is wanted.
+// Takes a packet, and leaves what it adds to the direction that is wanted. One with no segment that
+// is read is passed over.
 fn hear(
     connections: &mut Connections,
     packet: Numbered<'_>,
     wanted: Wanted,
+    passed: &mut PassedOver,
     out: &mut Vec<u8>,
 ) -> Result<(), CapturesFault>
     ensures ok { OnOk result (AddsSome wanted connections.old connections.new out.new.items) }
@@ -211,8 +219,13 @@ fn hear(
     ensures fault { IfErr result (IsDirectionFault wanted.connection) }
 {
     out.clear();
-    let Some(segment) = packet.segment()? else {
-        return Ok(());
+    let segment = match packet.segment() {
+        Ok(Some(segment)) => segment,
+        Ok(None) => return Ok(()),
+        Err(reason) => {
+            passed.note(reason);
+            return Ok(());
+        }
     };
     let heard = heard_of(&segment, packet.number);
     hear_segment(connections, &heard, packet.at, wanted, out)
@@ -293,7 +306,7 @@ fn heard_of_wanted(
     ensures fault { IfErr result (IsDirectionFault wanted.connection) }
 {
     let number = wanted.connection;
-    if connection.opener.is_none() && heard.said.some {
+    if heard.said.some && is_headless(connection) {
         return Err(CapturesFault::Begun { connection: number });
     }
     let side = side_of(connection, wanted.end);
@@ -301,7 +314,7 @@ fn heard_of_wanted(
         return Ok(false);
     }
     let half = connection.half(side);
-    if matches!(half.start, Start::Bytes(_)) {
+    if is_before(half, wanted.end) {
         return Err(CapturesFault::Begun { connection: number });
     }
     if let Some(stop) = half.stop {
@@ -312,6 +325,14 @@ fn heard_of_wanted(
         return Err(CapturesFault::Cut { at, packet });
     }
     Ok(true)
+}
+
+// Whether bytes of this end came before the capture.
+fn is_before(half: &Half, end: End) -> bool {
+    match end {
+        End::Initiator => sends_before(half),
+        End::Target => answers_before(half),
+    }
 }
 
 // The side of an end.
@@ -325,19 +346,46 @@ fn side_of(connection: &Connection, end: End) -> Side
     }
 }
 
-// What is wrong with the direction where the capture ends.
-fn at_end(connections: &Connections, wanted: Wanted) -> Result<(), CapturesFault>
+// What is wrong with the direction where the capture ends. Why the first packet was passed over tells
+// more, if the capture has not the connection, or no byte of the direction is known.
+fn at_end(
+    connections: &Connections,
+    wanted: Wanted,
+    passed: &PassedOver,
+) -> Result<(), CapturesFault>
     ensures whole { OnOk result (IsWhole connections.now wanted) }
     ensures fault { IfErr result (λ fault. (left : Option (List ℕ)) → IsAtEnd left
         → IsFaultOf wanted.connection left fault) }
 {
     let connection = wanted.connection;
     let Some(found) = connections.list().get(connection) else {
-        return Err(CapturesFault::NoConnection { connection });
+        return Err(missing(passed, connection));
     };
-    match found.half(side_of(found, wanted.end)).stopped() {
+    let half = found.half(side_of(found, wanted.end));
+    match half.stopped() {
         Some(stop) => Err(stop_fault(connection, stop)),
-        None => Ok(()),
+        None => unless_hidden(half.known, passed, connection),
+    }
+}
+
+// Why the capture has not the connection.
+fn missing(passed: &PassedOver, connection: usize) -> CapturesFault
+    ensures { (left : Option (List ℕ)) → IsAtEnd left → IsFaultOf connection left result }
+{
+    match passed.first() {
+        Some(reason) => reason,
+        None => CapturesFault::NoConnection { connection },
+    }
+}
+
+// Why a direction of which no byte is known may have some: the first packet that was passed over.
+fn unless_hidden(known: u64, passed: &PassedOver, connection: usize) -> Result<(), CapturesFault>
+    ensures fault { IfErr result (λ fault. (left : Option (List ℕ)) → IsAtEnd left
+        → IsFaultOf connection left fault) }
+{
+    match passed.first() {
+        Some(reason) if known == 0 => Err(reason),
+        _ => Ok(()),
     }
 }
 

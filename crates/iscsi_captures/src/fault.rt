@@ -14,12 +14,20 @@ use std::fmt::{self, Debug, Display, Formatter, Write};
 /// packets count from 1.
 #[derive(Clone, Copy, PartialEq, Eq)]
 pub enum CapturesFault {
-    /// Memory ran out, or there are more than 65,536 connections.
+    /// Memory ran out.
     NoMemory,
     /// A read failed.
     Read,
+    /// What is to be read is a directory.
+    Directory,
+    /// The direction was not at its end after 16,777,216 reads.
+    Reads {
+        connection: usize,
+    },
     /// A write failed, or took no byte.
     Write,
+    /// The file has no byte.
+    Empty,
     /// The file begins as no capture file that is read, or a section tells no byte order.
     Format {
         at: u64,
@@ -82,6 +90,8 @@ pub enum CapturesFault {
     Begun {
         connection: usize,
     },
+    /// The capture has no connection that begins with a login request.
+    NoSession,
     /// The capture has no connection with this number.
     NoConnection {
         connection: usize,
@@ -97,7 +107,10 @@ impl CapturesFault {
         match self {
             CapturesFault::NoConnection { .. } => 2,
             CapturesFault::NoMemory => 3,
-            CapturesFault::Read | CapturesFault::Write => 4,
+            CapturesFault::Read
+            | CapturesFault::Directory
+            | CapturesFault::Reads { .. }
+            | CapturesFault::Write => 4,
             _ => 1,
         }
     }
@@ -107,6 +120,10 @@ impl CapturesFault {
         match self {
             CapturesFault::NoMemory => "memory",
             CapturesFault::Read => "read failed",
+            CapturesFault::Directory => "is a directory",
+            CapturesFault::Reads { .. } => "not at its end after 16777216 reads",
+            CapturesFault::Empty => "capture: empty",
+            CapturesFault::NoSession => "capture: no iSCSI connection",
             CapturesFault::Write => "write failed",
             CapturesFault::Format { .. } => "capture: unknown format at ",
             CapturesFault::Length { .. } => "capture: bad length at ",
@@ -131,6 +148,7 @@ impl CapturesFault {
             CapturesFault::Gap { connection, .. }
             | CapturesFault::Conflict { connection, .. }
             | CapturesFault::Long { connection }
+            | CapturesFault::Reads { connection }
             | CapturesFault::Protocol { connection, .. } => Some(*connection),
             _ => None,
         }

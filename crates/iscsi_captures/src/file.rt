@@ -5,7 +5,7 @@ ghost use Rattle.std.specs.Io.KnownBytes.{IsAtEnd};
 ghost use Rattle.iscsi_captures.specs.Giving.{IsEndOf, IsFileFault, IsSegmentOf, WasRead};
 
 use crate::fault::CapturesFault;
-use crate::window::Window;
+use crate::window::{ReadFault, Window};
 use capture_file::{Capture, CaptureFault, Packet, PacketFault, Segment, Step, segment_of};
 use std::alloc::{AllocError, Global};
 use std::io::Read;
@@ -71,8 +71,8 @@ impl CaptureFile {
     /// Reads on to the next packet, or passes over something else.
     ///
     /// `Format`, `Length`, `Interface` and `NoMemory` come as in `Capture::step`. `Truncated` comes
-    /// if the file ends within a record or block, with the place where that begins, and `Read` if a
-    /// read fails. After a fault the same call may be made again, and nothing is said of what it
+    /// if the file ends within a record or block, with the place where that begins, and `Empty` if
+    /// it has no byte. `Directory` comes if it is one, and `Read` if a read fails for another reason. After a fault the same call may be made again, and nothing is said of what it
     /// returns.
     pub fn step<R: Read>(&mut self, file: &mut R) -> Result<Stood<'_>, CapturesFault>
         ensures reads { WasRead (R.remaining file.old) (R.remaining file.new) }
@@ -91,8 +91,8 @@ impl CaptureFile {
     }
 
     /// Reads on until the bytes of the next step are at hand, as often as that needs, and the last
-    /// read may wait for long. Returns `false` if the file has ended. The faults are `Truncated` and
-    /// `Read`, as in `step`.
+    /// read may wait for long. Returns `false` if the file has ended. The faults are `Empty`,
+    /// `Truncated`, `Directory` and `Read`, as in `step`.
     pub(crate) fn read_on<R: Read>(&mut self, file: &mut R) -> Result<bool, CapturesFault>
         ensures reads { WasRead (R.remaining file.old) (R.remaining file.new) }
         ensures end { IfOk result (λ more. more ≡ false → IsAtEnd (R.remaining file.new)) }
@@ -100,10 +100,12 @@ impl CaptureFile {
     {
         self.give_up_taken();
         match self.window.fill(file, self.needed) {
-            Err(_) => Err(CapturesFault::Read),
+            Err(ReadFault::Directory) => Err(CapturesFault::Directory),
+            Err(ReadFault::Failed) => Err(CapturesFault::Read),
             Ok(true) => Ok(true),
             Ok(false) => match self.begun() {
                 Some(at) => Err(CapturesFault::Truncated { at }),
+                None if self.window.at() == 0 => Err(CapturesFault::Empty),
                 None => Ok(false),
             },
         }

@@ -21,6 +21,7 @@ use std::io::{Read, Write};
 /// for the stream of its bytes.
 ///
 /// A fault of the capture or of the direction comes after what is due for all whole PDUs before it.
+/// `Reads` comes where 16,777,216 reads did not reach the end of the direction.
 /// `Stream` comes where the stream leaves the profile, `NoMemory` where memory runs out, and
 /// `Write` where a write fails. After a fault the direction is used no more.
 pub fn normalise_captured<R: Read, W: Write>(
@@ -68,7 +69,8 @@ pub fn tell_captured<R: Read, W: Write>(
     told(said, captured.fault(), captured.wanted())
 }
 
-// How a job over a direction ended. A read fails where the direction has a fault, and tells it.
+// How a job over a direction ended. A read fails where the direction has a fault, and tells it. A
+// job fails without one if it has read as often as it may.
 fn told<T: Drop>(
     said: Result<T, ToolFault>,
     fault: Option<CapturesFault>,
@@ -82,6 +84,6 @@ fn told<T: Drop>(
         Err(ToolFault::Stream(fault)) => Err(CapturesFault::Stream { connection, fault }),
         Err(ToolFault::NoMemory) => Err(CapturesFault::NoMemory),
         Err(ToolFault::Write) => Err(CapturesFault::Write),
-        Err(_) => Err(fault.unwrap_or(CapturesFault::Read)),
+        Err(_) => Err(fault.unwrap_or(CapturesFault::Reads { connection })),
     }
 }

@@ -8,6 +8,7 @@ ghost use Rattle.iscsi_explain.specs.Showing.{AppendsSome};
 use crate::fault::CapturesFault;
 use crate::file::{CaptureFile, Numbered, Stood};
 use crate::moment::nanoseconds_of;
+use crate::passed::PassedOver;
 use crate::talk::{Scene, Standing, Talk, first_of, has_port};
 use capture_connections::{Connection, Connections, heard_of};
 use iscsi_explain::Form;
@@ -22,10 +23,15 @@ const GATHERED: usize = 65_536;
 /// they became whole. Without a number these are all connections that begin with a login request.
 ///
 /// A fault of a direction ends that direction, and the others go on; the first such fault is returned
-/// at the end. A connection whose SYN is missing has the fault `Begun`, if it is the one asked for or
-/// one of its ends has port 3260. One with that port whose initiator's first byte is missing has the
-/// fault of the initiator's direction: `Cut`, `Gap` or `Conflict`. A fault of the file comes after what is due for all packets before
-/// it. `NoConnection` comes if the capture has none with the number.
+/// at the end. A connection whose beginning is missing has the fault `Begun`, if it is the one asked
+/// for or one of its ends has port 3260. One with that port whose initiator's first byte is missing
+/// has the fault of the initiator's direction: `Cut`, `Gap` or `Conflict`. A fault of the file comes
+/// after what is due for all packets before it.
+///
+/// Packets that are fragments, lack headers or are of a link that is not read are passed over. If
+/// there is no other fault, why the first of them was is returned at the end: `Fragment`, `Cut` or
+/// `Link`. Else `NoSession` comes if the capture has no connection that begins with a login request,
+/// and `NoConnection` if it has none with the number.
 pub fn show_capture<R: Read, W: Write>(
     alloc: Global,
     form: Form,
@@ -50,6 +56,7 @@ struct Stage {
     only: Option<usize>,
     connections: Connections,
     talks: Vec<Talk>,
+    passed: PassedOver,
     fault: Option<CapturesFault>,
     fresh: Vec<u8>,
     out: Vec<u8>,
@@ -63,6 +70,7 @@ impl Stage {
             only,
             connections: Connections::new(alloc),
             talks: Vec::new(alloc),
+            passed: PassedOver::new(),
             fault: None,
             fresh: Vec::new(alloc),
             out: Vec::new(alloc),
@@ -133,10 +141,15 @@ impl Stage {
         file.read_on(source)
     }
 
-    // Takes a packet.
+    // Takes a packet. One with no segment that is read is passed over.
     fn hear(&mut self, packet: Numbered<'_>) -> Result<(), CapturesFault> {
-        let Some(segment) = packet.segment()? else {
-            return Ok(());
+        let segment = match packet.segment() {
+            Ok(Some(segment)) => segment,
+            Ok(None) => return Ok(()),
+            Err(reason) => {
+                self.passed.note(reason);
+                return Ok(());
+            }
         };
         let heard = heard_of(&segment, packet.number);
         self.fresh.clear();
@@ -190,11 +203,6 @@ impl Stage {
     // What is wrong where the capture ends.
     fn end(&mut self) -> Result<(), CapturesFault> {
         let list = self.connections.list();
-        if let Some(connection) = self.only {
-            if connection >= list.len() {
-                return Err(CapturesFault::NoConnection { connection });
-            }
-        }
         for (number, talk) in self.talks.iter_mut().enumerate() {
             let Some(connection) = list.get(number) else {
                 continue;
@@ -203,10 +211,22 @@ impl Stage {
                 self.fault = self.fault.or(Some(fault));
             }
         }
-        match self.fault {
+        match self.fault.or(self.unshown()).or(self.passed.first()) {
             Some(fault) => Err(fault),
             None => Ok(()),
         }
+    }
+
+    // Why there is nothing to show, if that is so: the capture has no connection that is asked for.
+    // Why the first packet was passed over tells more.
+    fn unshown(&self) -> Option<CapturesFault> {
+        let missing = match self.only {
+            None if self.talks.iter().any(|talk| talk.is_shown()) => return None,
+            None => CapturesFault::NoSession,
+            Some(connection) if connection < self.talks.len() => return None,
+            Some(connection) => CapturesFault::NoConnection { connection },
+        };
+        Some(self.passed.first().unwrap_or(missing))
     }
 }
 

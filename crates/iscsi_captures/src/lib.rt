@@ -1,6 +1,7 @@
 //! The iSCSI streams in the TCP connections of a capture file.
 #![tactic(auto)]
 
+mod beginning;
 mod captured;
 mod fault;
 mod file;
@@ -8,6 +9,7 @@ mod filters;
 mod interleaved;
 mod listing;
 mod moment;
+mod passed;
 mod talk;
 mod window;
 

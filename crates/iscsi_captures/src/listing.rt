@@ -7,9 +7,10 @@ ghost use Rattle.iscsi_captures.specs.Listing.{AreLinesFrom, IsLineOf, ListPost}
 ghost use Rattle.iscsi_captures.specs.inner.Listing.{TextGoesOn};
 ghost use Rattle.iscsi_captures.specs.Written.{WroteLess};
 
+use crate::beginning::lacks_syn;
 use crate::fault::CapturesFault;
 use crate::file::{CaptureFile, Numbered, Stood};
-use crate::talk::is_begun;
+use crate::passed::PassedOver;
 use capture_connections::{Connection, Connections, Half, Stop, heard_of};
 use std::alloc::{AllocError, Global};
 use std::io::{Read, Write};
@@ -17,7 +18,8 @@ use std::io::{Read, Write};
 /// Reads a capture to its end, and writes a line for each of its connections, in the order of their
 /// first packets.
 ///
-/// Packets that are fragments or lack headers are passed over: they show as gaps. If the file has a
+/// Packets that are fragments, lack headers or are of a link that is not read are passed over: they
+/// show as gaps. Without any connection, why the first of them was is the fault. If the file has a
 /// fault, the lines of the connections before it are written, and then the fault returned.
 /// `NoMemory` comes before any line or after all of those, and `Write` if a write fails, after a part.
 pub fn list_connections<R: Read, W: Write>(
@@ -75,21 +77,33 @@ fn read_all<R: Read>(
     ensures end { OnOk result (IsAtEnd (R.remaining source.new)) }
 {
     let mut file = CaptureFile::new(alloc)?;
+    let mut passed = PassedOver::new();
     let mut out = Vec::new(alloc);
     for _ in 0..u64::MAX {
         match file.step(source)? {
             Stood::Other => {}
-            Stood::Packet(packet) => hear(connections, packet, &mut out)?,
-            Stood::End => return Ok(()),
+            Stood::Packet(packet) => hear(connections, packet, &mut passed, &mut out)?,
+            Stood::End => return at_end(connections, &passed),
         }
     }
     Err(CapturesFault::Read)
+}
+
+// Why a capture without a connection has none, if a packet was passed over.
+fn at_end(connections: &Connections, passed: &PassedOver) -> Result<(), CapturesFault>
+    ensures fault { (left : Option (List ℕ)) → IfErr result (IsFileFault left) }
+{
+    match passed.first() {
+        Some(reason) if connections.list().is_empty() => Err(reason),
+        _ => Ok(()),
+    }
 }
 
 // Takes a packet, whose bytes are not wanted.
 fn hear(
     connections: &mut Connections,
     packet: Numbered<'_>,
+    passed: &mut PassedOver,
     out: &mut Vec<u8>,
 ) -> Result<(), CapturesFault>
     ensures fault { (left : Option (List ℕ)) → IfErr result (IsFileFault left) }
@@ -101,8 +115,11 @@ fn hear(
             connections.keep_within();
             Ok(())
         }
-        Ok(None) | Err(CapturesFault::Cut { .. } | CapturesFault::Fragment { .. }) => Ok(()),
-        Err(fault) => Err(fault),
+        Ok(None) => Ok(()),
+        Err(reason) => {
+            passed.note(reason);
+            Ok(())
+        }
     }
 }
 
@@ -147,7 +164,7 @@ fn write_remarks(
     ensures { OnOk result (TextGoesOn (string_bytes line.old) (string_bytes line.new)) }
 {
     write_word(line, "login", sent.is_login())?;
-    write_word(line, "begun", is_begun(connection))?;
+    write_word(line, "begun", lacks_syn(connection))?;
     write_gap(line, "initiator", sent)?;
     write_gap(line, "target", answered)?;
     write_conflict(line, "initiator", sent)?;

@@ -4,11 +4,12 @@
 ghost use Rattle.std.specs.Prelude.{◌≡◌};
 ghost use Rattle.iscsi_explain.specs.Showing.{AppendsSome};
 
+use crate::beginning::begins_before;
 use crate::captured::stop_fault;
 use crate::fault::CapturesFault;
 use crate::file::Numbered;
 use crate::moment::{is_precise, nanoseconds_of};
-use capture_connections::{Connection, Heard, PORT, Said, Side, Start, Stop};
+use capture_connections::{Connection, Heard, PORT, Said, Side, Stop};
 use iscsi_explain::{Form, Manner, Origin, Requests, Stamp, pass_on};
 use iscsi_stream::{Framer, LONGEST_SEGMENT, ToolFault};
 use std::alloc::{AllocError, Global};
@@ -144,6 +145,11 @@ impl Talk {
         }
     }
 
+    /// Whether it is shown.
+    pub(crate) fn is_shown(&self) -> bool {
+        self.standing == Standing::Shown
+    }
+
     /// Takes a segment, and appends each PDU that is whole then. Returns the fault of a direction,
     /// which ends that direction; after `NoMemory` it is used no more.
     #[tactic(auto, using(crate::proofs::Shown::some_none))]
@@ -160,7 +166,7 @@ impl Talk {
         if self.standing == Standing::PassedOver {
             return Ok(());
         }
-        if scene.said.some && is_begun(connection) {
+        if scene.said.some && begins_before(connection) {
             self.standing = Standing::PassedOver;
             let connection = scene.number;
             return Err(CapturesFault::Begun { connection });
@@ -392,13 +398,6 @@ fn told(
         return Err(CapturesFault::Cut { at, packet });
     }
     Ok(())
-}
-
-// Whether a SYN of the connection is missing.
-pub(crate) fn is_begun(connection: &Connection) -> bool {
-    connection.opener.is_none()
-        || matches!(connection.lower.start, Start::Bytes(_))
-        || matches!(connection.upper.start, Start::Bytes(_))
 }
 
 /// Whether one of the ends has the port of iSCSI.

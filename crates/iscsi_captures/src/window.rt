@@ -5,14 +5,29 @@ ghost use Rattle.std.specs.Io.KnownBytes.{IsAtEnd};
 ghost use Rattle.iscsi_captures.specs.Giving.{WasRead};
 
 use std::alloc::{AllocError, Global};
-use std::io::Read;
+use std::io::{self, ErrorKind, Read};
 
 /// How long the buffer is: 4 MiB, of which a record takes a quarter at most.
 const BUFFER: usize = 4_194_304;
 
-/// A read failed.
+/// Why no more is read.
 #[derive(Clone, Copy)]
-pub(crate) struct ReadFailed;
+pub(crate) enum ReadFault {
+    /// It is a directory.
+    Directory,
+    /// The read failed for another reason.
+    Failed,
+}
+
+impl ReadFault {
+    // Why a read failed.
+    fn of(error: &io::Error) -> ReadFault {
+        if error.kind() == ErrorKind::IsADirectory {
+            return ReadFault::Directory;
+        }
+        ReadFault::Failed
+    }
+}
 
 /// The part of a file that is at hand: the bytes from `from` to `to` of the buffer.
 #[derive(Drop)]
@@ -59,7 +74,7 @@ impl Window {
 
     /// Reads on until this many bytes are at hand. Returns `false` if the file has no more, and
     /// then all that it has are at hand. More than the buffer holds count as a read that failed.
-    pub(crate) fn fill<R: Read>(&mut self, file: &mut R, needed: usize) -> Result<bool, ReadFailed>
+    pub(crate) fn fill<R: Read>(&mut self, file: &mut R, needed: usize) -> Result<bool, ReadFault>
         ensures reads { WasRead (R.remaining file.old) (R.remaining file.new) }
         ensures end { IfOk result (λ more. more ≡ false → IsAtEnd (R.remaining file.new)) }
     {
@@ -72,13 +87,13 @@ impl Window {
                 return Ok(true);
             }
             if self.to == self.buffer.len() {
-                return Err(ReadFailed);
+                return Err(ReadFault::Failed);
             }
             if self.read(file)? == 0 {
                 return Ok(false);
             }
         }
-        Err(ReadFailed)
+        Err(ReadFault::Failed)
     }
 
     // Moves the bytes at hand to the front of the buffer.
@@ -91,7 +106,7 @@ impl Window {
     }
 
     // Reads once, after the bytes at hand, and says how many came: none at the end of the file.
-    fn read<R: Read>(&mut self, file: &mut R) -> Result<usize, ReadFailed>
+    fn read<R: Read>(&mut self, file: &mut R) -> Result<usize, ReadFault>
         requires room { self.old.to < vec_len self.old.buffer }
         ensures reads { WasRead (R.remaining file.old) (R.remaining file.new) }
         ensures end { IfOk result (λ n. n ≡ 0 → IsAtEnd (R.remaining file.new)) }
@@ -102,7 +117,7 @@ impl Window {
                 self.to = to + n;
                 Ok(n)
             }
-            Err(_) => Err(ReadFailed),
+            Err(error) => Err(ReadFault::of(&error)),
         }
     }
 }

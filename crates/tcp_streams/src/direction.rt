@@ -1,11 +1,11 @@
 //! One direction of a connection, segment by segment.
 
-ghost use Rattle.std.specs.Prelude.{◌≡◌, ◌≤◌, ◌<◌, ◌==◌, ◌^◌, length, not, OnOk, IfErr};
-ghost use Rattle.tcp_streams.specs.Reassembly.{opening_direction, TakesSegment, SegmentFails};
+ghost use Rattle.std.specs.Prelude.{◌≡◌, ◌≤◌, ◌<◌, ◌==◌, ◌^◌, ◌-◌, min, length, not, OnOk, IfErr};
+ghost use Rattle.tcp_streams.specs.Reassembly.{held, opening_direction, TakesSegment, SegmentFails};
 
 use crate::fault::SegmentFault;
 use crate::placing::place;
-use crate::waiting::{Fresh, Part, after, take_piece};
+use crate::waiting::{Fresh, Part, after, cost_of, take_piece};
 use std::alloc::Global;
 use std::marker::Model;
 
@@ -62,6 +62,8 @@ impl Direction {
     /// not compared with what was given out, since a keep-alive has one old byte of any value (own
     /// rule).
     ///
+    /// A segment that waits already, or lies in one that does, is kept once.
+    ///
     /// `Conflict` comes before all others, where the segment and a piece that waits have two values
     /// for one byte. `Gap` comes where the segment would wait, and more than the limit would wait
     /// then. `Long` comes past 2^63 bytes, and `NoMemory` where memory runs out. After a fault
@@ -97,6 +99,13 @@ impl Direction {
         ensures { result ≡ self.now.count }
     {
         self.count
+    }
+
+    /// How much waits, at most 2^64 - 1: each piece that waits counts for its bytes and 64 more.
+    pub fn held(&self) -> usize
+        ensures { result ≡ min (held self.now.waiting) (2 ^ 64 - 1) }
+    {
+        cost_of(&self.waiting)
     }
 
     /// Whether pieces wait for bytes that have not come. At the end of a capture the byte at

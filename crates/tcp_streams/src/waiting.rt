@@ -1,12 +1,12 @@
 //! The pieces that came before their turn.
 
-ghost use Rattle.std.specs.Prelude.{◌≡◌, ◌≤◌, ◌<◌, ◌+◌, ◌-◌, ◌^◌, ◌++◌, [], ◌∷◌, length, drop, slice_index_or, IfSome, IfNone, IfErr, OnOk, OnErr, ◌⊎◌, ℕ, List};
+ghost use Rattle.std.specs.Prelude.{◌≡◌, ◌≤◌, ◌<◌, ◌+◌, ◌-◌, ◌^◌, ◌++◌, [], ◌∷◌, length, drop, min, slice_index_or, IsTrue, IfSome, IfNone, IfErr, OnOk, OnErr, ◌⊎◌, ℕ, List};
 ghost use Rattle.std.specs.List.{All, AllByRecursion, Contains};
 ghost use Rattle.tcp_streams.specs.Pieces.{Piece, Clash, NoClash};
 ghost use Rattle.tcp_streams.specs.Reassembly.{held};
 ghost use Rattle.tcp_streams.specs.declared.fault.SegmentFault.{SegmentFault};
 ghost use Rattle.tcp_streams.specs.Parts.{pieces_of, piece_of};
-ghost use Rattle.tcp_streams.specs.inner.Inside.{piece, DrainsWaiting, TakesPiece, AreLater, PieceFails};
+ghost use Rattle.tcp_streams.specs.inner.Inside.{piece, DrainsWaiting, TakesPiece, AreLater, PieceFails, LiesIn, LiesInSome};
 
 use crate::fault::SegmentFault;
 use std::alloc::Global;
@@ -25,7 +25,8 @@ pub(crate) struct Fresh<'a> {
     pub(crate) bytes: &'a [u8],
 }
 
-// Takes a piece: gives it out with what waited for it, or keeps it. A conflict is looked for first.
+// Takes a piece: gives it out with what waited for it, or keeps it, unless a piece that waits has all
+// of it. A conflict is looked for first.
 pub(crate) fn take_piece(
     alloc: Global,
     waiting: &mut Vec<Part>,
@@ -55,6 +56,8 @@ pub(crate) fn take_piece(
     if fresh.offset <= *count {
         give(out, count, fresh.offset, fresh.bytes)?;
         drain(waiting, count, out)
+    } else if is_kept(waiting, fresh) {
+        Ok(())
     } else {
         hold(alloc, waiting, limit, *count, fresh.offset, fresh.bytes)
     }
@@ -98,6 +101,30 @@ fn conflict(waiting: &[Part], fresh: Fresh<'_>) -> Option<u64>
         }
     }
     None
+}
+
+// Whether one of the pieces that wait has all of the piece.
+fn is_kept(waiting: &[Part], fresh: Fresh<'_>) -> bool
+    requires { fresh.offset + length fresh.bytes.now < 2 ^ 64 }
+    ensures { IsTrue result → LiesInSome (piece fresh.entry.offset fresh.entry.bytes.now)
+        (pieces_of waiting.now) }
+{
+    for part in waiting {
+        if is_within(fresh, part) {
+            return true;
+        }
+    }
+    false
+}
+
+// Whether a piece that waits has all of the piece.
+fn is_within(fresh: Fresh<'_>, part: &Part) -> bool
+    requires { fresh.offset + length fresh.bytes.now < 2 ^ 64 }
+    ensures { IsTrue result → LiesIn (piece fresh.entry.offset fresh.entry.bytes.now)
+        (piece_of part.now) }
+{
+    let end = fresh.offset + fresh.bytes.len() as u64;
+    part.offset <= fresh.offset && end - part.offset <= part.bytes.len() as u64
 }
 
 // Gives out what the piece has beyond the bytes that were given out. The stream has 2^63 bytes at
@@ -205,8 +232,8 @@ pub(crate) fn hold(
 }
 
 // How much waits: of each piece its bytes and 64 more.
-fn cost_of(waiting: &[Part]) -> usize
-    ensures { result ≤ held (pieces_of waiting.now) }
+pub(crate) fn cost_of(waiting: &[Part]) -> usize
+    ensures { result ≡ min (held (pieces_of waiting.now)) (2 ^ 64 - 1) }
 {
     let mut held: usize = 0;
     for part in waiting {

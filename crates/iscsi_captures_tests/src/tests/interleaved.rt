@@ -1,7 +1,8 @@
 //! Both directions of captures, in the order of the capture.
 
 use super::captures::{
-    BARE, BEGUN, CONFLICT, CUT, ELSEWHERE, FRAGMENT, GAP, LATE, LINK, LOST, REUSED, SILENT, WHOLE,
+    BARE, BEGUN, CONFLICT, CUT, ELSEWHERE, FRAGMENT, GAP, HEADLESS, LATE, LINK, LOST, MIDWAY,
+    NOTHING, REUSED, SILENT, STRANGE, UNANSWERED, WHOLE,
 };
 use super::{bytes_of, ends_so};
 use crate::asserts::same_bytes;
@@ -14,6 +15,10 @@ use std::process::Abort;
 pub const LOGIN_LINE: &str =
     "0 Login-Request t=0 c=0 csg=1 vmax=00 vmin=00 isid=400001370000 tsih=0000 \
     itt=00000001 cid=0000 cmdsn=00000001 expstatsn=00000000 data=0\n";
+
+/// The line of the login response, by the fields of RFC 7143, section 11.13.
+const ANSWER_LINE: &str = "0 Login-Response t=0 c=0 csg=1 vmax=00 vactive=00 isid=400001370000 \
+    tsih=0001 itt=00000001 statsn=00000001 expcmdsn=00000002 maxcmdsn=00000009 class=00 detail=00 data=0\n";
 
 /// The line of the ping, behind its time.
 pub const PING_LINE: &str =
@@ -43,15 +48,37 @@ const ROWS: &[(&str, Option<usize>, &[&str], &str)] = &[
     ),
     (REUSED, None, &["0 0.000002 > ", LOGIN_LINE], ""),
     (REUSED, Some(1), &["1 0.000001 > ", PING_LINE], ""),
+    (BEGUN, None, &["0 0.000000 > ", LOGIN_LINE], ""),
     (
-        BEGUN,
+        HEADLESS,
+        None,
+        &["0 0.000000 > ", LOGIN_LINE, "0 0.000002 < ", ANSWER_LINE],
+        "",
+    ),
+    (
+        MIDWAY,
         None,
         &[],
         "capture: connection 0 begins before the capture",
     ),
+    (
+        UNANSWERED,
+        None,
+        &["0 0.000001 > ", LOGIN_LINE],
+        "capture: connection 0 begins before the capture",
+    ),
+    (
+        STRANGE,
+        None,
+        &["0 0.000002 > ", LOGIN_LINE],
+        "capture: fragment at 80 (packet 2)",
+    ),
+    ("", None, &[], "capture: empty"),
+    (NOTHING, None, &[], "capture: no iSCSI connection"),
+    (NOTHING, Some(0), &[], "no connection 0"),
     (LOST, None, &[], "connection 0: gap at 0 (packet 2)"),
     (LOST, Some(0), &[], "connection 0: gap at 0 (packet 2)"),
-    (ELSEWHERE, None, &[], ""),
+    (ELSEWHERE, None, &[], "capture: no iSCSI connection"),
     (SILENT, None, &[], "connection 0: gap at 0 (packet 3)"),
     (
         CONFLICT,

@@ -1,6 +1,8 @@
 //! The lines of connections.
 
-use super::captures::{BEGUN, CONFLICT, CUT, FRAGMENT, GAP, LATE, LINK, RESET, REUSED, WHOLE};
+use super::captures::{
+    BEGUN, CONFLICT, CUT, FRAGMENT, GAP, LATE, LINK, NOTHING, RESET, REUSED, STRANGE, WHOLE,
+};
 use super::{bytes_of, ends_so};
 use crate::asserts::same_bytes;
 use iscsi_captures::list_connections;
@@ -37,6 +39,9 @@ const ROWS: &[(&str, &[u8], &str)] = &[
         "",
     ),
     (FRAGMENT, b"0 10.0.0.1:40000 10.0.0.2:3260 0 0\n", ""),
+    (STRANGE, b"0 10.0.0.1:40000 10.0.0.2:3260 48 0 login\n", ""),
+    (NOTHING, b"", ""),
+    ("", b"", "capture: empty"),
     (RESET, b"0 10.0.0.1:40000 10.0.0.2:3260 48 0 login\n", ""),
     (LINK, b"", "capture: link type 147 at 24 (packet 1)"),
 ];

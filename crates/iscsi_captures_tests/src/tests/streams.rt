@@ -1,7 +1,8 @@
 //! The canonical streams of directions, and why they end.
 
 use super::captures::{
-    BEGUN, CONFLICT, CUT, FRAGMENT, GAP, LATE, LINK, LOGIN, PING, RESET, REUSED, WHOLE,
+    BEGUN, CONFLICT, CUT, FRAGMENT, GAP, HEADLESS, LATE, LINK, LOGIN, MIDWAY, PING, RESET, REUSED,
+    STRANGE, UNANSWERED, WHOLE,
 };
 use super::{bytes_of, ends_so, normalise};
 use crate::asserts::same_bytes;
@@ -26,13 +27,25 @@ const ROWS: &[(&str, usize, bool, &str, &str)] = &[
     ),
     (REUSED, 0, true, LOGIN, ""),
     (REUSED, 1, true, PING, ""),
+    (BEGUN, 0, true, LOGIN, ""),
+    (HEADLESS, 0, true, LOGIN, ""),
     (
-        BEGUN,
+        MIDWAY,
         0,
         true,
         "",
         "capture: connection 0 begins before the capture",
     ),
+    (UNANSWERED, 0, true, LOGIN, ""),
+    (
+        UNANSWERED,
+        0,
+        false,
+        "",
+        "capture: connection 0 begins before the capture",
+    ),
+    (STRANGE, 0, true, LOGIN, ""),
+    ("", 0, true, "", "capture: empty"),
     (CUT, 0, true, "", "capture: cut at 80 (packet 2)"),
     (FRAGMENT, 0, true, "", "capture: fragment at 80 (packet 2)"),
     (RESET, 0, true, LOGIN, ""),

@@ -245,7 +245,7 @@ const UNREAD: &[(&str, &str)] = &[
     ("connections run-none", "run-none: read failed\n"),
     (
         "show --capture . --connection 0 --from target",
-        ".: read failed\n",
+        ".: is a directory\n",
     ),
 ];
 

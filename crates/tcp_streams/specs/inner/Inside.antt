@@ -19,6 +19,14 @@ pub record UpTo (pieces : List Piece) (given : List ℕ) (waiting : List Piece) 
   pub carried : (stream : List ℕ) → AreCutFrom stream pieces → AreCutFrom stream waiting
   pub among : (i b : ℕ) → HasByte waiting i b → HasByte pieces i b
 
+-- the second piece has each place of the first
+abbrev pub LiesIn : Piece → Piece → Type 0
+LiesIn p q = (q.offset ≤ p.offset) × (p.offset + length p.bytes ≤ q.offset + length q.bytes)
+
+-- one of the pieces does
+abbrev pub LiesInSome : Piece → List Piece → Type 0
+LiesInSome p pieces = (q : Piece) × Contains pieces q × LiesIn p q
+
 -- the piece comes: these bytes are given out, and from now on these pieces wait
 abbrev pub TakesPiece : ℕ → List Piece → Piece → ℕ → List Piece → List ℕ → Type 0
 TakesPiece count waiting p count' waiting' more = (pieces : List Piece) (given : List ℕ)

@@ -300,6 +300,24 @@ const REFUSED: &[Refused] = &[
         Ok(()),
     ),
     (
+        "a copy of one that waits takes no room",
+        67,
+        &[(1003, b"def"), (1003, b"def")],
+        Ok(()),
+    ),
+    (
+        "a part of one that waits takes no room",
+        67,
+        &[(1003, b"def"), (1004, b"ef")],
+        Ok(()),
+    ),
+    (
+        "a byte more than one that waits takes its own",
+        134,
+        &[(1003, b"def"), (1003, b"defg")],
+        Err(SegmentFault::Gap(0)),
+    ),
+    (
         "a conflict comes before a gap",
         67,
         &[(1003, b"def"), (1004, b"X")],
@@ -317,5 +335,22 @@ fn check_refused(rt: &impl Abort, alloc: Global, row: &Refused) {
 fn a_segment_is_refused_for_its_reason(rt: HostRuntime) {
     for row in REFUSED {
         check_refused(&rt, rt.alloc(), row);
+    }
+}
+
+/// The segments of a stream whose first byte has the number 1000, and how much waits then.
+const HELD: &[(&[Numbered], usize)] = &[
+    (&[], 0),
+    (&[(1003, b"def")], 67),
+    (&[(1003, b"def"), (1001, b"b"), (1003, b"def")], 132),
+    (&[(1003, b"def"), (1001, b"b"), (1000, b"a")], 67),
+    (&[(1003, b"def"), (1000, b"abc")], 0),
+];
+
+#[test]
+fn what_waits_is_counted(rt: HostRuntime) {
+    for (segments, due) in HELD {
+        let (_, direction) = fed(&rt, rt.alloc(), 1000, 1024, segments).expect(&rt, "fed");
+        same(&rt, &direction.held(), due, due);
     }
 }
