@@ -1,5 +1,4 @@
-//! Tests of the jobs of `lanthovur` from outside: runs of the filters, the words, and the lines and
-//! statuses of faults.
+//! Tests of the jobs of `lanthovur` from outside: the lines and statuses of faults, and images.
 #![tactic(auto)]
 
 #[cfg(test)]
