@@ -15,6 +15,7 @@ have a part of a crate, the later one counts.
 """
 import os
 import re
+import signal
 import subprocess
 import sys
 import threading
@@ -221,12 +222,14 @@ def main(words):
 
     watcher = threading.Thread(target=watch)
     watcher.start()
+    # a run that is told to stop has its table, too
+    signal.signal(signal.SIGTERM, lambda *_: run.terminate())
     try:
         status = run.wait()
     finally:
         ended.set()
         watcher.join()
-    table.print()
+        table.print()
     return status
 
 
