@@ -12,7 +12,7 @@ use std::process::Abort;
 
 /// A port by its number: `iqn.1` and so on.
 fn port(rt: &impl Abort, alloc: Global, number: u8) -> Port {
-    let name = [b'i', b'q', b'n', b'.', b'0' + number];
+    let name = [b'i', b'q', b'n', b'.', number.wrapping_add(b'0')];
     Port::copy_of(alloc, &name, &[0x40, 0, 0, 0, 0, number]).expect(rt, "a port")
 }
 

@@ -72,7 +72,7 @@ fn number(rt: &impl Abort, digits: &str) -> u64 {
 
 fn kind(rt: &impl Abort, word: &str) -> Option<Kind> {
     let digit = word.as_bytes().last().expect(rt, "a type");
-    Kind::of_code(*digit - b'0')
+    Kind::of_code(digit.wrapping_sub(b'0'))
 }
 
 fn action(rt: &impl Abort, word: &str) -> Action {
@@ -82,10 +82,10 @@ fn action(rt: &impl Abort, word: &str) -> Action {
         "clear" => Action::Clear,
         _ => {
             let kind = kind(rt, word).expect(rt, "a type");
-            match word.as_bytes()[2] {
-                b's' => Action::Reserve(kind),
-                b'l' => Action::Release(kind),
-                b'e' => Action::Preempt(kind),
+            match word.as_bytes().get(2) {
+                Some(b's') => Action::Reserve(kind),
+                Some(b'l') => Action::Release(kind),
+                Some(b'e') => Action::Preempt(kind),
                 _ => Action::PreemptAndAbort(kind),
             }
         }
@@ -112,7 +112,7 @@ fn look(rt: &impl Abort, alloc: Global, left: &Reservations, due: (&str, &str, &
     if due.0 != "-" {
         for key in due.0.split(',') {
             same(rt, &u64_in(rt, keys.as_slice(), at), &number(rt, key), &row);
-            at += 8;
+            at = at.saturating_add(8);
         }
     }
     same(rt, &keys.len(), &at, &row);
@@ -123,15 +123,23 @@ fn look(rt: &impl Abort, alloc: Global, left: &Reservations, due: (&str, &str, &
     if due.1 == "0" {
         same(rt, &bytes.len(), &8, &row);
     } else {
-        same(rt, &u64::from(bytes[21]), &number(rt, due.1), &row);
+        same(
+            rt,
+            &u64::from(*bytes.get(21).expect(rt, "a type")),
+            &number(rt, due.1),
+            &row,
+        );
         same(rt, &u64_in(rt, bytes, 8), &number(rt, due.2), &row);
     }
 }
 
 fn u64_in(rt: &impl Abort, bytes: &[u8], at: usize) -> u64 {
-    let part = bytes.get(at..at + 8).expect(rt, "eight bytes");
-    part.iter()
-        .fold(0, |number, byte| number << 8 | u64::from(*byte))
+    let part = bytes
+        .get(at..at.saturating_add(8))
+        .expect(rt, "eight bytes");
+    part.iter().fold(0u64, |number, byte| {
+        number.wrapping_mul(256).wrapping_add(u64::from(*byte))
+    })
 }
 
 fn check_row(rt: &impl Abort, alloc: Global, row: &str) {
@@ -145,7 +153,11 @@ fn check_row(rt: &impl Abort, alloc: Global, row: &str) {
         number(rt, words[3]),
         number(rt, words[4]),
     );
-    let by = words[1].as_bytes()[0] - b'0';
+    let by = words[1]
+        .as_bytes()
+        .first()
+        .expect(rt, "a port")
+        .wrapping_sub(b'0');
     let came = acts(rt, alloc, &mut reservations, by, &asked);
     same(rt, &came, &verdict(rt, words[5]), &row);
     look(
