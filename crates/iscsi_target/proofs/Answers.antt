@@ -6,6 +6,7 @@ pub mod DataInSequenceLemmas
 pub mod OrderLemmas
 pub mod CommandLemmas
 pub mod DataInTilingLaw
+pub mod DataInLengthLemmas
 pub mod WindowLemmas
 pub mod ReadPartLemmas
 pub mod RefusedLaw

@@ -15,8 +15,8 @@ use Rattle.scsi_unit.specs.Telling.{outcome_with_unit}
 use Rattle.iscsi_pdu.specs.declared.head.Head.{Head}
 use Rattle.iscsi_pdu.specs.declared.head.Head.TheVariants as heads
 use Rattle.iscsi_stream.specs.Stream.{Message}
-use Rattle.iscsi_login.specs.Held.{Held, max_burst}
-use Rattle.iscsi_target_session.specs.Session.{Session, answer_message, stat_sn_advanced, max_cmd_sn_with}
+use Rattle.iscsi_login.specs.Held.{max_burst}
+use Rattle.iscsi_target_session.specs.Session.{Session, answer_message, stat_sn_advanced, max_cmd_sn_with, data_in_length}
 use Rattle.iscsi_target.specs.State.{Machine, Execution, TargetStep, unit_of, waiting_tasks}
 use Rattle.iscsi_stream.specs.Pieces.{Pieces, piece_data, chunks}
 use Rattle.iscsi_pdu.specs.Fields.{reserved_tag}
@@ -46,13 +46,13 @@ marked_parts [] = []
 marked_parts (part ∷ []) = (part, true) ∷ []
 marked_parts (part ∷ next ∷ more) = (part, false) ∷ marked_parts (next ∷ more)
 
--- A run of data in parts, each of at most what the initiator takes in one segment (section 13.12).
-abbrev pub sequence_parts : Held → List ℕ → List (List ℕ × Bool)
-sequence_parts held run = marked_parts (chunks held.initiator_max_recv run)
+-- A run of data in parts, each as long as a Data-In may be, but for the last (section 13.12).
+abbrev pub sequence_parts : Session → List ℕ → List (List ℕ × Bool)
+sequence_parts s run = marked_parts (chunks (data_in_length s) run)
 
 -- Data in runs of MaxBurstLength bytes (sections 11.7.1 and 13.13).
-abbrev pub data_in_parts : Held → List ℕ → List (List ℕ × Bool)
-data_in_parts held bytes = flat_map (sequence_parts held) (chunks (max_burst held) bytes)
+abbrev pub data_in_parts : Session → List ℕ → List (List ℕ × Bool)
+data_in_parts s bytes = flat_map (sequence_parts s) (chunks (max_burst s.held) bytes)
 
 -- The head of a Data-In, while n tasks wait; the status comes in a response of its own (section
 -- 11.7; own rule).
@@ -138,7 +138,7 @@ send_outcome s e effect = record {
   disk = effect.disk;
   answers =
       command_answers s.session (waiting_tasks s.tasks) e.initiator_task_tag effect.outcome
-      (data_in_parts s.session.held effect.outcome.bytes);
+      (data_in_parts s.session effect.outcome.bytes);
   rule = None;
   accepted = [];
   executed = e ∷ [];

@@ -35,6 +35,10 @@ Tiles pieces n = TilesFrom 0 pieces n
 abbrev pub TileBytes : Pieces → List ℕ → Type 0
 TileBytes pieces bytes = Tiles pieces (length bytes) × (piece_data pieces ≡ bytes)
 
+-- No Data-In among answers has more than so many bytes (section 13.12).
+abbrev pub AreShortDataIn : ℕ → List Message → Type 0
+AreShortDataIn most answers = AllByRecursion (λ piece. length piece.1 ≤ most) (data_pieces answers)
+
 -- The tag of a Data-In (section 11.7).
 abbrev pub data_in_tag : Head → List ℕ
 data_in_tag (heads.DataIn h) = h.initiator_task_tag ∷ []

@@ -33,7 +33,7 @@ ghost use Rattle.iscsi_target.specs.declared.tasks.Task.{Task};
 ghost use Rattle.iscsi_login.specs.declared.phase.Phase.TheVariants.{Login, Full, Closed};
 ghost use Rattle.iscsi_login.specs.declared.stage.Stage.TheVariants as stages;
 ghost use Rattle.iscsi_target.specs.Feed.{TargetsAlike, TargetConnection, TargetFeedPost, CallsAlike, FeedsAllPieces, GoesWell, TargetReachesOrClosed, TargetReaches, SameSession, Store, StoreAndOutputReached, beginning, opening_target, scene, stream_of};
-ghost use Rattle.iscsi_target.specs.Tiles.{TilesDataIn, IsTiled, IsModest, total_of, r2t_ranges, r2ts_answered};
+ghost use Rattle.iscsi_target.specs.Tiles.{TilesDataIn, AreShortDataIn, IsTiled, IsModest, total_of, r2t_ranges, r2ts_answered};
 ghost use Rattle.iscsi_target.specs.Sessions.{LoginIsAnswered, LoginLeads, WriteIsAnswered};
 ghost use Rattle.iscsi_target.specs.Laws.{BeginsAs, CountOn, stat_sns, cmd_sns, HasCmdSn, supplied, due_for, told_in, ExecutionsLead, orders_done, response_tags, AreInOrder, IsOutside, joined_stepped};
 
@@ -208,6 +208,15 @@ pub fn tiling()
         → ArePreferencesInRange settings.preferences
         → let r = answers protected (opening_machine settings n) disk ms in TilesDataIn protected
         (target_step protected r.machine r.disk m) }
+    // Where a target is told how long a Data-In is at most, none has more bytes.
+    ensures short { (protected : Bool) (s : Machine) (disk : Disk) (ms : List Message)
+        (limit : ℕ) → s.session.settings.extras.longest_data_in ≡ Some limit → 512 ≤ limit
+        → AreShortDataIn limit (answers protected s disk ms).answers }
+    // So it is over a store that may fail.
+    ensures may_short { (protected : Bool) (s : Machine) (disk : Disk) (before after : ℕ)
+        (ms : List Message) (r : TargetStep)
+        (limit : ℕ) → s.session.settings.extras.longest_data_in ≡ Some limit → 512 ≤ limit
+        → MayAnswer protected s disk before ms r after → AreShortDataIn limit r.answers }
     ensures writes { (protected : Bool) (settings : TargetSettings) (n : ℕ) (disk : Disk)
         (ms : List Message) (m : Message)
         → let r = answers protected (opening_machine settings n) disk ms in

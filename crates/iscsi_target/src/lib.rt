@@ -20,5 +20,5 @@ mod tasks;
 pub use alike::{Answered, answer_pieces, answers_alike};
 pub use due::Due;
 pub use fault::TargetFault;
-pub use iscsi_target_session::{Config, Status};
+pub use iscsi_target_session::{Config, DataInLimit, Status};
 pub use target::{FIRST_STAT_SN, Target};

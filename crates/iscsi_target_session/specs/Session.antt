@@ -16,7 +16,7 @@ use Rattle.iscsi_login.specs.declared.stage.Stage.TheVariants as stages
 use Rattle.iscsi_login.specs.Held.{Held, defaults, longest_taken}
 use Rattle.iscsi_access.specs.declared.verdict.Progress.{Progress}
 use Rattle.iscsi_access.specs.declared.verdict.Progress.TheVariants as progress
-use Rattle.iscsi_target_session.specs.Configured.{TargetSettings}
+use Rattle.iscsi_target_session.specs.Configured.{TargetSettings, shortened}
 
 -- ---- the session
 
@@ -72,6 +72,11 @@ opening_session settings first_stat_sn = record {
 -- The longest segment that a target with these settings takes (section 13.12).
 abbrev pub target_limit : TargetSettings → ℕ
 target_limit settings = longest_taken settings.preferences
+
+-- How many bytes a Data-In has at most: what the initiator takes in one segment, or less where the
+-- target is told so (section 13.12, which lets a target send less).
+abbrev pub data_in_length : Session → ℕ
+data_in_length s = shortened s.settings.extras.longest_data_in s.held.initiator_max_recv
 
 -- A session that is over: what was gathered and the CmdSN that was due are dropped.
 abbrev pub ended_session : Session → Session

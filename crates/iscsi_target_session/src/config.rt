@@ -1,10 +1,11 @@
 //! What a target is configured with.
 
-ghost use Rattle.std.specs.Prelude.{◌≡◌, IfOk, Some, is_some, map};
+ghost use Rattle.std.specs.Prelude.{◌≡◌, ◌≤◌, IfOk, Some, is_some, map};
 ghost use Rattle.std.specs.Option.{option_map};
 ghost use Rattle.iscsi_login.specs.Negotiation.{ArePreferencesInRange};
-ghost use Rattle.iscsi_target_session.specs.Configured.{TargetConfigPost, is_allowed};
+ghost use Rattle.iscsi_target_session.specs.Configured.{TargetConfigPost, is_allowed, shortened};
 
+use crate::data_in_limit::DataInLimit;
 use crate::initiators::{Name, copies_of, has_name};
 use iscsi_access::Chap;
 use iscsi_login::{ConfigFault, Preferences, is_name};
@@ -14,8 +15,8 @@ use std::alloc::{AllocError, Global};
 use std::marker::Model;
 
 /// What a target is configured with: its name, the tag of its portal group, the TSIH of a session
-/// that has logged in, what it prefers in a negotiation, who may log in, where others reach it, and what its disk tells of
-/// itself.
+/// that has logged in, what it prefers in a negotiation, who may log in, where others reach it, what its
+/// disk tells of itself, and how long its Data-In are at most.
 /// It has no `Debug`, since it may hold secrets.
 #[derive(Drop)]
 pub struct Config {
@@ -31,6 +32,8 @@ pub struct Config {
     portal: Option<Portal>,
     // none: the disk tells what the profile has
     unit: Option<LogicalUnit>,
+    // none: a Data-In is as long as the initiator takes it
+    longest_data_in: Option<DataInLimit>,
 }
 
 impl Model for Config {
@@ -52,6 +55,7 @@ impl Model for Config {
         chap = c.chap;
         portal = c.portal;
         unit = c.unit;
+        longest_data_in = c.longest_data_in;
       };
     } };
 
@@ -94,6 +98,7 @@ impl Config {
             chap: None,
             portal: None,
             unit: None,
+            longest_data_in: None,
         })
     }
 
@@ -155,6 +160,33 @@ impl Config {
         Config {
             unit: Some(unit),
             ..self
+        }
+    }
+
+    /// The same, which sends no Data-In of more bytes than this, whatever more the initiator takes in one
+    /// segment (RFC 7143, section 13.12; that a target is told so is own rule). It is no key of the login,
+    /// and bounds Data-In alone: other answers are as long as the initiator takes them.
+    pub fn with_longest_data_in(self, limit: DataInLimit) -> Config
+        ensures limit { result ≡ record self {
+          extras = record self.extras { longest_data_in = Some limit };
+        } }
+    {
+        Config {
+            longest_data_in: Some(limit),
+            ..self
+        }
+    }
+
+    // This length, or less where Data-In are to be shorter; at least a block.
+    pub(crate) fn shortened(&self, bytes: u32) -> u32
+        requires { 512 ≤ bytes }
+        ensures value { result ≡ shortened self.now.extras.longest_data_in bytes }
+        ensures some { 512 ≤ result }
+        ensures short { result ≤ bytes }
+    {
+        match &self.longest_data_in {
+            Some(limit) => limit.bytes().min(bytes),
+            None => bytes,
         }
     }
 

@@ -3,6 +3,7 @@
 #![tactic(auto)]
 
 mod config;
+mod data_in_limit;
 mod inbound;
 mod initiators;
 pub mod laws;
@@ -12,6 +13,7 @@ mod session;
 mod status;
 
 pub use config::Config;
+pub use data_in_limit::DataInLimit;
 pub use inbound::{Asks, Inbound, InboundRequest, SessionRequest};
 pub use numbers::Numbers;
 pub use received::Received;

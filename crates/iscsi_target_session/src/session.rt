@@ -1,11 +1,11 @@
 //! A session between two PDUs: its login, its numbers, what is held, and its answers to requests that
 //! are no commands.
 
-ghost use Rattle.std.specs.Prelude.{◌≡◌, ◌<◌, ◌^◌, length, is_some};
+ghost use Rattle.std.specs.Prelude.{◌≡◌, ◌<◌, ◌≤◌, ◌^◌, length, is_some};
 ghost use Rattle.std.specs.Option.{option_map};
 ghost use Rattle.iscsi_pdu.specs.Meaning.{HeadFits};
 ghost use Rattle.iscsi_login.specs.Stage.{is_closed_phase};
-ghost use Rattle.iscsi_target_session.specs.Session.{opening_session, max_cmd_sn_with, send_response, stat_sn_advanced, ended_session};
+ghost use Rattle.iscsi_target_session.specs.Session.{opening_session, data_in_length, max_cmd_sn_with, send_response, stat_sn_advanced, ended_session};
 ghost use Rattle.iscsi_target_session.specs.Rejecting.{message_rejected, reject_and_close};
 ghost use Rattle.iscsi_target_session.specs.Replies.{ReplyPost};
 
@@ -106,6 +106,16 @@ impl Session {
         ensures { result.now ≡ self.now.held }
     {
         &self.held
+    }
+
+    /// How many bytes a Data-In has at most: what the initiator takes in one segment, or less where the
+    /// target is told so (RFC 7143, section 13.12).
+    pub fn data_in_length(&self) -> u32
+        ensures value { result ≡ data_in_length self.now }
+        ensures some { 512 ≤ result }
+        ensures short { result ≤ 16777215 }
+    {
+        self.config.shortened(self.held.initiator_max_recv)
     }
 
     /// What the disk tells of itself, where it tells more than the profile has.

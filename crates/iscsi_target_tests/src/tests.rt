@@ -9,6 +9,7 @@ use std::process::Abort;
 mod changes;
 mod chap;
 mod configs;
+mod data_in_limits;
 mod dialogues;
 mod exchanges;
 mod portals;

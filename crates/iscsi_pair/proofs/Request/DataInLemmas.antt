@@ -1,10 +1,10 @@
 -- The data of a read, and how the initiator receives them.
-use Rattle.std.specs.List.{flat_map, AllByRecursion}
+use Rattle.std.specs.List.{flat_map}
 use Rattle.std.proofs.Common.{◌≡◌, ◌<◌, ◌≤◌, ℕ, zero, suc, ◌+◌, ◌^◌, Bool, List, [], ◌∷◌, ◌++◌, length, drop, Option, Some, None, refl}
 use Rattle.std.proofs.Common.{sym, ap, ◌∙◌, subst, arith, append_assoc}
 use Rattle.std.proofs.Math.Nat.{mod-eq_of_lt}
 use Rattle.std.proofs.lemmas.Bool.{eq-eqb, le-leb, le-ltb}
-use Rattle.std.proofs.lemmas.List.{append-nil, length-append, length-take, length-drop}
+use Rattle.std.proofs.lemmas.List.{append-nil, length-append, length-drop}
 use Rattle.scsi_cdb.specs.declared.residual.Residual.{Residual}
 use Rattle.scsi_cdb.specs.declared.residual.Residual.TheVariants.{Exact, Under, Over}
 use Rattle.scsi_cdb.specs.declared.sense.Sense.{Sense}
@@ -19,10 +19,11 @@ use Rattle.iscsi_login.specs.declared.phase.Phase.TheVariants as phases
 use Rattle.iscsi_login.specs.Held.{Held, IsHeld, max_burst}
 use Rattle.iscsi_target.specs.State as target
 use Rattle.iscsi_target.specs.State.{max_cmd_sn}
-use Rattle.iscsi_target_session.specs.Session.{answer_message}
+use Rattle.iscsi_target_session.specs.Session.{Session, answer_message, data_in_length}
 use Rattle.iscsi_target.specs.Execution.{command_answers, data_ins, data_in_head, marked_parts, data_in_parts, response_head, sequence_parts, sense_segment}
 use Rattle.iscsi_stream.specs.Pieces.{chunks_within, chunks}
-use Rattle.iscsi_target.proofs.Steps.SendingLemmas.{can_give}
+use Rattle.iscsi_target.proofs.Steps.SendingLemmas.{CanGive, can_give}
+use Rattle.iscsi_target.proofs.Answers.DataInLengthLemmas.{AreShort, given_short, shortened_within}
 use Rattle.iscsi_target.proofs.Answers.DataInTilingLaw.{Parts, all_given, bytes_of}
 use Rattle.iscsi_stream.proofs.ChunkLemmas.{joined, joined_chunks}
 use Rattle.iscsi_initiator.specs.declared.request.Done.TheVariants as done
@@ -85,10 +86,6 @@ pub record PartsReceived (m : initiator.InitiatorSession) (t : target.Machine) (
       (length r.received)
       given ++ more)) x
 
--- each part is one that the initiator takes
-abbrev pub AreShort : ℕ → Parts → Type 0
-AreShort most given = AllByRecursion (λ part. length part.0 ≤ most) given
-
 parts_received : (m : initiator.InitiatorSession) (t : target.Machine) (r : ReadProgress) (window : Window) (given : Parts) (more : List Message)
     → m.done ≡ None → AreShort m.held.initiator_max_recv given → length r.received + length (bytes_of given) ≤ r.expected
     → r.next_data_sn + length given < 2 ^ 32
@@ -150,26 +147,6 @@ parts_received m t r window (part ∷ given) more none short room few =
 
 -- ---- the data of a command, in parts
 
-pub all_append : {A : Type 0} (P : A → Type 0) (xs ys : List A) → AllByRecursion P xs → AllByRecursion P ys → AllByRecursion P (xs ++ ys)
-all_append P [] ys p q = q
-all_append P (x ∷ xs) ys p q = (p.0, all_append P xs ys p.1 q)
-
-parts_short : (fuel size : ℕ) (bytes : List ℕ) → AllByRecursion (λ part. length part ≤ size) (chunks_within fuel size bytes)
-parts_short zero size bytes = tt
-parts_short (suc more) size [] = tt
-parts_short (suc more) size (b ∷ bytes) = (omega (arith, length-take size (b ∷ bytes)), parts_short more size (drop size (b ∷ bytes)))
-
-marked_short : (most : ℕ) (xs : List (List ℕ)) → AllByRecursion (λ part. length part ≤ most) xs → AreShort most (marked_parts xs)
-marked_short most [] all = tt
-marked_short most (x ∷ []) all = (all.0, tt)
-marked_short most (x ∷ y ∷ xs) all = (all.0, marked_short most (y ∷ xs) all.1)
-
-runs_short : (held : Held) (runs : List (List ℕ)) → AreShort held.initiator_max_recv (flat_map (sequence_parts held) runs)
-runs_short held [] = tt
-runs_short held (run ∷ runs) =
-    all_append (λ part. length part.0 ≤ held.initiator_max_recv) (sequence_parts held run) (flat_map (sequence_parts held) runs)
-    (marked_short held.initiator_max_recv (chunks held.initiator_max_recv run) (parts_short (length run) held.initiator_max_recv run)) (runs_short held runs)
-
 parts_few : (fuel size : ℕ) (bytes : List ℕ) → 0 < size → length (chunks_within fuel size bytes) ≤ length bytes
 parts_few zero size bytes lt = omega arith
 parts_few (suc more) size [] lt = omega arith
@@ -180,22 +157,22 @@ marked_few [] = refl
 marked_few (x ∷ []) = refl
 marked_few (x ∷ y ∷ xs) = ap suc (marked_few (y ∷ xs))
 
-runs_few : (held : Held) (runs : List (List ℕ)) → 0 < held.initiator_max_recv → length (flat_map (sequence_parts held) runs) ≤ length (joined runs)
-runs_few held [] lt = omega arith
-runs_few held (run ∷ runs) lt =
+runs_few : (s : Session) (runs : List (List ℕ)) → 0 < data_in_length s → length (flat_map (sequence_parts s) runs) ≤ length (joined runs)
+runs_few s [] lt = omega arith
+runs_few s (run ∷ runs) lt =
     omega (
       arith,
-      length-append (sequence_parts held run) (flat_map (sequence_parts held) runs),
+      length-append (sequence_parts s run) (flat_map (sequence_parts s) runs),
       length-append run (joined runs),
-      marked_few (chunks held.initiator_max_recv run),
-      parts_few (length run) held.initiator_max_recv run lt,
-      runs_few held runs lt,
+      marked_few (chunks (data_in_length s) run),
+      parts_few (length run) (data_in_length s) run lt,
+      runs_few s runs lt,
     )
 
 -- no more parts than bytes
-given_few : (held : Held) (bytes : List ℕ) → 0 < max_burst held → 0 < held.initiator_max_recv → length (data_in_parts held bytes) ≤ length bytes
-given_few held bytes burst most =
-    omega (arith, runs_few held (chunks (max_burst held) bytes) most, ap (λ (x : List ℕ). length x) (joined_chunks (max_burst held) bytes burst))
+given_few : (s : Session) (bytes : List ℕ) → 0 < max_burst s.held → 0 < data_in_length s → length (data_in_parts s bytes) ≤ length bytes
+given_few s bytes burst most =
+    omega (arith, runs_few s (chunks (max_burst s.held) bytes) most, ap (λ (x : List ℕ). length x) (joined_chunks (max_burst s.held) bytes burst))
 
 -- ---- the initiator receives the response
 
@@ -268,21 +245,21 @@ pub record ReadReceived (m : initiator.InitiatorSession) (t : target.Machine) (r
   pub leads : (low most : ℕ) → low + length outcome.bytes + 1 ≤ most → (held : Held) (s : target.Machine) (disk : Disk) (x : DiskExchange)
       → LeadsWithin low held (between (finished m t told outcome outcome.bytes) s disk []) x
       → LeadsWithin most held (between (reading m r window) s disk (command_answers t.session (target.waiting_tasks t.tasks) m.initiator_task_tag outcome
-      (data_in_parts t.session.held outcome.bytes))) x
+      (data_in_parts t.session outcome.bytes))) x
 
--- the parts of what is given
-pub record AreGiven (held : Held) (bytes : List ℕ) : Type 0 where
-  pub all : bytes_of (data_in_parts held bytes) ≡ bytes
-  pub short : AreShort held.initiator_max_recv (data_in_parts held bytes)
-  pub few : length (data_in_parts held bytes) ≤ length bytes
+-- the parts of what is given, each of which the initiator takes
+pub record AreGiven (s : Session) (bytes : List ℕ) : Type 0 where
+  pub all : bytes_of (data_in_parts s bytes) ≡ bytes
+  pub short : AreShort s.held.initiator_max_recv (data_in_parts s bytes)
+  pub few : length (data_in_parts s bytes) ≤ length bytes
 
-pub are_given : (held : Held) (bytes : List ℕ) → IsHeld held → AreGiven held bytes
-are_given held bytes is =
-    let most : 0 < held.initiator_max_recv = omega (arith, is.initiator_max_recv.0) in
+pub are_given : (s : Session) (bytes : List ℕ) → IsHeld s.held → AreGiven s bytes
+are_given s bytes is =
+    let c : CanGive s = can_give s is in
     record {
-      all = all_given held bytes (can_give held is).burst most;
-      short = runs_short held (chunks (max_burst held) bytes);
-      few = given_few held bytes (can_give held is).burst most;
+      all = all_given s bytes c.burst c.most;
+      short = given_short s s.held.initiator_max_recv bytes (shortened_within s.settings.extras.longest_data_in s.held.initiator_max_recv);
+      few = given_few s bytes c.burst c.most;
     }
 
 pub read_received : (m : initiator.InitiatorSession) (t : target.Machine) (window : Window) (outcome : Outcome) (expected : ℕ) → t.session.held ≡ m.held
@@ -291,8 +268,8 @@ pub read_received : (m : initiator.InitiatorSession) (t : target.Machine) (windo
     → length outcome.bytes ≤ expected → expected < 2 ^ 32 → ReadReceived m t (record { expected = expected; received = []; next_data_sn = 0 }) window outcome
 read_received m t window outcome expected held is_held stat_sn none room small =
     let r : ReadProgress = record { expected = expected; received = []; next_data_sn = 0 } in
-    let g : AreGiven t.session.held outcome.bytes = are_given t.session.held outcome.bytes (subst IsHeld (sym held) is_held) in
-    let given : Parts = data_in_parts t.session.held outcome.bytes in
+    let g : AreGiven t.session outcome.bytes = are_given t.session outcome.bytes (subst IsHeld (sym held) is_held) in
+    let given : Parts = data_in_parts t.session outcome.bytes in
     let last : Message = answer_message (response_head t.session (target.waiting_tasks t.tasks) m.initiator_task_tag outcome (length given))
     (sense_segment outcome.sense) in
     let h : PartsReceived m t r window given (last ∷ []) =

@@ -51,7 +51,8 @@ use Rattle.iscsi_pair.proofs.Wire.WrittenPdus.{command_readable, data_in_readabl
 use Rattle.iscsi_pair.proofs.Wire.OutcomeRanges.{HasRoom, outcome_fits}
 use Rattle.iscsi_pair.proofs.Request.AnswersInOrder.{ArePlain, Begins, Ends, most_answers, received_by, plain_more, plain_one, short_message}
 use Rattle.iscsi_target.proofs.Answers.OrderLemmas.{expected_by}
-use Rattle.iscsi_pair.proofs.Request.DataInLemmas.{reading, told_window, AreShort, finished, ReadReceived, AreGiven, are_given, read_received}
+use Rattle.iscsi_target.proofs.Answers.DataInLengthLemmas.{AreShort}
+use Rattle.iscsi_pair.proofs.Request.DataInLemmas.{reading, told_window, finished, ReadReceived, AreGiven, are_given, read_received}
 
 -- ---- what the target answers is read as it was written
 
@@ -77,11 +78,11 @@ sense_most (Some sense) = omega arith
 pub command_written : (t : target.Machine) (tag : ℕ) (outcome : Outcome) → IsHeld t.session.held → tag < 2 ^ 32 → t.session.exp_cmd_sn < 2 ^ 32
     → t.session.stat_sn < 2 ^ 32 → length outcome.bytes ≤ 4194304 → HasRoom outcome
     → ArePlain t.session.held.initiator_max_recv (command_answers t.session (target.waiting_tasks t.tasks) tag outcome
-    (data_in_parts t.session.held outcome.bytes))
+    (data_in_parts t.session outcome.bytes))
 command_written t tag outcome is tag_fits cmd_sn stat_sn room fits =
     let most : ℕ = t.session.held.initiator_max_recv in
-    let g : AreGiven t.session.held outcome.bytes = are_given t.session.held outcome.bytes is in
-    let given : Parts = data_in_parts t.session.held outcome.bytes in
+    let g : AreGiven t.session outcome.bytes = are_given t.session outcome.bytes is in
+    let given : Parts = data_in_parts t.session outcome.bytes in
     let size : most < 2 ^ 24 = omega (arith, is.initiator_max_recv.1) in
     let count : length given < 2 ^ 32 = omega (arith, g.few, room) in
     data_ins_written most t tag 0 0 given (answer_message (response_head t.session (target.waiting_tasks t.tasks) tag outcome (length given))

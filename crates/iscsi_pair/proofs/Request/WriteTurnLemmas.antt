@@ -28,7 +28,7 @@ use Rattle.iscsi_target.specs.Transfer.{with_r2t, desired, is_whole_write, bytes
 use Rattle.iscsi_target.specs.Execution.{command_answers, execute, data_in_parts, response_head, sense_segment, reliable}
 use Rattle.iscsi_target.specs.Command.{send_r2t, proceed, r2t_head}
 use Rattle.iscsi_target.specs.Machine.{answers, is_machine_closed}
-use Rattle.iscsi_target.proofs.Steps.SendingLemmas.{can_give}
+use Rattle.iscsi_target.proofs.Steps.SendingLemmas.{held_burst}
 use Rattle.iscsi_initiator.specs.declared.outstanding.Outstanding.{Outstanding}
 use Rattle.iscsi_initiator.specs.declared.outstanding.Outstanding.TheVariants as opens
 use Rattle.iscsi_initiator.specs.declared.request.Done.TheVariants as done
@@ -158,8 +158,8 @@ response_ends most le m t cmd_sn open_ window bytes order disk tag pieces_ a nea
     outcome_received m s open_ [] window after.outcome.status after.outcome.sense after.outcome.bytes after.outcome.residual 0 d a.stat_sn
     (omega (arith, a.is_held.initiator_max_recv.0)) in
     let is : (plainly (reliable false) s disk tag order pieces_).answers ≡ response ∷ [] =
-    ap (λ (x : Effect). command_answers s.session (target.waiting_tasks s.tasks) tag x.outcome (data_in_parts s.session.held x.outcome.bytes)) data_
-    ∙ ap (λ (x : List ℕ). command_answers s.session (target.waiting_tasks s.tasks) tag after.outcome (data_in_parts s.session.held x)) a.none_given
+    ap (λ (x : Effect). command_answers s.session (target.waiting_tasks s.tasks) tag x.outcome (data_in_parts s.session x.outcome.bytes)) data_
+    ∙ ap (λ (x : List ℕ). command_answers s.session (target.waiting_tasks s.tasks) tag after.outcome (data_in_parts s.session x)) a.none_given
     ∙ ap (λ (x : ℕ). command_answers s.session (target.waiting_tasks s.tasks) x after.outcome []) same in
     let disk_is : (plainly (reliable false) s disk tag order pieces_).disk ≡ after.disk = ap (λ (x : Effect). x.disk) data_ in
     let again : AreInStep (outcome_taken (finished m (ready t m.cmd_sn) window after.outcome [])) (counted_on (ready t m.cmd_sn)) =
@@ -289,7 +289,7 @@ turn m t cmd_sn v w window order disk a i part =
     let at : bytes_received w ≡ v.sent = received_is m v w order i in
     let left : v.sent < length v.bytes = (let lt = below (bytes_received w) w.total part (omega (arith, at, i.total, i.sent))
     in omega (arith, lt, at, i.total)) in
-    let burst : 0 < max_burst t.session.held = subst (λ (h : Held). 0 < max_burst h) (sym a.held) (can_give m.held a.is_held).burst in
+    let burst : 0 < max_burst t.session.held = subst (λ (h : Held). 0 < max_burst h) (sym a.held) (held_burst m.held a.is_held) in
     let n : ℕ = desired t.session.held w in
     let some : 0 < n = omega (arith, burst, left, at, i.total) in
     let room : v.sent + n ≤ length v.bytes = omega (arith, left, at, i.total) in

@@ -95,21 +95,21 @@ asked_out s disk w asked head desired_ new before after is_desired is_asked is_n
 pub told_write : (s : Machine) (tag : ℕ) (outcome : Outcome) (head : Head) (before mid after : List ℕ) → outcome.bytes ≡ [] → head
     ≡ response_head s.session (waiting_tasks s.tasks) tag outcome 0 → mid ≡ before
     → after ≡ mid ++ whole head (sense_segment outcome.sense) → after ≡ before ++
-    canon (command_answers s.session (waiting_tasks s.tasks) tag outcome (data_in_parts s.session.held outcome.bytes))
+    canon (command_answers s.session (waiting_tasks s.tasks) tag outcome (data_in_parts s.session outcome.bytes))
 told_write s tag outcome head before mid after none is_head is_mid is_after =
     is_after ∙ ap (λ (m : List ℕ). m ++ whole head (sense_segment outcome.sense)) is_mid
     ∙ ap (λ (h : Head). before ++ whole h (sense_segment outcome.sense)) is_head
     ∙ ap (λ (x : List ℕ). before ++ x) (one_answer (response_head s.session (waiting_tasks s.tasks) tag outcome 0) (sense_segment outcome.sense))
-    ∙ ap (λ (b : List ℕ). before ++ canon (command_answers s.session (waiting_tasks s.tasks) tag outcome (data_in_parts s.session.held b))) (sym none)
+    ∙ ap (λ (b : List ℕ). before ++ canon (command_answers s.session (waiting_tasks s.tasks) tag outcome (data_in_parts s.session b))) (sym none)
 
 pub told_order : (s : Machine) (tag : ℕ) (outcome : Outcome) (bytes : List ℕ) (count : ℕ) (head : Head) (before mid after : List ℕ) → bytes ≡ outcome.bytes →
-    count ≡ length (data_in_parts s.session.held bytes)
-    → mid ≡ before ++ canon (data_ins s.session (waiting_tasks s.tasks) tag 0 0 (data_in_parts s.session.held bytes)) → head
+    count ≡ length (data_in_parts s.session bytes)
+    → mid ≡ before ++ canon (data_ins s.session (waiting_tasks s.tasks) tag 0 0 (data_in_parts s.session bytes)) → head
     ≡ response_head s.session (waiting_tasks s.tasks) tag outcome count
     → after ≡ mid ++ whole head (sense_segment outcome.sense) → after ≡ before ++
-    canon (command_answers s.session (waiting_tasks s.tasks) tag outcome (data_in_parts s.session.held outcome.bytes))
+    canon (command_answers s.session (waiting_tasks s.tasks) tag outcome (data_in_parts s.session outcome.bytes))
 told_order s tag outcome bytes count head before mid after is_bytes is_count is_mid is_head is_after =
-    let given : List (List ℕ × Bool) = data_in_parts s.session.held bytes in
+    let given : List (List ℕ × Bool) = data_in_parts s.session bytes in
     let ins : List Message = data_ins s.session (waiting_tasks s.tasks) tag 0 0 given in
     let last : Message = answer_message (response_head s.session (waiting_tasks s.tasks) tag outcome (length given)) (sense_segment outcome.sense) in
     is_after ∙ ap (λ (m : List ℕ). m ++ whole head (sense_segment outcome.sense)) is_mid
@@ -119,21 +119,21 @@ told_order s tag outcome bytes count head before mid after is_bytes is_count is_
     ∙ ap (λ (x : List ℕ). before ++ (canon ins ++ x)) (one_answer (response_head s.session (waiting_tasks s.tasks) tag outcome (length given))
     (sense_segment outcome.sense))
     ∙ ap (λ (x : List ℕ). before ++ x) (sym (flat_map-append canonical_bytes ins (last ∷ [])))
-    ∙ ap (λ (b : List ℕ). before ++ canon (command_answers s.session (waiting_tasks s.tasks) tag outcome (data_in_parts s.session.held b))) is_bytes
+    ∙ ap (λ (b : List ℕ). before ++ canon (command_answers s.session (waiting_tasks s.tasks) tag outcome (data_in_parts s.session b))) is_bytes
 
 same_bytes : (s : Machine) (tag count : ℕ) (order : Order) (outcome : Outcome) (before after : List ℕ) → (is_read order.cdb || is_write order.cdb) ≡ true
-    → after ≡ before ++ canon (command_answers s.session (waiting_tasks s.tasks) tag outcome (data_in_parts s.session.held outcome.bytes))
+    → after ≡ before ++ canon (command_answers s.session (waiting_tasks s.tasks) tag outcome (data_in_parts s.session outcome.bytes))
     → (let o : Outcome = outcome_with_unit (unit_of s.session) count order outcome in
-    after ≡ before ++ canon (command_answers s.session (waiting_tasks s.tasks) tag o (data_in_parts s.session.held o.bytes)))
+    after ≡ before ++ canon (command_answers s.session (waiting_tasks s.tasks) tag o (data_in_parts s.session o.bytes)))
 same_bytes s tag count order outcome before after moves is_after =
-    subst (λ (o : Outcome). after ≡ before ++ canon (command_answers s.session (waiting_tasks s.tasks) tag o (data_in_parts s.session.held o.bytes)))
+    subst (λ (o : Outcome). after ≡ before ++ canon (command_answers s.session (waiting_tasks s.tasks) tag o (data_in_parts s.session o.bytes)))
     (sym (not_told (unit_of s.session) count order outcome moves)) is_after
 
 -- a READ is answered as on a disk that tells no more of itself
 pub told_read : (s : Machine) (tag count : ℕ) (order : Order) (outcome : Outcome) (before after : List ℕ) → is_read order.cdb ≡ true
-    → after ≡ before ++ canon (command_answers s.session (waiting_tasks s.tasks) tag outcome (data_in_parts s.session.held outcome.bytes))
+    → after ≡ before ++ canon (command_answers s.session (waiting_tasks s.tasks) tag outcome (data_in_parts s.session outcome.bytes))
     → (let o : Outcome = outcome_with_unit (unit_of s.session) count order outcome in
-    after ≡ before ++ canon (command_answers s.session (waiting_tasks s.tasks) tag o (data_in_parts s.session.held o.bytes)))
+    after ≡ before ++ canon (command_answers s.session (waiting_tasks s.tasks) tag o (data_in_parts s.session o.bytes)))
 told_read s tag count order outcome before after reads is_after =
     same_bytes s tag count order outcome before after (ap (λ (b : Bool). b || is_write order.cdb) reads) is_after
 
@@ -143,9 +143,9 @@ or_right false b e = e
 
 -- and so is a WRITE
 pub write_told : (s : Machine) (tag count : ℕ) (order : Order) (outcome : Outcome) (before after : List ℕ) → is_write order.cdb ≡ true
-    → after ≡ before ++ canon (command_answers s.session (waiting_tasks s.tasks) tag outcome (data_in_parts s.session.held outcome.bytes))
+    → after ≡ before ++ canon (command_answers s.session (waiting_tasks s.tasks) tag outcome (data_in_parts s.session outcome.bytes))
     → (let o : Outcome = outcome_with_unit (unit_of s.session) count order outcome in
-    after ≡ before ++ canon (command_answers s.session (waiting_tasks s.tasks) tag o (data_in_parts s.session.held o.bytes)))
+    after ≡ before ++ canon (command_answers s.session (waiting_tasks s.tasks) tag o (data_in_parts s.session o.bytes)))
 write_told s tag count order outcome before after writes is_after =
     same_bytes s tag count order outcome before after (or_right (is_read order.cdb) (is_write order.cdb) writes) is_after
 

@@ -11,8 +11,8 @@ use Rattle.iscsi_pdu.specs.declared.head.Head.{Head}
 use Rattle.iscsi_stream.specs.Segment.{segment_bytes}
 use Rattle.iscsi_stream.specs.Stream.{Message}
 use Rattle.iscsi_stream.specs.Canonical.{canon, canonical_bytes}
-use Rattle.iscsi_login.specs.Held.{Held, max_burst}
-use Rattle.iscsi_target_session.specs.Session.{answer_message}
+use Rattle.iscsi_login.specs.Held.{max_burst}
+use Rattle.iscsi_target_session.specs.Session.{Session, answer_message, data_in_length}
 use Rattle.iscsi_target.specs.State.{Machine, waiting_tasks}
 use Rattle.iscsi_target.specs.Execution.{marked_parts, sequence_parts, data_in_parts, data_ins, data_in_head}
 use Rattle.iscsi_stream.specs.Pieces.{chunks_within, chunks}
@@ -30,18 +30,18 @@ unsent sent bytes = record { sent = sent; bytes = bytes }
 
 -- of a run the bytes before those that are left went out
 pub record GaveUpTo (s : Machine) (tag : ℕ) (run left : Unsent) (old new : List ℕ) : Type 0 where
-  pub written : new ++ canon (data_ins s.session (waiting_tasks s.tasks) tag left.sent.count left.sent.bytes (sequence_parts s.session.held left.bytes)) ≡ old
-      ++ canon (data_ins s.session (waiting_tasks s.tasks) tag run.sent.count run.sent.bytes (sequence_parts s.session.held run.bytes))
-  pub count : left.sent.count + length (sequence_parts s.session.held left.bytes) ≡ run.sent.count + length (sequence_parts s.session.held run.bytes)
+  pub written : new ++ canon (data_ins s.session (waiting_tasks s.tasks) tag left.sent.count left.sent.bytes (sequence_parts s.session left.bytes)) ≡ old
+      ++ canon (data_ins s.session (waiting_tasks s.tasks) tag run.sent.count run.sent.bytes (sequence_parts s.session run.bytes))
+  pub count : left.sent.count + length (sequence_parts s.session left.bytes) ≡ run.sent.count + length (sequence_parts s.session run.bytes)
   pub carried : left.sent.bytes + length left.bytes ≡ run.sent.bytes + length run.bytes
   pub few : left.sent.count ≤ left.sent.bytes
   pub front : take (length old) new ≡ old
 
 -- those before the ones that are left went out
 pub record GaveRuns (s : Machine) (tag : ℕ) (bytes : List ℕ) (left : Unsent) (old new : List ℕ) : Type 0 where
-  pub written : new ++ canon (data_ins s.session (waiting_tasks s.tasks) tag left.sent.count left.sent.bytes (data_in_parts s.session.held left.bytes)) ≡ old
-      ++ canon (data_ins s.session (waiting_tasks s.tasks) tag 0 0 (data_in_parts s.session.held bytes))
-  pub count : left.sent.count + length (data_in_parts s.session.held left.bytes) ≡ length (data_in_parts s.session.held bytes)
+  pub written : new ++ canon (data_ins s.session (waiting_tasks s.tasks) tag left.sent.count left.sent.bytes (data_in_parts s.session left.bytes)) ≡ old
+      ++ canon (data_ins s.session (waiting_tasks s.tasks) tag 0 0 (data_in_parts s.session bytes))
+  pub count : left.sent.count + length (data_in_parts s.session left.bytes) ≡ length (data_in_parts s.session bytes)
   pub carried : left.sent.bytes + length left.bytes ≡ length bytes
   pub few : left.sent.count ≤ left.sent.bytes
   pub front : take (length old) new ≡ old
@@ -68,16 +68,16 @@ drop_min most n all is = elim (cases_lt most (length all)) [
 ]
 
 -- the next part of a run
-pub run_step : (held : Held) (rest : List ℕ) (n : ℕ) (last : Bool) → 0 < length rest → 0 < held.initiator_max_recv → n
-    ≡ min held.initiator_max_recv (length rest) → last ≡ (n == length rest)
-    → sequence_parts held rest ≡ (take n rest, last) ∷ sequence_parts held (drop n rest)
-run_step held [] n last some lt is is_last = absurd (omega (arith, some))
-run_step held (b ∷ rest) n last some lt is is_last =
-    let most : ℕ = held.initiator_max_recv in
+pub run_step : (s : Session) (rest : List ℕ) (n : ℕ) (last : Bool) → 0 < length rest → 0 < data_in_length s → n
+    ≡ min (data_in_length s) (length rest) → last ≡ (n == length rest)
+    → sequence_parts s rest ≡ (take n rest, last) ∷ sequence_parts s (drop n rest)
+run_step s [] n last some lt is is_last = absurd (omega (arith, some))
+run_step s (b ∷ rest) n last some lt is is_last =
+    let most : ℕ = data_in_length s in
     let all : List ℕ = b ∷ rest in
     let same_take : take most all ≡ take n all = take_min most n all is in
     let same_drop : drop most all ≡ drop n all = drop_min most n all is in
-    let step : sequence_parts held all ≡ marked_parts (take n all ∷ chunks most (drop n all)) =
+    let step : sequence_parts s all ≡ marked_parts (take n all ∷ chunks most (drop n all)) =
     ap marked_parts (chunks_step most b rest lt ∙ (λ i. same_take i ∷ chunks most (same_drop i))) in
     step ∙ mark_step most (take n all) (drop n all) last lt
     (λ e. (let f : n ≡ length all = eqb-true n (length all) (sym is_last ∙ e) in omega (arith, f, length-drop n all)))
@@ -100,29 +100,29 @@ one_longer : (x : List ℕ × Bool) (xs : List (List ℕ × Bool)) → length (x
 one_longer x xs = omega arith
 
 pub gave_more : (s : Machine) (tag : ℕ) (before : Sent) (run rest : List ℕ) (sent : Sent) (old new : List ℕ) (n : ℕ) (now after : List ℕ)
-    → 0 < s.session.held.initiator_max_recv → 0 < length rest → n ≡ min s.session.held.initiator_max_recv (length rest)
+    → 0 < data_in_length s.session → 0 < length rest → n ≡ min (data_in_length s.session) (length rest)
     → now ≡ new ++ whole (data_in_head s.session (waiting_tasks s.tasks) tag sent.count sent.bytes (n == length rest)) (take n rest) → after ≡ drop n rest
     → GaveUpTo s tag (unsent before run) (unsent sent rest) old new
     → GaveUpTo s tag (unsent before run) (unsent (record { count = sent.count + 1; bytes = sent.bytes + n }) after) old now
 gave_more s tag before run rest sent old new n now after most some is is_now is_after g =
-    let step = run_step s.session.held rest n (n == length rest) some most is refl in
+    let step = run_step s.session rest n (n == length rest) some most is refl in
     let len : length (take n rest) ≡ n = omega (arith, length-take n rest, is) in
-    let more : List Message = data_ins s.session (waiting_tasks s.tasks) tag (sent.count + 1) (sent.bytes + n) (sequence_parts s.session.held after) in
+    let more : List Message = data_ins s.session (waiting_tasks s.tasks) tag (sent.count + 1) (sent.bytes + n) (sequence_parts s.session after) in
     let head : Head = data_in_head s.session (waiting_tasks s.tasks) tag sent.count sent.bytes (n == length rest) in
-    let split : canon (data_ins s.session (waiting_tasks s.tasks) tag sent.count sent.bytes (sequence_parts s.session.held rest)) ≡ whole head (take n rest)
+    let split : canon (data_ins s.session (waiting_tasks s.tasks) tag sent.count sent.bytes (sequence_parts s.session rest)) ≡ whole head (take n rest)
     ++ canon more =
     ap (λ (x : List (List ℕ × Bool)). canon (data_ins s.session (waiting_tasks s.tasks) tag sent.count sent.bytes x)) step
     ∙ one_more (answer_message head (take n rest)) (data_ins s.session (waiting_tasks s.tasks) tag (sent.count + 1) (sent.bytes + length (take n rest))
-    (sequence_parts s.session.held (drop n rest)))
+    (sequence_parts s.session (drop n rest)))
     ∙ ap (λ (x : List ℕ). x ++ canon (data_ins s.session (waiting_tasks s.tasks) tag (sent.count + 1) (sent.bytes + length (take n rest))
-    (sequence_parts s.session.held (drop n rest)))) (said head (take n rest))
+    (sequence_parts s.session (drop n rest)))) (said head (take n rest))
     ∙ ap (λ (k : ℕ). whole head (take n rest) ++ canon (data_ins s.session (waiting_tasks s.tasks) tag (sent.count + 1) (sent.bytes + k)
-    (sequence_parts s.session.held (drop n rest)))) len
+    (sequence_parts s.session (drop n rest)))) len
     ∙ ap (λ (x : List ℕ). whole head (take n rest) ++ canon (data_ins s.session (waiting_tasks s.tasks) tag (sent.count + 1) (sent.bytes + n)
-    (sequence_parts s.session.held x))) (sym is_after) in
-    let count : length (sequence_parts s.session.held rest) ≡ 1 + length (sequence_parts s.session.held after) =
-    ap (λ (x : List (List ℕ × Bool)). length x) step ∙ one_longer (take n rest, n == length rest) (sequence_parts s.session.held (drop n rest))
-    ∙ ap (λ (x : List ℕ). 1 + length (sequence_parts s.session.held x)) (sym is_after) in
+    (sequence_parts s.session x))) (sym is_after) in
+    let count : length (sequence_parts s.session rest) ≡ 1 + length (sequence_parts s.session after) =
+    ap (λ (x : List (List ℕ × Bool)). length x) step ∙ one_longer (take n rest, n == length rest) (sequence_parts s.session (drop n rest))
+    ∙ ap (λ (x : List ℕ). 1 + length (sequence_parts s.session x)) (sym is_after) in
     let behind : length after ≡ length rest - n = ap length is_after ∙ length-drop n rest in
     record {
       written = ap (λ (x : List ℕ). x ++ canon more) is_now ∙ append_assoc new (whole head (take n rest)) (canon more)
@@ -172,46 +172,46 @@ sizes_within (suc more) size (b ∷ bytes) lt le =
     let e = sizes_within more size (drop size (b ∷ bytes)) lt (omega (arith, length-drop size (b ∷ bytes), lt, le)) in
     omega (arith, e, length-drop size (b ∷ bytes), length-take size (b ∷ bytes))
 
-size_run : (held : Held) (run : List ℕ) → 0 < held.initiator_max_recv → size_of (sequence_parts held run) ≡ length run
-size_run held run lt = size_marked (chunks held.initiator_max_recv run) ∙ sizes_within (length run) held.initiator_max_recv run lt (omega arith)
+size_run : (s : Session) (run : List ℕ) → 0 < data_in_length s → size_of (sequence_parts s run) ≡ length run
+size_run s run lt = size_marked (chunks (data_in_length s) run) ∙ sizes_within (length run) (data_in_length s) run lt (omega arith)
 
-runs_step : (held : Held) (rest : List ℕ) (n : ℕ) → 0 < length rest → 0 < max_burst held → n ≡ min (max_burst held) (length rest)
-    → data_in_parts held rest ≡ sequence_parts held (take n rest) ++ data_in_parts held (drop n rest)
-runs_step held [] n some lt is = absurd (omega (arith, some))
-runs_step held (b ∷ rest) n some lt is =
-    let burst : ℕ = max_burst held in
+runs_step : (s : Session) (rest : List ℕ) (n : ℕ) → 0 < length rest → 0 < max_burst s.held → n ≡ min (max_burst s.held) (length rest)
+    → data_in_parts s rest ≡ sequence_parts s (take n rest) ++ data_in_parts s (drop n rest)
+runs_step s [] n some lt is = absurd (omega (arith, some))
+runs_step s (b ∷ rest) n some lt is =
+    let burst : ℕ = max_burst s.held in
     let all : List ℕ = b ∷ rest in
-    ap (flat_map (sequence_parts held)) (chunks_step burst b rest lt)
-    ∙ flat_map-cons (sequence_parts held) (take burst all) (chunks burst (drop burst all))
-    ∙ (λ i. sequence_parts held (take_min burst n all is i) ++ data_in_parts held (drop_min burst n all is i))
+    ap (flat_map (sequence_parts s)) (chunks_step burst b rest lt)
+    ∙ flat_map-cons (sequence_parts s) (take burst all) (chunks burst (drop burst all))
+    ∙ (λ i. sequence_parts s (take_min burst n all is i) ++ data_in_parts s (drop_min burst n all is i))
 
 pub gave_run : (s : Machine) (tag : ℕ) (bytes rest : List ℕ) (sent next : Sent) (old new now after : List ℕ) (n : ℕ)
-    → 0 < s.session.held.initiator_max_recv → 0 < max_burst s.session.held → 0 < length rest → n ≡ min (max_burst s.session.held) (length rest)
-    → next.count ≡ sent.count + length (sequence_parts s.session.held (take n rest)) → next.bytes ≡ sent.bytes + length (take n rest) → next.count ≤ next.bytes
-    → now ≡ new ++ canon (data_ins s.session (waiting_tasks s.tasks) tag sent.count sent.bytes (sequence_parts s.session.held (take n rest))) → after
+    → 0 < data_in_length s.session → 0 < max_burst s.session.held → 0 < length rest → n ≡ min (max_burst s.session.held) (length rest)
+    → next.count ≡ sent.count + length (sequence_parts s.session (take n rest)) → next.bytes ≡ sent.bytes + length (take n rest) → next.count ≤ next.bytes
+    → now ≡ new ++ canon (data_ins s.session (waiting_tasks s.tasks) tag sent.count sent.bytes (sequence_parts s.session (take n rest))) → after
     ≡ drop n rest
     → GaveRuns s tag bytes (unsent sent rest) old new → GaveRuns s tag bytes (unsent next after) old now
 gave_run s tag bytes rest sent next old new now after n most burst some is is_count is_bytes few is_now is_after g =
-    let run : List (List ℕ × Bool) = sequence_parts s.session.held (take n rest) in
-    let step = runs_step s.session.held rest n some burst is in
-    let size : size_of run ≡ length (take n rest) = size_run s.session.held (take n rest) most in
-    let tail : List Message = data_ins s.session (waiting_tasks s.tasks) tag next.count next.bytes (data_in_parts s.session.held after) in
+    let run : List (List ℕ × Bool) = sequence_parts s.session (take n rest) in
+    let step = runs_step s.session rest n some burst is in
+    let size : size_of run ≡ length (take n rest) = size_run s.session (take n rest) most in
+    let tail : List Message = data_ins s.session (waiting_tasks s.tasks) tag next.count next.bytes (data_in_parts s.session after) in
     let at_count : sent.count + length run ≡ next.count = sym is_count in
     let at_bytes : sent.bytes + size_of run ≡ next.bytes = omega (arith, size, is_bytes) in
-    let all : data_ins s.session (waiting_tasks s.tasks) tag sent.count sent.bytes (data_in_parts s.session.held rest)
+    let all : data_ins s.session (waiting_tasks s.tasks) tag sent.count sent.bytes (data_in_parts s.session rest)
     ≡ data_ins s.session (waiting_tasks s.tasks) tag sent.count sent.bytes run ++ tail =
     ap (data_ins s.session (waiting_tasks s.tasks) tag sent.count sent.bytes) step ∙ ins_append s tag sent.count sent.bytes run
-    (data_in_parts s.session.held (drop n rest))
+    (data_in_parts s.session (drop n rest))
     ∙ (λ i. data_ins s.session (waiting_tasks s.tasks) tag sent.count sent.bytes run ++
-    data_ins s.session (waiting_tasks s.tasks) tag (at_count i) (at_bytes i) (data_in_parts s.session.held (drop n rest)))
+    data_ins s.session (waiting_tasks s.tasks) tag (at_count i) (at_bytes i) (data_in_parts s.session (drop n rest)))
     ∙ ap (λ (x : List ℕ). data_ins s.session (waiting_tasks s.tasks) tag sent.count sent.bytes run
-    ++ data_ins s.session (waiting_tasks s.tasks) tag next.count next.bytes (data_in_parts s.session.held x)) (sym is_after) in
-    let split : canon (data_ins s.session (waiting_tasks s.tasks) tag sent.count sent.bytes (data_in_parts s.session.held rest))
+    ++ data_ins s.session (waiting_tasks s.tasks) tag next.count next.bytes (data_in_parts s.session x)) (sym is_after) in
+    let split : canon (data_ins s.session (waiting_tasks s.tasks) tag sent.count sent.bytes (data_in_parts s.session rest))
     ≡ canon (data_ins s.session (waiting_tasks s.tasks) tag sent.count sent.bytes run) ++ canon tail =
     ap canon all ∙ flat_map-append canonical_bytes (data_ins s.session (waiting_tasks s.tasks) tag sent.count sent.bytes run) tail in
-    let count : length (data_in_parts s.session.held rest) ≡ length run + length (data_in_parts s.session.held after) =
-    ap (λ (x : List (List ℕ × Bool)). length x) step ∙ length-append run (data_in_parts s.session.held (drop n rest))
-    ∙ ap (λ (x : List ℕ). length run + length (data_in_parts s.session.held x)) (sym is_after) in
+    let count : length (data_in_parts s.session rest) ≡ length run + length (data_in_parts s.session after) =
+    ap (λ (x : List (List ℕ × Bool)). length x) step ∙ length-append run (data_in_parts s.session (drop n rest))
+    ∙ ap (λ (x : List ℕ). length run + length (data_in_parts s.session x)) (sym is_after) in
     let behind : length after ≡ length rest - n = ap length is_after ∙ length-drop n rest in
     let len : length (take n rest) ≡ n = omega (arith, length-take n rest, is) in
     record {

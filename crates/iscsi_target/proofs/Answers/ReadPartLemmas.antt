@@ -20,6 +20,7 @@ use Rattle.iscsi_stream.proofs.PaddingLemmas.{whole_is}
 use Rattle.iscsi_pdu.specs.declared.head.Head.{Head}
 use Rattle.iscsi_stream.specs.Canonical.{canon}
 use Rattle.iscsi_login.specs.Held.{max_burst}
+use Rattle.iscsi_target_session.specs.Session.{data_in_length}
 use Rattle.iscsi_target.specs.State.{Machine, waiting_tasks}
 use Rattle.iscsi_target.specs.Feed.{Store}
 use Rattle.iscsi_target.specs.Advances.{store_of}
@@ -174,7 +175,7 @@ joined source disk fb fm fa start at n x y low up high p q =
     (part_more source disk fb fm fa start (at - start) n x y up high p (behind source disk fm fa start at n y low q))
 
 pub parts_next : (s : Machine) (tag : ℕ) (source : Source) (disk mid : Disk) (counted : Counted) (n end : ℕ) (before sent : Sent) (head : Head)
-    (bytes : Outputs) → 0 < s.session.held.initiator_max_recv → sent.bytes < end → n ≡ min s.session.held.initiator_max_recv (end - sent.bytes)
+    (bytes : Outputs) → 0 < data_in_length s.session → sent.bytes < end → n ≡ min (data_in_length s.session) (end - sent.bytes)
     → head ≡ data_in_head s.session (waiting_tasks s.tasks) tag sent.count sent.bytes (sent.bytes + n == end) → mid ≡ disk
     → SendsPart head (given_by_source source mid counted.between counted.after) sent.bytes n bytes.between bytes.after → counted.before ≤ counted.between →
     counted.between ≤ counted.after
@@ -218,11 +219,11 @@ parts_all s tag from before sent end old new none g =
     record {
       bytes = g.bytes;
       is_of = subst (λ (k : ℕ). IsGivenPart from before.bytes (k - before.bytes) g.bytes) all g.is_of;
-      count = omega (arith, last.count, ap (λ (b : List ℕ). length (sequence_parts s.session.held b)) same);
+      count = omega (arith, last.count, ap (λ (b : List ℕ). length (sequence_parts s.session b)) same);
       carried = all;
       few = g.few;
       output = sym (append-nil new) ∙ last.written ∙ ap (λ (b : List ℕ). old ++ canon (data_ins s.session (waiting_tasks s.tasks) tag before.count before.bytes
-          (sequence_parts s.session.held b))) same;
+          (sequence_parts s.session b))) same;
     }
 
 -- ---- sequences
@@ -246,7 +247,7 @@ sequences_none s tag source disk blocks n old new has same = record {
   few = omega arith;
   front = ap (take (length old)) same ∙ take_all (length old) old (omega arith);
   gave = λ more long. record {
-    written = ap (λ (t : List ℕ). t ++ canon (data_ins s.session (waiting_tasks s.tasks) tag 0 0 (data_in_parts s.session.held more))) same;
+    written = ap (λ (t : List ℕ). t ++ canon (data_ins s.session (waiting_tasks s.tasks) tag 0 0 (data_in_parts s.session more))) same;
     count = omega arith;
     carried = omega arith;
     few = omega arith;
@@ -255,7 +256,7 @@ sequences_none s tag source disk blocks n old new has same = record {
 }
 
 pub sequences_next : (s : Machine) (tag : ℕ) (source : Source) (disk mid : Disk) (counted : Counted) (n end : ℕ) (sent after : Sent) (bytes : Outputs)
-    → 0 < max_burst s.session.held → 0 < s.session.held.initiator_max_recv → sent.bytes < source_len source
+    → 0 < max_burst s.session.held → 0 < data_in_length s.session → sent.bytes < source_len source
     → n ≡ min (max_burst s.session.held) (source_len source - sent.bytes) → end ≡ sent.bytes + n → mid ≡ disk
     → SendsSequence (reply s tag bytes.between bytes.after) (given_by_source source mid counted.between counted.after) sent after end → counted.before ≤
     counted.between → counted.between ≤ counted.after
@@ -279,21 +280,21 @@ sequences_next s tag source disk mid counted n end sent after bytes some takes l
       high = omega (arith, carried, is_n, left);
       few = run.few;
       front = front_kept bytes.before bytes.between (canon (data_ins s.session (waiting_tasks s.tasks) tag sent.count sent.bytes
-          (sequence_parts s.session.held x))) bytes.after run.output
+          (sequence_parts s.session x))) bytes.after run.output
           g.front;
       gave = λ more long.
           (let rest : List ℕ = x ++ more in
           let rest_long : length rest ≡ source_len source - sent.bytes = omega (arith, length-append x more, size, long, carried, is_n, left) in
           let front : x ≡ take n rest = sym (take_at x more n size) in
           let back : more ≡ drop n rest = sym (drop_at x more n size) in
-          let counted : after.count ≡ sent.count + length (sequence_parts s.session.held (take n rest)) =
-          run.count ∙ ap (λ (b : List ℕ). sent.count + length (sequence_parts s.session.held b)) front in
+          let counted : after.count ≡ sent.count + length (sequence_parts s.session (take n rest)) =
+          run.count ∙ ap (λ (b : List ℕ). sent.count + length (sequence_parts s.session b)) front in
           let is_bytes : after.bytes ≡ sent.bytes + length (take n rest) =
           carried ∙ ap (λ (m : ℕ). sent.bytes + m) (sym size ∙ ap length front) in
           let is_now : bytes.after ≡ bytes.between ++ canon (data_ins s.session (waiting_tasks s.tasks) tag sent.count sent.bytes
-          (sequence_parts s.session.held (take n rest))) =
+          (sequence_parts s.session (take n rest))) =
           run.output ∙ ap (λ (b : List ℕ). bytes.between ++ canon (data_ins s.session (waiting_tasks s.tasks) tag sent.count sent.bytes
-          (sequence_parts s.session.held b))) front in
+          (sequence_parts s.session b))) front in
           subst (λ (all : List ℕ). GaveRuns s tag all (unsent after more) bytes.before bytes.after) (sym (append_assoc g.bytes x more))
           (gave_run s tag (g.bytes ++ rest) rest sent after bytes.before bytes.between bytes.after more n takes some (omega (arith, rest_long, left))
           (omega (arith, is_n, rest_long))
@@ -309,9 +310,9 @@ sequences_all s tag from sent old new none g =
     record {
       bytes = g.bytes;
       is_of = subst (λ (k : ℕ). IsGivenPart from 0 k g.bytes) all g.is_of;
-      counted = omega (arith, last.count, ap (λ (b : List ℕ). length (data_in_parts s.session.held b)) same);
+      counted = omega (arith, last.count, ap (λ (b : List ℕ). length (data_in_parts s.session b)) same);
       output = sym (append-nil new) ∙ last.written ∙ ap (λ (b : List ℕ). old ++ canon (data_ins s.session (waiting_tasks s.tasks) tag 0 0
-          (data_in_parts s.session.held b))) same;
+          (data_in_parts s.session b))) same;
     }
 
 -- ---- the answers

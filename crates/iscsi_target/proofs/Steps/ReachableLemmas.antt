@@ -1,5 +1,5 @@
 -- What holds in each state that messages lead to from the opening state.
-use Rattle.std.proofs.Common.{◌≡◌, ◌≤◌, ℕ, List, [], ◌∷◌, Bool, false, length, refl, sym, ap, ◌∙◌, subst, arith}
+use Rattle.std.proofs.Common.{◌≡◌, ◌≤◌, ℕ, List, [], ◌∷◌, Option, Some, Bool, false, length, refl, sym, ap, ◌∙◌, subst, arith}
 use Rattle.std.specs.Prelude.{nat_lt}
 use Rattle.std.proofs.lemmas.Bool.{ltb-false, ltb-true}
 use Rattle.scsi_disk.specs.Disk.{Disk}
@@ -12,19 +12,19 @@ use Rattle.iscsi_text.specs.Negotiated.{rule_of}
 use Rattle.iscsi_login.specs.Negotiation.{AllowsValue, ArePreferencesInRange}
 use Rattle.iscsi_login.specs.Held.{IsHeld, defaults, held_value}
 use Rattle.iscsi_login.proofs.AgreementLaw.{default_allowed}
-use Rattle.iscsi_target_session.specs.Configured.{TargetSettings}
+use Rattle.iscsi_target_session.specs.Configured.{TargetSettings, shortened}
 use Rattle.iscsi_target_session.specs.Session.{target_limit}
 use Rattle.iscsi_target.specs.State.{Machine, Execution, TargetStep, opening_machine, unchanged, max_cmd_sn}
 use Rattle.iscsi_pdu.specs.Serial.{is_within}
-use Rattle.iscsi_target.specs.Machine.{Met, Dropped, plainly, next_step, having_accepted, target_step, answers, is_machine_closed, is_over_limit, target_full_step, full_met}
+use Rattle.iscsi_target.specs.Machine.{MayStep, MayAnswer, Met, Dropped, plainly, next_step, having_accepted, target_step, answers, is_machine_closed, is_over_limit, target_full_step, full_met}
 use Rattle.iscsi_target.specs.Machine.{phase_step, due_met, inbound_met}
 use Rattle.iscsi_login.specs.Stage.{is_closed_phase}
-use Rattle.iscsi_target.specs.Tiles.{TilesDataIn, GiveTiles, bytes_given}
+use Rattle.iscsi_target.specs.Tiles.{TilesDataIn, AreShortDataIn, GiveTiles, bytes_given}
 use Rattle.iscsi_target_session.specs.declared.inbound.Inbound.TheVariants as inbounds
 use Rattle.iscsi_target_session.specs.declared.inbound.InboundRequest.{InboundRequest}
 use Rattle.iscsi_target.specs.Laws.{IsOutside}
 use Rattle.iscsi_target_session.proofs.CaseLemmas.{by_cases}
-use Rattle.iscsi_target.proofs.Steps.SendingLemmas.{StepTells, step_tells, Gives}
+use Rattle.iscsi_target.proofs.Steps.SendingLemmas.{StepTells, step_tells, Gives, IsLimit, short_append}
 use Rattle.iscsi_target.proofs.Steps.NumberLaws.{IsFit, answers_fit, answers_settings}
 use Rattle.iscsi_target.specs.Execution.{reliable}
 
@@ -80,6 +80,47 @@ reached_data_in protected settings n disk ms m p =
     gives_tiles protected (target_step protected r.machine r.disk m).answers (target_step protected r.machine r.disk m).executed
     (t.gives (subst (λ (x : TargetSettings). ArePreferencesInRange x.preferences) (sym (answers_settings protected (opening_machine settings n) disk ms)) p)
     (reached_held protected settings n disk ms p))
+
+answers_short : (protected : Bool) (s : Machine) (disk : Disk) (ms : List Message) (most : ℕ) → IsLimit s.session.settings most
+    → AreShortDataIn most (answers protected s disk ms).answers
+unfolding answers
+answers_short protected s disk [] most l = tt
+answers_short protected s disk (m ∷ ms) most l =
+    let first : TargetStep = target_step protected s disk m in
+    let t : StepTells (reliable protected) s m first = step_tells (reliable protected) disk s m in
+    short_append most first.answers (answers protected first.machine first.disk ms).answers (t.short most l)
+    (answers_short protected first.machine first.disk ms most (subst (λ (x : TargetSettings). IsLimit x most) (sym t.settings) l))
+
+limited : (told : Option ℕ) (limit : ℕ) → told ≡ Some limit → 512 ≤ limit → (bytes : ℕ) → shortened told bytes ≤ limit
+limited told limit is some bytes = rw is (omega (arith, some))
+
+pub told_short : (protected : Bool) (s : Machine) (disk : Disk) (ms : List Message) (limit : ℕ)
+    → s.session.settings.extras.longest_data_in ≡ Some limit → 512 ≤ limit → AreShortDataIn limit (answers protected s disk ms).answers
+told_short protected s disk ms limit is some =
+    answers_short protected s disk ms limit (limited s.session.settings.extras.longest_data_in limit is some)
+
+step_short : (protected : Bool) (s : Machine) (disk : Disk) (before after : ℕ) (m : Message) (r : TargetStep) → MayStep protected s disk before m r after
+    → (most : ℕ) → IsLimit s.session.settings most
+    → AreShortDataIn most r.answers × (r.machine.session.settings ≡ s.session.settings)
+step_short protected s disk before after m r p most l =
+    let t : StepTells p.device s m r = subst (λ (x : TargetStep). StepTells p.device s m x) (sym p.is) (step_tells p.device disk s m) in
+    (t.short most l, t.settings)
+
+may_short : (protected : Bool) (s : Machine) (disk : Disk) (before after : ℕ) (ms : List Message) (r : TargetStep)
+    → MayAnswer protected s disk before ms r after → (most : ℕ) → IsLimit s.session.settings most → AreShortDataIn most r.answers
+unfolding MayAnswer
+may_short protected s disk before after [] r e most l = subst (λ (x : TargetStep). AreShortDataIn most x.answers) (sym e.0) tt
+may_short protected s disk before after (m ∷ ms) r e most l =
+    let first = step_short protected s disk before e.2 m e.0 e.3 most l in
+    subst (λ (x : TargetStep). AreShortDataIn most x.answers) (sym e.5)
+    (short_append most e.0.answers e.1.answers first.0
+    (may_short protected e.0.machine e.0.disk e.2 after ms e.1 e.4 most (subst (λ (x : TargetSettings). IsLimit x most) (sym first.1) l)))
+
+pub may_told_short : (protected : Bool) (s : Machine) (disk : Disk) (before after : ℕ) (ms : List Message) (r : TargetStep) (limit : ℕ)
+    → s.session.settings.extras.longest_data_in ≡ Some limit → 512 ≤ limit
+    → MayAnswer protected s disk before ms r after → AreShortDataIn limit r.answers
+may_told_short protected s disk before after ms r limit is some e =
+    may_short protected s disk before after ms r e limit (limited s.session.settings.extras.longest_data_in limit is some)
 
 -- ---- outside the window
 

@@ -17,8 +17,8 @@ use Rattle.iscsi_text.specs.declared.negotiated.Answered.TheVariants as answered
 use Rattle.iscsi_text.specs.Negotiated.{rule_of}
 use Rattle.iscsi_login.specs.Negotiation.{AllowsValue, ArePreferencesInRange}
 use Rattle.iscsi_login.specs.Held.{Held, IsHeld, held_value, number_of, max_burst}
-use Rattle.iscsi_target_session.specs.Configured.{TargetSettings}
-use Rattle.iscsi_target_session.specs.Session.{Session, Reply, target_limit, answer_message}
+use Rattle.iscsi_target_session.specs.Configured.{TargetSettings, shortened}
+use Rattle.iscsi_target_session.specs.Session.{Session, Reply, target_limit, answer_message, data_in_length}
 use Rattle.iscsi_target.specs.declared.tasks.Task.{Task}
 use Rattle.iscsi_target.specs.State.{Machine, Execution, TargetStep, on, unchanged, shut_down, waiting_tasks, unit_of}
 use Rattle.iscsi_stream.specs.Pieces.{Pieces, piece_data, data_piece, data_pieces}
@@ -27,12 +27,13 @@ use Rattle.iscsi_target.specs.inner.State.{breaks}
 use Rattle.iscsi_target_session.specs.Login.{target_login_step}
 use Rattle.iscsi_target.specs.Execution.{Device, device_next, device_after, execute, data_in_parts, data_ins, response_head, sense_segment, as_told}
 use Rattle.iscsi_target.specs.Machine.{is_machine_closed, step_on, task_begun, done_in_turn, having_accepted, then_stepped}
-use Rattle.iscsi_target.specs.Tiles.{TileBytes, GivesTiles, data_in_tag, data_in_tags}
+use Rattle.iscsi_target.specs.Tiles.{TileBytes, GivesTiles, AreShortDataIn, data_in_tag, data_in_tags}
 use Rattle.iscsi_target.specs.Laws.{stat_sns, stat_sn_of, response_tag, response_tags, cmd_sns, given_number, HasCmdSn}
 use Rattle.iscsi_target.proofs.Steps.TurnLemmas.{Begins, begins, Turns, turns}
 use Rattle.iscsi_target.proofs.Steps.StepPartLemmas.{Accepts, Immediately, InTurn, Parts, step_parts}
 use Rattle.iscsi_target.proofs.Answers.ReplyLemmas.{Count, IsReply, Logs, login_logs, reject_and_close_reply, request_answered_reply}
 use Rattle.iscsi_target.proofs.Answers.DataInTilingLaw.{execute_tiled}
+use Rattle.iscsi_target.proofs.Answers.DataInLengthLemmas.{all_append, given_short, ins_short, shortened_some}
 
 -- ---- numbers one after another
 
@@ -67,9 +68,9 @@ counts_out n a b mid last over none c = record {
 
 -- ---- data that commands give
 
-pub record CanGive (held : Held) : Type 0 where
-  pub burst : 0 < max_burst held
-  pub most : 0 < held.initiator_max_recv
+pub record CanGive (s : Session) : Type 0 where
+  pub burst : 0 < max_burst s.held
+  pub most : 0 < data_in_length s
 
 burst_some : (value : Answered) → AllowsValue (rule_of keys.MaxBurstLength) value → 0 < number_of value
 burst_some (answered.Number n) a = omega (arith, a.0)
@@ -77,10 +78,13 @@ burst_some (answered.Flag b) a = absurd a
 burst_some answered.NoneItem a = absurd a
 burst_some answered.Reject a = absurd a
 
-pub can_give : (held : Held) → IsHeld held → CanGive held
-can_give held h = record {
-  burst = burst_some (held_value held keys.MaxBurstLength) (h.values keys.MaxBurstLength);
-  most = omega (arith, h.initiator_max_recv.0);
+pub held_burst : (held : Held) → IsHeld held → 0 < max_burst held
+held_burst held h = burst_some (held_value held keys.MaxBurstLength) (h.values keys.MaxBurstLength)
+
+pub can_give : (s : Session) → IsHeld s.held → CanGive s
+can_give s h = record {
+  burst = held_burst s.held h;
+  most = omega (arith, shortened_some s.settings.extras.longest_data_in s.held.initiator_max_recv (omega (arith, h.initiator_max_recv.0)));
 }
 
 abbrev pub tags_done : List Execution → List ℕ
@@ -141,6 +145,19 @@ gives_append device a b [] fs g h = gives_after device a b fs g h
 gives_append device a b (e ∷ es) fs g h =
     (g.0, g.1 ++ b, ap (λ (ms : List Message). ms ++ b) g.2 ∙ append_assoc g.0 g.1 b, g.3, gives_append (device_next device) g.1 b es fs g.4 h)
 
+-- ---- short Data-In
+
+-- these settings let no Data-In be longer
+abbrev pub IsLimit : TargetSettings → ℕ → Type 0
+IsLimit settings most = (bytes : ℕ) → shortened settings.extras.longest_data_in bytes ≤ most
+
+pub short_append : (most : ℕ) (a b : List Message) → AreShortDataIn most a → AreShortDataIn most b → AreShortDataIn most (a ++ b)
+short_append most a b p q = subst (AllByRecursion (λ piece. length piece.1 ≤ most)) (sym (pieces_append a b))
+    (all_append (λ piece. length piece.1 ≤ most) (data_pieces a) (data_pieces b) p q)
+
+none_short : (most : ℕ) (a : List Message) → data_pieces a ≡ [] → AreShortDataIn most a
+none_short most a none = subst (AllByRecursion (λ piece. length piece.1 ≤ most)) (sym none) tt
+
 -- ---- what is told
 
 pub record Tells (device : Device) (s : Session) (r : TargetStep) : Type 0 where
@@ -152,6 +169,7 @@ pub record Tells (device : Device) (s : Session) (r : TargetStep) : Type 0 where
   pub live : is_machine_closed r.machine ≡ false → (r.machine.session.begun ≡ s.begun) × (r.machine.session.exp_cmd_sn ≡ s.exp_cmd_sn)
   pub held : ArePreferencesInRange s.settings.preferences → IsHeld s.held → IsHeld r.machine.session.held
   pub limit : s.held.target_max_recv ≤ target_limit s.settings → r.machine.session.held.target_max_recv ≤ target_limit s.settings
+  pub short : (most : ℕ) → IsLimit s.settings most → AreShortDataIn most r.answers
 
 of_reply : (device : Device) (s : Session) (tasks : List Task) (disk : Disk) (r : Reply) → IsReply s r → Tells device s (on disk tasks r)
 of_reply device s tasks disk r c = record {
@@ -162,6 +180,7 @@ of_reply device s tasks disk r c = record {
   live = c.live;
   held = c.held;
   limit = c.limit;
+  short = λ most l. none_short most r.answers c.data_ins;
 }
 
 stays_tells : (device : Device) (s : Machine) (disk : Disk) → Tells device s.session (unchanged s disk)
@@ -173,6 +192,7 @@ stays_tells device s disk = record {
   live = λ e. (refl, refl);
   held = λ p h. h;
   limit = λ l. l;
+  short = λ most l. tt;
 }
 
 shut_tells : (device : Device) (s : Machine) (disk : Disk) → Tells device s.session (shut_down s disk)
@@ -184,6 +204,7 @@ shut_tells device s disk = record {
   live = λ e. absurd cc;
   held = λ p h. h;
   limit = λ l. l;
+  short = λ most l. tt;
 }
 
 -- one part and then another
@@ -206,6 +227,8 @@ then_tells device s a b live t u =
       held = λ p h. u.held (range p) (t.held p h);
       limit = λ l. subst (λ (x : TargetSettings). b.machine.session.held.target_max_recv ≤ target_limit x) t.settings
           (u.limit (subst (λ (x : TargetSettings). a.machine.session.held.target_max_recv ≤ target_limit x) (sym t.settings) (t.limit l)));
+      short = λ most l. short_append most a.answers b.answers (t.short most l)
+          (u.short most (subst (λ (x : TargetSettings). IsLimit x most) (sym t.settings) l));
     }
 
 ins_stat_sns : (s : Session) (waits tag data_sn at : ℕ) (given : List (List ℕ × Bool)) (more : List Message) →
@@ -227,14 +250,14 @@ execute_tells : (device : Device) (s : Machine) (disk : Disk) (tag : ℕ) (order
     Tells device s.session (execute device s disk tag order pieces)
 execute_tells device s disk tag order pieces =
     let e : Effect = as_told (unit_of s.session) disk.count order (device 0 disk order (piece_data pieces)) in
-    let given : List (List ℕ × Bool) = data_in_parts s.session.held e.outcome.bytes in
+    let given : List (List ℕ × Bool) = data_in_parts s.session e.outcome.bytes in
     let last : Message = answer_message (response_head s.session (waiting_tasks s.tasks) tag e.outcome (length given)) (sense_segment e.outcome.sense) in
     let all : List Message = (execute device s disk tag order pieces).answers in
     record {
       stat_sn = subst (λ (ns : List ℕ). Count s.session.stat_sn ns (next_sn s.session.stat_sn))
           (sym (ins_stat_sns s.session (waiting_tasks s.tasks) tag 0 0 given (last ∷ []))) (refl, refl);
       tags = ins_tags s.session (waiting_tasks s.tasks) tag 0 0 given (last ∷ []);
-      gives = λ p h. let c = can_give s.session.held h in (
+      gives = λ p h. let c = can_give s.session h in (
         all,
         [],
         sym (append-nil all),
@@ -248,6 +271,8 @@ execute_tells device s disk tag order pieces =
       live = λ e. (refl, refl);
       held = λ p h. h;
       limit = λ l. l;
+      short = λ most l. ins_short s.session most (waiting_tasks s.tasks) tag 0 0 given last refl
+          (given_short s.session most e.outcome.bytes (l s.session.held.initiator_max_recv));
     }
 
 -- ---- tasks
@@ -265,6 +290,7 @@ begins_tell = record {
     live = λ e. (refl, refl);
     held = λ p h. h;
     limit = λ l. l;
+    short = λ most l. tt;
   };
   wait_ = λ device s disk w h g. record {
     stat_sn = refl;
@@ -274,6 +300,7 @@ begins_tell = record {
     live = λ e. (refl, refl);
     held = λ p h. h;
     limit = λ l. l;
+    short = λ most l. tt;
   };
 }
 
@@ -302,6 +329,7 @@ pub record StepTells (device : Device) (s : Machine) (m : Message) (r : TargetSt
   pub settings : r.machine.session.settings ≡ s.session.settings
   pub held : ArePreferencesInRange s.session.settings.preferences → IsHeld s.session.held → IsHeld r.machine.session.held
   pub limit : s.session.held.target_max_recv ≤ target_limit s.session.settings → r.machine.session.held.target_max_recv ≤ target_limit s.session.settings
+  pub short : (most : ℕ) → IsLimit s.session.settings most → AreShortDataIn most r.answers
   pub cmd_sns : s.session.begun ≡ true → s.session.exp_cmd_sn < 2 ^ 32 → HasCmdSn m →
       CountsTo s.session.exp_cmd_sn (cmd_sns r.accepted) r.machine
 
@@ -314,6 +342,7 @@ none_accepted device s m r c = record {
   settings = c.settings;
   held = c.held;
   limit = c.limit;
+  short = c.short;
   cmd_sns = λ b f g. record { next = s.session.exp_cmd_sn; count = refl; fits = f; live = λ e. ((c.live e).0 ∙ b, (c.live e).1) };
 }
 
@@ -330,6 +359,7 @@ login_tells device s m disk r l = record {
   limit = λ e. subst (λ (x : TargetSettings). r.session.held.target_max_recv ≤ target_limit x) l.settings
       (l.is.limit (subst (λ (x : Held). x.target_max_recv ≤ target_limit l.from.settings) (sym l.held)
       (subst (λ (x : TargetSettings). s.session.held.target_max_recv ≤ target_limit x) (sym l.settings) e)));
+  short = λ most e. none_short most r.answers l.is.data_ins;
   cmd_sns = λ b f g. record {
     next = s.session.exp_cmd_sn;
     count = refl;
@@ -348,6 +378,7 @@ accepted_tells device s _ m r (Immediately c none) h = record {
   settings = h.settings;
   held = h.held;
   limit = h.limit;
+  short = h.short;
   cmd_sns = λ b f g. record {
     next = s.session.exp_cmd_sn;
     count = subst (λ (x : Option ℕ). Count s.session.exp_cmd_sn (given_number x ++ []) s.session.exp_cmd_sn) (sym c) refl;
@@ -362,6 +393,7 @@ accepted_tells device s _ m r (InTurn n c w is) h = record {
   settings = h.settings;
   held = h.held;
   limit = h.limit;
+  short = h.short;
   cmd_sns = λ b f g. record {
     next = next_sn s.session.exp_cmd_sn;
     count = subst (λ (x : Option ℕ). Count s.session.exp_cmd_sn (given_number x ++ []) (next_sn s.session.exp_cmd_sn)) (sym c) (is, refl);

@@ -144,7 +144,7 @@ pub order_serves : (protected : Bool) (fb : ℕ) (to : Moment) (tag : ℕ) (s : 
     → OrderExecuted protected fb to.store.failures disk order (piece_data pieces) e → to.machine ≡ record s { session = stat_sn_advanced s.session } →
     to.store.disk ≡ e.disk
     → (let told : Effect = as_told (unit_of s.session) disk.count order e in
-    to.output ≡ before ++ canon (command_answers s.session (waiting_tasks s.tasks) tag told.outcome (data_in_parts s.session.held told.outcome.bytes)))
+    to.output ≡ before ++ canon (command_answers s.session (waiting_tasks s.tasks) tag told.outcome (data_in_parts s.session told.outcome.bytes)))
     → MessageServed protected fb before (λ d. execute d s disk tag order pieces) None to
 order_serves protected fb to tag s disk order pieces e before x is_new is_now is_after =
     elim (cases_lt fb to.store.failures) [
@@ -169,7 +169,7 @@ order_serves protected fb to tag s disk order pieces e before x is_new is_now is
             disk_is = is_now ∙ ap (λ (y : Effect). y.disk) same;
             output = is_after ∙ ap (λ (y : Effect). before ++ canon (command_answers s.session (waiting_tasks s.tasks) tag
                 (as_told (unit_of s.session) disk.count order y).outcome
-                (data_in_parts s.session.held (as_told (unit_of s.session) disk.count order y).outcome.bytes))) same;
+                (data_in_parts s.session (as_told (unit_of s.session) disk.count order y).outcome.bytes))) same;
             rule_is = refl;
           }
     ]

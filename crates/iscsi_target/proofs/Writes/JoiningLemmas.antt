@@ -121,7 +121,7 @@ executed_with device s disk tag order n tasks bytes = record {
   disk = (device 0 disk order bytes).disk;
   answers =
       let e : Effect = as_told (unit_of s) disk.count order (device 0 disk order bytes) in
-      command_answers s n tag e.outcome (data_in_parts s.held e.outcome.bytes);
+      command_answers s n tag e.outcome (data_in_parts s e.outcome.bytes);
   rule = None;
   accepted = [];
   executed = record {

@@ -64,7 +64,7 @@ execute_tells : (protected : Bool) (device : Device) (s : Machine) (disk : Disk)
 unfolding segment_bytes
 execute_tells protected device s disk tag order pieces e =
     let f : Effect = as_told (unit_of s.session) disk.count order (device 0 disk order (piece_data pieces)) in
-    let given : List (List ℕ × Bool) = data_in_parts s.session.held f.outcome.bytes in
+    let given : List (List ℕ × Bool) = data_in_parts s.session f.outcome.bytes in
     record {
       is = ins_told s.session (waiting_tasks s.tasks) tag 0 0 given
           (answer_message (response_head s.session (waiting_tasks s.tasks) tag f.outcome (length given)) (sense_segment f.outcome.sense) ∷ [])

@@ -86,7 +86,7 @@ pub execute_ranges : (device : Device) (s : Machine) (disk : Disk) (tag : ℕ) (
     r2t_ranges (execute device s disk tag order pieces).answers ≡ []
 execute_ranges device s disk tag order pieces =
     let e : Effect = as_told (unit_of s.session) disk.count order (device 0 disk order (piece_data pieces)) in
-    let given : List (List ℕ × Bool) = data_in_parts s.session.held e.outcome.bytes in
+    let given : List (List ℕ × Bool) = data_in_parts s.session e.outcome.bytes in
     ins_ranges s.session (waiting_tasks s.tasks) tag 0 0 given (answer_message (response_head s.session (waiting_tasks s.tasks) tag e.outcome (length given))
     (sense_segment e.outcome.sense) ∷ [])
 

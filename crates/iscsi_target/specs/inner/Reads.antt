@@ -11,7 +11,8 @@ use Rattle.scsi_disk.specs.declared.order.Outcome.{Outcome}
 use Rattle.iscsi_pdu.specs.Meaning.{whole}
 use Rattle.iscsi_pdu.specs.declared.head.Head.{Head}
 use Rattle.iscsi_stream.specs.Canonical.{canon}
-use Rattle.iscsi_login.specs.Held.{Held, max_burst}
+use Rattle.iscsi_login.specs.Held.{max_burst}
+use Rattle.iscsi_target_session.specs.Session.{Session, data_in_length}
 use Rattle.iscsi_target.specs.State.{Machine, waiting_tasks}
 use Rattle.iscsi_target.specs.Feed.{Store}
 use Rattle.iscsi_target.specs.Execution.{sequence_parts, data_in_parts, data_ins, command_answers}
@@ -19,10 +20,10 @@ use Rattle.iscsi_target.specs.declared.machine.data_in.Sent.{Sent}
 use Rattle.iscsi_target.specs.declared.machine.source.Source.{Source}
 use Rattle.iscsi_target.specs.declared.machine.source.Source.TheVariants.{Bytes, Blocks}
 
--- Segments and sequences are of whole blocks (sections 13.12 and 13.13).
-pub record TakesBlocks (held : Held) : Type 0 where
-  pub segment : held.initiator_max_recv % 512 ≡ 0
-  pub burst : max_burst held % 512 ≡ 0
+-- Data-In and sequences are of whole blocks (sections 13.12 and 13.13).
+pub record TakesBlocks (s : Session) : Type 0 where
+  pub segment : data_in_length s % 512 ≡ 0
+  pub burst : max_burst s.held % 512 ≡ 0
 
 -- A store was read, if anything was done to it.
 pub record IsStoreRead (before after : Store) (kept_before kept_after : ℕ → List ℕ → Type 0) : Type 0 where
@@ -108,27 +109,27 @@ pub record SendsSequence (to : ReadReply) (from : GivenSource) (before sent : Se
     : Type 0 where
   pub bytes : List ℕ
   pub is_of : IsGivenPart from before.bytes (end - before.bytes) bytes
-  pub count : sent.count ≡ before.count + length (sequence_parts to.machine.session.held bytes)
+  pub count : sent.count ≡ before.count + length (sequence_parts to.machine.session bytes)
   pub carried : sent.bytes ≡ end
   pub few : sent.count ≤ sent.bytes
   pub output : to.new ≡ to.old ++ canon (data_ins to.machine.session
       (waiting_tasks to.machine.tasks) to.tag before.count before.bytes
-      (sequence_parts to.machine.session.held bytes))
+      (sequence_parts to.machine.session bytes))
 
 -- All bytes were appended as n Data-In (section 11.7).
 pub record SendsData (to : ReadReply) (from : GivenSource) (count : ℕ) : Type 0 where
   pub bytes : List ℕ
   pub is_of : IsGivenPart from 0 (source_len from.source) bytes
-  pub counted : count ≡ length (data_in_parts to.machine.session.held bytes)
+  pub counted : count ≡ length (data_in_parts to.machine.session bytes)
   pub output : to.new ≡ to.old ++ canon (data_ins to.machine.session
-      (waiting_tasks to.machine.tasks) to.tag 0 0 (data_in_parts to.machine.session.held bytes))
+      (waiting_tasks to.machine.tasks) to.tag 0 0 (data_in_parts to.machine.session bytes))
 
 -- All bytes were appended, and a response (section 11.4).
 pub record SendsAnswers (to : ReadReply) (outcome : Outcome) (from : GivenSource) : Type 0 where
   pub bytes : List ℕ
   pub is_of : IsGivenPart from 0 (source_len from.source) bytes
   pub output : to.new ≡ to.old ++ canon (command_answers to.machine.session
-      (waiting_tasks to.machine.tasks) to.tag outcome (data_in_parts to.machine.session.held bytes))
+      (waiting_tasks to.machine.tasks) to.tag outcome (data_in_parts to.machine.session bytes))
 
 -- An order without data was executed over a store, and its answers were appended (section 11.4).
 pub record AnswersRead (protected : Bool) (to : ReadReply) (order : Order)
@@ -138,4 +139,4 @@ pub record AnswersRead (protected : Bool) (to : ReadReply) (order : Order)
       (record { disk = after.disk; outcome = outcome })
   pub output : to.new ≡ to.old ++ canon (command_answers to.machine.session
       (waiting_tasks to.machine.tasks) to.tag outcome
-      (data_in_parts to.machine.session.held outcome.bytes))
+      (data_in_parts to.machine.session outcome.bytes))

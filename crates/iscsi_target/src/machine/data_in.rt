@@ -3,6 +3,7 @@
 ghost use Rattle.std.specs.Prelude.{◌≡◌, ◌<◌, ◌≤◌, ◌-◌, ◌^◌, IfOk};
 ghost use Rattle.iscsi_pdu.specs.Meaning.{HeadFits};
 ghost use Rattle.iscsi_login.specs.Held.{max_burst};
+ghost use Rattle.iscsi_target_session.specs.Session.{data_in_length};
 ghost use Rattle.iscsi_target.specs.State.{waiting_tasks};
 ghost use Rattle.iscsi_target.specs.Execution.{data_in_head};
 ghost use Rattle.iscsi_target.specs.Advances.{store_of};
@@ -22,7 +23,7 @@ impl Machine {
         store: &mut S,
         out: &mut Vec<u8>,
     ) -> Result<u32, StoreFault>
-        requires segment { CanBeCut source.now self.now.session.held.initiator_max_recv }
+        requires segment { CanBeCut source.now (data_in_length self.now.session) }
         requires burst { CanBeCut source.now (max_burst self.now.session.held) }
         requires has { HasPart source.now (S.disk store.old).count 0 (source_len source.now) }
         requires short { source_len source.now < 2 ^ 32 }
@@ -44,8 +45,7 @@ impl Machine {
         Ok(sent.count)
     }
 
-    // The data up to an end as one sequence, in parts of at most what the initiator takes in one
-    // segment.
+    // The data up to an end as one sequence, in parts as long as a Data-In may be.
     fn send_sequence<S: BlockStore>(
         &self,
         tag: u32,
@@ -55,12 +55,12 @@ impl Machine {
         store: &mut S,
         out: &mut Vec<u8>,
     ) -> Result<Sent, StoreFault>
-        requires segment { CanBeCut source.now self.now.session.held.initiator_max_recv }
+        requires segment { CanBeCut source.now (data_in_length self.now.session) }
         requires within { before.bytes ≤ end }
         requires has { HasPart source.now (S.disk store.old).count before.bytes
             (end - before.bytes) }
         requires count { before.count ≤ before.bytes }
-        ensures most { 0 < self.now.session.held.initiator_max_recv }
+        ensures most { 0 < data_in_length self.now.session }
         ensures ok { IfOk result (λ sent. SendsSequence
             (reply self.now tag out.old.items out.new.items)
             (given_by_source source.now (S.disk store.old) (S.failures store.old)

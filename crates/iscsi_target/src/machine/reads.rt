@@ -23,7 +23,7 @@ impl Machine {
     // sent in parts of whole ones.
     pub(super) fn blocks_to_send(&self, order: &Order, found: &Found) -> Option<BlockRange>
         requires { IsFound order.now found.now }
-        ensures takes { IfSome result (λ range. TakesBlocks self.now.session.held) }
+        ensures takes { IfSome result (λ range. TakesBlocks self.now.session) }
         ensures whole { IfSome result (λ range.
             whole_blocks order.now (plan_of order.now found.now.blocks) ≡ Some range) }
     {
@@ -45,7 +45,7 @@ impl Machine {
     ) -> Result<Option<u8>, AllocError>
         requires disk { IsDisk (S.disk store.old) }
         requires few { (S.disk store.old).count < 2 ^ 64 }
-        requires takes { TakesBlocks self.old.session.held }
+        requires takes { TakesBlocks self.old.session }
         requires found { IsFound order.now found.now }
         requires blocks { found.now.blocks ≡ (S.disk store.old).count }
         requires whole { whole_blocks order.now (plan_of order.now (S.disk store.old).count)
@@ -74,7 +74,7 @@ impl Machine {
     ) -> Result<(), AllocError>
         requires disk { IsDisk (S.disk store.old) }
         requires few { (S.disk store.old).count < 2 ^ 64 }
-        requires takes { TakesBlocks self.now.session.held }
+        requires takes { TakesBlocks self.now.session }
         requires found { IsFound order.now found.now }
         requires blocks { found.now.blocks ≡ (S.disk store.old).count }
         requires whole { whole_blocks order.now (plan_of order.now (S.disk store.old).count)

@@ -5,6 +5,7 @@ ghost use Rattle.scsi_disk.specs.Disk.{IsDisk};
 ghost use Rattle.scsi_disk.specs.Plan.{plan_of};
 ghost use Rattle.scsi_disk.specs.Found.{IsFound};
 ghost use Rattle.iscsi_login.specs.Held.{first_burst, is_on, max_burst};
+ghost use Rattle.iscsi_target_session.specs.Session.{data_in_length};
 ghost use Rattle.iscsi_stream.specs.Canonical.{canon};
 ghost use Rattle.iscsi_target.specs.State.{unit_of, waiting_tasks};
 ghost use Rattle.iscsi_target.specs.Execution.{data_in_parts, command_answers, execute};
@@ -115,13 +116,13 @@ impl Machine {
         matches!(self.session.held().get(key), Answered::Flag(true))
     }
 
-    // How many bytes the initiator takes in one segment.
+    // How many bytes a Data-In has at most.
     pub(super) fn max_segment(&self) -> u32
-        ensures value { result ≡ self.now.session.held.initiator_max_recv }
+        ensures value { result ≡ data_in_length self.now.session }
         ensures some { 512 ≤ result }
         ensures short { result ≤ 16777215 }
     {
-        self.session.held().initiator_max_recv
+        self.session.data_in_length()
     }
 
     // How many bytes of data go one after another, at least 512.
@@ -211,7 +212,7 @@ impl Machine {
     ) -> Result<(), AllocError>
         requires { length outcome.now.bytes < 2 ^ 32 }
         ensures ok { OnOk result (out.new.items ≡ out.old.items ++ canon
-            (command_answers self.now.session (waiting_tasks self.now.tasks) tag outcome.now (data_in_parts self.now.session.held outcome.now.bytes))) }
+            (command_answers self.now.session (waiting_tasks self.now.tasks) tag outcome.now (data_in_parts self.now.session outcome.now.bytes))) }
         ensures failures { OnOk result (S.failures store.new ≡ S.failures store.old) }
         ensures err { OnErr result (out.new.items ≡ out.old.items) }
         ensures read { IsStoreRead (store_of (S.disk store.old) (S.failures store.old))
@@ -237,7 +238,7 @@ impl Machine {
         store: &mut S,
         out: &mut Vec<u8>,
     ) -> Result<(), StoreFault>
-        requires segment { CanBeCut source.now self.now.session.held.initiator_max_recv }
+        requires segment { CanBeCut source.now (data_in_length self.now.session) }
         requires burst { CanBeCut source.now (max_burst self.now.session.held) }
         requires has { HasPart source.now (S.disk store.old).count 0 (source_len source.now) }
         requires short { source_len source.now < 2 ^ 32 }

@@ -48,7 +48,7 @@ returns-clause-handles g c = record {
       order_serves protected fb (moment c.advance_stat_sn.new.self (store_of now fa) c.send_outcome.new.out.items) c.args.tag s disk c.args.order [] e
       c.args.out.now.items executes c.advance_stat_sn.ensures refl
       (subst (λ (o : Outcome). c.send_outcome.new.out.items ≡ c.args.out.now.items ++ canon (command_answers s.session (waiting_tasks s.tasks) c.args.tag o
-      (data_in_parts s.session.held o.bytes))) led.is c.in_ok-send_outcome.ensures.ok);
+      (data_in_parts s.session o.bytes))) led.is c.in_ok-send_outcome.ensures.ok);
   err = search rules;
 }
 

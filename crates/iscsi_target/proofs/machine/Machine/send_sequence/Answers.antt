@@ -1,4 +1,5 @@
 use Rattle.std.proofs.Common.{◌≡◌, ◌<◌, ◌-◌, ℕ, min, ap, ◌∙◌, refl, arith}
+use Rattle.iscsi_target_session.specs.Session.{data_in_length}
 use Rattle.iscsi_target.specs.inner.Reads.{given_by_source}
 use Rattle.iscsi_target.proofs.Answers.ReadPartLemmas.{part_left, parts_all, parts_next, parts_none}
 use Rattle.iscsi_target.proofs.machine.Machine.send_sequence.Goals as goal
@@ -21,10 +22,10 @@ loop-sent-preserved g c =
     let failures = g.S.BlockStore.failures in
     let so_far = c.loop-sent.invariant in
     let reads = c.append_part.ensures.reads in
-    let held = c.args.self.now.session.held in
+    let most : ℕ = data_in_length c.args.self.now.session in
     let below : c.loop-sent.sent.bytes < c.args.end = omega (arith, c.loop-sent-test.true) in
-    let some : 0 < held.initiator_max_recv = omega (arith, c.max_segment-most.ensures.value, c.max_segment-most.ensures.some) in
-    let is_n : c.min-len.result ≡ min held.initiator_max_recv (c.args.end - c.loop-sent.sent.bytes) =
+    let some : 0 < most = omega (arith, c.max_segment-most.ensures.value, c.max_segment-most.ensures.some) in
+    let is_n : c.min-len.result ≡ min most (c.args.end - c.loop-sent.sent.bytes) =
     c.min-len.ensures ∙ ap (λ (k : ℕ). min k (c.args.end - c.loop-sent.sent.bytes)) c.max_segment-most.ensures.value in
     record {
       parts = parts_next c.args.self.now c.args.tag c.args.source.now (disk c.args.store.now) (disk c.loop-sent.store)
@@ -33,7 +34,7 @@ loop-sent-preserved g c =
           (record { before = c.args.out.now.items; between = c.loop-sent.out.items; after = c.append_part.new.out.items }) some below is_n
           c.data_in-head.ensures.head so_far.disk
           c.in_ok-append_part.ensures.ok so_far.rises reads.read.rises so_far.parts;
-      left = part_left c.args.source.now (disk c.args.store.now).count c.loop-sent.sent.bytes c.args.end held.initiator_max_recv c.min-len.result
+      left = part_left c.args.source.now (disk c.args.store.now).count c.loop-sent.sent.bytes c.args.end most c.min-len.result
           c.requires.segment (omega (arith, below)) is_n so_far.left;
       disk = reads.read.disk ∙ so_far.disk;
       kept = λ n bytes is. so_far.kept n bytes (reads.read.kept n bytes is);
