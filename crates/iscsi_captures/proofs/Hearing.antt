@@ -124,6 +124,8 @@ one_result list number heard wanted connection (Err e) found same h = tt
 cut_then : (fault : CapturesFault) (P Q : Type 0) → (P → Q) → IfCut fault P → IfCut fault Q
 cut_then faults.NoMemory P Q g h = tt
 cut_then faults.Read P Q g h = tt
+cut_then faults.Absent P Q g h = tt
+cut_then faults.NotPermitted P Q g h = tt
 cut_then faults.Directory P Q g h = tt
 cut_then (faults.Reads a) P Q g h = tt
 cut_then faults.Empty P Q g h = tt

@@ -89,6 +89,8 @@ pub lists_all : (left : Option (List ℕ)) (result : Result (Unit {0}) CapturesF
 lists_all left (Ok done) old new h w = w
 lists_all left (Err faults.NoMemory) old new h w = inr w
 lists_all left (Err faults.Read) old new h w = w
+lists_all left (Err faults.Absent) old new h w = w
+lists_all left (Err faults.NotPermitted) old new h w = w
 lists_all left (Err faults.Directory) old new h w = w
 lists_all left (Err (faults.Reads a)) old new h w = w
 lists_all left (Err faults.Empty) old new h w = w

@@ -8,6 +8,8 @@ use Rattle.iscsi_captures.specs.declared.fault.CapturesFault.TheVariants as faul
 abbrev pub captures_exit_status : CapturesFault → ℕ
 captures_exit_status faults.NoMemory = 3
 captures_exit_status faults.Read = 4
+captures_exit_status faults.Absent = 4
+captures_exit_status faults.NotPermitted = 4
 captures_exit_status faults.Write = 4
 captures_exit_status faults.Directory = 4
 captures_exit_status (faults.Reads connection) = 4

@@ -73,8 +73,10 @@ IsWhole table wanted = (connection : Connection) × (side : Side)
 
 -- What a fault of a direction of the connection with this number says, if the file has this left: it
 -- names that connection. The end of the file is told only there. What a failed read or want of memory
--- says is nothing, and no fault is one of writing, of PDUs or of a capture without a login.
+-- says is nothing, and no fault is one of opening, of writing, of PDUs or of a capture without a login.
 abbrev pub IsFaultOf : ℕ → Option (List ℕ) → CapturesFault → Type 0
+IsFaultOf number left faults.Absent = ⊥
+IsFaultOf number left faults.NotPermitted = ⊥
 IsFaultOf number left faults.Write = ⊥
 IsFaultOf number left (faults.Stream connection fault) = ⊥
 IsFaultOf number left (faults.Protocol connection rule) = ⊥

@@ -16,8 +16,12 @@ use std::fmt::{self, Debug, Display, Formatter, Write};
 pub enum CapturesFault {
     /// Memory ran out.
     NoMemory,
-    /// A read failed.
+    /// A read failed, or the file cannot be opened for another reason than those below.
     Read,
+    /// There is no such file.
+    Absent,
+    /// The file may not be read.
+    NotPermitted,
     /// What is to be read is a directory.
     Directory,
     /// The direction was not at its end after 16,777,216 reads.
@@ -108,6 +112,8 @@ impl CapturesFault {
             CapturesFault::NoConnection { .. } => 2,
             CapturesFault::NoMemory => 3,
             CapturesFault::Read
+            | CapturesFault::Absent
+            | CapturesFault::NotPermitted
             | CapturesFault::Directory
             | CapturesFault::Reads { .. }
             | CapturesFault::Write => 4,
@@ -120,6 +126,8 @@ impl CapturesFault {
         match self {
             CapturesFault::NoMemory => "memory",
             CapturesFault::Read => "read failed",
+            CapturesFault::Absent => "no such file",
+            CapturesFault::NotPermitted => "not permitted",
             CapturesFault::Directory => "is a directory",
             CapturesFault::Reads { .. } => "not at its end after 16777216 reads",
             CapturesFault::Empty => "capture: empty",

@@ -1,2 +1,3 @@
 pub mod Answering
 pub mod Spelling
+pub mod Capturing

@@ -1,11 +1,14 @@
 //! Two captures compared: one direction of a connection of each.
 
-ghost use Rattle.std.specs.Prelude.{ℕ, List, Result};
+ghost use Rattle.std.specs.Prelude.{◌≡◌, ℕ, List, Result};
 ghost use Rattle.std.specs.Io.KnownBytes.{Appends};
 ghost use Rattle.iscsi_tool.specs.CaptureComparisons.{ComparesCaptures};
+ghost use Rattle.iscsi_tool.specs.inner.Capturing.{not_read};
+ghost use Rattle.iscsi_stream.specs.declared.fault.ToolFault.TheVariants as tool;
 ghost use Rattle.iscsi_comparison.specs.declared.comparing.ComparisonFault.{ComparisonFault};
 ghost use Rattle.iscsi_compare.specs.declared.verdict.Verdict.{Verdict};
 
+use crate::capturing::{not_opened, not_read};
 use iscsi_captures::{Captured, CapturesFault};
 use iscsi_compare::{Verdict, Which};
 use iscsi_comparison::{ComparisonFault, compare_bytes};
@@ -13,9 +16,10 @@ use iscsi_stream::ToolFault;
 use iscsi_words::{CaptureComparison, CaptureComparisonFault, STDIN};
 use std::alloc::Global;
 use std::fs;
-use std::io::{Read, Write};
+use std::io::{self, Read, Write};
 
-/// Runs a comparison of two captures. A file that cannot be opened is one that cannot be read.
+/// Runs a comparison of two captures. A file that cannot be opened is absent, not permitted, or one that
+/// cannot be read.
 pub(crate) fn run_comparison<W: Write>(
     rt: &HostRuntime,
     comparison: CaptureComparison<'_>,
@@ -28,8 +32,9 @@ pub(crate) fn run_comparison<W: Write>(
         let mut first = rt.stdin();
         return compare_with(rt, comparison, &mut first, w);
     }
-    let Ok(mut first) = fs::open(rt, comparison.first) else {
-        return Err(unread(Which::First));
+    let mut first = match fs::open(rt, comparison.first) {
+        Ok(first) => first,
+        Err(error) => return Err(unopened(Which::First, error)),
     };
     compare_with(rt, comparison, &mut first, w)
 }
@@ -49,17 +54,18 @@ fn compare_with<R: Read, W: Write>(
         let mut second = rt.stdin();
         return compare_from(rt.alloc(), comparison, first, &mut second, w);
     }
-    let Ok(mut second) = fs::open(rt, name) else {
-        return Err(unread(Which::Second));
+    let mut second = match fs::open(rt, name) {
+        Ok(second) => second,
+        Err(error) => return Err(unopened(Which::Second, error)),
     };
     compare_from(rt.alloc(), comparison, first, &mut second, w)
 }
 
 // The fault of a file that cannot be opened.
-fn unread(which: Which) -> CaptureComparisonFault {
+fn unopened(which: Which, error: io::Error) -> CaptureComparisonFault {
     CaptureComparisonFault {
         which: Some(which),
-        fault: CapturesFault::Read,
+        fault: not_opened(error.kind()),
     }
 }
 
@@ -125,10 +131,12 @@ fn told(
     connection: usize,
     fault: ToolFault,
     cause: Option<CapturesFault>,
-) -> CaptureComparisonFault {
+) -> CaptureComparisonFault
+    ensures read { fault ≡ tool.Read → result.fault ≡ not_read cause connection }
+{
     let fault = match fault {
         ToolFault::Stream(fault) => CapturesFault::Stream { connection, fault },
-        _ => cause.unwrap_or(CapturesFault::Read),
+        _ => not_read(cause, connection),
     };
     match fault {
         CapturesFault::NoMemory => NO_MEMORY,

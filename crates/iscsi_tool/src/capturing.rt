@@ -1,10 +1,12 @@
 //! The jobs over capture files, as they run.
 
-ghost use Rattle.std.specs.Prelude.{◌<◌, ◌≤◌, ℕ, List, IsOk};
+ghost use Rattle.std.specs.Prelude.{◌≡◌, ◌<◌, ◌≤◌, ℕ, List, Err, IsOk};
 ghost use Rattle.std.specs.Io.KnownBytes.{Appends};
 ghost use Rattle.scsi_disk.specs.Disk.{most_blocks};
+ghost use Rattle.iscsi_stream.specs.declared.fault.ToolFault.TheVariants as tool;
 ghost use Rattle.iscsi_words.specs.Jobs.{CanWork};
 ghost use Rattle.iscsi_tool.specs.Captures.{AnswersCaptured, NormalisesCaptured, ShowsCaptured, TellsCaptured, WritesCapture};
+ghost use Rattle.iscsi_tool.specs.inner.Capturing.{not_opened, not_read};
 
 use crate::answering::answer;
 use iscsi_captures::{
@@ -16,9 +18,10 @@ use iscsi_stream::ToolFault;
 use iscsi_words::{CaptureJob, CaptureWork, STDIN};
 use std::alloc::Global;
 use std::fs;
-use std::io::{Read, Write};
+use std::io::{ErrorKind, Read, Write};
 
-/// Runs a job over a capture. A file that cannot be opened is one that cannot be read.
+/// Runs a job over a capture. A file that cannot be opened is absent, not permitted, or one that cannot be
+/// read.
 pub(crate) fn run_capture<W: Write>(
     rt: &HostRuntime,
     job: CaptureJob<'_>,
@@ -32,10 +35,29 @@ pub(crate) fn run_capture<W: Write>(
         let mut input = rt.stdin();
         return capture_from(rt.alloc(), job.work, &mut input, w);
     }
-    let Ok(mut input) = fs::open(rt, job.file) else {
-        return Err(CapturesFault::Read);
+    let mut input = match fs::open(rt, job.file) {
+        Ok(input) => input,
+        Err(error) => return Err(not_opened(error.kind())),
     };
     capture_from(rt.alloc(), job.work, &mut input, w)
+}
+
+/// Why a file is not opened, by the kind of the system's error.
+pub(crate) fn not_opened(kind: ErrorKind) -> CapturesFault
+    ensures { result ≡ not_opened kind }
+{
+    match kind {
+        ErrorKind::NotFound => CapturesFault::Absent,
+        ErrorKind::PermissionDenied => CapturesFault::NotPermitted,
+        _ => CapturesFault::Read,
+    }
+}
+
+/// Why a read of a direction failed: the fault of the direction, or it was read as often as it may be.
+pub(crate) fn not_read(fault: Option<CapturesFault>, connection: usize) -> CapturesFault
+    ensures { result ≡ not_read fault connection }
+{
+    fault.unwrap_or(CapturesFault::Reads { connection })
 }
 
 // Runs a job over the capture that a reader gives.
@@ -140,7 +162,8 @@ fn answered(
     fault: Option<CapturesFault>,
     connection: usize,
 ) -> Result<(), CapturesFault>
-    ensures { IsOk result → IsOk said }
+    ensures ok { IsOk result → IsOk said }
+    ensures read { said ≡ Err tool.Read → result ≡ Err (not_read fault connection) }
 {
     match said {
         Ok(()) => Ok(()),
@@ -148,6 +171,6 @@ fn answered(
         Err(ToolFault::Protocol(rule)) => Err(CapturesFault::Protocol { connection, rule }),
         Err(ToolFault::NoMemory) => Err(CapturesFault::NoMemory),
         Err(ToolFault::Write) => Err(CapturesFault::Write),
-        Err(_) => Err(fault.unwrap_or(CapturesFault::Read)),
+        Err(_) => Err(not_read(fault, connection)),
     }
 }
