@@ -12,6 +12,15 @@ use std::io;
 /// The serial number that stands for S.
 const SERIAL: &[u8] = b"disk-7";
 
+/// The name of the target that stands for N.
+const NAME: &[u8] = b"iqn.2026-01.example:disk";
+
+/// The number that stands for H, by another program's MD5.
+const NUMBER: &[u8] = b"\x35\x86\xa9\x6c\x25\xa9\xc7\x2f";
+
+/// The SCSI name string that stands for T.
+const STRING: &[u8] = b"iqn.2026-01.example:disk,L,0x0000000000000000\0\0\0";
+
 /// The most bytes of a row's data.
 type Data = ArrayVec<u8, 128>;
 
@@ -85,41 +94,41 @@ fn hold_row(alloc: Global, row: &str, asked: &Asked) -> Option<()> {
         expected: 0xffff,
         same: false,
     };
-    let unit = LogicalUnit::new(SERIAL, false)?;
+    let unit = LogicalUnit::new(NAME, SERIAL, false)?;
     let unit = if asked.thin { unit.with_thin() } else { unit };
     let outcome = unit.outcome(alloc, &order, 2048).ok()??;
     let told = outcome.bytes.as_slice().get(asked.header..)?;
-    let due = data_of(cell(row, asked.cell))?;
+    let due = data_of(cell(row, asked.cell), told.len())?;
     (due.as_slice() == told).then_some(())
 }
 
-// The bytes that a cell says, up to what it says of them.
-fn data_of(cell: &str) -> Option<Data> {
+// The bytes that a cell says, up to what it says of them, where there are so many.
+fn data_of(cell: &str, count: usize) -> Option<Data> {
     let cell = cell.split_once(": ").map_or(cell, |(data, _)| data);
     let cell = cell.split_once("; ").map_or(cell, |(data, _)| data);
     let mut data = Data::new();
     for part in cell.split(", ") {
-        append_part(part, &mut data)?;
+        append_part(part, count, &mut data)?;
     }
     Some(data)
 }
 
-fn append_part(part: &str, data: &mut Data) -> Option<()> {
+fn append_part(part: &str, count: usize, data: &mut Data) -> Option<()> {
+    if part == "n - 4 in two bytes" {
+        let rest = u16::try_from(count.checked_sub(4)?).ok()?;
+        return data.try_extend_from_slice(&rest.to_be_bytes()).ok();
+    }
     if let Some(count) = part.strip_suffix(" bytes 00") {
         for _ in 0..decimal(count)? {
             data.try_push(0).ok()?;
         }
         return Some(());
     }
-    if let Some(more) = part.strip_prefix("the length of S") {
-        let more = more.strip_prefix(" + ").map_or(Some(0), decimal)?;
-        let length = u8::try_from(SERIAL.len()).ok()?;
-        return data
-            .try_push(length.checked_add(u8::try_from(more).ok()?)?)
-            .ok();
+    if let Some(sum) = part.strip_prefix("the length of ") {
+        return data.try_push(length_of(sum)?).ok();
     }
-    if part == "S" {
-        return data.try_extend_from_slice(SERIAL).ok();
+    if let Some(bytes) = stands_for(part) {
+        return data.try_extend_from_slice(bytes).ok();
     }
     if let Some(text) = part.strip_prefix("ASCII ") {
         return data.try_extend_from_slice(quoted(text).as_bytes()).ok();
@@ -128,4 +137,21 @@ fn append_part(part: &str, data: &mut Data) -> Option<()> {
         data.try_push(u8::try_from(hex(byte)?).ok()?).ok()?;
     }
     Some(())
+}
+
+// The bytes that a letter stands for.
+fn stands_for(letter: &str) -> Option<&'static [u8]> {
+    match letter {
+        "S" => Some(SERIAL),
+        "H" => Some(NUMBER),
+        "T" => Some(STRING),
+        _ => None,
+    }
+}
+
+// The length of what a letter stands for, or a sum of it and a number.
+fn length_of(sum: &str) -> Option<u8> {
+    let (letter, more) = sum.split_once(" + ").unwrap_or((sum, "0"));
+    let length = u8::try_from(stands_for(letter)?.len()).ok()?;
+    length.checked_add(u8::try_from(decimal(more)?).ok()?)
 }

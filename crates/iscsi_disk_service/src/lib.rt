@@ -2,6 +2,7 @@
 #![tactic(auto)]
 
 mod program;
+mod serial;
 mod storing;
 
 pub use program::{run_serve_program, run_serve_words};

@@ -6,6 +6,7 @@ ghost use Rattle.iscsi_serve_words.specs.Services.{CanServe, IsServeJob};
 ghost use Rattle.iscsi_serve_words.specs.Storage.{IsStorage};
 ghost use Rattle.iscsi_disk_service.specs.Disks.{EndsDisk, EndsStorage, disk_status};
 
+use crate::serial::own_serial;
 use iscsi_event_loop::{serve_at_once, serve_memory_at_once};
 use iscsi_secrets::{Secrets, SecretsFault};
 use iscsi_serve::serve;
@@ -69,8 +70,9 @@ impl DiskFault<'_> {
 /// Does what a job of `serve` asks for: serves its disk, over what it is kept in, until its service ends.
 /// If it is to be read alone, each write is refused. The job comes from these words, the first of which is
 /// `serve`. If the words list initiators, no other one may log in; if there is a file of secrets, a login
-/// has to show one. `Secrets`, `Image` and `Nbd` come if the file, the image or the export is not opened,
-/// `Session` as the service gives it, and if there is no memory for the list.
+/// has to show one. Without a serial number the disk has one of its own. `Secrets`, `Image` and `Nbd` come if
+/// the file, the image or the export is not opened, `Session` as the service gives it, if there is no
+/// memory for the list, and if the system gives no random bytes for a serial number.
 pub fn serve_storage<'a, S: AsStr>(
     rt: &HostRuntime,
     words: &[S],
@@ -95,10 +97,39 @@ pub fn serve_storage<'a, S: AsStr>(
         initiators: listed(initiators.as_slice()),
         secrets: secrets.as_ref(),
     };
+    let own = match serial_of(rt, &job) {
+        Ok(own) => own,
+        Err(fault) => return Err(DiskFault::Session(fault)),
+    };
+    let service = Serving {
+        service: job.service,
+        serial: job.serial.unwrap_or(&own),
+        access,
+        memory: job.memory,
+    };
     if job.read_only {
-        serve_read_only(rt, job.storage, job.service, access)
+        serve_read_only(rt, job.storage, service)
     } else {
-        serve_written(rt, job.storage, job.service, access)
+        serve_written(rt, job.storage, service)
+    }
+}
+
+/// A service of a disk: how it is served, with which serial number, to whom, and in how much memory.
+#[derive(Clone, Copy)]
+struct Serving<'a> {
+    service: Service<'a>,
+    serial: &'a [u8],
+    access: Access<'a>,
+    memory: Option<u64>,
+}
+
+// A serial number of the disk's own, if it tells one and none is said.
+fn serial_of(rt: &HostRuntime, job: &ServeJob<'_>) -> Result<[u8; 16], ServeFault> {
+    match (&job.service, job.serial) {
+        (Service::AtOnce(options), None) if options.unit.is_some() => {
+            own_serial(rt, options.name, &job.storage)
+        }
+        _ => Ok([b'0'; 16]),
     }
 }
 
@@ -116,21 +147,20 @@ fn listed<'a>(initiators: &'a [&'a [u8]]) -> Option<&'a [&'a [u8]]> {
 fn serve_written<'a>(
     rt: &HostRuntime,
     storage: Storage<'a>,
-    service: Service<'_>,
-    access: Access<'_>,
+    service: Serving<'_>,
 ) -> Result<(), DiskFault<'a>>
     requires storage { IsStorage storage }
-    requires service { CanServe service }
+    requires service { CanServe service.service }
     ensures ends { EndsStorage storage.entry result }
 {
     match storage {
-        Storage::Memory { blocks } => ended(storage, serve_memory(rt, service, access, blocks)),
+        Storage::Memory { blocks } => ended(storage, serve_memory(rt, service, blocks)),
         Storage::Image(image) => match image.open(rt) {
-            Ok(store) => ended(storage, serve_medium(rt, service, access, store)),
+            Ok(store) => ended(storage, serve_medium(rt, service, store)),
             Err(fault) => Err(DiskFault::Image(image, fault)),
         },
         Storage::Nbd(export) => match export.open(rt) {
-            Ok(store) => ended(storage, serve_medium(rt, service, access, store)),
+            Ok(store) => ended(storage, serve_medium(rt, service, store)),
             Err(fault) => Err(DiskFault::Nbd(export, fault)),
         },
     }
@@ -140,26 +170,25 @@ fn serve_written<'a>(
 fn serve_read_only<'a>(
     rt: &HostRuntime,
     storage: Storage<'a>,
-    service: Service<'_>,
-    access: Access<'_>,
+    service: Serving<'_>,
 ) -> Result<(), DiskFault<'a>>
     requires storage { IsStorage storage }
-    requires service { CanServe service }
+    requires service { CanServe service.service }
     ensures ends { EndsStorage storage.entry result }
 {
     match storage {
         Storage::Memory { blocks } => {
             let mut store = ReadOnly::new(SparseStore::new(rt.alloc(), blocks));
-            ended(storage, serve_store(rt, service, access, &mut store))
+            ended(storage, serve_store(rt, service, &mut store))
         }
         Storage::Image(image) => match image.open_read_only(rt) {
-            Ok(mut store) => ended(storage, serve_store(rt, service, access, &mut store)),
+            Ok(mut store) => ended(storage, serve_store(rt, service, &mut store)),
             Err(fault) => Err(DiskFault::Image(image, fault)),
         },
         Storage::Nbd(export) => match export.open(rt) {
             Ok(store) => {
                 let mut store = ReadOnly::new(store);
-                ended(storage, serve_store(rt, service, access, &mut store))
+                ended(storage, serve_store(rt, service, &mut store))
             }
             Err(fault) => Err(DiskFault::Nbd(export, fault)),
         },
@@ -177,40 +206,41 @@ fn ended<'a>(storage: Storage<'a>, said: Result<(), ServeFault>) -> Result<(), D
 }
 
 // Serves a disk in memory.
-fn serve_memory(
-    rt: &HostRuntime,
-    service: Service<'_>,
-    access: Access<'_>,
-    blocks: u64,
-) -> Result<(), ServeFault>
-    requires service { CanServe service }
+fn serve_memory(rt: &HostRuntime, service: Serving<'_>, blocks: u64) -> Result<(), ServeFault>
+    requires service { CanServe service.service }
     requires some { 0 < blocks }
     requires few { blocks ≤ most_blocks }
 {
-    match service {
+    match service.service {
         Service::InTurn { port, sessions } => {
             let mut store = SparseStore::new(rt.alloc(), blocks);
-            serve(rt, port, &mut store, count_of(sessions), access)
+            serve(rt, port, &mut store, count_of(sessions), service.access)
         }
-        Service::AtOnce(options) => serve_memory_at_once(rt, options, access, blocks),
+        Service::AtOnce(options) => serve_memory_at_once(
+            rt,
+            options,
+            service.serial,
+            service.access,
+            blocks,
+            service.memory,
+        ),
     }
 }
 
 // Serves a store on a medium, with a write cache if one is asked for.
 fn serve_medium<M: Medium + Drop>(
     rt: &HostRuntime,
-    service: Service<'_>,
-    access: Access<'_>,
+    service: Serving<'_>,
     store: FileStore<M>,
 ) -> Result<(), ServeFault>
-    requires service { CanServe service }
+    requires service { CanServe service.service }
 {
-    let mut store = if has_cache(&service) {
+    let mut store = if has_cache(&service.service) {
         store.with_write_back()
     } else {
         store
     };
-    serve_store(rt, service, access, &mut store)
+    serve_store(rt, service, &mut store)
 }
 
 // Whether a disk with a write cache is asked for.
@@ -227,15 +257,18 @@ fn has_cache(service: &Service<'_>) -> bool {
 // Serves a store.
 fn serve_store<S: BlockStore>(
     rt: &HostRuntime,
-    service: Service<'_>,
-    access: Access<'_>,
+    service: Serving<'_>,
     store: &mut S,
 ) -> Result<(), ServeFault>
-    requires service { CanServe service }
+    requires service { CanServe service.service }
 {
-    match service {
-        Service::InTurn { port, sessions } => serve(rt, port, store, count_of(sessions), access),
-        Service::AtOnce(options) => serve_at_once(rt, options, access, store),
+    match service.service {
+        Service::InTurn { port, sessions } => {
+            serve(rt, port, store, count_of(sessions), service.access)
+        }
+        Service::AtOnce(options) => {
+            serve_at_once(rt, options, service.serial, service.access, store)
+        }
     }
 }
 

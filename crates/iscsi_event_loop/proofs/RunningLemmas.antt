@@ -68,6 +68,10 @@ below_most : (a : Bool) (n : ℕ) → (if a then n else 0) ≤ n
 below_most true n = omega arith
 below_most false n = omega arith
 
+-- a count that rises, and rises again
+pub rises_on : (a b c : ℕ) → a ≤ b → b ≤ c → a ≤ c
+rises_on a b c p q = omega (arith, p, q)
+
 -- ---- in the whole table
 
 pub none_runs : (protected : Bool) (table : SessionTable) (store : Store) → RunsWithin protected table store table store

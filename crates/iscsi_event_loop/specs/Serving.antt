@@ -2,22 +2,22 @@
 use Rattle.std.specs.Prelude.{◌≡◌, ℕ, ◌<◌, Bool, true, false, nat_le, length, Option, None, Some, is_some}
 use Rattle.iscsi_sessions.specs.Slots.{SessionTable, slot_at}
 
--- The slots, how many logins were completed, and how many are to be; none: any number.
+-- The slots, how many connections or logins were counted, and how many are to be; none: any number.
 pub record ServerState : Type 0 where
   pub table : SessionTable
-  pub logins : ℕ
-  pub sessions : Option ℕ
+  pub counted : ℕ
+  pub most : Option ℕ
 
--- So many logins were completed as are to be.
+-- So many were counted as are to be.
 abbrev pub has_all : Option ℕ → ℕ → Bool
-has_all (Some sessions) logins = nat_le sessions logins
-has_all None logins = false
+has_all (Some most) counted = nat_le most counted
+has_all None counted = false
 
 -- No session has a slot.
 abbrev pub IsEmpty : SessionTable → Type 0
 IsEmpty table =
     (slot : ℕ) → slot < length table.slots → is_some (slot_at table slot) ≡ false
 
--- All logins were completed, and their sessions are over.
+-- All were counted, and their sessions are over.
 abbrev pub IsServiceDone : ServerState → Type 0
-IsServiceDone service = (has_all service.sessions service.logins ≡ true) × IsEmpty service.table
+IsServiceDone service = (has_all service.most service.counted ≡ true) × IsEmpty service.table

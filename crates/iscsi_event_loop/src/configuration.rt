@@ -3,12 +3,15 @@
 ghost use Rattle.std.specs.Prelude.{◌≡◌, IfNone, IfOk, IfSome, OnOk};
 ghost use Rattle.std.specs.Option.{option_map};
 ghost use Rattle.iscsi_portal.specs.Portal.{IsPortal};
+ghost use Rattle.iscsi_login.specs.Name.{IsName};
+ghost use Rattle.iscsi_target_session.specs.Configured.{IsDataInLimit};
 ghost use Rattle.scsi_unit.specs.LogicalUnit.{IsSerial};
-ghost use Rattle.iscsi_event_loop.specs.inner.Serving.{telling, settings_with_portal};
+ghost use Rattle.iscsi_event_loop.specs.inner.Serving.{limiting, telling, settings_with_portal};
 
 use iscsi_options::UnitOptions;
 use iscsi_portal::Portal;
 use iscsi_target::Config;
+use iscsi_target_session::DataInLimit;
 use scsi_unit::LogicalUnit;
 use std::alloc::{AllocError, Global};
 
@@ -33,16 +36,21 @@ pub fn with_address(
     }
 }
 
-/// The same, whose disk tells more of itself, if it does; none where its serial number is none, and the
-/// configuration is dropped then.
-pub fn with_unit(config: Config, unit: Option<UnitOptions<'_>>) -> Option<Config>
-    ensures telling { IfSome result (λ made. made ≡ telling unit.entry config) }
-    ensures none { IfNone result (IfSome unit.entry (λ told. ¬ IsSerial told.serial.now)) }
+/// The same, whose disk tells more of itself, if it does, with this target's name and this serial number; none
+/// where one of them is none, and the configuration is dropped then.
+pub fn with_unit(
+    config: Config,
+    name: &[u8],
+    serial: &[u8],
+    unit: Option<UnitOptions>,
+) -> Option<Config>
+    ensures telling { IfSome result (λ made. made ≡ telling name.now serial.now unit config) }
+    ensures none { IfNone result (¬ (IsName name.now × IsSerial serial.now)) }
 {
     let Some(told) = unit else {
         return Some(config);
     };
-    let unit = LogicalUnit::new(told.serial, told.write_protected)?;
+    let unit = LogicalUnit::new(name, serial, told.write_protected)?;
     let unit = if told.thin { unit.with_thin() } else { unit };
     let unit = if told.write_back {
         unit.with_write_back()
@@ -50,4 +58,16 @@ pub fn with_unit(config: Config, unit: Option<UnitOptions<'_>>) -> Option<Config
         unit
     };
     Some(config.with_unit(unit))
+}
+
+/// The same, whose Data-In have so many bytes at most, if a number is said; none where it is no multiple of 512
+/// from 512 on, and the configuration is dropped then.
+pub fn with_data_in(config: Config, most: Option<u32>) -> Option<Config>
+    ensures limit { IfSome result (λ made. made ≡ limiting most config) }
+    ensures none { IfNone result (IfSome most (λ bytes. ¬ IsDataInLimit bytes)) }
+{
+    match most {
+        Some(bytes) => Some(config.with_longest_data_in(DataInLimit::of_bytes(bytes)?)),
+        None => Some(config),
+    }
 }

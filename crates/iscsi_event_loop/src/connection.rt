@@ -3,6 +3,7 @@
 ghost use Rattle.std.specs.Prelude.{length};
 ghost use Rattle.iscsi_event_loop.specs.inner.Moving.{MovesAtMost};
 
+use iscsi_sessions::Offered;
 use mio::event::Event;
 use mio::net::TcpStream;
 use std::io::{self, ErrorKind, Read, Write};
@@ -100,10 +101,11 @@ impl Connection {
         }
     }
 
-    /// Writes what the socket takes, at this time.
-    pub fn write(&mut self, bytes: &[u8], now: Instant) -> Moved
-        ensures bound { MovesAtMost (length bytes.now) result }
+    /// Writes what the socket takes, at this time. Only what a session table offered can leave.
+    pub fn write(&mut self, offered: &Offered<'_>, now: Instant) -> Moved
+        ensures bound { MovesAtMost (length offered.now) result }
     {
+        let bytes = offered.as_bytes();
         match self.stream.write(bytes) {
             Ok(0) => Moved::End,
             Ok(count) => {

@@ -8,9 +8,10 @@ mod connection;
 pub mod laws;
 mod limited;
 mod lines;
+mod local_portal;
 mod numbers;
+mod pace;
 mod peer;
-mod refusals;
 mod room;
 mod server;
 mod service;
@@ -19,8 +20,8 @@ mod system;
 mod tally;
 
 pub use iscsi_options::{
-    LEAST_MEMORY, LOGIN_WITHIN, LONGEST_ASKED, Limits, MEMORY, MOST_AT_ONCE, MOST_MEMORY, Options,
-    SHORTEST_ASKED, UnitOptions,
+    LEAST_MEMORY, LOGIN_WITHIN, LONGEST_ASKED, Limits, MOST_AT_ONCE, MOST_MEMORY, Options,
+    PortalOption, SHORTEST_ASKED, Stop, UnitOptions,
 };
 pub use iscsi_serving::SessionEnd;
 pub use limited::LimitedStore;

@@ -10,10 +10,10 @@ use std::alloc::Global;
 use std::marker::Model;
 
 /// How many blocks are kept together.
-const EXTENT_BLOCKS: u64 = 64;
+pub(crate) const EXTENT_BLOCKS: u64 = 64;
 
 /// How many bytes those have.
-const EXTENT_BYTES: u64 = 32_768;
+pub(crate) const EXTENT_BYTES: u64 = 32_768;
 
 /// A store in memory of 1 to 2^40 blocks. It keeps the blocks that were written, up to a limit in
 /// bytes.

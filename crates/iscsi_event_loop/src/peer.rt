@@ -190,10 +190,11 @@ impl Peer {
             table.sent(slot, 0);
             return Step::Rests;
         }
-        let Ok(bytes) = table.offered(slot, store) else {
-            return self.lost();
+        let moved = match table.offered(slot, store) {
+            Ok(offered) => self.connection.write(&offered, now),
+            Err(_) => return self.lost(),
         };
-        match self.connection.write(bytes, now) {
+        match moved {
             Moved::Bytes(count) => {
                 table.sent(slot, count);
                 left.give(count);

@@ -5,6 +5,8 @@ ghost use Rattle.iscsi_target.specs.Advances.{store_of};
 ghost use Rattle.iscsi_serving.specs.Executed.{HasExecuted};
 ghost use Rattle.iscsi_serving.specs.Faults.{EndsService};
 ghost use Rattle.iscsi_serving.specs.declared.fault.ServeFault.TheVariants as serve;
+ghost use Rattle.std.specs.Option.{option_map};
+ghost use Rattle.iscsi_options.specs.Options.{stop_count};
 ghost use Rattle.iscsi_event_loop.specs.Running.{RunsFew, RunsInTurns, RunsWithin, most_taken};
 ghost use Rattle.iscsi_event_loop.specs.Serving.{has_all, IsServiceDone, IsEmpty};
 
@@ -16,9 +18,8 @@ mod waiting;
 use crate::accepting::Accepting;
 use crate::lines::Lines;
 use crate::peer::{Peer, no_peers};
-use crate::refusals::Refusals;
 use crate::system::{listen, now};
-use iscsi_options::Options;
+use iscsi_options::{Options, Stop};
 use iscsi_serving::{Access, ServeFault};
 use iscsi_sessions::{MOST_READ, SessionTable};
 use mio::net::TcpListener;
@@ -31,16 +32,16 @@ use std::net::SocketAddr;
 #[derive(Drop)]
 pub struct Server<'a> {
     options: Options<'a>,
+    serial: &'a [u8],
     access: Access<'a>,
     lines: Lines,
-    refusals: Refusals,
     poll: Poll,
     events: Events,
-    // none once all logins were completed
+    // none once all that are to be were counted
     listener: Option<TcpListener>,
     accepting: Accepting,
-    // how many logins were completed
-    logins: u64,
+    // how many connections were accepted, or logins completed, whichever is to end the service
+    counted: u64,
     table: SessionTable,
     peers: Vec<Option<Peer>>,
     // the number of the session of each slot, and 0 of one that is free
@@ -57,32 +58,37 @@ pub struct Server<'a> {
 
 impl<'a> Model for Server<'a> {
     ghost use Rattle.std.specs.Prelude.{◌≤◌, IfSome};
+    ghost use Rattle.std.specs.Option.{option_map};
+    ghost use Rattle.iscsi_options.specs.Options.{stop_count};
     ghost use Rattle.iscsi_event_loop.specs.Serving.{ServerState};
 
     ghost Value = { ServerState };
 
     ghost view = { λ s. record {
       table = s.table;
-      logins = s.logins;
-      sessions = s.options.sessions;
+      counted = s.counted;
+      most = option_map stop_count s.options.stop;
     } };
 
-    ghost invariant = { λ s. IfSome s.options.sessions (λ n. s.logins ≤ n) };
+    ghost invariant = { λ s. IfSome (option_map stop_count s.options.stop) (λ n. s.counted ≤ n) };
 }
 
 impl<'a> Server<'a> {
-    /// Listens, with all slots free, for those who may log in. `Network` is returned where that fails, and `NoMemory` where
-    /// memory runs out.
+    /// Listens, with all slots free, for those who may log in. The disk has this serial number, 1 to 16 bytes
+    /// of `!` to `~`, if it tells one. `Network` is returned where that fails, and `NoMemory` where memory
+    /// runs out.
     pub fn open(
         rt: &HostRuntime,
         options: Options<'a>,
+        serial: &'a [u8],
         access: Access<'a>,
     ) -> Result<Server<'a>, ServeFault>
         ensures slots { IfOk result (λ server. length server.table.slots ≡ options.entry.at_once) }
         ensures free { IfOk result (λ server.
             server.table ≡ record { slots = replicate options.entry.at_once None }) }
-        ensures logins { IfOk result (λ server. server.logins ≡ 0) }
-        ensures sessions { IfOk result (λ server. server.sessions ≡ options.entry.sessions) }
+        ensures counted { IfOk result (λ server. server.counted ≡ 0) }
+        ensures most { IfOk result (λ server.
+            server.most ≡ option_map stop_count options.entry.stop) }
         ensures ends { IfErr result EndsService }
     {
         let alloc = rt.alloc();
@@ -98,14 +104,14 @@ impl<'a> Server<'a> {
         let (poll, listener) = listen(rt, SocketAddr::new(options.listen, options.port))?;
         Ok(Server {
             options,
+            serial,
             access,
             lines: Lines::new(),
-            refusals: Refusals::new(),
             poll,
             events,
             listener: Some(listener),
             accepting: Accepting::new(),
-            logins: 0,
+            counted: 0,
             table,
             peers,
             numbers,
@@ -116,8 +122,8 @@ impl<'a> Server<'a> {
         })
     }
 
-    /// The port at which it listens; `Network` where the system doesn't tell it, or all logins were
-    /// completed.
+    /// The port at which it listens; `Network` where the system doesn't tell it, or all that are to be
+    /// were counted.
     pub fn port(&self) -> Result<u16, ServeFault>
         ensures ends { IfErr result (λ fault. fault ≡ serve.Network) }
     {
@@ -127,28 +133,49 @@ impl<'a> Server<'a> {
         }
     }
 
-    /// Whether all sessions were served. No more logins are completed than are to be.
+    /// Whether all sessions were served. No more are counted than are to be.
     pub fn is_done(&self) -> bool
         ensures done { IsTrue result ↔ IsServiceDone self.now }
-        ensures limit { IfSome self.now.sessions (λ n. self.now.logins ≤ n) }
+        ensures limit { IfSome self.now.most (λ n. self.now.counted ≤ n) }
     {
         self.has_all() && is_empty(&self.table)
     }
 
-    // Whether all logins were completed that are to be.
-    fn has_all(&self) -> bool
-        ensures all { result ≡ has_all self.now.sessions self.now.logins }
+    /// Tells how many lines were left out, if any were, whatever came in this second: no other line follows.
+    pub fn tell_rest(&mut self, rt: &HostRuntime)
+        ensures same { self.new ≡ self.old }
     {
-        match self.options.sessions {
-            Some(most) => u64::from(most) <= self.logins,
+        self.lines.tell_rest(rt);
+    }
+
+    // Whether all were counted that are to be.
+    fn has_all(&self) -> bool
+        ensures all { result ≡ has_all self.now.most self.now.counted }
+    {
+        match self.options.stop {
+            Some(stop) => u64::from(stop.count()) <= self.counted,
             None => false,
         }
     }
 
+    // Counts one more. With the last one the listener closes.
+    fn count(&mut self)
+        ensures same { self.new.table ≡ self.old.table }
+        ensures most { self.new.most ≡ self.old.most }
+        ensures counted { self.old.counted ≤ self.new.counted }
+    {
+        if !self.has_all() && self.counted < u64::MAX {
+            self.counted += 1;
+        }
+        if self.has_all() {
+            self.listener = None;
+        }
+    }
+
     /// Waits until there is something to do. Then it accepts connections, as long as a slot is free
-    /// or makes room and not all logins were completed. It gives each slot a turn. With the last
-    /// login that is to be completed the listener closes, and connections that have not logged in
-    /// are ended.
+    /// or makes room and not all that are to be were counted. It gives each slot a turn. With the last
+    /// connection or login that is to be the listener closes. If logins are counted, connections that
+    /// have not logged in are ended then.
     ///
     /// The line of a session that ends with a fault goes to the standard error, and the others go
     /// on. A connection that the system does not watch, or for which there is no memory, is closed.
@@ -172,15 +199,15 @@ impl<'a> Server<'a> {
         // The blocks are those that commands left.
         ensures blocks { HasExecuted S.protected (S.disk store.old) (S.disk store.new) }
         ensures slots { length self.new.table.slots ≡ length self.old.table.slots }
-        ensures sessions { self.new.sessions ≡ self.old.sessions }
-        ensures logins { self.old.logins ≤ self.new.logins }
+        ensures most { self.new.most ≡ self.old.most }
+        ensures counted { self.old.counted ≤ self.new.counted }
         ensures ends { IfErr result EndsService }
     {
         self.wait(now(rt)?)?;
         let now = now(rt)?;
         self.admit(rt, now);
         self.serve_peers(rt, store, now);
-        self.lines.tell_lost(rt);
+        self.lines.tell_more(rt, now);
         Ok(())
     }
 }

@@ -9,16 +9,18 @@ ghost use Rattle.iscsi_serving.specs.declared.fault.ServeFault.TheVariants as se
 ghost use Rattle.iscsi_event_loop.specs.Running.{RunsWithin, Served};
 ghost use Rattle.iscsi_options.specs.Options.{IsService};
 
-use crate::limited::LimitedStore;
+use crate::limited::{EXTENT_BLOCKS, EXTENT_BYTES, LimitedStore};
 use crate::server::Server;
-use crate::system::{OTHER_DESCRIPTORS, most_descriptors};
+use crate::system::{OTHER_DESCRIPTORS, memory_of_machine, most_descriptors};
 use iscsi_options::Options;
 use iscsi_serving::{Access, ServeFault};
 use scsi_disk::BlockStore;
+use std::net::{IpAddr, SocketAddr};
 
 /// Listens, and prints `listening` and, if asked, the port on a line of its own. Serves connections
-/// over one store, at most `at_once` at a time, until the wanted number of logins is completed. The
-/// access says who may log in.
+/// over one store, at most `at_once` at a time, until the wanted number of connections or logins is over.
+/// The access says who may log in. The disk has this serial number, 1 to 16 bytes of `!` to `~`, if it
+/// tells one. If other machines can reach it without a secret, a line on standard error says so.
 ///
 /// A session that ends with a fault has the fault's line on standard error, and the others go on.
 /// Only being out of memory outside of sessions and a fault of the network end the service; `Write`
@@ -31,6 +33,7 @@ use scsi_disk::BlockStore;
 pub fn serve_at_once<S: BlockStore>(
     rt: &HostRuntime,
     options: Options<'_>,
+    serial: &[u8],
     access: Access<'_>,
     store: &mut S,
 ) -> Result<(), ServeFault>
@@ -45,27 +48,74 @@ pub fn serve_at_once<S: BlockStore>(
     ensures ends { IfErr result (λ fault. EndsService fault ⊎ (fault ≡ serve.Write)) }
 {
     allow_slots(rt, options.at_once)?;
-    let mut server = Server::open(rt, options, access)?;
+    let mut server = Server::open(rt, options, serial, access)?;
+    warn(rt, &server, options.listen, access, store.is_protected())?;
     announce(rt, &server, options.print_port)?;
     serve_all(rt, &mut server, store)
 }
 
-/// Serves in the same way over a disk in memory of `n` blocks of 00, from 1 to 2^40. The options
-/// say how many bytes of blocks are kept. A write for which there is no room is answered by CHECK
+/// Serves in the same way over a disk in memory of `n` blocks of 00, from 1 to 2^40. So many bytes of its blocks
+/// are kept at most. If no number is said, these are all, or a half of the machine's memory if that is
+/// less, which a line on standard error tells. A write for which there is no room is answered by CHECK
 /// CONDITION.
 pub fn serve_memory_at_once(
     rt: &HostRuntime,
     options: Options<'_>,
+    serial: &[u8],
     access: Access<'_>,
     blocks: u64,
+    memory: Option<u64>,
 ) -> Result<(), ServeFault>
     requires service { IsService options }
     requires some { 0 < blocks }
     requires few { blocks ≤ most_blocks }
     ensures ends { IfErr result (λ fault. EndsService fault ⊎ (fault ≡ serve.Write)) }
 {
-    let mut store = LimitedStore::new(rt.alloc(), blocks, options.memory);
-    serve_at_once(rt, options, access, &mut store)
+    let memory = match memory {
+        Some(bytes) => bytes,
+        None => usual_memory(rt, blocks),
+    };
+    let mut store = LimitedStore::new(rt.alloc(), blocks, memory);
+    serve_at_once(rt, options, serial, access, &mut store)
+}
+
+// How many bytes of blocks are kept if no number is said.
+fn usual_memory(rt: &HostRuntime, blocks: u64) -> u64 {
+    let wanted = blocks.div_ceil(EXTENT_BLOCKS).saturating_mul(EXTENT_BYTES);
+    match memory_of_machine() {
+        Some(all) if all / 2 < wanted => {
+            let most = all / 2;
+            let _ = eprintln!(rt;
+                "at most {most} bytes of the disk are kept: half of this machine's memory (--memory)"
+            );
+            most
+        }
+        _ => wanted,
+    }
+}
+
+// Tells that whoever reaches the port may read the disk, or write it, if other machines can reach it and
+// have to show no secret.
+fn warn(
+    rt: &HostRuntime,
+    server: &Server<'_>,
+    listen: IpAddr,
+    access: Access<'_>,
+    is_protected: bool,
+) -> Result<(), ServeFault>
+    ensures fault { IfErr result (λ fault. fault ≡ serve.Network) }
+{
+    if listen.is_loopback() || access.secrets.is_some() {
+        return Ok(());
+    }
+    let portal = SocketAddr::new(listen, server.port()?);
+    let may = if is_protected {
+        "read"
+    } else {
+        "read and write"
+    };
+    let _ = eprintln!(rt; "whoever reaches {portal} may {may} this disk");
+    Ok(())
 }
 
 // Refuses, with a line, more slots than the process may have descriptors for.
@@ -115,6 +165,7 @@ fn serve_all<S: BlockStore>(
 {
     for _ in 0..u64::MAX {
         if server.is_done() {
+            server.tell_rest(rt);
             return Ok(());
         }
         server.turn(rt, store)?;

@@ -21,21 +21,45 @@ impl<T: Display> Display for SessionLine<'_, T> {
     fn fmt<W: Write>(&self, f: &mut fmt::Formatter<W>) -> fmt::Result {
         write!(f, "session {} {}", self.number, self.address)?;
         if !self.initiator.is_empty() {
-            f.write_char(' ')?;
-            write_name(self.initiator, f)?;
+            write!(f, " {}", Name(self.initiator))?;
         }
         write!(f, ": {}", self.told)
     }
 }
 
-// Writes a name. A byte that is none of `!` to `~`, and the backslash, is `\x` and two hex digits.
-fn write_name<W: Write>(name: &[u8], f: &mut fmt::Formatter<W>) -> fmt::Result {
-    for byte in name {
-        match *byte {
-            b'\\' => f.write_str("\\x5c")?,
-            plain @ b'!'..=b'~' => f.write_char(char::from(plain))?,
-            other => write!(f, "\\x{other:02x}")?,
-        }
+/// A line for a disk that initiators of two names may write.
+#[derive(Clone, Copy, Debug)]
+pub struct TwoWriters<'a> {
+    /// Who was logged in before.
+    pub first: Name<'a>,
+    /// Who logged in now.
+    pub second: Name<'a>,
+}
+
+impl Display for TwoWriters<'_> {
+    fn fmt<W: Write>(&self, f: &mut fmt::Formatter<W>) -> fmt::Result {
+        write!(
+            f,
+            "two initiators may write this disk: {} and {}",
+            self.first, self.second
+        )
     }
-    Ok(())
+}
+
+/// The name of an initiator in a line. A byte that is none of `!` to `~`, and the backslash, is `\x` and two hex
+/// digits.
+#[derive(Clone, Copy, Debug)]
+pub struct Name<'a>(pub &'a [u8]);
+
+impl Display for Name<'_> {
+    fn fmt<W: Write>(&self, f: &mut fmt::Formatter<W>) -> fmt::Result {
+        for byte in self.0 {
+            match *byte {
+                b'\\' => f.write_str("\\x5c")?,
+                plain @ b'!'..=b'~' => f.write_char(char::from(plain))?,
+                other => write!(f, "\\x{other:02x}")?,
+            }
+        }
+        Ok(())
+    }
 }

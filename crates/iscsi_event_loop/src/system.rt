@@ -29,6 +29,9 @@ const BETWEEN: i32 = 10;
 /// How many of them stay without an answer before the connection fails.
 const UNANSWERED: i32 = 6;
 
+/// What `sysconf` is asked for the pages of the machine's memory, by its number on Linux.
+const PHYSICAL_PAGES: i32 = 85;
+
 /// How many descriptors the process may have; none: the system doesn't tell.
 pub fn most_descriptors() -> Option<u64> {
     let mut limit = rlimit {
@@ -40,6 +43,13 @@ pub fn most_descriptors() -> Option<u64> {
     } else {
         None
     }
+}
+
+/// How many bytes of memory the machine has; none: the system doesn't tell.
+pub fn memory_of_machine() -> Option<u64> {
+    let pages = u64::try_from(libc::sysconf(PHYSICAL_PAGES)).ok()?;
+    let page = u64::try_from(libc::sysconf(libc::_SC_PAGESIZE)).ok()?;
+    pages.checked_mul(page)
 }
 
 /// What tells of a listener and of connections, and the listener. The only fault is `Network`.

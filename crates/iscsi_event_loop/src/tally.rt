@@ -46,6 +46,11 @@ impl Tally {
         }
     }
 
+    /// Whether the login was completed.
+    pub fn has_logged_in(&self) -> bool {
+        self.next.is_some()
+    }
+
     /// How many numbered requests came behind the login, but for a logout.
     pub fn commands(&self) -> u64 {
         self.commands
@@ -70,7 +75,7 @@ impl Tally {
 /// How a session ends, in the log.
 #[derive(Clone, Copy, Debug)]
 pub enum LoggedEnd {
-    /// By a fault, which has a line without the log, too.
+    /// By a fault, which has a line in any case.
     Fault(SessionEnd),
     /// The login was refused with a status of this class and detail.
     Refused(u8, u8),

@@ -3,7 +3,7 @@
 //! section 11. One file, since the sessions share one client.
 
 use crate::asserts::same;
-use iscsi_event_loop::{LimitedStore, Limits, MEMORY, Options, Server, UnitOptions};
+use iscsi_event_loop::{LimitedStore, Limits, Options, PortalOption, Server, Stop, UnitOptions};
 use iscsi_login::Preferences;
 use iscsi_serving::{Access, EVERYBODY};
 use iscsi_test_support::{PING, pdus_of};
@@ -106,23 +106,23 @@ type Rows<'a> = &'a [(usize, &'static str, &'static str)];
 
 // A disk of eight blocks for so many logins, some sessions at a time, each of which may be silent for so
 // many seconds.
-fn options(sessions: u16, at_once: u16, idle: u16) -> Options<'static> {
+fn options(logins: u16, at_once: u16, idle: u16) -> Options<'static> {
     Options {
         listen: IpAddr::V4(Ipv4Addr::LOCALHOST),
         port: 0,
-        sessions: Some(sessions),
+        stop: Some(Stop::Logins(logins)),
         at_once,
         name: b"iqn.2026-01.example:disk",
-        portal: None,
+        portal: PortalOption::Untold,
         unit: None,
         limits: Limits {
             idle: Some(idle),
             login_within: None,
         },
         preferences: Preferences::standard(),
-        memory: MEMORY,
+        data_in: None,
         print_port: false,
-        log: false,
+        quiet: true,
     }
 }
 
@@ -148,7 +148,7 @@ fn open<'a>(
     access: Access<'a>,
 ) -> Box<Service<'a>> {
     let store = SparseStore::new(rt.alloc(), BLOCKS);
-    let server = Server::open(rt, options, access).expect(abort, "a server");
+    let server = Server::open(rt, options, b"DISK0001", access).expect(abort, "a server");
     Box::new(rt.alloc(), Service { server, store }).expect(abort, "a service")
 }
 
@@ -347,7 +347,7 @@ const TOLD: Rows<'static> = &[
 #[test]
 fn a_told_portal(rt: HostRuntime) {
     let asked = Options {
-        portal: Some(b"192.0.2.7:3260"),
+        portal: PortalOption::Other(b"192.0.2.7:3260"),
         ..options(1, 2, 5)
     };
     check(&rt, &rt, asked, TOLD, "a portal");
@@ -364,7 +364,6 @@ const SERIAL_IS_GIVEN: Rows<'static> = &[
 fn a_serial_number(rt: HostRuntime) {
     let asked = Options {
         unit: Some(UnitOptions {
-            serial: b"DISK0001",
             write_protected: false,
             thin: false,
             write_back: false,
@@ -387,11 +386,12 @@ fn no_serial_number(rt: HostRuntime) {
     check(&rt, &rt, asked, NO_SERIAL_IS_GIVEN, "no serial number");
 }
 
-/// One session at a time: the second one has its turns when the first one is over.
+/// One session at a time: the second one has its turns when the first one is over, and with the bare profile
+/// the number that is free again.
 const ONE: Rows<'static> = &[
     (0, LOGIN, LOGIN_1),
     (0, LOGOUT_AT_ONCE, LEFT_AT_ONCE),
-    (1, LOGIN, LOGIN_2),
+    (1, LOGIN, LOGIN_1),
     (1, LOGOUT_AT_ONCE, LEFT_AT_ONCE),
 ];
 
@@ -399,6 +399,14 @@ const ONE: Rows<'static> = &[
 fn one_more_than_there_are_slots(rt: HostRuntime) {
     check(&rt, &rt, options(2, 1, 5), ONE, "one at a time");
 }
+
+/// One session behind the other, whose connection was there before.
+const BEHIND: Rows<'static> = &[
+    (0, LOGIN, LOGIN_1),
+    (0, LOGOUT_AT_ONCE, LEFT_AT_ONCE),
+    (1, LOGIN, LOGIN_2),
+    (1, LOGOUT_AT_ONCE, LEFT_AT_ONCE),
+];
 
 #[test]
 fn a_silent_peer_leaves(rt: HostRuntime) {
@@ -462,12 +470,12 @@ fn the_last_login_closes(rt: HostRuntime) {
 #[test]
 fn no_login_is_the_last(rt: HostRuntime) {
     let asked = Options {
-        sessions: None,
+        stop: None,
         ..options(0, 2, 5)
     };
     let mut service = open(&rt, &rt, asked, EVERYBODY);
     let clients = clients(&rt, &rt, &service.server);
-    for (at, (place, requests, due)) in ONE.iter().enumerate() {
+    for (at, (place, requests, due)) in BEHIND.iter().enumerate() {
         let client = clients.get(*place).expect(&rt, "no such client");
         check_answers(
             &rt,
@@ -489,6 +497,22 @@ fn no_login_is_the_last(rt: HostRuntime) {
     }
     same(&rt, &service.server.is_done(), &false, &"any number");
     same(&rt, &service.server.port().is_ok(), &true, &"a port");
+}
+
+/// Where connections are counted, one that breaks a rule is one of them, and the listener closes behind the last.
+const COUNTED: Rows<'static> = &[
+    (0, PING, ""),
+    (1, LOGIN, LOGIN_2),
+    (1, LOGOUT_AT_ONCE, LEFT_AT_ONCE),
+];
+
+#[test]
+fn connections_are_counted(rt: HostRuntime) {
+    let asked = Options {
+        stop: Some(Stop::Connections(2)),
+        ..options(0, 2, 5)
+    };
+    check(&rt, &rt, asked, COUNTED, "connections");
 }
 
 /// The first block of a write, how many it has, their byte, and the answer.

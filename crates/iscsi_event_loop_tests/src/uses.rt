@@ -25,5 +25,5 @@ pub fn serve<S: BlockStore>(rt: &HostRuntime, options: Options<'_>, store: &mut 
         (S.disk store.new)) }
 {
     one_disk_of_all();
-    serve_at_once(rt, options, EVERYBODY, store).is_ok()
+    serve_at_once(rt, options, b"DISK0001", EVERYBODY, store).is_ok()
 }

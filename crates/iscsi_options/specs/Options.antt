@@ -3,10 +3,13 @@ use Rattle.std.specs.Prelude.{◌<◌, ◌≤◌, ℕ, IfSome}
 use Rattle.iscsi_login.specs.Name.{IsName}
 use Rattle.iscsi_login.specs.Negotiation.{ArePreferencesInRange}
 use Rattle.iscsi_portal.specs.Portal.{IsPortal}
-use Rattle.scsi_unit.specs.LogicalUnit.{IsSerial}
 use Rattle.iscsi_login.specs.declared.preferences.Preferences.{Preferences}
 use Rattle.iscsi_options.specs.declared.limits.Limits.{Limits}
 use Rattle.iscsi_options.specs.declared.options.Options.{Options}
+use Rattle.iscsi_options.specs.declared.options.PortalOption.{PortalOption}
+use Rattle.iscsi_options.specs.declared.options.PortalOption.TheVariants as portals
+use Rattle.iscsi_options.specs.declared.options.Stop.{Stop}
+use Rattle.iscsi_options.specs.declared.options.Stop.TheVariants as stops
 
 -- the longest segment and burst that may be asked for, in bytes (own rule)
 abbrev pub longest_asked : ℕ
@@ -29,12 +32,20 @@ AreLimits limits = IfSome limits.idle (λ s. 0 < s) × IfSome limits.login_withi
 abbrev pub IsMemory : ℕ → Type 0
 IsMemory memory = (32768 ≤ memory) × (memory ≤ 562949953421312)
 
--- 1 to 64 sessions at a time (own rule), a target's name, the address of its portal, if it is told
--- (RFC 7143, sections 4.2.7 and 13.8), and the serial number of its disk, if it is told.
+-- How many connections or logins a service ends after.
+abbrev pub stop_count : Stop → ℕ
+stop_count (stops.Connections count) = count
+stop_count (stops.Logins count) = count
+
+-- An address that is told is that of a portal (RFC 7143, sections 4.2.7 and 13.8).
+abbrev pub IsPortalOption : PortalOption → Type 0
+IsPortalOption (portals.Other address) = IsPortal address.now
+IsPortalOption _ = Unit {0}
+
+-- 1 to 64 sessions at a time (own rule), a target's name, and the address of its portal, if it is told.
 pub record IsService (options : Options) : Type 0 where
   pub some_slots : 0 < options.at_once
   pub few_slots : options.at_once ≤ 64
   pub name : IsName options.name.now
-  pub portal : IfSome options.portal (λ portal. IsPortal portal.now)
-  pub unit : IfSome options.unit (λ unit. IsSerial unit.serial.now)
+  pub portal : IsPortalOption options.portal
   pub preferences : AreOffered options.preferences

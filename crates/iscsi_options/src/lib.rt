@@ -9,6 +9,6 @@ mod options;
 pub use digits::number_of;
 pub use limits::{LAST_WRITE, LOGIN_WITHIN, Limits, sooner};
 pub use options::{
-    LEAST_MEMORY, LONGEST_ASKED, LONGEST_PIECE, MEMORY, MOST_AT_ONCE, MOST_MEMORY, Options,
-    SHORTEST_ASKED, UnitOptions,
+    AT_ONCE, DATA_IN, LEAST_MEMORY, LONGEST_ASKED, LONGEST_PIECE, MOST_AT_ONCE, MOST_MEMORY,
+    Options, PortalOption, SEGMENT, SHORTEST_ASKED, Stop, UnitOptions,
 };

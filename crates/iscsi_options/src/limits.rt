@@ -14,7 +14,7 @@ pub const LAST_WRITE: u64 = 30;
 pub const LOGIN_WITHIN: u16 = 30;
 
 /// How long a peer may keep its slot, in seconds; RFC 7143 leaves that to the target.
-#[derive(Clone, Copy, Debug, PartialEq, Eq)]
+#[derive(Clone, Copy, Debug)]
 pub struct Limits {
     /// The longest silence, in which no byte goes either way, 1 to 65535; none: any.
     pub idle: Option<u16>,

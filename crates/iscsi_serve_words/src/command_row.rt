@@ -18,8 +18,6 @@ pub struct CommandRow {
     pub examples: Option<&'static str>,
     /// Its words, list behind list.
     pub words: &'static [&'static [Word]],
-    /// A heading, and the words that stand under it.
-    pub headed: Option<(&'static str, &'static [Word])>,
 }
 
 impl CommandRow {
@@ -40,11 +38,6 @@ impl CommandRow {
         for words in self.words {
             command = with_words(alloc, command, words)?;
         }
-        match self.headed {
-            Some((heading, words)) => {
-                with_words(alloc, command.next_help_heading(heading), words)
-            }
-            None => Ok(command),
-        }
+        Ok(command)
     }
 }

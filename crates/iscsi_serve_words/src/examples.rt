@@ -21,9 +21,9 @@ pub(crate) const SERVE: &str =
     Examples:\n  \
     ./lanthovur serve --size 32M\n      \
     Serve 32 MiB of memory. For QEMU it is iscsi://127.0.0.1:3260/iqn.2026-01.example:disk/0\n  \
-    ./lanthovur serve --file disk.img --create --size 1G\n      \
-    Create the image disk.img of 1 GiB, and serve it\n  \
-    ./lanthovur serve --file disk.img --at-once 8 --listen 0.0.0.0\n      \
-    Serve the image again, on all IPv4 addresses, to up to 8 sessions at a time\n  \
+    ./lanthovur serve --file disk.img --create --size 8M\n      \
+    Create the image disk.img of 8 MiB, and serve it\n  \
+    ./lanthovur serve --file disk.img --listen 0.0.0.0 --name iqn.2026-01.example:disk-7\n      \
+    Serve the image again, on all IPv4 addresses, by a name of its own\n  \
     ./lanthovur serve --nbd 127.0.0.1:10809/disk\n      \
     Serve the export 'disk' of an NBD server, such as qemu-nbd";

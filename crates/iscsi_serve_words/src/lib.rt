@@ -6,6 +6,7 @@ mod command_row;
 mod disk_size;
 mod examples;
 mod nbd_storage;
+mod portal_address;
 mod serve_disk;
 mod serve_lengths;
 mod serve_options;

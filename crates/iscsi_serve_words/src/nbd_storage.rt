@@ -24,7 +24,7 @@ const PORT: u16 = 10809;
 const SECONDS: u32 = 30;
 
 /// An export of an NBD server.
-#[derive(Clone, Copy, Debug, PartialEq, Eq)]
+#[derive(Clone, Copy, Debug)]
 pub struct NbdExport<'a> {
     /// The word that names it, with which its fault lines begin.
     pub word: &'a str,

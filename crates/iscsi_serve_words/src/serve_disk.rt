@@ -12,7 +12,7 @@ use crate::nbd_storage::export_of;
 use crate::serve_options::{refusal, refused, serve_program};
 use crate::storage::{Image, Origin, Storage};
 use clap::ArgMatches;
-use iscsi_options::{LEAST_MEMORY, MEMORY, MOST_MEMORY, UnitOptions, number_of};
+use iscsi_options::{LEAST_MEMORY, MOST_MEMORY, UnitOptions, number_of};
 use scsi_unit::is_serial;
 use std::alloc::Global;
 
@@ -97,12 +97,12 @@ fn exported<'a>(
     }
 }
 
-// What the disk tells of itself, if its serial number is said.
-pub(crate) fn unit_of<'a>(
+// The serial number of the disk, if it is said.
+pub(crate) fn serial_of<'a>(
     alloc: Global,
     asked: &ArgMatches<'a>,
-) -> Result<Option<UnitOptions<'a>>, LineFault>
-    ensures serial { IfOk result (λ unit. IfSome unit (λ told. IsSerial told.serial.now)) }
+) -> Result<Option<&'a [u8]>, LineFault>
+    ensures serial { IfOk result (λ serial. IfSome serial (λ bytes. IsSerial bytes.now)) }
 {
     let Some(serial) = asked.get_str("serial") else {
         return Ok(None);
@@ -110,12 +110,27 @@ pub(crate) fn unit_of<'a>(
     if !is_serial(serial.as_bytes()) {
         return Err(refused(alloc, serial, BAD_SERIAL));
     }
+    Ok(Some(serial.as_bytes()))
+}
+
+// What the disk tells of itself; none with the bare profile. A disk in memory is thin.
+pub(crate) fn unit_of(
+    alloc: Global,
+    asked: &ArgMatches<'_>,
+) -> Result<Option<UnitOptions>, LineFault> {
+    if asked.get_flag("plain") {
+        return Ok(None);
+    }
     Ok(Some(UnitOptions {
-        serial: serial.as_bytes(),
         write_protected: asked.get_flag("read-only"),
-        thin: asked.get_flag("thin"),
+        thin: asked.get_flag("thin") || !is_kept_elsewhere(asked),
         write_back: write_back_of(alloc, asked)?,
     }))
+}
+
+// Whether the disk is kept in an image or an export.
+fn is_kept_elsewhere(asked: &ArgMatches<'_>) -> bool {
+    asked.get_str("file").is_some() || asked.get_str("nbd").is_some()
 }
 
 // Whether the disk has a write cache. It has none where nothing is written, or where nothing outlives
@@ -127,18 +142,19 @@ fn write_back_of(alloc: Global, asked: &ArgMatches<'_>) -> Result<bool, LineFaul
     if asked.get_flag("read-only") {
         return Err(refusal(alloc, CACHE_READ_ONLY));
     }
-    if asked.get_str("file").is_none() && asked.get_str("nbd").is_none() {
+    if !is_kept_elsewhere(asked) {
         return Err(refusal(alloc, CACHE_OF_MEMORY));
     }
     Ok(true)
 }
 
-// How many bytes of memory the blocks of a disk take, if memory is what it is kept in.
-pub(crate) fn memory_of(alloc: Global, asked: &ArgMatches<'_>) -> Result<u64, LineFault>
-    ensures memory { IfOk result IsMemory }
+// How many bytes of memory the blocks of a disk take at most, if that is said, and if memory is what it is
+// kept in.
+pub(crate) fn memory_of(alloc: Global, asked: &ArgMatches<'_>) -> Result<Option<u64>, LineFault>
+    ensures memory { IfOk result (λ said. IfSome said IsMemory) }
 {
     let Some(digits) = asked.get_str("memory") else {
-        return Ok(MEMORY);
+        return Ok(None);
     };
     if asked.get_str("file").is_some() {
         return Err(refusal(alloc, MEMORY_OF_IMAGE));
@@ -147,7 +163,7 @@ pub(crate) fn memory_of(alloc: Global, asked: &ArgMatches<'_>) -> Result<u64, Li
         return Err(refusal(alloc, MEMORY_OF_EXPORT));
     }
     match number_of(digits, MOST_MEMORY) {
-        Some(bytes) if LEAST_MEMORY <= bytes => Ok(bytes),
+        Some(bytes) if LEAST_MEMORY <= bytes => Ok(Some(bytes)),
         _ => Err(refused(alloc, digits, BAD_MEMORY)),
     }
 }

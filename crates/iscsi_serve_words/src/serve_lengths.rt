@@ -7,7 +7,7 @@ use crate::command_line::LineFault;
 use crate::serve_options::refused;
 use clap::ArgMatches;
 use iscsi_login::Preferences;
-use iscsi_options::{LONGEST_ASKED, SHORTEST_ASKED, number_of};
+use iscsi_options::{DATA_IN, LONGEST_ASKED, SEGMENT, SHORTEST_ASKED, number_of};
 use std::alloc::Global;
 
 const BAD_SEGMENT: &str =
@@ -19,7 +19,25 @@ const BAD_FIRST_BURST: &str =
     "is no number of bytes: '--first-burst <N>' takes a number from 512 to 1048576, and at most \
     that of '--burst'";
 
-// What the target prefers: the standard preferences, with the lengths that are asked for.
+const BAD_DATA_IN: &str =
+    "is no number of bytes: '--data-in <N>' takes a multiple of 512 from 512 to 1048576";
+
+// How many bytes a Data-In has at most; with the bare profile as many as the initiator takes.
+pub(crate) fn data_in_of(alloc: Global, asked: &ArgMatches<'_>) -> Result<Option<u32>, LineFault> {
+    if asked.get_flag("plain") {
+        return Ok(None);
+    }
+    let said = length_of(alloc, asked, "data-in", BAD_DATA_IN)?;
+    let bytes = said.unwrap_or(DATA_IN);
+    if bytes % SHORTEST_ASKED != 0 {
+        let digits = asked.get_str("data-in").unwrap_or("");
+        return Err(refused(alloc, digits, BAD_DATA_IN));
+    }
+    Ok(Some(bytes))
+}
+
+// What the target prefers: the standard preferences, with long segments to it, or the lengths that are
+// asked for; with the bare profile the standard ones.
 pub(crate) fn preferences_of(
     alloc: Global,
     asked: &ArgMatches<'_>,
@@ -27,7 +45,10 @@ pub(crate) fn preferences_of(
     ensures offered { IfOk result AreOffered }
 {
     let standard = Preferences::standard();
-    let segment = length_of(alloc, asked, "segment", BAD_SEGMENT)?.unwrap_or(standard.max_recv);
+    if asked.get_flag("plain") {
+        return Ok(standard);
+    }
+    let segment = length_of(alloc, asked, "segment", BAD_SEGMENT)?.unwrap_or(SEGMENT);
     let burst = length_of(alloc, asked, "burst", BAD_BURST)?.unwrap_or(standard.max_burst);
     let first = match length_of(alloc, asked, "first-burst", BAD_FIRST_BURST)? {
         Some(first) => first,

@@ -9,7 +9,7 @@ use clap::Command;
 use std::alloc::{AllocError, Global};
 
 // What the disk is kept in, behind its size.
-const DISK: &[Word] = &[
+pub(crate) const DISK: &[Word] = &[
     Word {
         name: "file",
         kind: WordKind::Value("F"),
@@ -36,8 +36,36 @@ const DISK: &[Word] = &[
     },
 ];
 
-// How it is served, and to whom.
-const SERVICE: &[Word] = &[
+// What the disk tells of itself, and what it may take.
+pub(crate) const UNIT: &[Word] = &[
+    Word {
+        name: "serial",
+        kind: WordKind::Value("S"),
+        beside: None,
+        help: "Serial number of the disk (default one by its name and where it is kept)",
+    },
+    Word {
+        name: "thin",
+        kind: WordKind::Flag,
+        beside: None,
+        help: "Take WRITE SAME, as fstrim sends it (always so with a disk in memory)",
+    },
+    Word {
+        name: "write-back",
+        kind: WordKind::Flag,
+        beside: None,
+        help: "Make writes last when a host flushes, not one by one",
+    },
+    Word {
+        name: "memory",
+        kind: WordKind::Value("BYTES"),
+        beside: None,
+        help: "Memory limit of a disk in memory, from 32768 bytes on (default its size)",
+    },
+];
+
+// Where and to whom it is served, and until when.
+pub(crate) const SERVICE: &[Word] = &[
     Word {
         name: "port",
         kind: WordKind::Value("P"),
@@ -45,10 +73,22 @@ const SERVICE: &[Word] = &[
         help: "TCP port to listen on; 0 lets the system choose one (default 3260)",
     },
     Word {
-        name: "sessions",
-        kind: WordKind::Value("n"),
+        name: "listen",
+        kind: WordKind::Value("ADDR"),
         beside: None,
-        help: "Stop after n connections, or with --at-once after n logins (default never)",
+        help: "IPv4 or IPv6 address to listen on (default 127.0.0.1)",
+    },
+    Word {
+        name: "portal",
+        kind: WordKind::Value("HOST:PORT"),
+        beside: None,
+        help: "Address that discovery tells (default that by which the host came)",
+    },
+    Word {
+        name: "name",
+        kind: WordKind::Value("IQN"),
+        beside: None,
+        help: "Name of the target (default iqn.2026-01.example:disk)",
     },
     Word {
         name: "initiator",
@@ -66,102 +106,77 @@ const SERVICE: &[Word] = &[
         name: "at-once",
         kind: WordKind::Value("k"),
         beside: None,
-        help: "Serve up to k sessions at a time, 1 to 64 (default one after another)",
-    },
-];
-
-// The words that need `--at-once`. Two need `--serial`, which needs it: so hosts are told that there is
-// what they ask for.
-const AT_ONCE: &[Word] = &[
-    Word {
-        name: "listen",
-        kind: WordKind::Value("ADDR"),
-        beside: Some("at-once"),
-        help: "IPv4 or IPv6 address to listen on (default 127.0.0.1)",
+        help: "Serve up to k sessions at a time, 1 to 64 (default 16)",
     },
     Word {
-        name: "name",
-        kind: WordKind::Value("IQN"),
-        beside: Some("at-once"),
-        help: "Name of the target (default iqn.2026-01.example:disk)",
+        name: "sessions",
+        kind: WordKind::Value("n"),
+        beside: None,
+        help: "Stop after n connections (default never)",
     },
     Word {
-        name: "portal",
-        kind: WordKind::Value("ADDRESS"),
-        beside: Some("at-once"),
-        help: "ADDR:PORT that initiators are to use, which discovery tells (default none)",
-    },
-    Word {
-        name: "serial",
-        kind: WordKind::Value("S"),
-        beside: Some("at-once"),
-        help: "Serial number of the disk, which then tells more of itself (default none)",
-    },
-    Word {
-        name: "thin",
-        kind: WordKind::Flag,
-        beside: Some("serial"),
-        help: "Take WRITE SAME, as fstrim and mkfs send it; needs --serial",
-    },
-    Word {
-        name: "write-back",
-        kind: WordKind::Flag,
-        beside: Some("serial"),
-        help: "Make writes last when a host flushes, not one by one; needs --serial",
+        name: "logins",
+        kind: WordKind::Value("n"),
+        beside: None,
+        help: "Stop after n completed logins (default never)",
     },
     Word {
         name: "idle",
         kind: WordKind::Value("S"),
-        beside: Some("at-once"),
+        beside: None,
         help: "End a session after S seconds without a byte, 1 to 65535 (default never)",
     },
     Word {
         name: "login-within",
         kind: WordKind::Value("S"),
-        beside: Some("at-once"),
-        help: "End a connection without a login after S seconds, 1 to 65535 (default 30)",
+        beside: None,
+        help: "End a connection without a login after S seconds; 0: never (default 30)",
     },
     Word {
-        name: "no-login-limit",
+        name: "print-port",
         kind: WordKind::Flag,
-        beside: Some("at-once"),
-        help: "Let a connection take any time to log in",
+        beside: None,
+        help: "Print the port on a second line, after 'listening'",
     },
     Word {
-        name: "memory",
-        kind: WordKind::Value("BYTES"),
-        beside: Some("at-once"),
-        help: "Memory limit of a disk in memory, at least 32768 bytes (default 268435456)",
+        name: "quiet",
+        kind: WordKind::Flag,
+        beside: None,
+        help: "Tell no login and no end on standard error, but faults",
     },
+];
+
+// How long segments and bursts are, and that all of this is as the bare profile has it.
+pub(crate) const LENGTHS: &[Word] = &[
     Word {
         name: "segment",
         kind: WordKind::Value("N"),
-        beside: Some("at-once"),
-        help: "Longest data segment to the target, 512 to 1048576 bytes (default 8192)",
+        beside: None,
+        help: "Longest segment to the target, 512 to 1048576 bytes (default 262144)",
     },
     Word {
         name: "burst",
         kind: WordKind::Value("N"),
-        beside: Some("at-once"),
+        beside: None,
         help: "MaxBurstLength: bytes for one request, 512 to 1048576 (default 262144)",
     },
     Word {
         name: "first-burst",
         kind: WordKind::Value("N"),
-        beside: Some("at-once"),
+        beside: None,
         help: "FirstBurstLength: unsolicited bytes, 512 to the burst (default 65536)",
     },
     Word {
-        name: "print-port",
-        kind: WordKind::Flag,
-        beside: Some("at-once"),
-        help: "Print the port on a second line, after 'listening'",
+        name: "data-in",
+        kind: WordKind::Value("N"),
+        beside: None,
+        help: "Longest segment to a host, a multiple of 512 bytes (default 131072)",
     },
     Word {
-        name: "log",
+        name: "plain",
         kind: WordKind::Flag,
-        beside: Some("at-once"),
-        help: "Tell each login, and how each session ends, on standard error",
+        beside: None,
+        help: "Serve the bare profile, to test an initiator against it",
     },
 ];
 
@@ -173,8 +188,7 @@ const SERVE: CommandRow = CommandRow {
         "lanthovur serve [OPTIONS] (--size <SIZE> | --blocks <N> | --file <F> | --nbd <SERVER>)",
     ),
     examples: Some(examples::SERVE),
-    words: &[SIZE, DISK, SERVICE],
-    headed: Some(("Options that need --at-once", AT_ONCE)),
+    words: &[SIZE, DISK, UNIT, SERVICE, LENGTHS],
 };
 
 /// The words of `serve`, with their help. The error is want of memory.

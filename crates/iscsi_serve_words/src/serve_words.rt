@@ -1,30 +1,32 @@
-//! The words of `serve`: of the service of one session after another, and of that of several at a
-//! time. One file, since it has a reader for each word.
+//! The words of `serve`. One file, since it has a reader for each word.
 
 ghost use Rattle.std.specs.Prelude.{◌<◌, ◌≤◌, IfOk, IfSome};
 ghost use Rattle.iscsi_login.specs.Name.{IsName};
-ghost use Rattle.iscsi_portal.specs.Portal.{IsPortal};
-ghost use Rattle.iscsi_options.specs.Options.{AreLimits};
+ghost use Rattle.scsi_unit.specs.LogicalUnit.{IsSerial};
+ghost use Rattle.iscsi_options.specs.Options.{AreLimits, IsMemory, IsPortalOption};
 ghost use Rattle.iscsi_serve_words.specs.Services.{CanServe, IsServeJob};
 ghost use Rattle.iscsi_serve_words.specs.declared.serve_words.Service.TheVariants as service;
 
 use crate::command_line::{LineFault, bad_number, bare_command, usage};
-use crate::serve_disk::{memory_of, read_only_of, storage_of, unit_of};
-use crate::serve_lengths::preferences_of;
-use crate::serve_options::{refusal, refused, serve_program};
+use crate::portal_address::is_address;
+use crate::serve_disk::{memory_of, read_only_of, serial_of, storage_of, unit_of};
+use crate::serve_lengths::{data_in_of, preferences_of};
+use crate::serve_options::{DISK, LENGTHS, SERVICE, UNIT, refusal, refused, serve_program};
 use crate::storage::Storage;
+use crate::word::{Word, WordKind};
 use clap::{ArgMatches, Command};
 use iscsi_login::is_name;
-use iscsi_options::{LOGIN_WITHIN, Limits, MOST_AT_ONCE, Options, number_of};
-use iscsi_portal::is_portal;
+use iscsi_options::{
+    AT_ONCE, LOGIN_WITHIN, Limits, MOST_AT_ONCE, Options, PortalOption, Stop, number_of,
+};
 use std::alloc::{AllocError, Global};
 use std::convert::AsStr;
 use std::net::{IpAddr, Ipv4Addr};
 
 /// How a disk is served.
-#[derive(Clone, Copy, Debug, PartialEq, Eq)]
+#[derive(Clone, Copy, Debug)]
 pub enum Service<'a> {
-    /// On 127.0.0.1, to one connection after another.
+    /// On 127.0.0.1, to one connection after another, with no limit of time, and as the bare profile has it.
     InTurn {
         /// The port; 0 is one that the system picks.
         port: u16,
@@ -36,12 +38,16 @@ pub enum Service<'a> {
 }
 
 /// What the words of `serve` ask for.
-#[derive(Clone, Copy, Debug, PartialEq, Eq)]
+#[derive(Clone, Copy, Debug)]
 pub struct ServeJob<'a> {
     /// What the disk is kept in.
     pub storage: Storage<'a>,
     /// How it is served.
     pub service: Service<'a>,
+    /// The serial number that the disk is given, 1 to 16 bytes of `!` to `~`; none: one of its own.
+    pub serial: Option<&'a [u8]>,
+    /// How many bytes the blocks of a disk in memory take at most; none: as many as it has.
+    pub memory: Option<u64>,
     /// No block changes: each write is refused.
     pub read_only: bool,
     /// The file of the secrets of which a login has to show one (CHAP), if it has to.
@@ -60,7 +66,11 @@ const PORT: u16 = 3260;
 const BAD_PORT: &str = "is no port: '--port <P>' takes a number from 0 to 65535 (default 3260)";
 
 const BAD_SESSIONS: &str =
-    "is no number of sessions: '--sessions <n>' takes a number from 0 to 65535";
+    "is no number of connections: '--sessions <n>' takes a number from 0 to 65535";
+
+const BAD_LOGINS: &str = "is no number of logins: '--logins <n>' takes a number from 0 to 65535";
+
+const TWO_STOPS: &str = "'--logins <n>' cannot be used with '--sessions <n>'";
 
 const BAD_AT_ONCE: &str = "is no number of sessions: '--at-once <k>' takes a number from 1 to 64";
 
@@ -70,7 +80,8 @@ const BAD_LISTEN: &str =
 const BAD_NAME: &str = "is no name: '--name <IQN>' takes 1 to 223 bytes, each from '!' to '~'";
 
 const BAD_PORTAL: &str =
-    "is no portal: '--portal <ADDRESS>' takes 1 to 255 bytes, each from '!' to '~' but ','";
+    "is no portal: '--portal <HOST:PORT>' takes a host or an address, IPv6 in brackets, and a port \
+    from 1 to 65535, such as 192.0.2.7:3260";
 
 const BAD_INITIATOR: &str =
     "is no name: '--initiator <IQN>' takes 1 to 223 bytes, each from '!' to '~'";
@@ -80,9 +91,21 @@ const MANY_INITIATORS: &str = "is one name too many: '--initiator <IQN>' may sta
 const BAD_IDLE: &str = "is no number of seconds: '--idle <S>' takes a number from 1 to 65535";
 
 const BAD_LOGIN: &str =
-    "is no number of seconds: '--login-within <S>' takes a number from 1 to 65535 (default 30)";
+    "is no number of seconds: '--login-within <S>' takes a number from 0 to 65535 (default 30)";
 
-const BAD_LOGIN_LIMIT: &str = "'--no-login-limit' cannot be used with '--login-within <S>'";
+const UNNAMED: &str =
+    "'--listen <ADDR>' beyond this machine needs '--name <IQN>' or '--serial <S>' for a disk that lasts: \
+    two hosts with one path would tell one serial number, and initiators would take their disks for one";
+
+// What the bare profile has no room for.
+const NOT_PLAIN: &[&str] = &[
+    "serial",
+    "portal",
+    "segment",
+    "burst",
+    "first-burst",
+    "data-in",
+];
 
 /// The service that a command line asks for whose first word is `serve`. Words that are none, and those
 /// that ask for help, return `Usage` with the text to print; `NoMemory` comes if memory ran out.
@@ -155,156 +178,216 @@ fn with_serve<'a>(alloc: Global) -> Result<Command<'a>, AllocError> {
 pub fn service_of<'a>(alloc: Global, asked: &ArgMatches<'a>) -> Result<ServeJob<'a>, LineFault>
     ensures range { IfOk result IsServeJob }
 {
-    let port = port_of(alloc, asked)?;
     let storage = storage_of(alloc, asked)?;
     let read_only = read_only_of(alloc, asked)?;
-    let sessions = sessions_of(alloc, asked)?;
+    let serial = serial_of(alloc, asked)?;
+    let memory = memory_of(alloc, asked)?;
     initiators_of(alloc, asked)?;
-    let service = match asked.get_str("at-once") {
-        Some(digits) => Service::AtOnce(options_of(alloc, asked, digits, port, sessions)?),
-        None => Service::InTurn { port, sessions },
+    let service = if is_required_form(asked) {
+        in_turn(alloc, asked)?
+    } else {
+        Service::AtOnce(options_of(alloc, asked)?)
     };
     Ok(ServeJob {
         storage,
         service,
+        serial,
+        memory,
         read_only,
         secrets: asked.get_str("chap"),
     })
 }
 
-// The options of a service of several sessions at a time, whose number these digits spell.
-fn options_of<'a>(
-    alloc: Global,
-    asked: &ArgMatches<'a>,
-    digits: &str,
-    port: u16,
-    sessions: Option<u16>,
-) -> Result<Options<'a>, LineFault>
+// Whether no other words are there than those of the required form: `--blocks`, `--port` and
+// `--sessions`.
+fn is_required_form(asked: &ArgMatches<'_>) -> bool {
+    asked.get_str("blocks").is_some()
+        && !has_other(asked, DISK)
+        && !has_other(asked, UNIT)
+        && !has_other(asked, SERVICE)
+        && !has_other(asked, LENGTHS)
+}
+
+// Whether one of these words is there that the required form does not have.
+fn has_other(asked: &ArgMatches<'_>, words: &[Word]) -> bool {
+    words.iter().any(|word| !matches!(word.name, "port" | "sessions") && is_there(asked, word))
+}
+
+// Whether a word is there.
+fn is_there(asked: &ArgMatches<'_>, word: &Word) -> bool {
+    match word.kind {
+        WordKind::Flag => asked.get_flag(word.name),
+        WordKind::Values(_) => asked.get_strs(word.name).is_some(),
+        _ => asked.get_str(word.name).is_some(),
+    }
+}
+
+// The service of one connection after another.
+fn in_turn<'a>(alloc: Global, asked: &ArgMatches<'a>) -> Result<Service<'a>, LineFault>
+    ensures range { IfOk result CanServe }
+{
+    Ok(Service::InTurn {
+        port: port_of(alloc, asked)?,
+        sessions: number_said(alloc, asked, "sessions", BAD_SESSIONS)?,
+    })
+}
+
+// The options of a service of several sessions at a time.
+fn options_of<'a>(alloc: Global, asked: &ArgMatches<'a>) -> Result<Options<'a>, LineFault>
     ensures range { IfOk result (λ options. CanServe (service.AtOnce options)) }
 {
-    let Some(at_once) = at_once_of(digits) else {
-        return Err(refused(alloc, digits, BAD_AT_ONCE));
-    };
-    let (listen, name) = place_of(alloc, asked)?;
+    allow_plain(alloc, asked)?;
+    let listen = listen_of(alloc, asked)?;
+    let name = name_of(alloc, asked)?;
+    let at_once = at_once_of(alloc, asked)?;
     let portal = portal_of(alloc, asked)?;
-    let unit = unit_of(alloc, asked)?;
     let limits = limits_of(alloc, asked)?;
     let preferences = preferences_of(alloc, asked)?;
     Ok(Options {
         listen,
-        port,
-        sessions,
+        port: port_of(alloc, asked)?,
+        stop: stop_of(alloc, asked)?,
         at_once,
         name,
         portal,
-        unit,
+        unit: unit_of(alloc, asked)?,
         limits,
         preferences,
-        memory: memory_of(alloc, asked)?,
+        data_in: data_in_of(alloc, asked)?,
         print_port: asked.get_flag("print-port"),
-        log: asked.get_flag("log"),
+        quiet: asked.get_flag("quiet"),
     })
+}
+
+// Refuses the bare profile beside words for which it has no room.
+fn allow_plain(alloc: Global, asked: &ArgMatches<'_>) -> Result<(), LineFault> {
+    if !asked.get_flag("plain") {
+        return Ok(());
+    }
+    if let Some(name) = NOT_PLAIN.iter().find(|name| asked.get_str(name).is_some()) {
+        return Err(not_plain(alloc, name));
+    }
+    for name in ["thin", "write-back"] {
+        if asked.get_flag(name) {
+            return Err(not_plain(alloc, name));
+        }
+    }
+    Ok(())
+}
+
+// The usage error for a word that does not go with the bare profile.
+fn not_plain(alloc: Global, name: &str) -> LineFault {
+    match format!(in alloc; "'--plain' cannot be used with '--{name}'") {
+        Ok(text) => refusal(alloc, text.as_str()),
+        Err(_) => LineFault::NoMemory,
+    }
 }
 
 // The port: the one that is said, or else that of iSCSI.
 fn port_of(alloc: Global, asked: &ArgMatches<'_>) -> Result<u16, LineFault> {
-    let Some(digits) = asked.get_str("port") else {
-        return Ok(PORT);
-    };
-    match short_number_of(digits) {
-        Some(port) => Ok(port),
-        None => Err(refused(alloc, digits, BAD_PORT)),
-    }
+    Ok(number_said(alloc, asked, "port", BAD_PORT)?.unwrap_or(PORT))
 }
 
-// How many sessions are served, if that is said; else any number.
-fn sessions_of(alloc: Global, asked: &ArgMatches<'_>) -> Result<Option<u16>, LineFault> {
-    let Some(digits) = asked.get_str("sessions") else {
-        return Ok(None);
-    };
-    match short_number_of(digits) {
-        Some(sessions) => Ok(Some(sessions)),
-        None => Err(refused(alloc, digits, BAD_SESSIONS)),
-    }
-}
-
-// The address to listen at, and the target's name.
-fn place_of<'a>(alloc: Global, asked: &ArgMatches<'a>) -> Result<(IpAddr, &'a [u8]), LineFault>
-    ensures name { IfOk result (λ place. IsName place.1.now) }
-{
-    let listen = match asked.get_str("listen") {
-        Some(text) => match text.parse::<IpAddr>() {
-            Ok(address) => address,
-            Err(_) => return Err(refused(alloc, text, BAD_LISTEN)),
-        },
-        None => IpAddr::V4(Ipv4Addr::LOCALHOST),
-    };
-    let name = asked.get_str("name").unwrap_or(NAME);
-    if !is_name(name.as_bytes()) {
-        return Err(refused(alloc, name, BAD_NAME));
-    }
-    Ok((listen, name.as_bytes()))
-}
-
-// The address of the portal that initiators are to use, if it is said.
-fn portal_of<'a>(alloc: Global, asked: &ArgMatches<'a>) -> Result<Option<&'a [u8]>, LineFault>
-    ensures portal { IfOk result (λ portal. IfSome portal (λ address. IsPortal address.now)) }
-{
-    let Some(address) = asked.get_str("portal") else {
-        return Ok(None);
-    };
-    if !is_portal(address.as_bytes()) {
-        return Err(refused(alloc, address, BAD_PORTAL));
-    }
-    Ok(Some(address.as_bytes()))
-}
-
-// The number of seconds, 1 to 65535, that a word has, if it stands there.
-fn seconds_of(
+// The number, up to 65535, that a word has, if it stands there.
+fn number_said(
     alloc: Global,
     asked: &ArgMatches<'_>,
     name: &str,
     text: &str,
-) -> Result<Option<u16>, LineFault>
-    ensures some { IfOk result (λ seconds. IfSome seconds (λ n. 0 < n)) }
-{
+) -> Result<Option<u16>, LineFault> {
     let Some(digits) = asked.get_str(name) else {
         return Ok(None);
     };
     match short_number_of(digits) {
-        Some(seconds) if 0 < seconds => Ok(Some(seconds)),
-        _ => Err(refused(alloc, digits, text)),
+        Some(number) => Ok(Some(number)),
+        None => Err(refused(alloc, digits, text)),
     }
+}
+
+// After what the service ends, if that is said.
+fn stop_of(alloc: Global, asked: &ArgMatches<'_>) -> Result<Option<Stop>, LineFault> {
+    let connections = number_said(alloc, asked, "sessions", BAD_SESSIONS)?;
+    let logins = number_said(alloc, asked, "logins", BAD_LOGINS)?;
+    match (connections, logins) {
+        (Some(_), Some(_)) => Err(refusal(alloc, TWO_STOPS)),
+        (Some(count), None) => Ok(Some(Stop::Connections(count))),
+        (None, Some(count)) => Ok(Some(Stop::Logins(count))),
+        (None, None) => Ok(None),
+    }
+}
+
+// The address to listen at. A disk that lasts, and that other machines can reach, has a name or a serial
+// number of its own.
+fn listen_of(alloc: Global, asked: &ArgMatches<'_>) -> Result<IpAddr, LineFault> {
+    let Some(text) = asked.get_str("listen") else {
+        return Ok(IpAddr::V4(Ipv4Addr::LOCALHOST));
+    };
+    let Ok(address) = text.parse::<IpAddr>() else {
+        return Err(refused(alloc, text, BAD_LISTEN));
+    };
+    let lasts = asked.get_str("file").is_some() || asked.get_str("nbd").is_some();
+    let is_named = asked.get_str("name").is_some() || asked.get_str("serial").is_some();
+    if lasts && !is_named && !address.is_loopback() && !asked.get_flag("plain") {
+        return Err(refusal(alloc, UNNAMED));
+    }
+    Ok(address)
+}
+
+// The target's name.
+fn name_of<'a>(alloc: Global, asked: &ArgMatches<'a>) -> Result<&'a [u8], LineFault>
+    ensures name { IfOk result (λ name. IsName name.now) }
+{
+    let name = asked.get_str("name").unwrap_or(NAME);
+    if !is_name(name.as_bytes()) {
+        return Err(refused(alloc, name, BAD_NAME));
+    }
+    Ok(name.as_bytes())
+}
+
+// The address of the portal that initiators are to use: the one that is said, or else that by which they
+// came; none with the bare profile.
+fn portal_of<'a>(alloc: Global, asked: &ArgMatches<'a>) -> Result<PortalOption<'a>, LineFault>
+    ensures portal { IfOk result IsPortalOption }
+{
+    let Some(address) = asked.get_str("portal") else {
+        return Ok(if asked.get_flag("plain") {
+            PortalOption::Untold
+        } else {
+            PortalOption::Local
+        });
+    };
+    if !is_address(address) {
+        return Err(refused(alloc, address, BAD_PORTAL));
+    }
+    Ok(PortalOption::Other(address.as_bytes()))
 }
 
 // What ends a session or a connection without a login.
 fn limits_of(alloc: Global, asked: &ArgMatches<'_>) -> Result<Limits, LineFault>
     ensures some { IfOk result AreLimits }
 {
-    let idle = seconds_of(alloc, asked, "idle", BAD_IDLE)?;
-    let login_within = login_within_of(alloc, asked)?;
+    let idle = match number_said(alloc, asked, "idle", BAD_IDLE)? {
+        Some(0) => return Err(refused(alloc, "0", BAD_IDLE)),
+        idle => idle,
+    };
+    let login_within = match number_said(alloc, asked, "login-within", BAD_LOGIN)? {
+        Some(0) => None,
+        Some(seconds) => Some(seconds),
+        None => Some(LOGIN_WITHIN),
+    };
     Ok(Limits { idle, login_within })
 }
 
-// How many seconds a login may take: those that are said, or else 30, or any number of them.
-fn login_within_of(alloc: Global, asked: &ArgMatches<'_>) -> Result<Option<u16>, LineFault>
-    ensures some { IfOk result (λ seconds. IfSome seconds (λ n. 0 < n)) }
+// The number of sessions at a time, 1 to 64.
+fn at_once_of(alloc: Global, asked: &ArgMatches<'_>) -> Result<u16, LineFault>
+    ensures range { IfOk result (λ n. (0 < n) × (n ≤ 64)) }
 {
-    let said = seconds_of(alloc, asked, "login-within", BAD_LOGIN)?;
-    match (said, asked.get_flag("no-login-limit")) {
-        (Some(_), true) => Err(refusal(alloc, BAD_LOGIN_LIMIT)),
-        (None, true) => Ok(None),
-        (said, false) => Ok(Some(said.unwrap_or(LOGIN_WITHIN))),
-    }
-}
-
-// The number of sessions at a time that digits spell, 1 to 64.
-fn at_once_of(digits: &str) -> Option<u16>
-    ensures range { IfSome result (λ n. (0 < n) × (n ≤ 64)) }
-{
+    let Some(digits) = asked.get_str("at-once") else {
+        return Ok(AT_ONCE);
+    };
     match short_number_of(digits) {
-        Some(count) if 0 < count && count <= MOST_AT_ONCE => Some(count),
-        _ => None,
+        Some(count) if 0 < count && count <= MOST_AT_ONCE => Ok(count),
+        _ => Err(refused(alloc, digits, BAD_AT_ONCE)),
     }
 }
 

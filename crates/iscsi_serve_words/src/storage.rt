@@ -13,7 +13,7 @@ use std::rt::Files;
 use thiserror::Error;
 
 /// Where the image of a disk comes from.
-#[derive(Clone, Copy, Debug, PartialEq, Eq)]
+#[derive(Clone, Copy, Debug)]
 pub enum Origin {
     /// It is there, and has `n` blocks, if that is said.
     Found { blocks: Option<u64> },
@@ -36,7 +36,7 @@ impl Origin {
 }
 
 /// An image of a disk: a regular file or a block device.
-#[derive(Clone, Copy, Debug, PartialEq, Eq)]
+#[derive(Clone, Copy, Debug)]
 pub struct Image<'a> {
     /// Its name.
     pub path: &'a str,
@@ -45,7 +45,7 @@ pub struct Image<'a> {
 }
 
 /// What the disk of a service is kept in.
-#[derive(Clone, Copy, Debug, PartialEq, Eq)]
+#[derive(Clone, Copy, Debug)]
 pub enum Storage<'a> {
     /// Memory, with `n` blocks of 00, 1 to 2^40.
     Memory { blocks: u64 },

@@ -30,6 +30,11 @@ takes_over newer older = is_served newer && (is_served older && is_same_port new
 abbrev pub session_of : Slot → Session
 session_of s = s.connection.machine.session
 
+-- A slot has a normal session whose login is completed.
+abbrev pub is_served_at : Option Slot → Bool
+is_served_at None = false
+is_served_at (Some s) = is_served (session_of s)
+
 -- The session of a slot takes the place of another slot's; free slots have none.
 abbrev pub takes_over_at : Option Slot → Option Slot → Bool
 takes_over_at None older = false

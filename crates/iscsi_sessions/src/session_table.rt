@@ -8,9 +8,10 @@ ghost use Rattle.scsi_disk.specs.Lasting.{LastsOnceSynced, SettledDisk, Within};
 ghost use Rattle.iscsi_target.specs.Crash.{CrashesNext};
 ghost use Rattle.iscsi_target.specs.Advances.{store_of};
 ghost use Rattle.iscsi_sessions.specs.Slots.{expected_command_at, initiator_at, opening_slot, phase_of, may_read_at, may_take_at, most_read, must_sync, slot_with_read, with_sent, slot_waiting, slot_at, with_slot, SlotChanges, SlotTakesPdu, SlotFinishes};
-ghost use Rattle.iscsi_sessions.specs.Reinstatement.{takes_place_of};
+ghost use Rattle.iscsi_sessions.specs.Reinstatement.{is_served_at, takes_place_of};
 ghost use Rattle.iscsi_sessions.specs.Turns.{Comes, Ends, Goes, SlotEventStep, HappensIn, SameMachines, Syncs, TakesTurn, machines};
 
+use crate::offered::Offered;
 use crate::slot::Slot;
 use iscsi_login::Phase;
 use iscsi_target::{Config, TargetFault};
@@ -120,6 +121,16 @@ impl SessionTable {
         match self.at(slot) {
             Some(taken) => taken.initiator_name(),
             None => &[],
+        }
+    }
+
+    /// Whether the slot has a normal session whose login is completed (RFC 7143, section 6.3).
+    pub fn is_served(&self, slot: usize) -> bool
+        ensures { result ≡ is_served_at (slot_at self.now slot) }
+    {
+        match self.at(slot) {
+            Some(taken) => taken.is_served(),
+            None => false,
         }
     }
 
@@ -245,9 +256,13 @@ impl SessionTable {
     /// asks whose answer waits, a SYNCHRONIZE CACHE or one with the bit FUA, or the session is over.
     /// So a peer may be told of writes that a crash takes back, as its disk has told it, and is never
     /// told so of a SYNCHRONIZE CACHE (SBC-3, section 4.15).
-    pub fn offered<S: BlockStore>(&self, slot: usize, store: &mut S) -> Result<&[u8], StoreFault>
+    pub fn offered<S: BlockStore>(
+        &self,
+        slot: usize,
+        store: &mut S,
+    ) -> Result<Offered<'_>, StoreFault>
         ensures waiting { IfOk result
-            (λ bytes. bytes.now ≡ slot_waiting (slot_at self.now slot)) }
+            (λ offered. offered ≡ slot_waiting (slot_at self.now slot)) }
         // A crash leaves the blocks that the answered commands led to, and no others. Over a disk with
         // a write cache this is so where the slot asks for it.
         ensures lasts { must_sync (slot_at self.now slot) ≡ true → OnOk result
@@ -267,7 +282,7 @@ impl SessionTable {
         if self.must_sync(slot) {
             store.sync()?;
         }
-        Ok(self.waiting(slot))
+        Ok(Offered::new(self.waiting(slot)))
     }
 
     // Whether what waits at a slot is offered only once the store is synced.

@@ -112,8 +112,8 @@ impl Slot {
             && self.target.isid() == older.target.isid()
     }
 
-    // Whether the session is a normal one in full feature phase.
-    fn is_served(&self) -> bool
+    /// Whether the session is a normal one in full feature phase.
+    pub fn is_served(&self) -> bool
         ensures { result ≡ is_served (session_of self.now) }
     {
         matches!(self.target.phase(), Phase::Full)

@@ -48,6 +48,9 @@ impl From<LineFault> for Trouble {
     }
 }
 
+/// The name of the target.
+const NAME: &[u8] = b"iqn.2026-01.example:disk";
+
 /// The most turns that one read leads to here.
 const MOST_TURNS: usize = 4096;
 
@@ -57,8 +60,7 @@ fn config(alloc: Global) -> Result<Config, Trouble> {
     preferences.max_burst = 1024;
     preferences.first_burst = 1024;
     preferences.max_recv = 512;
-    let name = b"iqn.2026-01.example:disk";
-    match Config::new(alloc, name, 1, 1, preferences) {
+    match Config::new(alloc, NAME, 1, 1, preferences) {
         Ok(config) => Ok(config),
         Err(_) => Err(Trouble::NoMemory),
     }
@@ -93,8 +95,9 @@ fn write_out(room: &mut Room, slot: usize, out: &mut Vec<u8>) -> Result<(), Trou
     let Ok(waiting) = room.table.offered(slot, &mut room.store) else {
         return Err(Trouble::Step("no sync"));
     };
-    let count = waiting.len();
-    out.extend_from_slice(waiting)?;
+    let count = waiting.as_bytes().len();
+    out.extend_from_slice(waiting.as_bytes())?;
+    drop(waiting);
     if room.table.is_taken(slot) {
         room.table.sent(slot, count);
     }

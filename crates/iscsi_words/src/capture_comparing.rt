@@ -11,7 +11,7 @@ use iscsi_comparison::Sameness;
 pub const STDIN: &str = "-";
 
 /// Two captures to compare. At most one of them comes from the standard input of the process.
-#[derive(Clone, Copy, Debug, PartialEq, Eq)]
+#[derive(Clone, Copy, Debug)]
 pub struct CaptureComparison<'a> {
     /// The file of the first capture; `-` is the standard input of the process.
     pub first: &'a str,
@@ -27,7 +27,7 @@ pub struct CaptureComparison<'a> {
 
 /// Why a comparison of two captures stops: a fault, and of which capture it is; none for memory and
 /// a write that failed.
-#[derive(Clone, Copy, Debug, PartialEq, Eq)]
+#[derive(Clone, Copy, Debug)]
 pub struct CaptureComparisonFault {
     /// The capture.
     pub which: Option<Which>,

@@ -15,7 +15,7 @@ use iscsi_serve_words::{LineFault, Word, WordKind, bad_number, bad_size, needed_
 use std::alloc::{AllocError, Global};
 
 /// What is done with a capture.
-#[derive(Clone, Copy, Debug, PartialEq, Eq)]
+#[derive(Clone, Copy, Debug)]
 pub enum CaptureWork {
     /// Writes a line for each connection.
     List,
@@ -43,7 +43,7 @@ pub enum CaptureWork {
 }
 
 /// A job over a capture.
-#[derive(Clone, Copy, Debug, PartialEq, Eq)]
+#[derive(Clone, Copy, Debug)]
 pub struct CaptureJob<'a> {
     /// The name of the file; `-` is the standard input of the process.
     pub file: &'a str,

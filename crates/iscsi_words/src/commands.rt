@@ -22,7 +22,6 @@ const SHOW: CommandRow = CommandRow {
     usage: None,
     examples: Some(examples::SHOW),
     words: &[HEX, FORMS, DIRECTION],
-    headed: None,
 };
 
 const TEXT: &[Word] = &[Word {
@@ -39,7 +38,6 @@ const NORMALISE: CommandRow = CommandRow {
     usage: None,
     examples: Some(examples::NORMALISE),
     words: &[HEX, TEXT, DIRECTION],
-    headed: None,
 };
 
 // Two streams, of which the second is read from standard input if it isn't named.
@@ -71,7 +69,6 @@ const COMPARE: CommandRow = CommandRow {
     usage: None,
     examples: Some(examples::COMPARE),
     words: &[HEX, STREAMS, TWO_CAPTURES],
-    headed: None,
 };
 
 const FILE: &[Word] = &[Word {
@@ -88,7 +85,6 @@ const CONNECTIONS: CommandRow = CommandRow {
     usage: None,
     examples: None,
     words: &[FILE],
-    headed: None,
 };
 
 const ANSWER: CommandRow = CommandRow {
@@ -98,7 +94,6 @@ const ANSWER: CommandRow = CommandRow {
     usage: Some("lanthovur answer [OPTIONS] (--size <SIZE> | --blocks <N>)"),
     examples: Some(examples::ANSWER),
     words: &[HEX, SIZE, INITIATOR],
-    headed: None,
 };
 
 const PIECE: &[Word] = &[Word {
@@ -115,7 +110,6 @@ const LOOP: CommandRow = CommandRow {
     usage: Some("lanthovur loop (--size <SIZE> | --blocks <N>) --piece <k>"),
     examples: Some(examples::LOOP),
     words: &[SIZE, PIECE],
-    headed: None,
 };
 
 pub(crate) fn show_program<'a>(alloc: Global) -> Result<Command<'a>, AllocError> {

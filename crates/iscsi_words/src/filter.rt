@@ -1,7 +1,7 @@
 //! What a filter does.
 
 /// What a filter does with a stream.
-#[derive(Clone, Copy, Debug, PartialEq, Eq)]
+#[derive(Clone, Copy, Debug)]
 pub enum Work {
     /// Writes a line for each PDU.
     Show,
@@ -14,7 +14,7 @@ pub enum Work {
 }
 
 /// A filter, and whether its input is hex text and its bytes are written as a line of hex.
-#[derive(Clone, Copy, Debug, PartialEq, Eq)]
+#[derive(Clone, Copy, Debug)]
 pub struct Filter {
     /// What it does.
     pub work: Work,

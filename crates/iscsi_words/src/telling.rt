@@ -5,7 +5,7 @@ use iscsi_explain::Form;
 use iscsi_serve_words::{Word, WordKind};
 
 /// A stream that is shown in another form than by plain lines.
-#[derive(Clone, Copy, Debug, PartialEq, Eq)]
+#[derive(Clone, Copy, Debug)]
 pub struct Telling {
     /// The form of each PDU.
     pub form: Form,

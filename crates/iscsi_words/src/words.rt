@@ -28,7 +28,7 @@ use std::alloc::{AllocError, Global};
 use std::convert::AsStr;
 
 /// What the words ask for.
-#[derive(Clone, Copy, Debug, PartialEq, Eq)]
+#[derive(Clone, Copy, Debug)]
 pub enum Job<'a> {
     /// A filter from the standard input to the standard output.
     Filter(Filter),
@@ -52,7 +52,7 @@ pub enum Job<'a> {
 }
 
 /// The word of a job.
-#[derive(Clone, Copy, Debug, PartialEq, Eq)]
+#[derive(Clone, Copy, Debug)]
 enum JobWord {
     Show,
     Normalise,

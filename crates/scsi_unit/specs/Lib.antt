@@ -1,4 +1,5 @@
 pub mod LogicalUnit
+pub mod Designators
 pub mod Pages
 pub mod Modes
 pub mod WriteSame

@@ -1,9 +1,11 @@
 -- A logical unit that tells more of itself than the profile does.
 use Rattle.std.specs.Prelude.{ℕ, ◌<◌, ◌≤◌, Bool, List, length, All}
 
--- Its serial number, whether it takes no write, whether it takes WRITE SAME, as a thin unit does, and
--- whether it has a write cache: then a write may be lost in a crash until it is made to last.
+-- The name of its target, its serial number, whether it takes no write, whether it takes WRITE SAME, as
+-- a thin unit does, and whether it has a write cache: then a write may be lost in a crash until it is
+-- made to last.
 pub record LogicalUnit : Type 0 where
+  pub name : List ℕ
   pub serial : List ℕ
   pub write_protected : Bool
   pub thin : Bool

@@ -44,10 +44,9 @@ mode_pages unit asked =
     else None
 
 -- The device-specific byte: WP, that the unit takes no write, and DPOFUA, that it takes the bits DPO
--- and FUA, which it does where it has a write cache (SBC-3, section 6.4.1).
+-- and FUA (SBC-3, section 6.4.1). It always does: what a command with FUA writes lasts before the answer.
 abbrev pub device_specific : LogicalUnit → ℕ
-device_specific unit =
-    (if unit.write_protected then 0x80 else 0x00) + (if unit.write_back then 0x10 else 0x00)
+device_specific unit = if unit.write_protected then 0x90 else 0x10
 
 -- The pages behind the header of MODE SENSE(6), with no block descriptor (SPC-4, section 7.5.4).
 abbrev pub behind_short_header : LogicalUnit → List ℕ → List ℕ

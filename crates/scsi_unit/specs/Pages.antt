@@ -1,6 +1,7 @@
--- The data of INQUIRY (SPC-4, sections 6.6 and 7.8; SBC-3, section 6.5). Names are own rules.
-use Rattle.std.specs.Prelude.{ℕ, ◌+◌, Bool, true, false, ◌==◌, ◌&&◌, if◌then◌else◌, List, [], ◌∷◌, ◌++◌, length, replicate, Option, Some, None, codes}
-use Rattle.std.specs.Int.{to_be_bytes, w64}
+-- The data of INQUIRY (SPC-4, sections 6.6 and 7.8; SBC-3, section 6.5). Vendor and product are own rules.
+use Rattle.std.specs.Prelude.{ℕ, Bool, true, false, ◌==◌, ◌&&◌, if◌then◌else◌, List, [], ◌∷◌, ◌++◌, length, replicate, Option, Some, None, codes}
+use Rattle.std.specs.Int.{to_be_bytes, w16, w64}
+use Rattle.scsi_unit.specs.Designators.{designators}
 use Rattle.scsi_unit.specs.LogicalUnit.{LogicalUnit}
 
 -- Standard INQUIRY data (SPC-4, section 6.6): a disk, or no unit, with the versions of the standards
@@ -8,7 +9,7 @@ use Rattle.scsi_unit.specs.LogicalUnit.{LogicalUnit}
 abbrev pub standard_inquiry : Bool → List ℕ
 standard_inquiry present =
     (if present then 0x00 else 0x7f) ∷ 0x00 ∷ 0x06 ∷ 0x12 ∷ 0x5b ∷ 0x00 ∷ 0x00 ∷ 0x02
-    ∷ codes "VERIDISKISCSI DISK      0001" ++ replicate 22 0
+    ∷ codes "LANTHOVRISCSI DISK      0001" ++ replicate 22 0
     ++ 0x09 ∷ 0x60 ∷ 0x04 ∷ 0x60 ∷ 0x04 ∷ 0xc0 ∷ replicate 32 0
 
 -- Which pages there are, of a thin unit or of another (SPC-4, section 7.8.13).
@@ -20,11 +21,10 @@ page_list true = 0x00 ∷ 0x00 ∷ 0x00 ∷ 0x06 ∷ 0x00 ∷ 0x80 ∷ 0x83 ∷ 
 abbrev pub serial_page : List ℕ → List ℕ
 serial_page serial = 0x00 ∷ 0x80 ∷ 0x00 ∷ length serial ∷ serial
 
--- The name of the unit: the maker, and the serial number (SPC-4, section 7.8.5; a name of T10's form).
-abbrev pub name_page : List ℕ → List ℕ
-name_page serial =
-    0x00 ∷ 0x83 ∷ 0x00 ∷ (length serial + 12) ∷ 0x02 ∷ 0x01 ∷ 0x00 ∷ (length serial + 8)
-    ∷ codes "VERIDISK" ++ serial
+-- The names of the unit (SPC-4, section 7.8.5).
+abbrev pub name_page : List ℕ → List ℕ → List ℕ
+name_page name serial =
+    0x00 ∷ 0x83 ∷ to_be_bytes w16 (length (designators name serial)) ++ designators name serial
 
 -- The limits of a transfer (SBC-3, section 6.5.3): at most 8,192 blocks. Of a thin unit these are
 -- also the limits of a WRITE SAME, which names a block at least (WSNZ) and gives back any number.
@@ -56,7 +56,7 @@ abbrev pub vital_page : LogicalUnit → ℕ → Option (List ℕ)
 vital_page unit page =
     if page == 0x00 then Some (page_list unit.thin)
     else if page == 0x80 then Some (serial_page unit.serial)
-    else if page == 0x83 then Some (name_page unit.serial)
+    else if page == 0x83 then Some (name_page unit.name unit.serial)
     else if page == 0xb0 then Some (limits_page unit.thin)
     else if page == 0xb1 then Some medium_page
     else if unit.thin && (page == 0xb2) then Some provisioning_page

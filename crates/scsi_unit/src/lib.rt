@@ -1,8 +1,9 @@
-//! What a logical unit tells of itself beyond the profile: its serial number, its limits, its modes
+//! What a logical unit tells of itself beyond the profile: its names, its limits, its modes
 //! (SPC-4 and SBC-3).
 #![tactic(auto)]
 
 mod data;
+mod designators;
 mod modes;
 mod pages;
 mod telling;

@@ -77,15 +77,14 @@ impl LogicalUnit {
         joined(&[0, length, 0, self.device_specific(), 0, 0, 0, 0], pages)
     }
 
-    // The byte of a header that says whether the unit takes no write, and whether it takes FUA.
+    // The byte of a header that says whether the unit takes no write, and that it takes FUA.
     fn device_specific(&self) -> u8
         ensures { result ≡ device_specific self.now }
     {
-        match (self.is_write_protected(), self.is_write_back()) {
-            (false, false) => 0x00,
-            (true, false) => WRITE_PROTECTED,
-            (false, true) => TAKES_FUA,
-            (true, true) => WRITE_PROTECTED + TAKES_FUA,
+        if self.is_write_protected() {
+            WRITE_PROTECTED + TAKES_FUA
+        } else {
+            TAKES_FUA
         }
     }
 }

@@ -90,34 +90,13 @@ impl LogicalUnit {
         joined(&[0, 0x80, 0, serial.len() as u8], serial)
     }
 
-    // The page of the name.
+    // The page of the names.
     fn name_page(&self) -> Data
-        ensures { result.items ≡ name_page self.now.serial }
+        ensures { result.items ≡ name_page self.now.name self.now.serial }
     {
-        let serial = self.serial();
-        let length = serial.len() as u8;
-        let [v, e, r, i, d, s, k, last] = *b"VERIDISK";
-        joined(
-            &[
-                0,
-                0x83,
-                0,
-                length + 12,
-                2,
-                1,
-                0,
-                length + 8,
-                v,
-                e,
-                r,
-                i,
-                d,
-                s,
-                k,
-                last,
-            ],
-            serial,
-        )
+        let designators = self.designators();
+        let [high, low] = (designators.len() as u16).to_be_bytes();
+        joined(&[0, 0x83, high, low], designators.as_slice())
     }
 }
 
@@ -135,7 +114,7 @@ fn standard(present: bool) -> Data
     ensures { result.items ≡ standard_inquiry present }
 {
     let mut bytes =
-        *b"\0\0\x06\x12\x5b\0\0\x02VERIDISKISCSI DISK      0001\0\0\0\0\0\0\0\0\0\0\0\0\0\0\0\0\0\0\0\0\0\0\x09\x60\x04\x60\x04\xc0\0\0\0\0\0\0\0\0\0\0\0\0\0\0\0\0\0\0\0\0\0\0\0\0\0\0\0\0\0\0\0\0";
+        *b"\0\0\x06\x12\x5b\0\0\x02LANTHOVRISCSI DISK      0001\0\0\0\0\0\0\0\0\0\0\0\0\0\0\0\0\0\0\0\0\0\0\x09\x60\x04\x60\x04\xc0\0\0\0\0\0\0\0\0\0\0\0\0\0\0\0\0\0\0\0\0\0\0\0\0\0\0\0\0\0\0\0\0";
     if !present {
         bytes[0] = 0x7f;
     }

@@ -39,7 +39,7 @@ impl LogicalUnit {
         blocks: u64,
     ) -> Result<Option<Outcome>, AllocError>
         ensures told { IfOk result (λ outcome. outcome ≡ unit_outcome self.now blocks order.now) }
-        ensures few { IfOk result (λ outcome. IfSome outcome (λ told. length told.bytes ≤ 96)) }
+        ensures few { IfOk result (λ outcome. IfSome outcome (λ told. length told.bytes ≤ 296)) }
     {
         let Some(told) = self.data_told(order.lun == 0, blocks, &order.cdb) else {
             return Ok(None);

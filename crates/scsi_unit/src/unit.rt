@@ -1,17 +1,23 @@
 //! A logical unit, by what it tells of itself.
 
 ghost use Rattle.std.specs.Prelude.{◌≡◌, ◌↔◌, IsTrue, IfNone, IfSome, false, true};
+ghost use Rattle.iscsi_login.specs.Name.{IsName};
 ghost use Rattle.scsi_unit.specs.LogicalUnit.{IsInSerial, IsSerial};
 
 use arrayvec::ArrayVec;
+use iscsi_login::is_name;
 use std::marker::Model;
 
 /// The most bytes of a serial number (own rule).
 pub const LONGEST_SERIAL: usize = 16;
 
-/// A logical unit that tells its own serial number, its name, its limits and its modes.
+/// The most bytes of a target's name (RFC 7143, section 4.2.7).
+const LONGEST_NAME: usize = 223;
+
+/// A logical unit that tells its own serial number, its names, its limits and its modes.
 #[derive(Drop)]
 pub struct LogicalUnit {
+    name: ArrayVec<u8, LONGEST_NAME>,
     serial: ArrayVec<u8, LONGEST_SERIAL>,
     write_protected: bool,
     thin: bool,
@@ -19,40 +25,49 @@ pub struct LogicalUnit {
 }
 
 impl Model for LogicalUnit {
+    ghost use Rattle.iscsi_login.specs.Name.{IsName};
     ghost use Rattle.scsi_unit.specs.LogicalUnit.{IsSerial, LogicalUnit};
 
     ghost Value = { LogicalUnit };
 
     ghost view = { λ u. record {
+      name = u.name.items;
       serial = u.serial.items;
       write_protected = u.write_protected;
       thin = u.thin;
       write_back = u.write_back;
     } };
 
-    ghost invariant = { λ u. IsSerial u.serial.items };
+    ghost invariant = { λ u. IsName u.name.items × IsSerial u.serial.items };
 }
 
 impl LogicalUnit {
-    /// A unit with this serial number, 1 to 16 bytes of `!` to `~` (own rule). It says of itself whether
-    /// it takes no write, and that it has no write cache. Other bytes give `None`.
-    pub fn new(serial: &[u8], write_protected: bool) -> Option<LogicalUnit>
-        ensures some { IfSome result (λ unit. IsSerial serial.now
+    /// A unit of the target with this name and with this serial number. It says of itself whether it takes
+    /// no write, and that it has no write cache.
+    ///
+    /// `None` unless the name is one of RFC 7143, section 4.2.7 (1 to 223 bytes of `!` to `~`), and the
+    /// serial number has 1 to 16 bytes of `!` to `~` (own rule).
+    pub fn new(name: &[u8], serial: &[u8], write_protected: bool) -> Option<LogicalUnit>
+        ensures some { IfSome result (λ unit. IsName name.now × IsSerial serial.now
             × (unit ≡ record {
+              name = name.now;
               serial = serial.now;
               write_protected = write_protected;
               thin = false;
               write_back = false;
             })) }
-        ensures none { IfNone result (¬ IsSerial serial.now) }
+        ensures none { IfNone result (¬ (IsName name.now × IsSerial serial.now)) }
     {
-        if !is_serial(serial) {
+        if !is_name(name) || !is_serial(serial) {
             return None;
         }
-        let mut kept = ArrayVec::new();
-        let _ = kept.try_extend_from_slice(serial);
+        let mut kept_name = ArrayVec::new();
+        let _ = kept_name.try_extend_from_slice(name);
+        let mut kept_serial = ArrayVec::new();
+        let _ = kept_serial.try_extend_from_slice(serial);
         Some(LogicalUnit {
-            serial: kept,
+            name: kept_name,
+            serial: kept_serial,
             write_protected,
             thin: false,
             write_back: false,
@@ -77,6 +92,14 @@ impl LogicalUnit {
             write_back: true,
             ..self
         }
+    }
+
+    /// The name of its target, which has 223 bytes at most.
+    pub(crate) fn name(&self) -> &[u8]
+        ensures bytes { result.now ≡ self.now.name }
+        ensures name { IsName self.now.name }
+    {
+        self.name.as_slice()
     }
 
     /// Its serial number, of which there are 16 bytes at most.

@@ -1,6 +1,7 @@
-//! Commands to a unit by rows, serial numbers, and refused memory.
+//! Commands to a unit by rows, names, serial numbers, and refused memory.
 
 mod memory;
+mod names;
 mod rows;
 mod serials;
 mod thin;

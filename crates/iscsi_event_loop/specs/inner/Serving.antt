@@ -10,16 +10,24 @@ settings_with_portal (Some portal) settings = record settings {
   extras = record settings.extras { portal = Some portal };
 }
 
--- The settings with the disk that tells more of itself, where it does (SPC-4; that it does is own rule).
-abbrev pub telling : Option UnitOptions → TargetSettings → TargetSettings
-telling None settings = settings
-telling (Some unit) settings = record settings {
+-- The settings with the disk of this name and serial number that tells more of itself, where it does (SPC-4; that it does is own rule).
+abbrev pub telling : List ℕ → List ℕ → Option UnitOptions → TargetSettings → TargetSettings
+telling name serial None settings = settings
+telling name serial (Some unit) settings = record settings {
   extras = record settings.extras {
     unit = Some (record {
-      serial = unit.serial.now;
+      name = name;
+      serial = serial;
       write_protected = unit.write_protected;
       thin = unit.thin;
       write_back = unit.write_back;
     });
   };
+}
+
+-- The settings with Data-In of so many bytes at most, where a number is said.
+abbrev pub limiting : Option ℕ → TargetSettings → TargetSettings
+limiting None settings = settings
+limiting (Some most) settings = record settings {
+  extras = record settings.extras { longest_data_in = Some most };
 }

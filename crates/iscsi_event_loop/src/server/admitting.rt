@@ -1,20 +1,23 @@
 //! Who is accepted, and gets which slot.
 
-ghost use Rattle.std.specs.Prelude.{◌≡◌, false, length, true};
+ghost use Rattle.std.specs.Prelude.{◌≡◌, ◌≤◌, false, length, true};
 ghost use Rattle.iscsi_event_loop.specs.Running.{RunsIdle};
 ghost use Rattle.iscsi_event_loop.specs.Serving.{has_all};
 
 use super::Server;
 use crate::accepting::AcceptError;
-use crate::configuration::{with_address, with_unit};
+use crate::configuration::{with_address, with_data_in, with_unit};
 use crate::connection::Connection;
+use crate::local_portal::portal_text;
 use crate::numbers::next_number;
 use crate::peer::Peer;
 use crate::room::makes_room;
 use crate::system::watch;
+use iscsi_options::{PortalOption, Stop};
 use iscsi_serving::{AccessFault, SessionEnd, configuration};
 use iscsi_target::Config;
 use mio::net::TcpStream;
+use std::alloc::Global;
 use std::io;
 use std::net::SocketAddr;
 use std::time::Instant;
@@ -39,14 +42,14 @@ enum Accepted {
 impl<'a> Server<'a> {
     // Whether a connection is to be accepted, if one waits.
     pub(super) fn may_admit(&self, now: Instant) -> bool
-        ensures open { result ≡ true → has_all self.now.sessions self.now.logins ≡ false }
+        ensures open { result ≡ true → has_all self.now.most self.now.counted ≡ false }
     {
         self.has_place() && self.accepting.is_due(now)
     }
 
     // Whether one more connection is to be accepted, and has a slot that is free or can be.
     pub(super) fn has_place(&self) -> bool
-        ensures open { result ≡ true → has_all self.now.sessions self.now.logins ≡ false }
+        ensures open { result ≡ true → has_all self.now.most self.now.counted ≡ false }
     {
         !self.has_all() && (self.has_free() || makes_room(&self.table, &self.arrivals).is_some())
     }
@@ -58,12 +61,12 @@ impl<'a> Server<'a> {
 
     // Accepts those who wait, as far as there are slots. If as many as there are slots, and one more,
     // are gone one after another, the error is one that lasts, and counts as a want of room.
-    #[tactic(auto, using(crate::proofs::RunningLemmas::none_idle, crate::proofs::RunningLemmas::then_idle))]
+    #[tactic(auto, using(crate::proofs::RunningLemmas::none_idle, crate::proofs::RunningLemmas::then_idle, crate::proofs::RunningLemmas::rises_on))]
     pub(super) fn admit(&mut self, rt: &HostRuntime, now: Instant)
         ensures runs { RunsIdle self.old.table self.new.table }
         ensures slots { length self.new.table.slots ≡ length self.old.table.slots }
-        ensures sessions { self.new.sessions ≡ self.old.sessions }
-        ensures logins { self.new.logins ≡ self.old.logins }
+        ensures most { self.new.most ≡ self.old.most }
+        ensures counted { self.old.counted ≤ self.new.counted }
     {
         let mut are_gone = true;
         for _ in 0..=self.peers.len() {
@@ -84,8 +87,8 @@ impl<'a> Server<'a> {
     fn accept(&mut self, rt: &HostRuntime, now: Instant) -> Accepted
         ensures runs { RunsIdle self.old.table self.new.table }
         ensures slots { length self.new.table.slots ≡ length self.old.table.slots }
-        ensures sessions { self.new.sessions ≡ self.old.sessions }
-        ensures logins { self.new.logins ≡ self.old.logins }
+        ensures most { self.new.most ≡ self.old.most }
+        ensures counted { self.old.counted ≤ self.new.counted }
     {
         if !self.may_admit(now) {
             return Accepted::Enough;
@@ -112,8 +115,8 @@ impl<'a> Server<'a> {
     fn make_room(&mut self, rt: &HostRuntime)
         ensures runs { RunsIdle self.old.table self.new.table }
         ensures slots { length self.new.table.slots ≡ length self.old.table.slots }
-        ensures sessions { self.new.sessions ≡ self.old.sessions }
-        ensures logins { self.new.logins ≡ self.old.logins }
+        ensures most { self.new.most ≡ self.old.most }
+        ensures counted { self.new.counted ≡ self.old.counted }
     {
         if let Some(slot) = makes_room(&self.table, &self.arrivals) {
             self.dismiss(rt, slot, Some(SessionEnd::MadeRoom));
@@ -158,16 +161,17 @@ impl<'a> Server<'a> {
     )
         ensures runs { RunsIdle self.old.table self.new.table }
         ensures slots { length self.new.table.slots ≡ length self.old.table.slots }
-        ensures sessions { self.new.sessions ≡ self.old.sessions }
-        ensures logins { self.new.logins ≡ self.old.logins }
+        ensures most { self.new.most ≡ self.old.most }
+        ensures counted { self.old.counted ≤ self.new.counted }
     {
         self.accepting.accepted();
         self.accepted = self.accepted.saturating_add(1);
-        let Some(number) = next_number(self.last_number, &self.numbers) else {
+        self.count_connection();
+        let Some(number) = next_number(self.last_number(), &self.numbers) else {
             return;
         };
         self.last_number = number;
-        let Some(config) = self.configured(rt, number) else {
+        let Some(config) = self.configured(rt, number, &stream) else {
             return;
         };
         let Some(slot) = self.slot(config) else {
@@ -184,15 +188,37 @@ impl<'a> Server<'a> {
         );
     }
 
+    // A connection was accepted, and is counted, if connections end the service.
+    fn count_connection(&mut self)
+        ensures same { self.new.table ≡ self.old.table }
+        ensures most { self.new.most ≡ self.old.most }
+        ensures counted { self.old.counted ≤ self.new.counted }
+    {
+        if let Some(Stop::Connections(_)) = self.options.stop {
+            self.count();
+        }
+    }
+
+    // The number behind which that of a new session comes. With the bare profile it gets the least one that is
+    // free.
+    fn last_number(&self) -> u16 {
+        if self.options.unit.is_some() {
+            self.last_number
+        } else {
+            0
+        }
+    }
+
     // The configuration of a connection of this number; none without memory or random bytes.
-    fn configured(&mut self, rt: &HostRuntime, number: u16) -> Option<Config>
+    fn configured(&mut self, rt: &HostRuntime, number: u16, stream: &TcpStream) -> Option<Config>
         ensures same { self.new ≡ self.old }
     {
         let options = self.options;
         let alloc = rt.alloc();
         let config = configuration(alloc, options.name, number, options.preferences).ok()?;
-        let config = with_address(alloc, config, options.portal).ok()?;
-        let config = with_unit(config, options.unit)?;
+        let config = self.with_portal(alloc, config, stream)?;
+        let config = with_unit(config, options.name, self.serial, options.unit)?;
+        let config = with_data_in(config, options.data_in)?;
         match self.access.demand(alloc, rt, config) {
             Ok(config) => Some(config),
             Err(AccessFault::NoMemory) => None,
@@ -203,12 +229,26 @@ impl<'a> Server<'a> {
         }
     }
 
+    // The configuration with the address that initiators of a connection are to use, if they are told one;
+    // none without memory.
+    fn with_portal(&self, alloc: Global, config: Config, stream: &TcpStream) -> Option<Config> {
+        match self.options.portal {
+            PortalOption::Untold => Some(config),
+            PortalOption::Other(address) => with_address(alloc, config, Some(address)).ok(),
+            PortalOption::Local => {
+                let local = stream.local_addr().ok().and_then(portal_text);
+                let address = local.as_ref().map(|text| text.as_bytes());
+                with_address(alloc, config, address).ok()
+            }
+        }
+    }
+
     // Gives a new session the first free slot of the table.
     fn slot(&mut self, config: Config) -> Option<usize>
         ensures runs { RunsIdle self.old.table self.new.table }
         ensures slots { length self.new.table.slots ≡ length self.old.table.slots }
-        ensures sessions { self.new.sessions ≡ self.old.sessions }
-        ensures logins { self.new.logins ≡ self.old.logins }
+        ensures most { self.new.most ≡ self.old.most }
+        ensures counted { self.new.counted ≡ self.old.counted }
     {
         self.table.slot(config)
     }

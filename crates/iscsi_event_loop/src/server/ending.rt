@@ -4,10 +4,9 @@ ghost use Rattle.std.specs.Prelude.{◌≡◌, length};
 ghost use Rattle.iscsi_event_loop.specs.Running.{RunsIdle};
 
 use super::Server;
-use crate::refusals::Refusal;
-use crate::session_line::SessionLine;
+use crate::session_line::{Name, SessionLine, TwoWriters};
 use crate::system::now;
-use crate::tally::Ended;
+use crate::tally::{Ended, LoggedEnd};
 use iscsi_login::Phase;
 use iscsi_serving::SessionEnd;
 use std::fmt::Display;
@@ -18,8 +17,8 @@ impl<'a> Server<'a> {
     pub(super) fn close(&mut self, rt: &HostRuntime, slot: usize, end: Option<SessionEnd>)
         ensures runs { RunsIdle self.old.table self.new.table }
         ensures slots { length self.new.table.slots ≡ length self.old.table.slots }
-        ensures sessions { self.new.sessions ≡ self.old.sessions }
-        ensures logins { self.new.logins ≡ self.old.logins }
+        ensures most { self.new.most ≡ self.old.most }
+        ensures counted { self.new.counted ≡ self.old.counted }
     {
         self.dismiss(rt, slot, end);
         if end == Some(SessionEnd::Sync) {
@@ -32,8 +31,8 @@ impl<'a> Server<'a> {
     pub(super) fn dismiss_guests(&mut self, rt: &HostRuntime)
         ensures runs { RunsIdle self.old.table self.new.table }
         ensures slots { length self.new.table.slots ≡ length self.old.table.slots }
-        ensures sessions { self.new.sessions ≡ self.old.sessions }
-        ensures logins { self.new.logins ≡ self.old.logins }
+        ensures most { self.new.most ≡ self.old.most }
+        ensures counted { self.new.counted ≡ self.old.counted }
     {
         for slot in 0..self.peers.len() {
             if self.table.phase(slot) == Some(Phase::Login) {
@@ -47,8 +46,8 @@ impl<'a> Server<'a> {
     pub(super) fn end_older(&mut self, rt: &HostRuntime, slot: usize)
         ensures runs { RunsIdle self.old.table self.new.table }
         ensures slots { length self.new.table.slots ≡ length self.old.table.slots }
-        ensures sessions { self.new.sessions ≡ self.old.sessions }
-        ensures logins { self.new.logins ≡ self.old.logins }
+        ensures most { self.new.most ≡ self.old.most }
+        ensures counted { self.new.counted ≡ self.old.counted }
     {
         if let Some(older) = self.table.taken_over(slot) {
             self.dismiss(rt, older, Some(SessionEnd::TakenOver));
@@ -61,8 +60,8 @@ impl<'a> Server<'a> {
     fn dismiss_all(&mut self, rt: &HostRuntime)
         ensures runs { RunsIdle self.old.table self.new.table }
         ensures slots { length self.new.table.slots ≡ length self.old.table.slots }
-        ensures sessions { self.new.sessions ≡ self.old.sessions }
-        ensures logins { self.new.logins ≡ self.old.logins }
+        ensures most { self.new.most ≡ self.old.most }
+        ensures counted { self.new.counted ≡ self.old.counted }
     {
         for slot in 0..self.peers.len() {
             if let Some(Some(_)) = self.peers.get(slot) {
@@ -71,13 +70,37 @@ impl<'a> Server<'a> {
         }
     }
 
-    // Tells that a login is completed, if that is asked for.
+    // Tells that a login is completed, unless that is not to be told.
     pub(super) fn tell_login(&mut self, rt: &HostRuntime, slot: usize)
         ensures same { self.new ≡ self.old }
     {
-        if self.options.log {
+        if !self.options.quiet {
             self.tell(rt, slot, "logged in");
         }
+    }
+
+    // Tells that initiators of two names are logged in to a disk that can be written, if they are: each of them
+    // may take the other's blocks for its own.
+    pub(super) fn tell_other(&mut self, rt: &HostRuntime, slot: usize)
+        ensures same { self.new ≡ self.old }
+    {
+        let is_written = match self.options.unit {
+            Some(unit) => !unit.write_protected,
+            None => false,
+        };
+        if is_written && self.table.is_served(slot) {
+            if let Some(other) = self.other_name(slot) {
+                self.tell_beside(rt, slot, other);
+            }
+        }
+    }
+
+    // A slot with a session of an initiator of another name.
+    fn other_name(&self, slot: usize) -> Option<usize> {
+        (0..self.table.slots()).find(|other| {
+            self.table.is_served(*other)
+                && self.table.initiator_name(*other) != self.table.initiator_name(slot)
+        })
     }
 
     // Writes a line with what is told of the session of a slot.
@@ -87,28 +110,46 @@ impl<'a> Server<'a> {
         let Some(Some(peer)) = self.peers.get(slot) else {
             return;
         };
+        let Ok(now) = now(rt) else {
+            return;
+        };
         let line = SessionLine {
             number: self.numbers.get(slot).copied().unwrap_or(0),
             address: peer.connection.address(),
             initiator: self.table.initiator_name(slot),
             told,
         };
-        self.lines.tell(rt, &line);
+        let is_guest = !peer.tally.has_logged_in();
+        self.lines.tell_of_peer(rt, now, is_guest, &line);
     }
 
-    // Tells why the session of a slot ended, if that is a fault, and of all ends if that is asked for. Where
-    // not everybody may log in, one refused login a second is told, too.
+    // Writes a line that the initiators of two slots may both write.
+    fn tell_beside(&mut self, rt: &HostRuntime, slot: usize, other: usize)
+        ensures same { self.new ≡ self.old }
+    {
+        let Ok(now) = now(rt) else {
+            return;
+        };
+        let line = TwoWriters {
+            first: Name(self.table.initiator_name(other)),
+            second: Name(self.table.initiator_name(slot)),
+        };
+        self.lines.tell_of_peer(rt, now, false, &line);
+    }
+
+    // Tells why the session of a slot ended, if that is a fault, and of all ends unless they are not to be told.
+    // A refused login is told in any case where not everybody may log in.
     fn tell_end(&mut self, rt: &HostRuntime, slot: usize, end: Option<SessionEnd>)
         ensures same { self.new ≡ self.old }
     {
-        if self.options.log {
+        if !self.options.quiet {
             if let Some(ended) = self.ended(rt, slot, end) {
                 self.tell(rt, slot, ended);
             }
         } else if let Some(end) = end {
             self.tell(rt, slot, end);
-        } else if let Some(refusal) = self.refusal(rt, slot) {
-            self.tell(rt, slot, refusal);
+        } else if let Some(refused) = self.refused(slot) {
+            self.tell(rt, slot, refused);
         }
     }
 
@@ -127,23 +168,21 @@ impl<'a> Server<'a> {
         })
     }
 
-    // What is told of the login of a slot, if it was refused and is to be told now.
-    fn refusal(&mut self, rt: &HostRuntime, slot: usize) -> Option<Refusal>
-        ensures same { self.new ≡ self.old }
-    {
+    // What is told of the login of a slot, if it was refused and not everybody may log in.
+    fn refused(&self, slot: usize) -> Option<LoggedEnd> {
         if self.access.is_open() {
             return None;
         }
         let (class, detail) = self.peers.get(slot)?.as_ref()?.tally.refused()?;
-        self.refusals.tell(now(rt).ok()?, class, detail)
+        Some(LoggedEnd::Refused(class, detail))
     }
 
     // Frees a slot, and tells why its session ended.
     pub(super) fn dismiss(&mut self, rt: &HostRuntime, slot: usize, end: Option<SessionEnd>)
         ensures runs { RunsIdle self.old.table self.new.table }
         ensures slots { length self.new.table.slots ≡ length self.old.table.slots }
-        ensures sessions { self.new.sessions ≡ self.old.sessions }
-        ensures logins { self.new.logins ≡ self.old.logins }
+        ensures most { self.new.most ≡ self.old.most }
+        ensures counted { self.new.counted ≡ self.old.counted }
     {
         self.tell_end(rt, slot, end);
         self.free(slot);
@@ -154,8 +193,8 @@ impl<'a> Server<'a> {
     pub(super) fn free(&mut self, slot: usize)
         ensures runs { RunsIdle self.old.table self.new.table }
         ensures slots { length self.new.table.slots ≡ length self.old.table.slots }
-        ensures sessions { self.new.sessions ≡ self.old.sessions }
-        ensures logins { self.new.logins ≡ self.old.logins }
+        ensures most { self.new.most ≡ self.old.most }
+        ensures counted { self.new.counted ≡ self.old.counted }
     {
         self.table.leave(slot);
     }

@@ -7,6 +7,7 @@ ghost use Rattle.iscsi_event_loop.specs.Running.{RunsFew, RunsIdle, RunsInTurns,
 use super::Server;
 use crate::budget::Budget;
 use iscsi_login::Phase;
+use iscsi_options::Stop;
 use iscsi_serving::SessionEnd;
 use scsi_disk::BlockStore;
 use std::time::Instant;
@@ -28,8 +29,8 @@ impl<'a> Server<'a> {
             self.old.table (store_of (S.disk store.old) (S.failures store.old))
             self.new.table (store_of (S.disk store.new) (S.failures store.new)) }
         ensures slots { length self.new.table.slots ≡ length self.old.table.slots }
-        ensures sessions { self.new.sessions ≡ self.old.sessions }
-        ensures logins { self.old.logins ≤ self.new.logins }
+        ensures most { self.new.most ≡ self.old.most }
+        ensures counted { self.old.counted ≤ self.new.counted }
     {
         let taken = self.peers.iter().filter(|peer| peer.is_some()).count();
         let budget = Budget::of(taken);
@@ -52,8 +53,8 @@ impl<'a> Server<'a> {
             self.old.table (store_of (S.disk store.old) (S.failures store.old))
             self.new.table (store_of (S.disk store.new) (S.failures store.new)) }
         ensures slots { length self.new.table.slots ≡ length self.old.table.slots }
-        ensures sessions { self.new.sessions ≡ self.old.sessions }
-        ensures logins { self.old.logins ≤ self.new.logins }
+        ensures most { self.new.most ≡ self.old.most }
+        ensures counted { self.old.counted ≤ self.new.counted }
     {
         let Some(Some(peer)) = self.peers.get_mut(slot) else {
             return;
@@ -85,12 +86,13 @@ impl<'a> Server<'a> {
     )
         ensures runs { RunsIdle self.old.table self.new.table }
         ensures slots { length self.new.table.slots ≡ length self.old.table.slots }
-        ensures sessions { self.new.sessions ≡ self.old.sessions }
-        ensures logins { self.old.logins ≤ self.new.logins }
+        ensures most { self.new.most ≡ self.old.most }
+        ensures counted { self.old.counted ≤ self.new.counted }
     {
         if is_login {
             self.tell_login(rt, slot);
             self.end_older(rt, slot);
+            self.tell_other(rt, slot);
             self.count_login(rt);
         }
         if is_over {
@@ -98,27 +100,20 @@ impl<'a> Server<'a> {
         }
     }
 
-    // A login was completed. With the last one that is to be, nobody is accepted any more, and
+    // A login was completed, and is counted, if logins end the service. With the last one that is to be,
     // connections that have not logged in are ended.
     #[tactic(auto, using(crate::proofs::RunningLemmas::none_idle))]
     fn count_login(&mut self, rt: &HostRuntime)
         ensures runs { RunsIdle self.old.table self.new.table }
         ensures slots { length self.new.table.slots ≡ length self.old.table.slots }
-        ensures sessions { self.new.sessions ≡ self.old.sessions }
-        ensures logins { self.old.logins ≤ self.new.logins }
+        ensures most { self.new.most ≡ self.old.most }
+        ensures counted { self.old.counted ≤ self.new.counted }
     {
-        let Some(most) = self.options.sessions else {
-            if self.logins < u64::MAX {
-                self.logins += 1;
+        if let Some(Stop::Logins(_)) = self.options.stop {
+            self.count();
+            if self.listener.is_none() {
+                self.dismiss_guests(rt);
             }
-            return;
-        };
-        if self.logins < u64::from(most) {
-            self.logins += 1;
-        }
-        if self.logins >= u64::from(most) {
-            self.listener = None;
-            self.dismiss_guests(rt);
         }
     }
 }

@@ -21,7 +21,7 @@ impl<'a> Server<'a> {
         } else {
             sooner(
                 sooner(self.time_left(now), self.rest_left(now)),
-                self.lost_left(),
+                self.lines_left(),
             )
         };
         if self.poll.poll(&mut self.events, timeout).is_err() {
@@ -61,9 +61,9 @@ impl<'a> Server<'a> {
         }
     }
 
-    // How long until it is tried again to tell of lines that were lost.
-    fn lost_left(&self) -> Option<Duration> {
-        if self.lines.has_lost() {
+    // How long until it is tried again to tell of lines that were lost or left out.
+    fn lines_left(&self) -> Option<Duration> {
+        if self.lines.has_more() {
             Some(Duration::from_secs(1))
         } else {
             None

@@ -1,6 +1,6 @@
 //! A disk with a write cache: what a crash leaves of a write behind which some commands came.
 
-use super::{LOGIN, PING, Trouble, WRITE, config, pdus_at, pdus_in};
+use super::{LOGIN, NAME, PING, Trouble, WRITE, config, pdus_at, pdus_in};
 use crate::asserts::same;
 use iscsi_sessions::SessionTable;
 use scsi_disk::BlockStore;
@@ -65,7 +65,7 @@ fn one_slot(alloc: Global, cached: bool) -> Result<Room, Trouble> {
         return Err(Trouble::Step("no sync"));
     };
     let mut table = SessionTable::new(alloc, 1)?;
-    let unit = LogicalUnit::new(b"disk-7", false).ok_or(Trouble::Step("no unit"))?;
+    let unit = LogicalUnit::new(NAME, b"disk-7", false).ok_or(Trouble::Step("no unit"))?;
     let unit = if cached { unit.with_write_back() } else { unit };
     let config = config(alloc)?.with_unit(unit);
     table.slot(config).ok_or(Trouble::Step("no slot"))?;
@@ -87,7 +87,8 @@ fn read(room: &mut Room, stream: &[u8]) -> Result<(), Trouble> {
         let Ok(waiting) = room.table.offered(0, &mut room.store) else {
             return Err(Trouble::Step("no sync"));
         };
-        let count = waiting.len();
+        let count = waiting.as_bytes().len();
+        drop(waiting);
         if room.table.is_taken(0) {
             room.table.sent(0, count);
         }

@@ -29,9 +29,12 @@ pub fn reads(first: &[u8], expected: u32) -> Order {
     }
 }
 
+/// The name of the target of the rows.
+pub const NAME: &[u8] = b"iqn.2026-01.example:disk";
+
 /// The unit of the rows.
 pub fn unit(rt: &impl Abort, write_protected: bool) -> LogicalUnit {
-    LogicalUnit::new(b"disk-7", write_protected).expect(rt, "a serial number")
+    LogicalUnit::new(NAME, b"disk-7", write_protected).expect(rt, "a name and a serial number")
 }
 
 fn answer(rt: &impl Abort, alloc: Global, unit: &LogicalUnit, order: &Order) -> Option<Outcome> {
@@ -44,7 +47,7 @@ const DATA: &[(&str, &[u8], &[u8], u32)] = &[
     (
         "standard data",
         b"\x12\0\0\0\xff\0",
-        b"\0\0\x06\x12\x5b\0\0\x02VERIDISKISCSI DISK      0001\0\0\0\0\0\0\0\0\0\0\0\0\0\0\0\0\0\0\0\0\0\0\x09\x60\x04\x60\x04\xc0",
+        b"\0\0\x06\x12\x5b\0\0\x02LANTHOVRISCSI DISK      0001\0\0\0\0\0\0\0\0\0\0\0\0\0\0\0\0\0\0\0\0\0\0\x09\x60\x04\x60\x04\xc0",
         96,
     ),
     (
@@ -60,10 +63,10 @@ const DATA: &[(&str, &[u8], &[u8], u32)] = &[
         10,
     ),
     (
-        "name",
+        "names",
         b"\x12\x01\x83\0\xff\0",
-        b"\0\x83\0\x12\x02\x01\0\x0eVERIDISKdisk-7",
-        22,
+        b"\0\x83\0\x52\x02\x01\0\x0eLANTHOVRdisk-7\x01\x03\0\x08\x35\x86\xa9\x6c\x25\xa9\xc7\x2f\x03\x08\0\x30iqn.2026-01.example:disk,L,0x0000000000000000\0\0\0",
+        86,
     ),
     (
         "limits",
@@ -87,37 +90,37 @@ const DATA: &[(&str, &[u8], &[u8], u32)] = &[
     (
         "MODE SENSE(6), caching",
         b"\x1a\0\x08\0\xff\0",
-        b"\x17\0\0\0\x08\x12",
+        b"\x17\0\x10\0\x08\x12",
         24,
     ),
     (
         "MODE SENSE(6), control, changeable",
         b"\x1a\0\x4a\0\xff\0",
-        b"\x0f\0\0\0\x0a\x0a",
+        b"\x0f\0\x10\0\x0a\x0a",
         16,
     ),
     (
         "MODE SENSE(6), all, with no block descriptors",
         b"\x1a\x08\x3f\0\xff\0",
-        b"\x23\0\0\0\x08\x12\0\0\0\0\0\0\0\0\0\0\0\0\0\0\0\0\0\0\x0a\x0a",
+        b"\x23\0\x10\0\x08\x12\0\0\0\0\0\0\0\0\0\0\0\0\0\0\0\0\0\0\x0a\x0a",
         36,
     ),
     (
         "MODE SENSE(6), all with subpages, default",
         b"\x1a\0\xbf\xff\xff\0",
-        b"\x23\0\0\0\x08\x12\0\0\0\0\0\0\0\0\0\0\0\0\0\0\0\0\0\0\x0a\x0a",
+        b"\x23\0\x10\0\x08\x12\0\0\0\0\0\0\0\0\0\0\0\0\0\0\0\0\0\0\x0a\x0a",
         36,
     ),
     (
         "MODE SENSE(10), caching",
         b"\x5a\0\x08\0\0\0\0\0\xff\0",
-        b"\0\x1a\0\0\0\0\0\0\x08\x12",
+        b"\0\x1a\0\x10\0\0\0\0\x08\x12",
         28,
     ),
     (
         "MODE SENSE(10), all",
         b"\x5a\0\x3f\0\0\0\0\0\xff\0",
-        b"\0\x26\0\0\0\0\0\0\x08\x12\0\0\0\0\0\0\0\0\0\0\0\0\0\0\0\0\0\0\x0a\x0a",
+        b"\0\x26\0\x10\0\0\0\0\x08\x12\0\0\0\0\0\0\0\0\0\0\0\0\0\0\0\0\0\0\x0a\x0a",
         40,
     ),
 ];
@@ -244,7 +247,7 @@ fn a_protected_unit_says_so(rt: HostRuntime) {
     same(
         &rt,
         &outcome.bytes.as_slice(),
-        &&b"\x0f\0\x80\0"[..],
+        &&b"\x0f\0\x90\0"[..],
         &"(6)",
     );
     let order = reads(b"\x5a\0\x0a\0\0\0\0\0\x08\0", 8);
@@ -252,7 +255,7 @@ fn a_protected_unit_says_so(rt: HostRuntime) {
     same(
         &rt,
         &outcome.bytes.as_slice(),
-        &&b"\0\x12\0\x80\0\0\0\0"[..],
+        &&b"\0\x12\0\x90\0\0\0\0"[..],
         &"(10)",
     );
 }

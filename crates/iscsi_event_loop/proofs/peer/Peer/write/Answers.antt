@@ -8,8 +8,8 @@ returns-then-not-is_writable-clause-runs g c = idle_at g.S.BlockStore.protected 
     (store_of (g.S.BlockStore.disk c.args.store.now) (g.S.BlockStore.failures c.args.store.now))
     (unsent_at c.args.slot c.args.table.now c.sent.new.self c.sent.ensures.sent c.sent.ensures.machines)
 
-pub returns-in_default-clause-runs : goal.returns-in_default-clause-runs
-returns-in_default-clause-runs g c = sync_at g.S.BlockStore.protected c.args.slot c.args.left.now c.args.table.now
+pub returns-in-Err-clause-runs : goal.returns-in-Err-clause-runs
+returns-in-Err-clause-runs g c = sync_at g.S.BlockStore.protected c.args.slot c.args.left.now c.args.table.now
     (store_of (g.S.BlockStore.disk c.args.store.now) (g.S.BlockStore.failures c.args.store.now))
     (store_of (g.S.BlockStore.disk c.offered.new.store) (g.S.BlockStore.failures c.offered.new.store))
     c.requires.some c.offered.ensures.syncs

@@ -5,4 +5,4 @@ use Rattle.iscsi_event_loop.proofs.server.Server.dismiss_guests.Given as goal
 abbrev pub invariant-loop-slot : goal.invariant-loop-slot
 invariant-loop-slot l = RunsIdle l.fn.self.table l.self.table
     × (length l.self.table.slots ≡ length l.fn.self.table.slots)
-    × (l.self.sessions ≡ l.fn.self.sessions) × (l.self.logins ≡ l.fn.self.logins)
+    × (l.self.most ≡ l.fn.self.most) × (l.self.counted ≡ l.fn.self.counted)

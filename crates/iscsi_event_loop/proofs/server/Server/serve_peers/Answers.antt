@@ -11,8 +11,8 @@ loop-slot-preserved g c = (
       (store_of (g.S.BlockStore.disk c.serve_peer.new.store) (g.S.BlockStore.failures c.serve_peer.new.store))
       c.loop-slot.invariant.4 c.loop-slot.invariant.5 c.loop-slot.invariant.0 c.serve_peer.ensures.turn,
   c.serve_peer.ensures.slots ∙ c.loop-slot.invariant.1,
-  c.serve_peer.ensures.sessions ∙ c.loop-slot.invariant.2,
-  le_trans c.loop-slot.invariant.3 c.serve_peer.ensures.logins,
+  c.serve_peer.ensures.most ∙ c.loop-slot.invariant.2,
+  le_trans c.loop-slot.invariant.3 c.serve_peer.ensures.counted,
   c.loop-slot.invariant.4,
   c.loop-slot.invariant.5,
 )

@@ -9,5 +9,5 @@ invariant-loop-slot g l = InTurns g.S.BlockStore.protected l.slot
     l.fn.self.table (store_of (g.S.BlockStore.disk l.fn.store) (g.S.BlockStore.failures l.fn.store))
     l.self.table (store_of (g.S.BlockStore.disk l.store) (g.S.BlockStore.failures l.store))
     × (length l.self.table.slots ≡ length l.fn.self.table.slots)
-    × (l.self.sessions ≡ l.fn.self.sessions) × (l.fn.self.logins ≤ l.self.logins)
+    × (l.self.most ≡ l.fn.self.most) × (l.fn.self.counted ≤ l.self.counted)
     × (l.budget.pdus ≤ most_taken) × (l.budget.given ≤ most_given)
