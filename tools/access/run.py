@@ -47,7 +47,7 @@ number, pdu = BASE.number, BASE.pdu
 
 
 class Service(BASE.Service):
-    """`serve --at-once --chap` over a disk in memory, to which nobody has logged in yet."""
+    """`serve --chap` over a disk in memory, to which nobody has logged in yet."""
 
     def login(self, initiator):
         return None

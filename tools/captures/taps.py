@@ -183,7 +183,7 @@ class Serve:
 
     def __init__(self, program, room, size):
         self.port = free_port()
-        words = [program, "serve", "--size", str(size), "--port", str(self.port), "--at-once", "8"]
+        words = [program, "serve", "--size", str(size), "--port", str(self.port)]
         self.process = subprocess.Popen(words, stdin=subprocess.DEVNULL, stdout=subprocess.PIPE, stderr=subprocess.DEVNULL)
         if self.process.stdout.readline() != b"listening\n":
             raise RuntimeError("serve does not listen")

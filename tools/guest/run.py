@@ -144,7 +144,7 @@ echo "RESULT discards $status $data"
 """
 # A guest that serves its own disk, and writes records of 4 KiB through it: each is flushed before it is told.
 RECORDS_JOB = """
-%s serve --file /dev/vda --at-once 2 --serial disk-7 --write-back > /tmp/service &
+%s serve --file /dev/vda --write-back > /tmp/service &
 for n in 1 2 3 4 5 6 7 8; do grep -q listening /tmp/service && break; sleep 1; done
 record
 node --login > /tmp/said 2>&1 && has_disk
@@ -159,13 +159,13 @@ RECORD = 4096
 
 
 class Service:
-    """`serve --at-once` with these words, in which PORT is its port, and which ends with the block."""
+    """`serve` with these words, in which PORT is its port, and which ends with the block."""
 
     def __init__(self, program, *words):
         with socket.create_server(("127.0.0.1", 0)) as other:
             self.port = other.getsockname()[1]
         words = [word.replace("PORT", str(self.port)) for word in words]
-        words = [program, "serve", "--size", "64M", "--at-once", "8", "--port", str(self.port), *words]
+        words = [program, "serve", "--size", "64M", "--port", str(self.port), *words]
         self.process = subprocess.Popen(words, stdin=subprocess.DEVNULL, stdout=subprocess.PIPE, stderr=subprocess.DEVNULL)
         if self.process.stdout.readline() != b"listening\n":
             raise OSError("the service did not start")
@@ -213,7 +213,7 @@ def keeps_a_disk(program, room):
 def flushes(program, room):
     """Linux knows that a disk has a write cache, and flushes it for the files of a file system."""
     image = f"{room}/image"
-    with Service(program, "--file", image, "--create", "--serial", "disk-7", "--write-back") as service:
+    with Service(program, "--file", image, "--create", "--write-back") as service:
         seen, text = results(room, service.port, CACHE_JOB)
     due = {"cache": ("1", "write_back"), "files": ("flushed", "same")}
     return seen == due or (seen, text[-4000:])
@@ -221,7 +221,7 @@ def flushes(program, room):
 
 def trims(program, room):
     """Linux discards what mkfs and fstrim name, and all of a disk; what is left reads as it was, and the others as zeros."""
-    with Service(program, "--serial", "disk-7", "--thin") as service:
+    with Service(program) as service:
         seen, text = results(room, service.port, THIN_JOB)
     due = {"thin": ("1", "writesame_16"), "trims": ("mostmost", "same"), "discards": ("0", "zeros")}
     return seen == due or (seen, text[-4000:])

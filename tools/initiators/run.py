@@ -1,5 +1,5 @@
 #!/usr/bin/env python3
-"""Tries `serve` with the programs that other initiators are, with `--serial`, with `--thin`, and without them.
+"""Tries `serve` with the programs that other initiators are: a disk in memory, which is thin, an image, and one with `--plain`.
 
     tools/initiators/run.py [PROGRAM]
 
@@ -21,13 +21,15 @@ import threading
 TOP = os.path.dirname(os.path.dirname(os.path.dirname(os.path.abspath(__file__))))
 TARGET = "iqn.2026-01.example:disk"
 MIB = 1 << 20
+# The words of a disk of the bare profile, of an image, and of a disk in memory.
+PLAIN, IMAGE, MEMORY = ["--plain"], ["--file"], []
 
 
 class Skipped(Exception):
     """What a case wants is not there."""
 
 
-def ran(*words, seconds=120):
+def ran(*words, seconds=600):
     """The status of a program, and what it says."""
     if not shutil.which(words[0]):
         raise Skipped(f"{words[0]} is not installed")
@@ -36,13 +38,16 @@ def ran(*words, seconds=120):
 
 
 class Service:
-    """`serve --at-once` over 64 MiB in memory with these words, which ends with the block."""
+    """`serve` over 64 MiB with these words, which ends with the block. Behind `--file` comes an image of the room."""
 
-    def __init__(self, program, *words):
+    def __init__(self, program, room, words, image="image"):
+        path = f"{room}/{image}"
+        words = [*words, *([path] if words == IMAGE else [])]
+        size = [] if words[:1] == IMAGE and os.path.exists(path) else ["--size", "64M", *(["--create"] if words[:1] == IMAGE else [])]
         with socket.create_server(("127.0.0.1", 0)) as other:
             port = other.getsockname()[1]
         self.url = f"iscsi://127.0.0.1:{port}/{TARGET}/0"
-        words = [program, "serve", "--size", "64M", "--at-once", "4", "--port", str(port), *words]
+        words = [program, "serve", "--port", str(port), *size, *words]
         self.process = subprocess.Popen(words, stdin=subprocess.DEVNULL, stdout=subprocess.PIPE, stderr=subprocess.DEVNULL)
         if self.process.stdout.readline() != b"listening\n":
             raise OSError("the service did not start")
@@ -93,61 +98,62 @@ def conformance(service, group):
 
 
 def numbers(program, room, words):
-    """Two disks have serial numbers and names of their own."""
+    """Two disks have serial numbers and names of their own. An image has them again after a restart, a disk in memory has others."""
     told = []
-    for serial in ("disk-7", "disk-8"):
-        with Service(program, *(["--serial", serial] if words else [])) as service:
-            told.append([ran("iscsi-inq", "-e", "1", "-c", page, service.url)[1] for page in ("128", "131")])
-    own = all("disk-7" in page for page in told[0]) and all("disk-8" in page for page in told[1])
-    return own if words else told[0] == told[1]
+    for image in ("image", "other", "image"):
+        with Service(program, room, words, image) as service:
+            told.append(tuple(ran("iscsi-inq", "-e", "1", "-c", page, service.url)[1] for page in ("128", "131")))
+    if words == PLAIN:
+        return len(set(told)) == 1
+    return all(one != other for one, other in zip(told[0], told[1])) and (told[0] == told[2]) == (words == IMAGE)
 
 
 def holes(program, room, words):
     """qemu-img copies an image that is one hole of 48 MiB between its ends, and finds it the same."""
-    image = f"{room}/image"
+    image = f"{room}/source"
     with open(image, "wb") as file:
         file.write(os.urandom(4096))
         file.seek(64 * MIB - 4096)
         file.write(os.urandom(4096))
-    with Service(program, *words) as service:
+    with Service(program, room, words) as service:
         status, _ = ran("qemu-img", "convert", "-n", "-f", "raw", "-O", "raw", image, service.url)
         same = status == 0 and ran("qemu-img", "compare", "-f", "raw", "-F", "raw", image, service.url)[0] == 0
-    return same if words else status != 0
+    return status != 0 if words == PLAIN else same
 
 
 def inquiry(program, room, words):
     """iscsi-test-cu Inquiry."""
-    with Service(program, *words) as service:
-        return conformance(service, "Inquiry")[0] == ([] if words else ["BlockLimits"])
+    with Service(program, room, words) as service:
+        return conformance(service, "Inquiry")[0] == (["BlockLimits"] if words == PLAIN else [])
 
 
 def modes(program, room, words):
     """iscsi-test-cu ModeSense6."""
-    with Service(program, *words) as service:
+    with Service(program, room, words) as service:
         return conformance(service, "ModeSense6")[0] == []
 
 
 def management(program, room, words):
     """iscsi-test-cu iSCSITMF."""
-    with Service(program, *words) as service:
-        return conformance(service, "iSCSITMF")[0] == ([] if words else ["AbortTaskSimpleAsync"])
+    with Service(program, room, words) as service:
+        return conformance(service, "iSCSITMF")[0] == (["AbortTaskSimpleAsync"] if words == PLAIN else [])
 
 
 def same_blocks(group):
-    """A case of a group for WRITE SAME: without it nearly all skip something, with it fewer than half."""
+    """A case of a group for WRITE SAME: of an image nearly all skip something, of a thin disk fewer than half."""
 
     def case(program, room, words):
-        with Service(program, *words) as service:
+        with Service(program, room, words) as service:
             failed, skipped = conformance(service, group)
-        return failed == [] and (skipped < 5) == ("--thin" in words)
+        return failed == [] and (skipped < 5) == (words == MEMORY)
 
     case.__doc__ = f"iscsi-test-cu {group}."
     return case
 
 
 def zeros(program, room, words):
-    """qemu-io writes zeros over 32 MiB of other bytes, and sends less than 64 KiB for them; it reads zeros there, and the others around."""
-    with Service(program, *words) as service:
+    """qemu-io writes zeros over 32 MiB of other bytes, and sends less than 64 KiB for them to a thin disk; it reads zeros there, and the others around."""
+    with Service(program, room, words) as service:
         fill = ran("qemu-io", "-f", "raw", "-c", "write -P 7 0 64M", service.url)[0]
         counter = Counter(service)
         zero = ran("qemu-io", "-f", "raw", "-c", "write -z 8M 32M", counter.url)[0]
@@ -155,22 +161,19 @@ def zeros(program, room, words):
         status, text = ran("qemu-io", "-f", "raw", *(word for read in reads for word in ("-c", read)), service.url)
     print(f"         {counter.sent} bytes for 32 MiB of zeros", flush=True)
     same = fill == zero == status == 0 and "verification failed" not in text
-    return same and (counter.sent < 1 << 16) == ("--thin" in words)
+    return same and (counter.sent < 1 << 16) == (words == MEMORY)
 
 
-SERIAL = ["--serial", "disk-7"]
-THIN = [*SERIAL, "--thin"]
-# Each is done with its first words, where it is to come out as it does without what the second ones add.
+# Each case, and the kinds of disk that it is done with.
 CASES = [
-    (numbers, [], SERIAL),
-    (holes, [], SERIAL),
-    (inquiry, [], SERIAL),
-    (modes, [], SERIAL),
-    (management, [], SERIAL),
-    (inquiry, SERIAL, THIN),
-    (same_blocks("WriteSame10"), SERIAL, THIN),
-    (same_blocks("WriteSame16"), SERIAL, THIN),
-    (zeros, SERIAL, THIN),
+    (numbers, PLAIN, IMAGE, MEMORY),
+    (holes, PLAIN, IMAGE, MEMORY),
+    (inquiry, PLAIN, IMAGE, MEMORY),
+    (modes, PLAIN, IMAGE),
+    (management, PLAIN, IMAGE),
+    (same_blocks("WriteSame10"), IMAGE, MEMORY),
+    (same_blocks("WriteSame16"), IMAGE, MEMORY),
+    (zeros, IMAGE, MEMORY),
 ]
 
 
@@ -180,16 +183,18 @@ def outcome_of(case, program, words):
             return "passed" if case(program, room, words) else "failed", ""
         except Skipped as why:
             return "skipped", str(why)
+        except subprocess.TimeoutExpired as late:
+            return "failed", str(late)
 
 
 def main():
     program = os.path.abspath(sys.argv[1] if len(sys.argv) > 1 else f"{TOP}/crates/lanthovur/out/lanthovur")
     counts = {"passed": 0, "failed": 0, "skipped": 0}
-    for case, *both in CASES:
-        for words in both:
+    for case, *kinds in CASES:
+        for words in kinds:
             outcome, why = outcome_of(case, program, words)
             counts[outcome] += 1
-            print(f"{outcome:8} {' '.join(words) or 'without':22} {case.__doc__} {why}", flush=True)
+            print(f"{outcome:8} {' '.join(words) or 'in memory':10} {case.__doc__} {why}", flush=True)
     print(", ".join(f"{count} {outcome}" for outcome, count in counts.items()))
     return 1 if counts["failed"] else 0
 

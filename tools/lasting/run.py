@@ -64,7 +64,7 @@ class Service:
 
     def __init__(self, program, image, *words, before=(), sessions=1000):
         self.port = free_port()
-        words = ["--port", str(self.port), "--sessions", str(sessions), "--file", image, *words]
+        words = ["--port", str(self.port), "--sessions", str(sessions), "--quiet", "--file", image, *words]
         pipe = subprocess.PIPE
         self.process = subprocess.Popen([*before, program, "serve", *words], stdin=subprocess.DEVNULL, stdout=pipe, stderr=pipe)
         self.told = self.process.stdout.readline()
@@ -217,23 +217,25 @@ def read_only(program, room):
 
 
 def read_alone(program, room):
-    """Two services share an image with --read-only: each write is refused, and the image stays. Who would write it is refused."""
+    """Two services share an image with --read-only: no write is done, and the image stays. Who would write it is refused."""
     image = noise(f"{room}/image", BLOCKS * BLOCK)
     held = bytes_of(image)
     alone = "--read-only"
-    with Service(program, image, alone) as one, Service(program, image, alone, "--at-once", "2") as other:
-        seen = [qemu(service.url, "write -P 7 0 64k") for service in (one, other)]
+    # The bare profile says nothing of it before a write comes.
+    with Service(program, image, alone, "--plain") as one, Service(program, image, alone) as other:
+        seen = [qemu(one.url, "write -P 7 0 64k")]
+        seen.append("LUN is write protected" in ran("qemu-io", "-f", "raw", "-c", "write -P 7 0 64k", other.url)[1])
         seen += [ran("qemu-img", "compare", "-f", "raw", "-F", "raw", image, service.url)[0] for service in (one, other)]
         seen.append(refused(program, image))
     seen.append(bytes_of(image) == held)
-    return seen == [["Permission denied"]] * 2 + [0, 0, line(image, "is in use"), True] or seen
+    return seen == [["Permission denied"], True, 0, 0, line(image, "is in use"), True] or seen
 
 
 def at_once(program, room):
     """Two writers at once, each of its half of an image; then the image is what both had."""
     halves = [noise(f"{room}/half{number}", BLOCKS * BLOCK // 2) for number in range(2)]
     image = f"{room}/image"
-    with Service(program, image, *create(), "--at-once", "2") as service:
+    with Service(program, image, *create()) as service:
         convert = ("qemu-img", "convert", "-n", "-f", "raw", "--target-image-opts")
         writers = [subprocess.Popen([*convert, half, service.half(n)], stderr=subprocess.DEVNULL) for n, half in enumerate(halves)]
         seen = [writer.wait(timeout=SECONDS) for writer in writers]
@@ -511,7 +513,7 @@ def at_a_failed_sync(program, room, write):
     many = module_of("many_sessions")
     # the first sync is that of opening, the second that of the first write
     before = ("strace", "-f", "-qq", "-o", f"{room}/log", "-e", "trace=fdatasync", "-e", "inject=fdatasync:error=EIO:when=2")
-    with Service(program, f"{room}/image", *create(), "--at-once", "2", before=before) as service:
+    with Service(program, f"{room}/image", *create(), before=before) as service:
         if service.told == b"":
             raise Skipped("strace may not trace")
         with socket.create_connection(("127.0.0.1", service.port), timeout=SECONDS) as beside:
@@ -522,7 +524,7 @@ def at_a_failed_sync(program, room, write):
 
 
 def sync_that_fails_for_all(program, room):
-    """With --at-once a sync that fails ends the session that met it and the one beside it, and the service goes on."""
+    """A sync that fails ends the session that met it and the one beside it, and the service goes on."""
     seen = at_a_failed_sync(program, room, lambda many, service: qemu(service.url, "write -P 1 0 4k"))
     return seen == [48 + 56, [FAILED], b"", True, b"sync failed\n" * 2] or seen
 
@@ -598,8 +600,9 @@ def costs(program, room, rounds, seconds):
             self.disk = open(noise(f"{room}/{self.name}", BLOCK * BLOCKS), "rb")
             return ["-b", self.disk.name, *self.flags]
 
-    cache = ["--at-once", "2", "--serial", "disk-7", "--write-back"]
-    targets = [Image("ours"), Tgt("theirs", "--bsoflags", "sync"), Image("cached", *cache), Tgt("their_cache")]
+    # the lengths of the bare profile, in which it has always been measured
+    short = ["--segment", "8192", "--data-in", "262144"]
+    targets = [Image("ours", *short), Tgt("theirs", "--bsoflags", "sync"), Image("cached", *short, "--write-back"), Tgt("their_cache")]
     lines, slower = [], []
     try:
         for size in (4096, 65536):

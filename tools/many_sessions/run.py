@@ -51,19 +51,22 @@ LOGOUT = ROWS.of_hex("06800000 00000000 00000000 00000000 00000002 00000000 0000
 
 
 def reasons(lines):
-    """The lines of sessions that ended, without the number, the address and the name in front."""
+    """The lines of sessions that ended, without the number, the address and the name in front. That two initiators may write is left out:
+    who asks whether a service works is another one than the peer beside it."""
+    lines = re.sub(rb"(?m)^two initiators may write this disk: .*\n", b"", lines)
     return re.sub(rb"(?m)^session [0-9]+ 127\.0\.0\.1:[0-9]+( iqn\.[!-~]+)?: ", b"", lines)
 
 
 class Service:
-    """A service with so many sessions in all, and further words, in which PORT is its port; it ends when they were served, or is
-    ended."""
+    """A service of so many logins in all, or in turn of so many connections, and further words, in which PORT is its port; it ends
+    when they were served, or is ended. It tells faults alone."""
 
-    def __init__(self, program, sessions, *words, blocks=BLOCKS):
+    def __init__(self, program, count, *words, blocks=BLOCKS, in_turn=False):
         with socket.create_server(("127.0.0.1", 0)) as other:
             self.port = other.getsockname()[1]
         words = [word.replace("PORT", str(self.port)) for word in words]
-        words = ["serve", "--port", str(self.port), "--blocks", str(blocks), "--sessions", str(sessions), *words]
+        stop = ["--sessions", str(count)] if in_turn else ["--logins", str(count), "--quiet"]
+        words = ["serve", "--port", str(self.port), "--blocks", str(blocks), *stop, *words]
         pipe = subprocess.PIPE
         self.process = subprocess.Popen([program, *words], stdin=subprocess.DEVNULL, stdout=pipe, stderr=pipe)
         self.told = self.process.stdout.readline()
@@ -141,7 +144,7 @@ def all_end_well(processes):
 
 def two_perf(program, room):
     """Two readers at once."""
-    with Service(program, 2, "--at-once", "2") as service:
+    with Service(program, 2) as service:
         seen = all_end_well([start("iscsi-perf", "-t", "2", "-m", "8", service.url) for _ in range(2)])
         return seen is True and service.ended() == (b"listening\n", b"", 0) or seen
 
@@ -153,7 +156,7 @@ def two_halves(program, room):
         images.append(f"{room}/half{number}")
         with open(images[-1], "wb") as image:
             image.write(os.urandom(BLOCKS * 512 // 2))
-    with Service(program, 100, "--at-once", "4") as service:
+    with Service(program, 100) as service:
         convert = ("qemu-img", "convert", "-n", "-f", "raw", "--target-image-opts")
         seen = all_end_well([start(*convert, image, service.half(n)) for n, image in enumerate(images)])
         if seen is not True:
@@ -166,7 +169,7 @@ def two_halves(program, room):
 def large_disk(program, room):
     """Two writers at once behind the first 2^32 blocks of a disk of 2^33; then each place is read back, by two readers at once."""
     places = [((1 << 32) + 100) * 512, ((1 << 33) - 128) * 512]
-    with Service(program, 4, "--at-once", "2", blocks=1 << 33) as service:
+    with Service(program, 4, "--memory", str(1 << 20), blocks=1 << 33) as service:
         for order in ("write", "read"):
             # -P names the byte that is written, or that each byte has to be
             words = [f"{order} -P {number + 1} {place} 65536" for number, place in enumerate(places)]
@@ -181,7 +184,7 @@ def held_peer(program, room):
     image = f"{room}/large"
     with open(image, "wb") as file:
         file.write(os.urandom(64 << 20))
-    with Service(program, 100, "--at-once", "2", blocks=(64 << 20) // 512) as service:
+    with Service(program, 100, blocks=(64 << 20) // 512) as service:
         # 64 MiB in four seconds
         writer = start("qemu-img", "convert", "-n", "-r", "16M", "-f", "raw", "-O", "raw", image, service.url)
         time.sleep(1)
@@ -197,7 +200,7 @@ def held_peer(program, room):
 
 def partial_write(program, room):
     """A peer stops within a write's data, logged in by hand; another one works; the first one's end is told."""
-    with Service(program, 2, "--at-once", "2") as service:
+    with Service(program, 2) as service:
         with service.peer() as peer:
             log_in(peer)
             # a WRITE(10) of eight blocks, of which the first 100 bytes come
@@ -210,7 +213,7 @@ def partial_write(program, room):
 
 def silent_peer(program, room):
     """A peer says nothing, and its slot is freed; another one works before and after."""
-    with Service(program, 2, "--at-once", "2", "--idle", "1") as service:
+    with Service(program, 2, "--idle", "1") as service:
         with service.peer() as peer:
             began = time.monotonic()
             before = works(service)
@@ -222,7 +225,7 @@ def silent_peer(program, room):
 
 def late_login(program, room):
     """A peer sends a byte of its login now and then, and is too late."""
-    with Service(program, 1, "--at-once", "2", "--login-within", "1") as service:
+    with Service(program, 1, "--login-within", "1") as service:
         with service.peer() as peer:
             try:
                 for byte in LOGIN:
@@ -236,7 +239,7 @@ def late_login(program, room):
 
 def byte_by_byte(program, room):
     """A peer sends a byte at a time; another one works meanwhile."""
-    with Service(program, 2, "--at-once", "2") as service:
+    with Service(program, 2, "--plain") as service:
         with service.peer() as peer:
             peer.setsockopt(socket.IPPROTO_TCP, socket.TCP_NODELAY, 1)
             answers = b""
@@ -255,7 +258,7 @@ def byte_by_byte(program, room):
 
 def broken_rule(program, room):
     """A session that breaks a rule has its Reject and its line, and another one goes on."""
-    with Service(program, 2, "--at-once", "2") as service:
+    with Service(program, 2, "--plain") as service:
         with service.peer() as other, service.peer() as peer:
             log_in(other, 1)
             peer.sendall(ROWS.OUT_OF_TURN)
@@ -271,7 +274,7 @@ def broken_rule(program, room):
 
 def unread_answers(program, room):
     """A peer asks for much and reads nothing; another one works; its slot is freed by --idle."""
-    with Service(program, 2, "--at-once", "2", "--idle", "3") as service:
+    with Service(program, 2, "--idle", "3") as service:
         with service.peer() as peer:
             log_in(peer)
             asked = b""
@@ -289,7 +292,7 @@ def unread_answers(program, room):
 
 def late_reader(program, room):
     """A peer asks for much and reads nothing until its socket is full; then it reads all of it."""
-    with Service(program, 1, "--at-once", "1") as service:
+    with Service(program, 1) as service:
         with service.peer() as peer:
             log_in(peer)
             ask_much(peer)
@@ -335,7 +338,7 @@ def sixty_four(program, room):
 
 def same_port(program, room):
     """The same port of an initiator logs in once more, as after a restart: its first session is ended, and the second goes on."""
-    with Service(program, 2, "--at-once", "2") as service:
+    with Service(program, 2) as service:
         with service.peer() as first, service.peer() as second:
             log_in(first)
             log_in(second)
@@ -347,8 +350,8 @@ def same_port(program, room):
 
 
 def as_before(program, room):
-    """Without the new words: one connection after another."""
-    with Service(program, 2) as service:
+    """With the words that have to be there alone: one connection after another."""
+    with Service(program, 2, in_turn=True) as service:
         with service.peer() as first:
             log_in(first)
             second = service.peer()
@@ -367,7 +370,7 @@ def as_before(program, room):
 
 def other_name(program, room):
     """Another name, the address ::1, and the printed port."""
-    words = ["serve", "--port", "0", "--blocks", "8", "--sessions", "1", "--at-once", "1", "--print-port"]
+    words = ["serve", "--port", "0", "--blocks", "8", "--logins", "1", "--quiet", "--print-port"]
     words += ["--listen", "::1", "--name", "iqn.2026-01.example:other"]
     with subprocess.Popen([program, *words], stdout=subprocess.PIPE, stderr=subprocess.PIPE) as process:
         told = process.stdout.readline()
@@ -385,18 +388,12 @@ def inquires(url, initiator):
     return subprocess.run(words, stdout=subprocess.DEVNULL, stderr=subprocess.DEVNULL, timeout=SECONDS).returncode == 0
 
 
-def lists(program, *words):
-    """Whether a service that lists two initiators serves both, and refuses a third and a part of a name."""
-    listed = ["--initiator", "iqn.2026-01.example:a", "--initiator", "iqn.2026-01.example:b"]
-    with Service(program, 4, *listed, *words) as service:
-        served = [inquires(service.url, f"iqn.2026-01.example:{name}") for name in ["c", "a", "", "b"]]
-    return served
-
-
 def listed_initiators(program, room):
-    """Initiators that are listed, and others, one after another and several at a time."""
-    seen = [lists(program), lists(program, "--at-once", "2")]
-    return seen == [[False, True, False, True]] * 2 or seen
+    """A service that lists two initiators serves both, and refuses a third and a part of a name."""
+    listed = ["--initiator", "iqn.2026-01.example:a", "--initiator", "iqn.2026-01.example:b"]
+    with Service(program, 4, *listed) as service:
+        seen = [inquires(service.url, f"iqn.2026-01.example:{name}") for name in ["c", "a", "", "b"]]
+    return seen == [False, True, False, True] or seen
 
 
 def found(service, *words):
@@ -406,14 +403,22 @@ def found(service, *words):
     return ran.returncode, [b" ".join(line.split()) for line in ran.stdout.splitlines()]
 
 
+def target_line(portal):
+    """What iscsi-ls prints of the target at a portal."""
+    return f"Target:{NAME} Portal:{portal},1".encode()
+
+
 def told_portal(program, room):
-    """iscsi-ls finds the target at the portal that is told, and with -s its unit, beside the discovery session."""
-    with Service(program, 3, "--at-once", "2", "--portal", "127.0.0.1:PORT") as service:
-        target = f"Target:{NAME} Portal:127.0.0.1:{service.port},1".encode()
+    """iscsi-ls finds the target where it asked, and with -s its unit, beside the discovery session; or where --portal says."""
+    with Service(program, 3) as service:
+        target = target_line(f"127.0.0.1:{service.port}")
         seen = [found(service), found(service, "-s")]
         ended = service.ended()
+    with Service(program, 1, "--portal", "disk.example:PORT") as service:
+        other = target_line(f"disk.example:{service.port}")
+        seen.append(found(service))
     # It takes the last block for the size, and so tells 3 MiB of 4.
-    due = [(0, [target]), (0, [target, b"Lun:0 Type:DIRECT_ACCESS (Size:3M)"])]
+    due = [(0, [target]), (0, [target, b"Lun:0 Type:DIRECT_ACCESS (Size:3M)"]), (0, [other])]
     return (seen, ended) == (due, (b"listening\n", b"", 0)) or (seen, ended)
 
 
@@ -475,7 +480,7 @@ def memory_figures(program):
     said = []
     states = (("logged in", None), ("in a write of 4 MiB", write_most), ("with eight READs of 4 MiB, unread", ask_much))
     for what, does in states:
-        with Service(program, 64, "--at-once", "64") as service:
+        with Service(program, 64, "--at-once", "64", "--plain") as service:
             empty = service.resident()
             peers = [service.peer() for _ in range(64)]
             for port, peer in enumerate(peers):
@@ -512,20 +517,21 @@ def middle(numbers):
 
 
 def speed_figures(program, room):
-    """Reads and writes a second of one client with and without --at-once, and of two at once: the ratios of runs that follow
-    each other, in turn in this order and the other one, and the medians."""
+    """Reads and writes a second of one client of a service in turn and of one of several sessions, and of two of the latter: the ratios of
+    runs that follow each other, in turn in this order and the other one, and the medians."""
     speed = f"{room}/speed"
     built = subprocess.run(["cc", "-O2", "-o", speed, f"{TOP}/tools/speed/speed.c", "-liscsi"], stderr=subprocess.DEVNULL)
     if built.returncode:
         print("speed: skipped, cc or libiscsi-dev is not installed")
         return
-    ways = (("alone", [], 1), ("at once", ["--at-once", "4"], 1), ("two", ["--at-once", "4"], 2))
+    # The preferences are those of the service in turn.
+    ways = (("alone", True, 1), ("at once", False, 1), ("two", False, 2))
     print("| | Alone | At once, of that | Two, of one at once |\n|---|---|---|---|")
     for size, depth in ((4096, 1), (4096, 8), (65536, 1), (65536, 8)):
         seen = {name: [] for name, _, _ in ways}
         for number in range(ROUNDS):
-            for name, words, clients in ways if number % 2 else ways[::-1]:
-                with Service(program, 100, *words) as service:
+            for name, in_turn, clients in ways if number % 2 else ways[::-1]:
+                with Service(program, 100, *([] if in_turn else ["--plain"]), in_turn=in_turn) as service:
                     seen[name].append(rates(speed, service, clients, size, depth))
         for kind, what in enumerate(("reads", "writes")):
             alone, one, two = ([rate[kind] for rate in seen[name]] for name, _, _ in ways)

@@ -56,7 +56,7 @@ class Service(lasting.Service):
 
     def __init__(self, program, word, *words, sessions=1000):
         self.port, self.word = free_port(), word
-        words = ["--port", str(self.port), "--sessions", str(sessions), "--nbd", word, *words]
+        words = ["--port", str(self.port), "--sessions", str(sessions), "--quiet", "--nbd", word, *words]
         pipe = subprocess.PIPE
         self.process = subprocess.Popen([program, "serve", *words], stdin=subprocess.DEVNULL, stdout=pipe, stderr=pipe)
         self.told = self.process.stdout.readline()
@@ -310,11 +310,6 @@ def flush_fails(program, room, *words):
     return (is_well and told.count("X: sync failed: error 5") == 1 and len(ends) == 1 and len(told) == 2) or (seen, told)
 
 
-def flush_fails_at_once(program, room):
-    """The same with --at-once."""
-    return flush_fails(program, room, "--at-once", "2")
-
-
 def error_filter(program, room):
     """A server that refuses requests for a while: they fail, and then they don't; nothing is told."""
     server = nbdkit("--filter=error", "memory", "1M", "error-rate=100%", f"error-file={room}/broken")
@@ -446,8 +441,8 @@ def killed_service(program, room, kills):
 
 
 def killed_at_once(program, room):
-    """With --at-once a killed server ends each session that writes; the service goes on, and later commands fail."""
-    with qemu_nbd(noise(f"{room}/image", MIB)) as server, Service(program, f"{server.word}/disk", "--at-once", "2") as service:
+    """A killed server ends each session that writes; the service goes on, and later commands fail."""
+    with qemu_nbd(noise(f"{room}/image", MIB)) as server, Service(program, f"{server.word}/disk") as service:
         seen = [qemu(service.url, "write -P 1 0 4k", "read -P 1 0 4k")]
         server.kill()
         seen += [qemu(service.url, "read 64k 4k"), qemu(service.url, "write -P 2 0 4k"), service.is_there()]
@@ -632,7 +627,6 @@ CASES = [
     long_name,
     first_flush_fails,
     flush_fails,
-    flush_fails_at_once,
     error_filter,
     slow,
     stopped,
@@ -711,8 +705,10 @@ def costs(program, room, rounds, seconds, sync):
             self.disk = open(f"{room}/raw", "rb")
             return ["-b", self.disk.name, "--bsoflags", "sync"]
 
-    targets = {"`serve --file`": Ours(lasting.Service(program, image)), "`serve --nbd`, nbdkit memory": Ours(Service(program, memory.word)),
-               "`serve --nbd`, qemu-nbd raw": Ours(Service(program, f"{raw.word}/disk")), "tgt, the same image": Theirs(room, 1000)}
+    # as in the costs of lasting
+    short = ["--segment", "8192", "--data-in", "262144"]
+    targets = {"`serve --file`": Ours(lasting.Service(program, image, *short)), "`serve --nbd`, nbdkit memory": Ours(Service(program, memory.word, *short)),
+               "`serve --nbd`, qemu-nbd raw": Ours(Service(program, f"{raw.word}/disk", *short)), "tgt, the same image": Theirs(room, 1000)}
     kinds, medians, lines = ("reads", "writes"), {}, []
     try:
         for size in (4096, 65536):

@@ -30,20 +30,21 @@ from pathlib import Path
 TOP = os.path.dirname(os.path.dirname(os.path.dirname(os.path.abspath(__file__))))
 PAGES = [
     "README.md", "docs/RECIPES.md", "docs/FORMATS.md", "crates/lanthovur/README.md", "crates/capture_vectors/README.md",
-    "crates/format_tables/README.md", "docs/session/README.md",
+    "crates/format_tables/README.md", "crates/tool_rows/README.md", "docs/session/README.md",
 ]
 # Pages whose commands in the text are looked at.
 TEXTS = ["*.md", "docs/**/*.md", "crates/*/README.md", "crates/*/proofs/README.md", "tools/**/*.md"]
 # A section that takes longer hangs.
 SECONDS = 900
-# Lines that no page has: of the launcher, of `rt try`, and of the shell.
-OTHERS = re.compile(r"lanthovur: nothing is proved of this run|(interpreter|checked): .*|run=ended .*|\[[0-9]+\].*")
+# Lines that no page has: of the launcher, of a service's sessions, of `rt try`, and of the shell.
+OTHERS = re.compile(r"lanthovur: nothing is proved of this run|session [0-9]+ .*|two initiators may write this disk: .*|lines left out: [0-9]+|(interpreter|checked): .*|run=ended .*|\[[0-9]+\].*")
 # What stands before the output of the command with this number, and its status behind it.
 MARK = "\x01"
 # Why a section is not run, or a page, or a command of a section.
 SKIPPED = {
     ("docs/RECIPES.md", "A service that a supervisor starts"): "it is the script of a supervisor",
     ("crates/format_tables/README.md", ""): "it changes the tree",
+    "crates/tool_rows/README.md": "the gate runs it, and without proofs it takes minutes",
     "docs/session/README.md": "it captures a session of tgt, which wants root, and makes other numbers each time",
 }
 # The programs without which a section is skipped.
@@ -72,8 +73,6 @@ COPIED = {("docs/RECIPES.md", "A capture, from recording to comparison"): "crate
 # Commands that a section needs first, as the page says in words.
 BEFORE = {
     ("crates/capture_vectors/README.md", ""): "cd crates/capture_vectors",
-    ("docs/RECIPES.md", "Hosts with multipath"): "./lanthovur serve --size 1M --sessions 9 & sleep 2; "
-    "disk=iscsi://127.0.0.1:3260/iqn.2026-01.example:disk/0",
     ("docs/RECIPES.md", "A disk that nobody changes"): "cp source.img disk.img",
     ("docs/RECIPES.md", "A disk on an NBD server, A plugin and a filter of nbdkit"):
     "disk=iscsi://127.0.0.1:3260/iqn.2026-01.example:disk/0",

@@ -98,6 +98,8 @@ with open(f"{TOP}/docs/help.txt", "rb") as page:
 
 SERVE = ["serve", "--port", "0", "--blocks", "1", "--sessions", "0"]
 IMAGE = ["serve", "--port", "0", "--sessions", "0", "--file"]
+# Words that are no address of a portal.
+NO_PORTALS = ["192.0.2.7", ":3260", "host:0", "host:65536", "::1:3260", "[192.0.2.7]:3260"]
 LOOP = ["loop", "--blocks", "2048", "--piece", "48"]
 ANSWER = ["answer", "--blocks", "8"]
 ROWS = [
@@ -117,8 +119,8 @@ ROWS = [
     Row("no connection is served at a time", [*SERVE, "--at-once", "64", "--idle", "1"], b"", b"listening\n"),
     # Images.
     Row("an image of two blocks", [*IMAGE, "a"], b"", b"listening\n", files={"a": bytes(1024)}),
-    Row("a disk in memory with a limit", [*SERVE, "--at-once", "1", "--memory", "32768"], b"", b"listening\n"),
-    Row("an image of two blocks, as is said", [*IMAGE, "a", "--blocks", "2", "--at-once", "1"], b"", b"listening\n", files={"a": bytes(1024)}),
+    Row("a disk in memory with a limit", [*SERVE, "--memory", "32768"], b"", b"listening\n"),
+    Row("an image of two blocks, as is said", [*IMAGE, "a", "--blocks", "2"], b"", b"listening\n", files={"a": bytes(1024)}),
     Row("an image that is made", [*IMAGE, "a", "--create", "--blocks", "2"], b"", b"listening\n"),
     Row("an image of another size", [*IMAGE, "a", "--blocks", "3"], b"", b"", b"a: has 2 blocks, not 3\n", 4, files={"a": bytes(1024)}),
     Row("an image that is there already", [*IMAGE, "a", "--create", "--blocks", "2"], b"", b"", b"a: is there already\n", 4, files={"a": bytes(1024)}),
@@ -169,21 +171,20 @@ ROWS = [
     Row("a port that is none", ["serve", "--port", "65536", "--blocks", "1", "--sessions", "0"], says=b"'65536' is no port: '--port <P>' takes", status=2),
     Row("no session at a time", [*SERVE, "--at-once", "0"], says=b"'0' is no number of sessions: '--at-once <k>' takes a number from 1 to 64", status=2),
     Row("too many at a time", [*SERVE, "--at-once", "65"], says=b"'65' is no number of sessions: '--at-once <k>' takes a number from 1 to 64", status=2),
-    Row("an address that is none", [*SERVE, "--at-once", "1", "--listen", "localhost"], says=b"'localhost' is no address: '--listen <ADDR>' takes", status=2),
-    Row("a name that is none", [*SERVE, "--at-once", "1", "--name", "a b"], says=b"'a b' is no name: '--name <IQN>' takes", status=2),
-    Row("a portal with its group", [*SERVE, "--at-once", "1", "--portal", "192.0.2.7:3260,1"], says=b"'192.0.2.7:3260,1' is no portal: '--portal <ADDRESS>' takes", status=2),
-    Row("a serial number of 17 bytes", [*SERVE, "--at-once", "1", "--serial", "0123456789abcdefg"], says=b"'0123456789abcdefg' is no serial number: '--serial <S>' takes", status=2),
-    Row("no time", [*SERVE, "--at-once", "1", "--idle", "0"], says=b"'0' is no number of seconds: '--idle <S>' takes a number from 1 to 65535", status=2),
-    Row("a short memory", [*SERVE, "--at-once", "1", "--memory", "32767"], says=b"'--memory <BYTES>' takes a number", status=2),
-    Row("a memory of an image", [*IMAGE, "a", "--at-once", "1", "--memory", "32768"], says=b"cannot be used with '--file <F>'", status=2),
-    Row("a short segment", [*SERVE, "--at-once", "1", "--segment", "511"], says=b"'--segment <N>' takes a number", status=2),
-    Row("a first burst over the burst", [*SERVE, "--at-once", "1", "--burst", "1024", "--first-burst", "1025"], says=b"'1025' is no number of bytes: '--first-burst <N>' takes a number", status=2),
-    Row("too much time", [*SERVE, "--at-once", "1", "--login-within", "65536"], says=b"'--login-within <S>' takes a number", status=2),
-    Row("a time limit without --at-once", [*SERVE, "--idle", "1"], says=b"--at-once", status=2),
-    Row("a port to print without --at-once", [*SERVE, "--print-port"], says=b"--at-once", status=2),
-    Row("a portal without --at-once", [*SERVE, "--portal", "192.0.2.7:3260"], says=b"--at-once", status=2),
-    Row("a serial number without --at-once", [*SERVE, "--serial", "disk-7"], says=b"--at-once", status=2),
-    Row("a log without --at-once", [*SERVE, "--log"], says=b"--at-once", status=2),
+    Row("an address that is none", [*SERVE, "--listen", "localhost"], says=b"'localhost' is no address: '--listen <ADDR>' takes", status=2),
+    Row("a name that is none", [*SERVE, "--name", "a b"], says=b"'a b' is no name: '--name <IQN>' takes", status=2),
+    Row("a portal with its group", [*SERVE, "--portal", "192.0.2.7:3260,1"], says=b"'192.0.2.7:3260,1' is no portal: '--portal <HOST:PORT>' takes", status=2),
+    *(Row(f"the portal {it}", [*SERVE, "--portal", it], says=f"'{it}' is no portal: '--portal <HOST:PORT>' takes".encode(), status=2) for it in NO_PORTALS),
+    Row("a serial number of 17 bytes", [*SERVE, "--serial", "0123456789abcdefg"], says=b"'0123456789abcdefg' is no serial number: '--serial <S>' takes", status=2),
+    Row("no time", [*SERVE, "--idle", "0"], says=b"'0' is no number of seconds: '--idle <S>' takes a number from 1 to 65535", status=2),
+    Row("a short memory", [*SERVE, "--memory", "32767"], says=b"'--memory <BYTES>' takes a number", status=2),
+    Row("a memory of an image", [*IMAGE, "a", "--memory", "32768"], says=b"cannot be used with '--file <F>'", status=2),
+    Row("a short segment", [*SERVE, "--segment", "511"], says=b"'--segment <N>' takes a number", status=2),
+    Row("a first burst over the burst", [*SERVE, "--burst", "1024", "--first-burst", "1025"], says=b"'1025' is no number of bytes: '--first-burst <N>' takes a number", status=2),
+    Row("too much time", [*SERVE, "--login-within", "65536"], says=b"'--login-within <S>' takes a number", status=2),
+    Row("two stops", [*SERVE, "--logins", "1"], says=b"'--logins <n>' cannot be used with '--sessions <n>'", status=2),
+    Row("a thin disk of the bare profile", [*SERVE, "--plain", "--thin"], says=b"'--plain' cannot be used with '--thin'", status=2),
+    Row("an image without a name, for other machines", [*IMAGE, "a", "--listen", "0.0.0.0"], says=b"needs '--name <IQN>' or '--serial <S>'", status=2),
     Row("neither a size nor an image", IMAGE[:-1], says=b"the disk size is missing", status=2),
     Row("an image without a name", IMAGE, says=b"a value is required for '--file <F>'", status=2),
     Row("an image to be made without its size", [*IMAGE, "a", "--create"], says=b"the disk size is missing", status=2),

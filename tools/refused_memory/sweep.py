@@ -351,7 +351,7 @@ def run_company(first, second, fail_at=0):
     """Two sessions at a time: the second begins behind the first PDU of the first, and ends before its others."""
     with socket.create_server(("127.0.0.1", 0)) as free:
         port = free.getsockname()[1]
-    words = ["serve", "--blocks", "2048", "--sessions", "2", "--at-once", "2", "--port", str(port)]
+    words = ["serve", "--blocks", "2048", "--logins", "2", "--plain", "--quiet", "--port", str(port)]
     pipes = {"stdout": subprocess.PIPE, "stderr": subprocess.PIPE}
     came = [b"", b""]
     cut = sorted(ends(first))[1]

@@ -89,13 +89,13 @@ def table(title, head, lines):
 
 
 class Lanthovur:
-    """`serve`, for so many connections one after another; with long segments `serve --at-once`."""
+    """`serve`, for so many connections: one after another, or with long segments, which its other service takes."""
 
     title = "`serve`"
 
     def __init__(self, room, sessions, is_long=False):
         port = free_port()
-        long = ["--at-once", "1", "--segment", str(LONG), "--burst", str(LONG)] if is_long else []
+        long = ["--quiet", "--segment", str(LONG), "--burst", str(LONG)] if is_long else []
         words = ["serve", "--port", str(port), "--blocks", str(BLOCKS), "--sessions", str(sessions), *long]
         self.process = subprocess.Popen([PROGRAM, *words], stdout=subprocess.PIPE)
         assert self.process.stdout.readline() == b"listening\n"

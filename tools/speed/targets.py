@@ -21,6 +21,7 @@ With --write a section takes the place of the one in docs/SPEED.md, or comes las
 many runs of the client found all as it should be, and as many did not.
 """
 import argparse
+import functools
 import os
 import re
 import shutil
@@ -149,22 +150,30 @@ class Target:
 
 
 class Serve(Target):
-    title, more = "`serve`", []
+    """One connection after another, which is what these words alone ask for."""
+
+    title = "`serve`"
 
     def command(self):
-        long = ["--segment", LONG, "--burst", LONG] if self.is_long else []
-        return [self.program, "serve", "--port", self.port, "--blocks", self.blocks, *self.more, *self.memory(), *long]
+        return [self.program, "serve", "--port", self.port, "--blocks", self.blocks]
 
-    def memory(self):
-        return []
+
+@functools.cache
+def has_plain(program):
+    """Whether a build has the word for the bare profile. Older ones have that profile without a word."""
+    return b"--plain" in subprocess.run([program, "serve", "--help"], capture_output=True).stderr
 
 
 class AtOnce(Serve):
-    title, more = "`serve --at-once`", ["--at-once", 64]
+    title = "`serve --at-once`"
 
-    def memory(self):
-        """Twice what its extents hold, so that the limit is far."""
-        return ["--memory", max(2 * self.extents * EXTENT * BLOCK, 256 << 20)]
+    def command(self):
+        # Twice what its extents hold, so that the limit is far.
+        memory = max(2 * self.extents * EXTENT * BLOCK, 256 << 20)
+        # Short segments are those of the bare profile.
+        short = ["--plain"] if has_plain(self.program) else []
+        lengths = ["--segment", LONG, "--burst", LONG] if self.is_long else short
+        return [*super().command(), "--at-once", 64, "--memory", memory, *lengths]
 
 
 class Tgt(Target):
