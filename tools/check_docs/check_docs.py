@@ -14,6 +14,7 @@ It looks at:
 - the figures of docs/TRUST.md: they are those that tools/reach counts;
 - wrong bodies, in the gate and beside it: each old text stands in its file once;
 - the table of promises in docs/GATE.md: it names each wrong body of the gate, with its crate, and no other;
+- proof files that tools/wrong_bodies/answers wrote: the wrong bodies that they name stand in the gate;
 - src/asserts.rt of the test crates: what several of them have is one text;
 - other helpers that stand in several test crates: each is one text, wherever it stands;
 - the names of definitions: no two have one name;
@@ -280,6 +281,18 @@ def check_promises():
     look(True, "docs/GATE.md", "")
 
 
+SEARCHED = "-- Searched for, since a wrong body breaks these goals: "
+
+
+def check_answers():
+    for path in sorted(CRATES.glob("*/proofs/**/Answers.antt")):
+        first = path.read_text(encoding="utf8").split("\n", 1)[0]
+        if first.startswith(SEARCHED):
+            crate = CRATES / path.relative_to(CRATES).parts[0]
+            for name in first.removeprefix(SEARCHED).removesuffix(".").split(", "):
+                look((crate / "must-fail" / f"{name}.edit").is_file(), path.relative_to(TOP), f"no wrong body {name} in the gate")
+
+
 # ---- what tests assert
 
 def check_asserts():
@@ -417,6 +430,7 @@ def main():
     check_figures()
     check_edits()
     check_promises()
+    check_answers()
     check_asserts()
     check_repeated()
     check_names()
