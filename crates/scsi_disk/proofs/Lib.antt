@@ -2,6 +2,7 @@ pub mod BlockLemmas
 pub mod OverlayLemmas
 pub mod PlanLemmas
 pub mod SparseLemmas
+pub mod KeptLemmas
 pub mod RunLemmas
 pub mod AnsweredLemmas
 pub mod AppendLemmas

@@ -1,5 +1,5 @@
 -- A store that keeps only what was written, in extents of 64 blocks.
-use Rattle.std.specs.Prelude.{◌≡◌, ℕ, ◌+◌, ◌/◌, ◌%◌, ◌<◌, ◌≤◌, if◌then◌else◌, nat_lt, true, List, [], All, replicate, Option, Some, None, IsSome, refl}
+use Rattle.std.specs.Prelude.{◌≡◌, ℕ, zero, suc, ◌+◌, ◌-◌, ◌/◌, ◌%◌, ◌<◌, ◌≤◌, if◌then◌else◌, nat_lt, true, List, [], All, replicate, Option, Some, None, IsSome, is_some, refl}
 use Rattle.std.specs.Coded.{Coded, code_by, coded×, coded_ℕ, coded_list}
 use Rattle.std.specs.FinMap as map
 use Rattle.std.specs.Ordering.{nat_cmp}
@@ -38,3 +38,19 @@ AreZeros bytes = All (λ byte. byte ≡ 0) bytes
 abbrev pub HasBlocks : FinMap nat_cmp (List ℕ) → ℕ → ℕ → Type 0
 HasBlocks extents first count =
     (n : ℕ) → first ≤ n → n < first + count → IsSome (get extents (n / 64))
+
+-- how many extents are kept
+abbrev pub kept_extents : Extents → ℕ
+kept_extents s = map.len s.extents
+
+-- how many of n extents from the first on aren't there
+unfoldable pub missing_extents : FinMap nat_cmp (List ℕ) → ℕ → ℕ → ℕ
+missing_extents extents first zero = 0
+missing_extents extents first (suc n) =
+    (if is_some (get extents first) then 0 else 1) + missing_extents extents (first + 1) n
+
+-- how many extents of n blocks from the first on aren't there
+unfoldable pub asked_extents : Extents → ℕ → ℕ → ℕ
+asked_extents s first zero = 0
+asked_extents s first (suc n) =
+    missing_extents s.extents (first / 64) ((first + n) / 64 + 1 - first / 64)

@@ -1,11 +1,11 @@
 //! A store that keeps only what was written. One file, since reads, writes and the room for them go
 //! over the same extents.
 
-ghost use Rattle.std.specs.Prelude.{◌≡◌, refl, ◌+◌, ◌*◌, ◌/◌, ◌%◌, ◌<◌, ◌≤◌, ◌⊎◌, ◌++◌, length, take, ℕ, true, IsTrue, ◌↔◌, IsOk, IfOk, IsSome, OnOk, OnErr, IsErrOf};
+ghost use Rattle.std.specs.Prelude.{◌≡◌, ◌≢◌, if◌then◌else◌, is_some, refl, ◌+◌, ◌*◌, ◌/◌, ◌%◌, ◌<◌, ◌≤◌, ◌⊎◌, ◌++◌, length, take, ℕ, true, IsTrue, ◌↔◌, IsOk, IfOk, IsSome, OnOk, OnErr, IsErrOf};
 ghost use Rattle.std.specs.FinMap.{get};
-ghost use Rattle.scsi_disk.specs.Disk.{IsOldOrNew, StoreTellsFailures, most_blocks, zeros, blocks_from, disk_written, cut, overlaid};
+ghost use Rattle.scsi_disk.specs.Disk.{AppendsBytes, IsOldOrNew, StoreTellsFailures, most_blocks, zeros, blocks_from, disk_written, cut, overlaid};
 ghost use Rattle.scsi_disk.specs.Lasting.{CrashAddsDisk, Within};
-ghost use Rattle.scsi_disk.specs.Sparse.{extents_disk, AreZeros, HasBlocks};
+ghost use Rattle.scsi_disk.specs.Sparse.{asked_extents, extents_disk, kept_extents, AreZeros, HasBlocks};
 ghost use Rattle.scsi_disk.specs.inner.Sparse.{IsBlank};
 
 use crate::memory::{append_blocks, read_blocks, write_blocks};
@@ -102,7 +102,8 @@ impl SparseStore {
     pub fn new(alloc: Global, blocks: u64) -> SparseStore
         requires some { 0 < blocks }
         requires few { blocks ≤ most_blocks }
-        ensures { extents_disk result ≡ zeros blocks }
+        ensures disk { extents_disk result ≡ zeros blocks }
+        ensures none { kept_extents result ≡ 0 }
     {
         SparseStore {
             blocks,
@@ -116,28 +117,33 @@ impl SparseStore {
     pub fn extents_with(&self, lba: u64, bytes: &[u8]) -> u64
         requires whole { length bytes.now % 512 ≡ 0 }
         requires inside { 512 * lba + length bytes.now ≤ 512 * (extents_disk self.now).count }
+        ensures blank { AreZeros bytes.now → result ≡ kept_extents self.now }
+        ensures asked { AreZeros bytes.now ⊎ (result
+            ≡ kept_extents self.now + asked_extents self.now lba (length bytes.now / 512)) }
     {
         prove!(lba <= self.blocks);
         let kept = self.extents.len() as u64;
         if are_zeros(bytes) {
             return kept;
         }
-        kept.saturating_add(self.missing(lba, bytes.len() as u64 / 512))
+        kept + self.missing(lba, bytes.len() as u64 / 512)
     }
 
     /// How many extents of these blocks aren't there.
     fn missing(&self, first: u64, count: u64) -> u64
         requires { first + count ≤ self.now.count }
+        ensures asked { result ≡ asked_extents self.now first count }
+        ensures few { result ≤ count }
     {
         prove!(first <= self.blocks);
         if count == 0 {
             return 0;
         }
-        let begin = first / EXTENT_BLOCKS;
-        let end = (first + count - 1) / EXTENT_BLOCKS + 1;
-        let mut missing = end - begin;
-        for _ in self.extents.range(begin..end) {
-            missing = missing.saturating_sub(1);
+        let mut missing = 0;
+        for extent in first / EXTENT_BLOCKS..(first + count - 1) / EXTENT_BLOCKS + 1 {
+            if !self.extents.contains_key(&extent) {
+                missing += 1;
+            }
         }
         missing
     }
@@ -198,6 +204,9 @@ impl SparseStore {
         ensures room { IsSome (get self.old.extents extent) → IsOk result }
         ensures kept { (k : ℕ) → IsSome (get self.old.extents k)
             → IsSome (get self.new.extents k) }
+        ensures others { (k : ℕ) → k ≢ extent → get self.new.extents k ≡ get self.old.extents k }
+        ensures grows { kept_extents self.new ≤ kept_extents self.old
+            + (if is_some (get self.old.extents extent) then 0 else 1) }
     {
         if !self.extents.contains_key(&extent) {
             let blank = Extent::blank(self.alloc, 64)?;
@@ -212,6 +221,7 @@ impl SparseStore {
         ensures disk { extents_disk self.new ≡ extents_disk self.old }
         ensures kept { (k : ℕ) → IsSome (get self.old.extents k)
             → (k ≡ extent) ⊎ IsSome (get self.new.extents k) }
+        ensures shrinks { kept_extents self.new ≤ kept_extents self.old }
     {
         if !are_zeros(bytes) {
             return;
@@ -233,6 +243,7 @@ impl SparseStore {
         ensures disk { extents_disk self.new ≡ disk_written n bytes.now (extents_disk self.old) }
         ensures kept { (k : ℕ) → IsSome (get self.old.extents k)
             → IsSome (get self.new.extents k) }
+        ensures same { kept_extents self.new ≡ kept_extents self.old }
     {
         if let Some(extent) = self.extents.get_mut(&(n / EXTENT_BLOCKS)) {
             extent.put((n % EXTENT_BLOCKS) as usize, bytes);
@@ -265,6 +276,8 @@ impl SparseStore {
         ensures disk { extents_disk self.new ≡ extents_disk self.old }
         ensures there { OnOk result (HasBlocks self.new.extents first count) }
         ensures room { HasBlocks self.old.extents first count → IsOk result }
+        ensures grows { kept_extents self.new
+            ≤ kept_extents self.old + asked_extents self.old first count }
     {
         prove!(first <= self.blocks);
         if count == 0 {
@@ -283,7 +296,8 @@ impl SparseStore {
         requires inside { first + length bytes.now / 512 ≤ self.old.count }
         requires there { AreZeros bytes.now
             ⊎ HasBlocks self.old.extents first (length bytes.now / 512) }
-        ensures { extents_disk self.new ≡ disk_written first bytes.now (extents_disk self.old) }
+        ensures disk { extents_disk self.new ≡ disk_written first bytes.now (extents_disk self.old) }
+        ensures shrinks { kept_extents self.new ≤ kept_extents self.old }
     {
         prove!(first <= self.blocks);
         let blocks = bytes.len() / 512;
@@ -330,6 +344,7 @@ impl BlockStore for SparseStore {
         ensures disk { extents_disk self.new ≡ extents_disk self.old }
         ensures kept { Within (λ n c. c ≡ (extents_disk self.old).block n)
             (λ n c. c ≡ (extents_disk self.new).block n) }
+        ensures store { self.new ≡ self.old }
     {
         prove!(lba <= self.blocks);
         let blocks = out.len() / 512;
@@ -343,7 +358,18 @@ impl BlockStore for SparseStore {
         Ok(())
     }
 
-    fn read_onto(&mut self, lba: u64, blocks: u32, out: &mut Vec<u8>) -> Result<(), StoreFault> {
+    fn read_onto(&mut self, lba: u64, blocks: u32, out: &mut Vec<u8>) -> Result<(), StoreFault>
+        requires inside { lba + blocks ≤ (extents_disk self.old).count }
+        ensures ok { OnOk result (out.new.items
+            ≡ out.old.items ++ blocks_from (extents_disk self.old) lba blocks) }
+        ensures appends { OnOk result (AppendsBytes (512 * blocks) out.old.items out.new.items) }
+        ensures err { OnErr result (out.new.items ≡ out.old.items) }
+        ensures disk { extents_disk self.new ≡ extents_disk self.old }
+        ensures kept { Within (λ n c. c ≡ (extents_disk self.old).block n)
+            (λ n c. c ≡ (extents_disk self.new).block n) }
+        ensures tells { StoreTellsFailures true 0 0 0 0 result }
+        ensures store { self.new ≡ self.old }
+    {
         prove!(lba <= self.blocks);
         let start = out.len();
         if self.append_all(lba, blocks, out).is_err() {
@@ -373,6 +399,10 @@ impl BlockStore for SparseStore {
         ensures room { HasBlocks self.old.extents lba (length bytes.now / 512) → IsOk result }
         // If all bytes are 00, none is needed either.
         ensures blank { AreZeros bytes.now → IsOk result }
+        // It keeps no more extents than `extents_with` says.
+        ensures grows { kept_extents self.new
+            ≤ kept_extents self.old + asked_extents self.old lba (length bytes.now / 512) }
+        ensures shrinks { AreZeros bytes.now → kept_extents self.new ≤ kept_extents self.old }
     {
         prove!(lba <= self.blocks);
         let blocks = bytes.len() as u64 / 512;

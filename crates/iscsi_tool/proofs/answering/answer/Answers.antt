@@ -19,13 +19,13 @@ returns-in-Ok-clause-answers g c =
       s.3,
       s.4,
       done_answered c.args.blocks s.0 _ s.1 (told_here false c.in_ok-config.config _ _ (Ok tt) s.0 _ s.1 c.in_ok-config.ensures.settings
-          c.new-store.ensures s.5 refl),
+          c.new-store.ensures.disk s.5 refl),
     )
 
 pub returns-in-Ok-clause-end : goal.returns-in-Ok-clause-end
 returns-in-Ok-clause-end g c =
     ends_here false c.in_ok-config.config _ _ (g.R.Read.remaining c.args.r.now) (g.R.Read.remaining c.serve_stream.new.r) c.in_ok-config.ensures.settings
-    c.new-store.ensures (c.in-Ok.ensures.end refl)
+    c.new-store.ensures.disk (c.in-Ok.ensures.end refl)
 
 pub returns-clause-answers : goal.returns-clause-answers
 returns-clause-answers g c =
@@ -37,5 +37,5 @@ returns-clause-answers g c =
       s.3,
       s.4,
       fault_answered c.in-Err.fault c.args.blocks s.0 _ s.1
-          (told_here false c.in_ok-config.config _ _ (Err c.in-Err.fault) s.0 _ s.1 c.in_ok-config.ensures.settings c.new-store.ensures s.5 refl),
+          (told_here false c.in_ok-config.config _ _ (Err c.in-Err.fault) s.0 _ s.1 c.in_ok-config.ensures.settings c.new-store.ensures.disk s.5 refl),
     )

@@ -2,6 +2,7 @@ use Rattle.std.proofs.Common.{sym, ap, ◌∙◌, rules}
 use Rattle.std.specs.FinMap.{from_entries}
 use Rattle.scsi_disk.specs.Sparse.{extents_disk}
 use Rattle.scsi_disk.proofs.SparseLemmas.{get_at, get_removed, removed, unseen_gone, others_stay}
+use Rattle.scsi_disk.proofs.KeptLemmas.{kept_removed}
 use Rattle.scsi_disk.proofs.sparse.SparseStore.give_back.Goals as goal
 use Rattle.scsi_disk.proofs.sparse.SparseStore.give_back.Goals.{in-Some-1, in-None-1}
 
@@ -35,4 +36,15 @@ returns-then-is_blank-clause-kept c j some =
     elim c.match-remove.branch [
       | in-Some-1 w ↦ rw w.self-is after
       | in-None-1 w ↦ rw w.self-is after
+    ]
+
+pub returns-then-is_blank-clause-shrinks : goal.returns-then-is_blank-clause-shrinks
+returns-then-is_blank-clause-shrinks c =
+    let es = c.self.inside.extents.entries in
+    let fs = c.remove.new.self.entries in
+    let h = get_removed es fs c.args.extent c.remove.ensures.updates.0 in
+    let fewer = kept_removed (from_entries es) (from_entries fs) c.args.extent h in
+    elim c.match-remove.branch [
+      | in-Some-1 w ↦ rw (w.self-is, ← c.self.view_is) fewer
+      | in-None-1 w ↦ rw (w.self-is, ← c.self.view_is) fewer
     ]

@@ -1,8 +1,9 @@
-use Rattle.std.proofs.Common.{subst, ◌≡◌, ℕ, List, Option, None, IsSome, true, false, ap, sym, ◌∙◌, rules}
+use Rattle.std.proofs.Common.{arith, subst, ◌≡◌, ℕ, List, Option, None, IsSome, true, false, ap, sym, ◌∙◌, rules}
 use Rattle.std.specs.Ordering.{nat_cmp}
 use Rattle.std.specs.FinMap.{from_entries, get}
 use Rattle.scsi_disk.specs.Sparse.{extents_disk}
 use Rattle.scsi_disk.proofs.SparseLemmas.{get_inserted, inserted, unseen, missing, is_missing, is_inserted, stays, is_kept}
+use Rattle.scsi_disk.proofs.KeptLemmas.{kept_inserted, others_as_before}
 use Rattle.scsi_disk.proofs.sparse.SparseStore.reserve.Goals as goal
 use Rattle.scsi_disk.proofs.sparse.SparseStore.reserve.Goals.{in-Some-1, in-None-1}
 
@@ -70,3 +71,25 @@ returns-in_err-insert-clause-room c some =
     let none = is_missing es c.args.extent (sym c.contains_key.ensures ∙ absent) in
     let there = rw (← c.self.view_is) at some in
     absurd (let h : IsSome {T = List ℕ} None = subst (λ (o : Option (List ℕ)). IsSome o) none there in cc)
+
+pub returns-in_ok-insert-clause-others : goal.returns-in_ok-insert-clause-others
+returns-in_ok-insert-clause-others c k differs =
+    let es = c.self.inside.extents.entries in
+    let fs = c.insert.new.self.entries in
+    let h = get_inserted es fs c.args.extent c.in_ok-blank.blank c.in_ok-insert.ensures.updates.0 in
+    let same = others_as_before (from_entries es) (from_entries fs) c.args.extent c.in_ok-blank.blank h k differs in
+    elim c.match-branch-3.branch [
+      | in-Some-1 w ↦ rw (w.self-is, ← c.self.view_is) same
+      | in-None-1 w ↦ rw (w.self-is, ← c.self.view_is) same
+    ]
+
+pub returns-in_ok-insert-clause-grows : goal.returns-in_ok-insert-clause-grows
+returns-in_ok-insert-clause-grows c =
+    let es = c.self.inside.extents.entries in
+    let fs = c.insert.new.self.entries in
+    let h = get_inserted es fs c.args.extent c.in_ok-blank.blank c.in_ok-insert.ensures.updates.0 in
+    let more = kept_inserted (from_entries es) (from_entries fs) c.args.extent c.in_ok-blank.blank h in
+    elim c.match-branch-3.branch [
+      | in-Some-1 w ↦ rw (w.self-is, ← c.self.view_is) (omega (arith, more))
+      | in-None-1 w ↦ rw (w.self-is, ← c.self.view_is) (omega (arith, more))
+    ]

@@ -9,6 +9,7 @@ pub loop-done-init : goal.loop-done-init
 loop-done-init c = record {
   inside = omega arith;
   disk = sym (written_none c.args.first (extents_disk c.args.self.now));
+  shrinks = omega arith;
   there = elim c.requires.there [
     | inl zeros ↦ inl zeros
     | inr has ↦ inr (λ n low high. has n (omega (arith, low)) (omega (arith, high)))
@@ -31,6 +32,7 @@ loop-done-preserved c =
           ∙ ap (λ k. disk_written (first + i) (take k (drop (512 * i) bytes)) (extents_disk c.loop-done.self)) long
           ∙ ap (disk_written (first + i) (take (512 * run) (drop (512 * i) bytes))) c.loop-done.invariant.disk
           ∙ written_next first i run bytes (extents_disk c.args.self.now) room;
+      shrinks = (let before = c.loop-done.invariant.shrinks in let same = c.write_run.ensures.same in let less = c.give_back.ensures.shrinks in omega (arith, before, same, less));
       there = elim c.loop-done.invariant.there [
         | inl zeros ↦ inl zeros
         | inr has ↦ inr (rest_there c.loop-done.self.extents c.give_back.new.self.extents first i run (length bytes / 512) c.run_length.ensures.end

@@ -4,7 +4,8 @@ use Rattle.std.specs.FinMap.{get, from_entries}
 use Rattle.std.specs.Map.{lookup}
 use Rattle.std.specs.BTreeMap.{is_at}
 use Rattle.scsi_disk.specs.Disk.{disk_written}
-use Rattle.scsi_disk.specs.Sparse.{extents_disk}
+use Rattle.scsi_disk.specs.Sparse.{extents_disk, kept_extents}
+use Rattle.scsi_disk.proofs.KeptLemmas.{kept_written}
 use Rattle.scsi_disk.proofs.SparseLemmas.{get_at, get_inserted, is_there, inserted, stays, run_written, run_cleared, all_zeros, some_at, never_none}
 use Rattle.scsi_disk.proofs.sparse.SparseStore.write_run.Goals as goal
 use Rattle.scsi_disk.proofs.sparse.SparseStore.write_run.Goals.{in-Some, in_default}
@@ -72,4 +73,20 @@ returns-clause-kept c j some =
           let before = rw (← c.self.view_is) at some in
           rw w.self-inside-is (stays _ v (get (from_entries {R = nat_cmp} es) j) (get (from_entries {R = nat_cmp} fs) j) (h j) before))
       | in_default w ↦ (let before = rw (← c.self.view_is) at some in rw (w.self-inside-is, c.get_mut.follows.holds-at-none) before)
+    ]
+
+pub returns-clause-same : goal.returns-clause-same
+returns-clause-same c =
+    let es = c.self.inside.extents.entries in
+    let k = c.args.n / 64 in
+    elim c.match-get_mut.branch [
+      | in-Some w ↦
+          (let v = w.put.new.self in
+          let old = w.in-Some.extent.now in
+          let there = is_there (lookup (is_at (nat_cmp k)) es) old (sym w.in-Some.ensures.value) in
+          let before = get_at es k ∙ sym w.in-Some.ensures.value in
+          let fs = (c.get_mut.follows.lender v).entries in
+          let h = get_inserted es fs k v ((c.get_mut.follows.holds v).3 there).0 in
+          rw w.self-inside-is (kept_written (from_entries es) (from_entries fs) k v old h before ∙ ap kept_extents c.self.view_is))
+      | in_default w ↦ rw (w.self-inside-is, c.get_mut.follows.holds-at-none) (ap kept_extents c.self.view_is)
     ]
