@@ -1,20 +1,17 @@
 -- The steps of commands and Data-Out, case by case.
-use Rattle.std.proofs.Common.{◌≡◌, ◌∙◌, ℕ, List, [], ◌∷◌, ◌++◌, Bool, true, false, length, Option, None, refl, sym, ap, subst}
+use Rattle.std.proofs.Common.{◌≡◌, ◌∙◌, ℕ, List, [], ◌∷◌, ◌++◌, Bool, true, false, length, None, refl, sym, ap, subst}
 use Rattle.std.specs.Prelude.{◌==◌, ◌||◌}
 use Rattle.scsi_disk.specs.Disk.{Disk}
-use Rattle.iscsi_pdu.specs.declared.head.scsi_command.ScsiCommand.{ScsiCommand}
 use Rattle.iscsi_stream.specs.Stream.{Message}
 use Rattle.iscsi_target.specs.Write.{Write}
-use Rattle.iscsi_target.specs.State.{Machine, TargetStep, unchanged, waiting_tasks, unit_of}
+use Rattle.iscsi_target.specs.State.{Machine, unchanged, waiting_tasks, unit_of}
 use Rattle.iscsi_target.specs.declared.tasks.Task.TheVariants.{Data}
 use Rattle.iscsi_target.specs.Transfer.{is_whole_write, is_nothing_due}
-use Rattle.iscsi_target.specs.Execution.{Device, as_told, execute, send_outcome}
-use Rattle.iscsi_target.specs.Command.{order_of, order_said, proceed, send_r2t, led_by}
+use Rattle.iscsi_target.specs.Execution.{Device, execute}
+use Rattle.iscsi_target.specs.Command.{proceed, send_r2t, led_by}
 use Rattle.scsi_disk.specs.Plan.{is_read, is_write}
 use Rattle.scsi_disk.specs.declared.order.Order.{Order}
-use Rattle.scsi_unit.specs.LogicalUnit.{LogicalUnit}
 use Rattle.scsi_unit.specs.Telling.{outcome_with_unit}
-use Rattle.iscsi_stream.specs.Pieces.{Pieces, piece_data}
 use Rattle.scsi_unit.proofs.TellingLemmas.{not_told}
 use Rattle.std.proofs.Common.{rules, append_assoc, ◌≤◌}
 use Rattle.std.specs.Prelude.{Result, Ok, Err, OnOk}
@@ -32,31 +29,6 @@ use Rattle.iscsi_target.specs.declared.due.Due.TheVariants.{Nothing, Unsolicited
 use Rattle.iscsi_target.specs.inner.Staged.{CountsR2ts, with_r2t_for}
 use Rattle.iscsi_target_session.proofs.ReplyBytesLemmas.{one_answer}
 use Rattle.iscsi_target.specs.inner.Inside.{DisklessPost}
-
--- a disk that tells no more of itself than the profile has takes a command for what it says
-pub plain_order : (unit : Option LogicalUnit) (h : ScsiCommand) → unit ≡ None → order_of unit h ≡ order_said h
-plain_order unit h plain = ap (λ (u : Option LogicalUnit). order_of u h) plain
-
--- an order that is executed on a disk that tells no more of itself than the profile has
-abbrev pub plainly : Device → Machine → Disk → ℕ → Order → Pieces → TargetStep
-plainly device s disk tag order pieces = send_outcome s (record {
-  initiator_task_tag = tag;
-  disk = disk;
-  unit = s.session.settings.extras.unit;
-  order = order;
-  pieces = pieces;
-}) (device 0 disk order (piece_data pieces))
-
-pub plain_executed : (device : Device) (s : Machine) (disk : Disk) (tag : ℕ) (order : Order) (pieces : Pieces) → s.session.settings.extras.unit ≡ None
-    → execute device s disk tag order pieces ≡ plainly device s disk tag order pieces
-plain_executed device s disk tag order pieces plain =
-    ap (λ (unit : Option LogicalUnit). send_outcome s (record {
-      initiator_task_tag = tag;
-      disk = disk;
-      unit = s.session.settings.extras.unit;
-      order = order;
-      pieces = pieces;
-    }) (as_told unit disk.count order (device 0 disk order (piece_data pieces)))) plain
 
 pub proceeds_whole : (d : Device) (s : Machine) (disk : Disk) (w : Write) → is_whole_write w ≡ true → execute d s disk w.initiator_task_tag w.order w.pieces
     ≡ proceed d s disk w
