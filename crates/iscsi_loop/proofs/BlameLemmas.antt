@@ -391,7 +391,7 @@ has_outcome i t disk request blocks past h none =
     let whole : outcomes_on blocks past ++ listed i.machine.done ≡ disk_outcomes c (requests_of h.events) =
     (idle_whole c h.events (world_of (ends_of i t disk [] []) h.bytes) (outcomes_on blocks past) (is_normal blocks) h.runs refl refl).0 in
     let each : outcomes_on blocks (past ++ request ∷ []) ≡ outcomes_on blocks past ++ outcome_on blocks past request ∷ [] =
-    outcomes_more initiator_settings.proposal.prefs.max_recv (disk_of c.blocks) past request in
+    outcomes_more initiator_settings.proposal.prefs.max_recv None (disk_of c.blocks) past request in
     let bad : [] ≡ outcome_on blocks past request ∷ [] = append_cancel_left (outcomes_on blocks past) [] (outcome_on blocks past request ∷ [])
     (ap (λ (o : Option Done). outcomes_on blocks past ++ listed o) (sym none) ∙ whole ∙ ap (disk_outcomes c) h.requests_are ∙ each) in
     cc

@@ -1,7 +1,7 @@
 -- What a loop writes, command by command, where its ends are one local disk.
 use Rattle.std.specs.Prelude.{IfErr, OnOk}
 use Rattle.std.specs.Io.KnownBytes.{Appends}
-use Rattle.std.proofs.Common.{◌≡◌, inr, ℕ, min, List, [], ◌∷◌, ◌++◌, length, map, take, Option, Result, Ok, Err, refl, sym, ap, ◌∙◌, subst, append_assoc}
+use Rattle.std.proofs.Common.{◌≡◌, inr, ℕ, min, List, [], ◌∷◌, ◌++◌, length, map, take, Option, None, Result, Ok, Err, refl, sym, ap, ◌∙◌, subst, append_assoc}
 use Rattle.std.proofs.Common.{append-nil, arith}
 use Rattle.std.proofs.KnownBytes.{Appends-trans, Appends-nil}
 use Rattle.std.proofs.lemmas.List.{map-append, take-append-le, take_all, take_min}
@@ -47,10 +47,11 @@ line_written (Err fault) blocks past request done old new contents_old contents_
 
 -- outcomes in two parts
 parts : (most : ℕ) (disk : Disk) (front back : List Request)
-    → local_outcomes most disk (front ++ back) ≡ local_outcomes most disk front ++ local_outcomes most (local_disk most disk front) back
+    → local_outcomes most None disk (front ++ back) ≡ local_outcomes most None disk front ++ local_outcomes most None (local_disk most None disk front) back
 unfolding local_outcomes local_disk
 parts most disk [] back = refl
-parts most disk (request ∷ front) back = ap (λ (x : List Done). (local most disk request).outcome ∷ x) (parts most (local most disk request).disk front back)
+parts most disk (request ∷ front) back = ap (λ (x : List Done). (local most None disk request).outcome ∷ x)
+    (parts most (local most None disk request).disk front back)
 
 -- the first commands were done, and their lines written
 pub record OnDiskSoFar (blocks : ℕ) (all rest : List Command) (ends : BothEnds) (contents_old contents_new : Option (List ℕ)) : Type 0 where
@@ -75,7 +76,7 @@ on_more blocks all rest more command old new contents_old contents_now contents_
     let w = does past d.one in
     let both : map command_request (d.front ++ command ∷ []) ≡ past ++ command_request command ∷ [] = map-append command_request d.front (command ∷ []) in
     let each : outcomes_on blocks (past ++ command_request command ∷ []) ≡ outcomes_on blocks past ++ next ∷ [] =
-    outcomes_more initiator_settings.proposal.prefs.max_recv (disk_of (loop_opening blocks).blocks) past (command_request command) in
+    outcomes_more initiator_settings.proposal.prefs.max_recv None (disk_of (loop_opening blocks).blocks) past (command_request command) in
     let lines : reports (outcomes_on blocks (map command_request (d.front ++ command ∷ []))) ≡ reports (outcomes_on blocks past) ++ report next =
     ap (λ (rs : List Request). reports (outcomes_on blocks rs)) both ∙ ap reports each ∙ flat_map-append report (outcomes_on blocks past) (next ∷ [])
     ∙ ap (λ (x : List ℕ). reports (outcomes_on blocks past) ++ x) (append-nil (report next)) in
@@ -109,7 +110,7 @@ on_stops fault blocks all rest more command old new contents_old contents_now co
     let left : List Command = left_by (is_logout command) more in
     let later : List Request = map command_request (up_to_logout left) in
     let next : Done = outcome_on blocks past (command_request command) in
-    let tail : List Done = local_outcomes most (local most (local_disk most disk past) (command_request command)).disk later in
+    let tail : List Done = local_outcomes most None (local most None (local_disk most None disk past) (command_request command)).disk later in
     let whole : up_to_logout all ≡ d.front ++ command ∷ up_to_logout left =
     d.runs ∙ ap (λ (cs : List Command). d.front ++ up_to_logout cs) is
     ∙ ap (λ (cs : List Command). d.front ++ cs) (left_at (is_logout command) command more refl) in

@@ -201,7 +201,6 @@ is_normal blocks =
       };
       suits = record { name = inr refl; auth = inr (λ e. absurd cc); access = refl; chap = refl };
       session = refl;
-      plain = refl;
     }
 
 -- the initiator starts its login
@@ -264,7 +263,7 @@ takes_on i t disk request done blocks past is h =
     (idle_whole c h.events (world_of here h.bytes) (outcomes_on blocks past) (is_normal blocks) h.runs refl refl).0 in
     let these : outcomes_on blocks past ++ listed i.machine.done ≡ outcomes_on blocks all = whole ∙ ap (disk_outcomes c) h.requests_are in
     let each : outcomes_on blocks all ≡ outcomes_on blocks past ++ outcome_on blocks past request ∷ [] =
-    outcomes_more initiator_settings.proposal.prefs.max_recv (disk_of c.blocks) past request in
+    outcomes_more initiator_settings.proposal.prefs.max_recv None (disk_of c.blocks) past request in
     let one : done ∷ [] ≡ outcome_on blocks past request ∷ [] =
     append_cancel_left (outcomes_on blocks past) (done ∷ []) (outcome_on blocks past request ∷ [])
     (ap (λ (o : Option Done). outcomes_on blocks past ++ listed o) (sym is) ∙ these ∙ each) in (

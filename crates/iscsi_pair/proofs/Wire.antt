@@ -3,5 +3,6 @@ pub mod PrefixLemmas
 pub mod WindowLemmas
 pub mod WrittenPdus
 pub mod TextSizes
+pub mod ToldOutcomes
 pub mod OutcomeRanges
 pub mod OfferedTexts

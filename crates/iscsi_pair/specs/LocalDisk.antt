@@ -8,6 +8,8 @@ use Rattle.scsi_disk.specs.Disk.{Disk}
 use Rattle.scsi_disk.specs.Effect.{Effect, effect}
 use Rattle.scsi_disk.specs.declared.order.Order.{Order}
 use Rattle.scsi_disk.specs.declared.order.Outcome.{Outcome}
+use Rattle.scsi_unit.specs.LogicalUnit.{LogicalUnit}
+use Rattle.scsi_unit.specs.WriteSame.{meant}
 use Rattle.iscsi_pdu.specs.declared.serial.Window.{Window}
 use Rattle.iscsi_stream.specs.Stream.{Message}
 use Rattle.iscsi_login.specs.declared.phase.Phase.TheVariants as phases
@@ -15,6 +17,7 @@ use Rattle.iscsi_text.specs.declared.negotiated.Session.TheVariants as sessions
 use Rattle.iscsi_login.specs.Held.{Held, IsHeld}
 use Rattle.iscsi_target_session.specs.Session as target_session
 use Rattle.iscsi_target.specs.State as target
+use Rattle.iscsi_target.specs.Execution.{as_told}
 use Rattle.iscsi_target.specs.Machine.{answers}
 use Rattle.iscsi_initiator.specs.declared.request.Done.{Done}
 use Rattle.iscsi_initiator.specs.declared.request.Done.TheVariants as done
@@ -65,29 +68,39 @@ pub record Local : Type 0 where
 abbrev pub local_command : Effect → Local
 local_command after = record { outcome = reported after.outcome; disk = after.disk }
 
--- What a request does where the disk is here. A ping returns the first of its bytes, at most so
--- many; texts and logouts are nothing to a disk (sections 11.3, 11.4 and 11.18). No law asks what a
--- text returns (`IsServed`).
-abbrev pub local : ℕ → Disk → Request → Local
-local most disk (requests.In lun cdb expected) =
-    local_command (effect false disk (reading_order lun cdb expected) [])
-local most disk (requests.Out lun cdb bytes) =
-    local_command (effect false disk (writing_order lun cdb bytes) bytes)
-local most disk (requests.Ping bytes) =
+-- What an order does to a disk that is here: with no unit, what it says. A thin unit takes a WRITE SAME
+-- for a WRITE, and each unit answers some commands of itself (SPC-4; SBC-3).
+abbrev pub effect_here : Option LogicalUnit → Disk → Order → List ℕ → Effect
+effect_here None disk order bytes = effect false disk order bytes
+effect_here (Some unit) disk order bytes =
+    as_told (Some unit) disk.count (meant (Some unit) order)
+    (effect false disk (meant (Some unit) order) bytes)
+
+-- What a request does where the disk is here, and has a unit or none. A ping returns the first of its
+-- bytes, at most so many; texts and logouts are nothing to a disk (sections 11.3, 11.4 and 11.18). No
+-- law asks what a text returns (`IsServed`).
+abbrev pub local : ℕ → Option LogicalUnit → Disk → Request → Local
+local most unit disk (requests.In lun cdb expected) =
+    local_command (effect_here unit disk (reading_order lun cdb expected) [])
+local most unit disk (requests.Out lun cdb bytes) =
+    local_command (effect_here unit disk (writing_order lun cdb bytes) bytes)
+local most unit disk (requests.Ping bytes) =
     record { outcome = done.Ping (take most bytes); disk = disk }
-local most disk (requests.Text bytes) = record { outcome = done.Text []; disk = disk }
-local most disk requests.Logout = record { outcome = done.Closed; disk = disk }
+local most unit disk (requests.Text bytes) = record { outcome = done.Text []; disk = disk }
+local most unit disk requests.Logout = record { outcome = done.Closed; disk = disk }
 
 -- The outcomes of requests, one after another on one disk.
-unfoldable pub local_outcomes : ℕ → Disk → List Request → List Done
-local_outcomes most disk [] = []
-local_outcomes most disk (request ∷ more) =
-    (local most disk request).outcome ∷ local_outcomes most (local most disk request).disk more
+unfoldable pub local_outcomes : ℕ → Option LogicalUnit → Disk → List Request → List Done
+local_outcomes most unit disk [] = []
+local_outcomes most unit disk (request ∷ more) =
+    (local most unit disk request).outcome
+    ∷ local_outcomes most unit (local most unit disk request).disk more
 
 -- The disk after all of them.
-unfoldable pub local_disk : ℕ → Disk → List Request → Disk
-local_disk most disk [] = disk
-local_disk most disk (request ∷ more) = local_disk most (local most disk request).disk more
+unfoldable pub local_disk : ℕ → Option LogicalUnit → Disk → List Request → Disk
+local_disk most unit disk [] = disk
+local_disk most unit disk (request ∷ more) =
+    local_disk most unit (local most unit disk request).disk more
 
 -- ---- two ends that are in step
 
@@ -110,8 +123,6 @@ pub record AreInStep (m : initiator.InitiatorSession) (t : target.Machine) : Typ
   pub held : t.session.held ≡ m.held
   pub is_held : IsHeld m.held
   pub segment : m.held.target_max_recv ≤ target_session.target_limit t.session.settings
-  -- its disk tells no more of itself than the profile has
-  pub plain : t.session.settings.extras.unit ≡ None
   -- the tag of the last request, and the numbers that are due
   pub tag_fits : m.initiator_task_tag ≤ 0xffff_fffe
   pub cmd_sn : t.session.exp_cmd_sn ≡ m.cmd_sn
@@ -127,10 +138,13 @@ pub record HaveParted (m : initiator.InitiatorSession) (t : target.Machine) : Ty
   pub target_phase : t.session.phase ≡ phases.Closed
   pub none_open : m.outstanding ≡ None
 
--- Both ends are in step and hold this, or have parted after this outcome, that of a logout.
-abbrev pub AreAtRest : Held → Done → initiator.InitiatorSession → target.Machine → Type 0
-AreAtRest held outcome m t =
-    (AreInStep m t × (m.held ≡ held)) ⊎ (HaveParted m t × (outcome ≡ done.Closed))
+-- Both ends are in step and hold this, and the disk has this unit; or they have parted after this
+-- outcome, that of a logout.
+abbrev pub AreAtRest : Held → Option LogicalUnit → Done → initiator.InitiatorSession → target.Machine
+    → Type 0
+AreAtRest held unit outcome m t =
+    (AreInStep m t × (m.held ≡ held) × (target.unit_of t.session ≡ unit))
+    ⊎ (HaveParted m t × (outcome ≡ done.Closed))
 
 -- ---- answers, one by one
 
@@ -177,15 +191,17 @@ handed_in m t disk request =
     }
 
 -- The request has this outcome and left this disk, and no answer is on its way. Once the outcome is
--- taken, both ends are in step and hold this, or have parted (section 4.2).
-pub record RequestHasEnded (held : Held) (outcome : Done) (disk_now : Disk)
+-- taken, both ends are in step and hold this, and the disk has this unit, or they have parted (section
+-- 4.2).
+pub record RequestHasEnded (held : Held) (unit : Option LogicalUnit) (outcome : Done)
+    (disk_now : Disk)
     (x : DiskExchange) : Type 0 where
   pub done_is : x.initiator.done ≡ Some outcome
   pub silent : x.answers ≡ []
   pub disk_is : x.disk ≡ disk_now
-  pub at_rest : AreAtRest held outcome (outcome_taken x.initiator) x.target
+  pub at_rest : AreAtRest held unit outcome (outcome_taken x.initiator) x.target
 
 -- After some answers it has.
-abbrev pub EndsAfterAnswers : Held → Done → Disk → DiskExchange → Type 0
-EndsAfterAnswers held outcome disk_now x =
-    (n : ℕ) × RequestHasEnded held outcome disk_now (after_answers n x)
+abbrev pub EndsAfterAnswers : Held → Option LogicalUnit → Done → Disk → DiskExchange → Type 0
+EndsAfterAnswers held unit outcome disk_now x =
+    (n : ℕ) × RequestHasEnded held unit outcome disk_now (after_answers n x)

@@ -74,22 +74,22 @@ pub record SomeRunServes (c : Opening) (all : List Request) (outcomes : List Don
   pub none_out : world.to_target ≡ []
   pub none_back : world.to_initiator ≡ []
 
--- Both ends suit each other, in a normal session (section 6.3). The target's disk tells no more of
--- itself than the profile has.
+-- Both ends suit each other, in a normal session (section 6.3).
 pub record IsNormal (c : Opening) : Type 0 where
   pub opening : IsOpening c
   pub suits : SuitEachOther c
   pub session : c.initiator.proposal.session ≡ sessions.Normal
-  pub plain : c.target.extras.unit ≡ None
 
--- The outcomes that requests have on one local disk: that of the pair at first, with pings of as
--- many bytes as the initiator takes.
+-- The outcomes that requests have on one local disk: that of the pair at first, with the unit that the
+-- target has, and with pings of as many bytes as the initiator takes.
 abbrev pub disk_outcomes : Opening → List Request → List Done
-disk_outcomes c = local_outcomes c.initiator.proposal.prefs.max_recv (disk_of c.blocks)
+disk_outcomes c =
+    local_outcomes c.initiator.proposal.prefs.max_recv c.target.extras.unit (disk_of c.blocks)
 
 -- The disk after them.
 abbrev pub local_disk_after : Opening → List Request → Disk
-local_disk_after c = local_disk c.initiator.proposal.prefs.max_recv (disk_of c.blocks)
+local_disk_after c =
+    local_disk c.initiator.proposal.prefs.max_recv c.target.extras.unit (disk_of c.blocks)
 
 -- The last of these requests is a logout (section 11.14).
 abbrev pub EndsInLogout : List Request → Type 0

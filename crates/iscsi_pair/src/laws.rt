@@ -111,8 +111,9 @@ pub fn one_request()
     ensures ends { (m : initiator.InitiatorSession) (t : target.Machine) (disk : Disk)
         (request : Request)
         → IsServed request → AreInStep m t → (submitted m request).refusal ≡ None
-        → let here = local m.held.initiator_max_recv disk request in
-        EndsAfterAnswers m.held here.outcome here.disk (handed_in m t disk request) }
+        → let unit = target.unit_of t.session in
+        let here = local m.held.initiator_max_recv unit disk request in
+        EndsAfterAnswers m.held unit here.outcome here.disk (handed_in m t disk request) }
     // Each is accepted that isn't too long.
     ensures accepted { (m : initiator.InitiatorSession) (t : target.Machine) (request : Request)
         → AreInStep m t → is_request_too_long m request ≡ false → (submitted m request).refusal

@@ -221,8 +221,7 @@ pub fn outcomes_over(
     ensures on_disk { IfOk result (λ served.
         let c = opening_of configs.0 configs.1 first_statsn store in
         let requests = requests_among steps.items in
-        SuitEachOther c → c.initiator.proposal.session ≡ sessions.Normal → c.target.extras.unit
-        ≡ None
+        SuitEachOther c → c.initiator.proposal.session ≡ sessions.Normal
         → AllByRecursion IsServed requests
         → (served.0.items ≡ disk_outcomes c requests) × (disk_of served.1 ≡ local_disk_after c requests)) }
     // They are those of the pair, which took these steps and no others.

@@ -37,8 +37,7 @@ pub fn serve_requests(
 ) -> Result<(Vec<Done>, MemoryStore), RunFault>
     ensures on_disk { IfOk result (λ served.
         let c = opening_of configs.0 configs.1 first_statsn store in
-        SuitEachOther c → c.initiator.proposal.session ≡ sessions.Normal → c.target.extras.unit
-        ≡ None
+        SuitEachOther c → c.initiator.proposal.session ≡ sessions.Normal
         → AllByRecursion IsServed requests.items
         → (served.0.items ≡ disk_outcomes c requests.items)
         × (disk_of served.1 ≡ local_disk_after c requests.items)) }
@@ -47,8 +46,7 @@ pub fn serve_requests(
         × (requests_of events ≡ requests.items)
         × HasRun (opening_of configs.0 configs.1 first_statsn store) events served.0.items served.1) }
     ensures served { let c = opening_of configs.0 configs.1 first_statsn store in
-        SuitEachOther c → c.initiator.proposal.session ≡ sessions.Normal → c.target.extras.unit
-        ≡ None
+        SuitEachOther c → c.initiator.proposal.session ≡ sessions.Normal
         → CanBeServed requests.items
         → IfErr result (λ fault. fault ≡ faults.NoMemory) }
 {

@@ -1,6 +1,6 @@
 //! What another program does with `iscsi_pair`.
 
-ghost use Rattle.std.specs.Prelude.{◌≡◌, map, IfErr, IfOk, IsTrue, None};
+ghost use Rattle.std.specs.Prelude.{◌≡◌, map, IfErr, IfOk, IsTrue};
 ghost use Rattle.std.specs.List.{AllByRecursion};
 ghost use Rattle.iscsi_text.specs.declared.negotiated.Session.TheVariants as sessions;
 ghost use Rattle.iscsi_pair.specs.declared.step.RunFault.TheVariants as faults;
@@ -43,8 +43,7 @@ pub fn outcomes_in_steps(
     ensures outcomes { IfOk result (λ outcomes.
         let c = opening_of configs.0 configs.1 1 store in
         let requests = requests_among steps.items in
-        SuitEachOther c → c.initiator.proposal.session ≡ sessions.Normal → c.target.extras.unit
-        ≡ None
+        SuitEachOther c → c.initiator.proposal.session ≡ sessions.Normal
         → AllByRecursion IsServed requests → outcomes.items ≡ disk_outcomes c requests) }
 {
     let (outcomes, _) = outcomes_over(alloc, configs, 1, store, steps)?;
@@ -59,13 +58,11 @@ pub fn outcomes_of(
     requests: Vec<Request>,
 ) -> Result<Vec<Done>, RunFault>
     ensures outcomes { IfOk result (λ outcomes. let c = opening_of configs.0 configs.1 1 store in
-        SuitEachOther c → c.initiator.proposal.session ≡ sessions.Normal → c.target.extras.unit
-        ≡ None
+        SuitEachOther c → c.initiator.proposal.session ≡ sessions.Normal
         → AllByRecursion IsServed requests.items
         → outcomes.items ≡ disk_outcomes c requests.items) }
     ensures served { let c = opening_of configs.0 configs.1 1 store in
-        SuitEachOther c → c.initiator.proposal.session ≡ sessions.Normal → c.target.extras.unit
-        ≡ None
+        SuitEachOther c → c.initiator.proposal.session ≡ sessions.Normal
         → CanBeServed requests.items
         → IfErr result (λ fault. fault ≡ faults.NoMemory) }
 {

@@ -77,7 +77,7 @@ IsBlameless old fault = (blocks : ℕ) (requests : List Request) (outcomes : Lis
 -- The outcome of the next request there, behind these (section 4.2).
 abbrev pub outcome_on : ℕ → List Request → Request → Done
 outcome_on blocks past request =
-    (local initiator_settings.proposal.prefs.max_recv (local_disk_after (loop_opening blocks) past) request).outcome
+    (local initiator_settings.proposal.prefs.max_recv None (local_disk_after (loop_opening blocks) past) request).outcome
 
 -- The ends have served these requests as one local disk does, and nothing is on its way.
 abbrev pub AreOneDisk : ℕ → List Request → BothEnds → Type 0

@@ -1,15 +1,17 @@
 -- One request after another: some run serves them all.
 use Rattle.std.specs.List.{AllByRecursion}
-use Rattle.std.proofs.Common.{◌≡◌, ◌≤◌, inl, inr, ℕ, false, List, [], ◌∷◌, ◌++◌, length, None, refl, sym, ap, ◌∙◌, subst, append_assoc, arith}
+use Rattle.std.proofs.Common.{◌≡◌, ◌≤◌, inl, inr, ℕ, false, List, [], ◌∷◌, ◌++◌, length, Option, None, refl, sym, ap, ◌∙◌, subst, append_assoc, arith}
 use Rattle.std.proofs.lemmas.Bool.{le-ltb}
 use Rattle.std.proofs.lemmas.List.{append-nil}
 use Rattle.scsi_disk.specs.Disk.{Disk, disk_of}
+use Rattle.scsi_unit.specs.LogicalUnit.{LogicalUnit}
 use Rattle.iscsi_stream.specs.declared.logins.Logins.{Logins}
 use Rattle.iscsi_stream.specs.Stream.{Message, logins_after_all}
 use Rattle.iscsi_login.specs.Held.{Held}
 use Rattle.iscsi_target_session.specs.Configured as target_settings
 use Rattle.iscsi_target_session.specs.Session as target_session
 use Rattle.iscsi_target.specs.State as target
+use Rattle.iscsi_target.specs.State.{unit_of}
 use Rattle.iscsi_target.specs.Machine.{answers}
 use Rattle.iscsi_initiator.specs.declared.request.Done.{Done}
 use Rattle.iscsi_initiator.specs.declared.request.Done.TheVariants as done
@@ -41,6 +43,7 @@ record Rests (c : Opening) (asked_ : List Request) : Type 0 where
   agreed : HaveAgreed c held
   in_step : AreInStep initiator target
   same : initiator.held ≡ held
+  has : unit_of target.session ≡ c.target.extras.unit
 
 -- so it is behind the login
 first_rests : (c : Opening) → HasLoggedIn c → Rests c []
@@ -60,6 +63,7 @@ first_rests c l = record {
   };
   in_step = l.met.in_step;
   same = refl;
+  has = ap (λ (x : target_settings.TargetSettings). x.extras.unit) l.met.target_settings;
 }
 
 -- ---- one request
@@ -80,15 +84,17 @@ taken_short (requests.Ping bytes) m t s a = (let least = s.is_held.target_max_re
 taken_short (requests.Text bytes) m t s a = absurd a
 taken_short requests.Logout m t s a = absurd a
 
-not_parted : (request : Request) (most : ℕ) (disk : Disk) → IsAlwaysTaken request → (local most disk request).outcome ≡ done.Closed → ⊥
-not_parted request most disk a e = subst IsAlwaysTaken (is_logout most disk request e) a
+not_parted : (request : Request) (most : ℕ) (unit : Option LogicalUnit) (disk : Disk) → IsAlwaysTaken request
+    → (local most unit disk request).outcome ≡ done.Closed → ⊥
+not_parted request most unit disk a e = subst IsAlwaysTaken (is_logout most unit disk request e) a
 
 -- both ends are in step again
-in_step_by : (held : Held) (request : Request) (most : ℕ) (disk : Disk) (i : initiator.InitiatorSession) (t : target.Machine) → IsAlwaysTaken request
-    → AreAtRest held (local most disk request).outcome i t → AreInStep i t × (i.held ≡ held)
-in_step_by held request most disk i t a rest = elim rest [
+in_step_by : (held : Held) (unit : Option LogicalUnit) (request : Request) (most : ℕ) (disk : Disk) (i : initiator.InitiatorSession) (t : target.Machine)
+    → IsAlwaysTaken request
+    → AreAtRest held unit (local most unit disk request).outcome i t → AreInStep i t × (i.held ≡ held) × (target.unit_of t.session ≡ unit)
+in_step_by held unit request most disk i t a rest = elim rest [
   | inl on ↦ on
-  | inr over ↦ absurd (not_parted request most disk a over.1)
+  | inr over ↦ absurd (not_parted request most unit disk a over.1)
 ]
 
 -- a request has had its outcome, and both ends rest
@@ -101,7 +107,7 @@ record HasOutcome (c : Opening) (past : List Request) (request : Request) : Type
   stays : (let all = past ++ request ∷ [] in
       Stays c (between initiator target (local_disk_after c all) []) [] (so_far there here (record { requests = all; outcomes = disk_outcomes c all })))
   agreed : HaveAgreed c held
-  at_rest : AreAtRest held (local (pinged c) (local_disk_after c past) request).outcome initiator target
+  at_rest : AreAtRest held c.target.extras.unit (local (pinged c) c.target.extras.unit (local_disk_after c past) request).outcome initiator target
 
 -- a request is handed in, and so is its outcome
 one_done : (c : Opening) (past : List Request) (request : Request) → (r : Rests c past) → IsServed request → is_request_too_long r.initiator request ≡ false
@@ -112,13 +118,15 @@ one_done c past request r served short =
     let disk : Disk = local_disk_after c past in
     let h : History = record { requests = past; outcomes = disk_outcomes c past } in
     let g : History = record h { requests = past ++ request ∷ [] } in
-    let here : Local = local (pinged c) disk request in
+    let unit : Option LogicalUnit = c.target.extras.unit in
+    let here : Local = local (pinged c) unit disk request in
     let none : (submitted i request).refusal ≡ None = accepts i t request r.in_step short in
     let most : i.held.initiator_max_recv ≡ pinged c = ap (λ (x : Held). x.initiator_max_recv) r.same ∙ r.agreed.most in
     let now : HaveAgreed c i.held = subst (HaveAgreed c) (sym r.same) r.agreed in
     let b : Begins i.held i t disk request here =
-    subst (λ (n : ℕ). Begins i.held i t disk request (local n disk request)) most
-    (begins i t disk request served r.in_step none) in
+    subst (λ (u : Option LogicalUnit). Begins i.held i t disk request (local (pinged c) u disk request)) r.has
+    (subst (λ (n : ℕ). Begins i.held i t disk request (local n (target.unit_of t.session) disk request)) most
+    (begins i t disk request served r.in_step none)) in
     let out : List Message = (submitted i request).output in
     let s : target.TargetStep = answers false t disk out in
     let sent : Stays c (between (submitted i request).machine t disk []) out (so_far r.there r.here g) = hands_in c h i t disk r.there r.here request r.stays
@@ -145,18 +153,18 @@ one_done c past request r served short =
       stays = subst
           (λ (d : Disk). Stays c (between (outcome_taken last.initiator) last.target d []) []
           (so_far come.there come.here (record { requests = past ++ request ∷ []; outcomes = disk_outcomes c (past ++ request ∷ []) })))
-          (b.ends.ended.disk_is ∙ sym (disk_more (pinged c) (disk_of c.blocks) past request))
+          (b.ends.ended.disk_is ∙ sym (disk_more (pinged c) unit (disk_of c.blocks) past request))
           (subst (λ (x : List Done). Stays c (between (outcome_taken last.initiator) last.target last.disk []) []
           (so_far come.there come.here (record { requests = past ++ request ∷ []; outcomes = x })))
-          (sym (outcomes_more (pinged c) (disk_of c.blocks) past request)) given);
+          (sym (outcomes_more (pinged c) unit (disk_of c.blocks) past request)) given);
       agreed = now;
-      at_rest = b.ends.ended.at_rest;
+      at_rest = subst (λ (u : Option LogicalUnit). AreAtRest i.held u here.outcome (outcome_taken last.initiator) last.target) r.has b.ends.ended.at_rest;
     }
 
 one_more : (c : Opening) (past : List Request) (request : Request) → Rests c past → IsAlwaysTaken request → Rests c (past ++ request ∷ [])
 one_more c past request r a =
     let d : HasOutcome c past request = one_done c past request r (taken_served request a) (taken_short request r.initiator r.target r.in_step a) in
-    let rest = in_step_by d.held request (pinged c) (local_disk_after c past) d.initiator d.target a d.at_rest in
+    let rest = in_step_by d.held c.target.extras.unit request (pinged c) (local_disk_after c past) d.initiator d.target a d.at_rest in
     record {
       held = d.held;
       initiator = d.initiator;
@@ -167,6 +175,7 @@ one_more c past request r a =
       agreed = d.agreed;
       in_step = rest.0;
       same = rest.1;
+      has = rest.2;
     }
 
 -- ---- all of them

@@ -91,7 +91,7 @@ one_round c i t there here r o p =
         here = logins_after here turn.answer.head;
         stays = subst (λ (ms : List Message). Stays c (between s.machine now.machine disk []) ms (so_far next (logins_after here turn.answer.head) none_asked))
             agreed.silent on;
-        met = meet.met o.plain agreed;
+        met = meet.met agreed;
       })
       | inr asks ↦ inr (record {
         initiator = s.machine;

@@ -1,5 +1,5 @@
 -- What is written is read, and two ends that suit each other.
-use Rattle.std.specs.Prelude.{All, bit_and, codes, min, nat_le, nat_lt, not, ◌&&◌, ◌==◌, ◌<◌}
+use Rattle.std.specs.Prelude.{All, Option, Some, None, bit_and, codes, if◌then◌else◌, is_some, min, nat_le, nat_lt, not, ◌&&◌, ◌||◌, ◌==◌, ◌<◌}
 use Rattle.std.proofs.Common.{◌≡◌, ◌≤◌, inl, inr, ℕ, ◌+◌, ◌*◌, ◌/◌, Bool, true, false, List, [], ◌∷◌, length, take, refl, ap, ◌∙◌, subst, arith}
 use Rattle.std.proofs.lemmas.Bool.{eq-eqb, le-ltb, leb-true, ltb-true, ne_eqb}
 use Rattle.std.proofs.lemmas.List.{take_all}
@@ -8,15 +8,19 @@ use Rattle.scsi_cdb.specs.Layout.{number_at, bits_at}
 use Rattle.scsi_cdb.specs.declared.cdb.Cdb.{Cdb}
 use Rattle.scsi_cdb.specs.declared.cdb.Cdb.TheVariants.{Read10, Write10}
 use Rattle.scsi_cdb.specs.declared.cdb.Transfer10.{Transfer10}
+use Rattle.scsi_cdb.specs.declared.cdb.Transfer16.{Transfer16}
 use Rattle.scsi_cdb.specs.declared.residual.Residual.{Residual}
 use Rattle.scsi_cdb.specs.declared.residual.Residual.TheVariants.{Exact}
 use Rattle.scsi_cdb.specs.Blocks.{record_of}
 use Rattle.scsi_disk.specs.Disk.{Disk, disk_of, joined_blocks, disk_written}
-use Rattle.scsi_disk.specs.Effect.{disk_by, effect, outcome_by, residual_of}
+use Rattle.scsi_disk.specs.Effect.{Effect, disk_by, effect, outcome_by, residual_of}
 use Rattle.scsi_disk.specs.Plan.{plan_of}
 use Rattle.scsi_disk.specs.declared.order.Order.{Order}
 use Rattle.scsi_disk.specs.declared.order.Plan.{Plan}
 use Rattle.scsi_disk.specs.declared.order.Plan.TheVariants.{Take, Give}
+use Rattle.scsi_unit.specs.LogicalUnit.{LogicalUnit}
+use Rattle.scsi_unit.specs.WriteSame.{as_write}
+use Rattle.iscsi_target.specs.Execution.{as_told}
 use Rattle.iscsi_pdu.specs.Meaning.{AreBytes}
 use Rattle.iscsi_login.specs.Name.{IsName}
 use Rattle.iscsi_login.specs.Negotiation.{ArePreferencesInRange, standard_preferences}
@@ -24,7 +28,7 @@ use Rattle.iscsi_initiator.specs.declared.request.Done.TheVariants as done
 use Rattle.iscsi_initiator.specs.declared.request.Request.{Request}
 use Rattle.iscsi_initiator.specs.declared.request.Request.TheVariants as requests
 use Rattle.iscsi_pair.specs.World.{Opening}
-use Rattle.iscsi_pair.specs.LocalDisk.{local, local_outcomes, reading_order, reported, writing_order}
+use Rattle.iscsi_pair.specs.LocalDisk.{effect_here, local, local_outcomes, reading_order, reported, writing_order}
 use Rattle.iscsi_pair.specs.Served.{IsNormal, SomeRunServes, disk_outcomes}
 use Rattle.iscsi_pair.specs.Example.{NameSame, first_read, first_written, good_done, standard_opening}
 use Rattle.iscsi_pair.proofs.Lists.BlockLemmas.{joined_back}
@@ -105,32 +109,58 @@ read_plan t n f = rw (f.plain, f.few, f.inside, f.none) (ap Give (let least : mi
 none_over : (n : ℕ) → residual_of n n ≡ Exact
 none_over n = (let same : nat_lt n n ≡ false = le-ltb n n (omega arith) in rw same refl)
 
+-- no unit takes a READ or a WRITE for another command, or answers it of itself
+never : (thin : Bool) → (let none : Option Transfer16 = None in (if thin then none else none) ≡ none)
+never true = refl
+never false = refl
+
+write_here : (unit : Option LogicalUnit) (disk : Disk) (t : Transfer10) (bytes : List ℕ)
+    → effect_here unit disk (a_write t) bytes ≡ effect false disk (a_write t) bytes
+write_here None disk t bytes = refl
+write_here (Some unit) disk t bytes =
+    ap (λ (x : Option Transfer16). (let order : Order = record (a_write t) { cdb = as_write x (Write10 t); same = is_some x || false } in
+    as_told (Some unit) disk.count order (effect false disk order bytes))) (never unit.thin)
+
+read_here : (unit : Option LogicalUnit) (disk : Disk) (t : Transfer10) → effect_here unit disk (a_read t) [] ≡ effect false disk (a_read t) []
+read_here None disk t = refl
+read_here (Some unit) disk t =
+    ap (λ (x : Option Transfer16). (let order : Order = record (a_read t) { cdb = as_write x (Read10 t); same = is_some x || false } in
+    as_told (Some unit) disk.count order (effect false disk order []))) (never unit.thin)
+
 -- the write is told to be good, and leaves its bytes
 write_outcome : (most : ℕ) (c : Opening) (write_cdb read_cdb bytes : List ℕ) → NameSame c write_cdb read_cdb bytes
-    → (local most (disk_of c.blocks) (requests.Out 0 write_cdb bytes)).outcome ≡ good_done []
+    → (local most c.target.extras.unit (disk_of c.blocks) (requests.Out 0 write_cdb bytes)).outcome ≡ good_done []
 write_outcome most c write_cdb read_cdb bytes p =
     let disk : Disk = disk_of c.blocks in
-    ap (λ (x : Order). reported (effect false disk x bytes).outcome) (write_order c write_cdb read_cdb bytes p)
+    let unit : Option LogicalUnit = c.target.extras.unit in
+    ap (λ (x : Order). reported (effect_here unit disk x bytes).outcome) (write_order c write_cdb read_cdb bytes p)
+    ∙ ap (λ (x : Effect). reported x.outcome) (write_here unit disk p.named bytes)
     ∙ ap (λ (x : Plan). reported (outcome_by x disk (a_write p.named))) (write_plan p.named (length c.blocks / 512) (are_fine c write_cdb read_cdb bytes p))
     ∙ ap (λ (x : Residual). done.Command 0 0x00 [] [] x) (none_over (512 * p.named.blocks))
 
 write_disk : (most : ℕ) (c : Opening) (write_cdb read_cdb bytes : List ℕ) → (p : NameSame c write_cdb read_cdb bytes)
-    → (local most (disk_of c.blocks) (requests.Out 0 write_cdb bytes)).disk ≡ disk_written p.named.logical_block_address bytes (disk_of c.blocks)
+    → (local most c.target.extras.unit (disk_of c.blocks) (requests.Out 0 write_cdb bytes)).disk
+    ≡ disk_written p.named.logical_block_address bytes (disk_of c.blocks)
 write_disk most c write_cdb read_cdb bytes p =
     let disk : Disk = disk_of c.blocks in
-    ap (λ (x : Order). (effect false disk x bytes).disk) (write_order c write_cdb read_cdb bytes p)
+    let unit : Option LogicalUnit = c.target.extras.unit in
+    ap (λ (x : Order). (effect_here unit disk x bytes).disk) (write_order c write_cdb read_cdb bytes p)
+    ∙ ap (λ (x : Effect). x.disk) (write_here unit disk p.named bytes)
     ∙ ap (λ (x : Plan). disk_by x disk (a_write p.named) bytes) (write_plan p.named (length c.blocks / 512) (are_fine c write_cdb read_cdb bytes p))
 
 -- the read gives them
 read_outcome : (most : ℕ) (c : Opening) (write_cdb read_cdb bytes : List ℕ) → (p : NameSame c write_cdb read_cdb bytes)
-    → (local most (disk_written p.named.logical_block_address bytes (disk_of c.blocks)) (requests.In 0 read_cdb (length bytes))).outcome ≡ good_done bytes
+    → (local most c.target.extras.unit (disk_written p.named.logical_block_address bytes (disk_of c.blocks))
+    (requests.In 0 read_cdb (length bytes))).outcome ≡ good_done bytes
 read_outcome most c write_cdb read_cdb bytes p =
     let first : ℕ = p.named.logical_block_address in
     let disk : Disk = disk_written first bytes (disk_of c.blocks) in
+    let unit : Option LogicalUnit = c.target.extras.unit in
     let size : ℕ = 512 * p.named.blocks in
     let all : take size (joined_blocks disk.block first p.named.blocks) ≡ bytes =
     ap (take size) (joined_back c.blocks bytes first p.named.blocks p.size p.inside) ∙ take_all size bytes (let same = p.size in omega (arith, same)) in
-    ap (λ (x : Order). reported (effect false disk x []).outcome) (read_order c write_cdb read_cdb bytes p)
+    ap (λ (x : Order). reported (effect_here unit disk x []).outcome) (read_order c write_cdb read_cdb bytes p)
+    ∙ ap (λ (x : Effect). reported x.outcome) (read_here unit disk p.named)
     ∙ ap (λ (x : Plan). reported (outcome_by x disk (a_read p.named))) (read_plan p.named (length c.blocks / 512) (are_fine c write_cdb read_cdb bytes p))
     ∙ ap (λ (x : Residual). done.Command 0 0x00 [] (take size (joined_blocks disk.block first p.named.blocks)) x) (none_over size)
     ∙ ap good_done all
@@ -142,9 +172,11 @@ unfolding local_outcomes
 outcomes_are c write_cdb read_cdb bytes p =
     let most : ℕ = c.initiator.proposal.prefs.max_recv in
     let disk : Disk = disk_of c.blocks in
-    let wrote : (local most disk (requests.Out 0 write_cdb bytes)).outcome ≡ good_done [] = write_outcome most c write_cdb read_cdb bytes p in
-    let gave : (local most (local most disk (requests.Out 0 write_cdb bytes)).disk (requests.In 0 read_cdb (length bytes))).outcome ≡ good_done bytes =
-    ap (λ (d : Disk). (local most d (requests.In 0 read_cdb (length bytes))).outcome) (write_disk most c write_cdb read_cdb bytes p)
+    let unit : Option LogicalUnit = c.target.extras.unit in
+    let wrote : (local most unit disk (requests.Out 0 write_cdb bytes)).outcome ≡ good_done [] = write_outcome most c write_cdb read_cdb bytes p in
+    let gave : (local most unit (local most unit disk (requests.Out 0 write_cdb bytes)).disk (requests.In 0 read_cdb (length bytes))).outcome
+    ≡ good_done bytes =
+    ap (λ (d : Disk). (local most unit d (requests.In 0 read_cdb (length bytes))).outcome) (write_disk most c write_cdb read_cdb bytes p)
     ∙ read_outcome most c write_cdb read_cdb bytes p in
     λ j. wrote j ∷ gave j ∷ []
 
@@ -227,7 +259,6 @@ standard_normal blocks = record {
   };
   suits = record { name = inr refl; auth = inl refl; access = refl; chap = refl };
   session = refl;
-  plain = refl;
 }
   where
     ranges : ArePreferencesInRange standard_preferences

@@ -211,9 +211,9 @@ pub record AreServed (c : Opening) (asked : List Request) (w : World) (outcomes 
 
 pub served_on_disk : (c : Opening) (asked : List Request) (w : World) (outcomes : List Done) → IsOpening c → HasServed (new_pair c) asked w outcomes
     → SuitEachOther c
-    → c.initiator.proposal.session ≡ sessions.Normal → c.target.extras.unit ≡ None → AllByRecursion IsServed asked → AreServed c asked w outcomes
-served_on_disk c asked w outcomes opening h suits normal plain served =
-    let o : IsNormal c = record { opening = opening; suits = suits; session = normal; plain = plain } in
+    → c.initiator.proposal.session ≡ sessions.Normal → AllByRecursion IsServed asked → AreServed c asked w outcomes
+served_on_disk c asked w outcomes opening h suits normal served =
+    let o : IsNormal c = record { opening = opening; suits = suits; session = normal } in
     let r : RunsServed (new_pair c) h.events w outcomes = runs_served c asked w outcomes h served in
     let whole = idle_whole c h.events w outcomes o r h.idle.2 h.idle.3 in
     record {

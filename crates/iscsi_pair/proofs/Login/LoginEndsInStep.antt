@@ -75,7 +75,7 @@ pub record HasMet (c : Opening) (i : initiator.InitiatorSession) (t : target.Mac
 
 -- one round
 pub record Meets (c : Opening) (i : initiator.InitiatorSession) (t : target.TargetStep) (s : InitiatorStep) (disk : Disk) (next : Logins) : Type 0 where
-  pub met : c.target.extras.unit ≡ None → Agreed s t.machine → HasMet c s.machine t.machine
+  pub met : Agreed s t.machine → HasMet c s.machine t.machine
   pub goes_on : Asks_on c s t.machine next → Numbered c s.machine t.machine
   pub disk_is : t.disk ≡ disk
 
@@ -242,7 +242,7 @@ meets_by : (c : Opening) (i : initiator.InitiatorSession) (t : target.TargetStep
     → Steady c s.machine t.machine
     → (s.machine.stage ≡ stages.Full → (s.machine.phase ≡ phases.Full) × (t.machine.session.has_text ≡ true)) → t.disk ≡ disk → Meets c i t s disk next
 meets_by c i t s disk next o y full same = record {
-  met = λ plain agreed. record {
+  met = λ agreed. record {
     in_step = record {
       initiator_phase = (full agreed.stage).0;
       target_phase = agreed.target_phase;
@@ -254,7 +254,6 @@ meets_by c i t s disk next o y full same = record {
       is_held = subst IsHeld agreed.held (y.fit.held (subst (λ (x : target_settings.TargetSettings). ArePreferencesInRange x.preferences)
           (sym y.target_settings) o.preferences));
       segment = subst (λ (x : Held). x.target_max_recv ≤ target_session.target_limit t.machine.session.settings) agreed.held y.fit.limit;
-      plain = ap (λ (x : target_settings.TargetSettings). x.extras.unit) y.target_settings ∙ plain;
       tag_fits = (let z = y.tag in omega (arith, z));
       cmd_sn = y.exp_cmd_sn ∙ sym y.cmd_sn;
       cmd_sn_fits = subst (λ (x : ℕ). x < 2 ^ 32) (sym y.cmd_sn) o.cmd_sn;

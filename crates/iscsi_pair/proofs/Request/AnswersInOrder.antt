@@ -1,8 +1,9 @@
 -- Where the answers on their way lead both ends, where the target receives at once all that is sent.
-use Rattle.std.proofs.Common.{◌≡◌, ◌≤◌, ℕ, ◌+◌, zero, suc, arith, Bool, true, false, List, [], ◌∷◌, ◌++◌, length, None, refl, sym, ap, ◌∙◌, subst}
+use Rattle.std.proofs.Common.{◌≡◌, ◌≤◌, ℕ, ◌+◌, zero, suc, arith, Bool, true, false, List, [], ◌∷◌, ◌++◌, length, Option, None, refl, sym, ap, ◌∙◌, subst}
 use Rattle.std.specs.Prelude.{is_some}
 use Rattle.std.proofs.lemmas.List.{append-nil}
 use Rattle.scsi_disk.specs.Disk.{Disk}
+use Rattle.scsi_unit.specs.LogicalUnit.{LogicalUnit}
 use Rattle.iscsi_pdu.specs.declared.head.Head.{Head}
 use Rattle.iscsi_stream.specs.declared.logins.Logins.{Logins}
 use Rattle.iscsi_stream.specs.Segment.{logins_after, segment_bytes}
@@ -164,15 +165,15 @@ receives_sends low most le held i n t disk m out r x e full busy none received i
 -- ---- a request
 
 -- from here, with these answers on their way, it comes to that
-pub record Ends (most : ℕ) (held : Held) (i : initiator.InitiatorSession) (r : target.TargetStep) (here : Local) : Type 0 where
+pub record Ends (most : ℕ) (held : Held) (unit : Option LogicalUnit) (i : initiator.InitiatorSession) (r : target.TargetStep) (here : Local) : Type 0 where
   pub last : DiskExchange
   pub leads : LeadsWithin most held (between i r.machine r.disk r.answers) last
-  pub ended : RequestHasEnded held here.outcome here.disk last
+  pub ended : RequestHasEnded held unit here.outcome here.disk last
 
 -- What a request that is handed in sends is received, and it comes to this outcome.
 pub record Begins (held : Held) (m : initiator.InitiatorSession) (t : target.Machine) (disk : Disk) (request : Request) (here : Local) : Type 0 where
   pub received : AreReceived held t disk (submitted m request).output
-  pub ends : Ends most_answers held (submitted m request).machine (answers false t disk (submitted m request).output) here
+  pub ends : Ends most_answers held (target.unit_of t.session) (submitted m request).machine (answers false t disk (submitted m request).output) here
 
 -- where answers lead is where they lead one by one
 pub leads_after : (n : ℕ) (held : Held) (i : initiator.InitiatorSession) (t : target.Machine) (disk : Disk) (back : List Message) (x : DiskExchange)

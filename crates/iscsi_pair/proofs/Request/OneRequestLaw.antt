@@ -2,6 +2,7 @@
 use Rattle.std.specs.Prelude.{◌-◌, ◌||◌, not, is_some, if◌then◌else◌}
 use Rattle.std.proofs.Common.{◌+◌, ◌^◌, ◌%◌, Bool, true, false, Option, arith, ◌≡◌, ℕ, List, [], ◌∷◌, ◌++◌, None, Some, sym, refl, ap, ◌∙◌, subst}
 use Rattle.scsi_disk.specs.Disk.{Disk}
+use Rattle.scsi_unit.specs.LogicalUnit.{LogicalUnit}
 use Rattle.iscsi_login.specs.declared.phase.Phase.{Phase}
 use Rattle.iscsi_login.specs.declared.phase.Phase.TheVariants as phases
 use Rattle.iscsi_target.specs.State as target
@@ -59,7 +60,7 @@ accepts m t request a short =
 -- a request that is accepted in step comes to its outcome on the disk
 pub begins : (m : initiator.InitiatorSession) (t : target.Machine) (disk : Disk) (request : Request) → IsServed request → AreInStep m t
     → (submitted m request).refusal ≡ None
-    → Begins m.held m t disk request (local m.held.initiator_max_recv disk request)
+    → Begins m.held m t disk request (local m.held.initiator_max_recv (target.unit_of t.session) disk request)
 begins m t disk (requests.In lun cdb expected) served a e = local_read m t disk lun cdb expected served.0 served.1 served.2 a e
 begins m t disk (requests.Out lun cdb bytes) served a e = local_write m t disk lun cdb bytes served.0 served.1 served.2 a e
 begins m t disk (requests.Ping bytes) served a e = local_ping m t disk bytes a e
@@ -68,13 +69,14 @@ begins m t disk requests.Logout served a e = local_logout m t disk a e
 
 pub comes_to : (m : initiator.InitiatorSession) (t : target.Machine) (disk : Disk) (request : Request) → IsServed request → AreInStep m t
     → (submitted m request).refusal ≡ None
-    → (let here = local m.held.initiator_max_recv disk request in EndsAfterAnswers m.held here.outcome here.disk (handed_in m t disk request))
+    → (let here = local m.held.initiator_max_recv (target.unit_of t.session) disk request in
+    EndsAfterAnswers m.held (target.unit_of t.session) here.outcome here.disk (handed_in m t disk request))
 comes_to m t disk request served a e =
-    let here : Local = local m.held.initiator_max_recv disk request in
+    let here : Local = local m.held.initiator_max_recv (target.unit_of t.session) disk request in
     let b : Begins m.held m t disk request here = begins m t disk request served a e in
     let r : TargetStep = answers false t disk (submitted m request).output in (
       b.ends.leads.0,
-      subst (RequestHasEnded m.held here.outcome here.disk) (sym (leads_after b.ends.leads.0 m.held (submitted m request).machine r.machine r.disk
+      subst (RequestHasEnded m.held (target.unit_of t.session) here.outcome here.disk) (sym (leads_after b.ends.leads.0 m.held (submitted m request).machine r.machine r.disk
           r.answers b.ends.last b.ends.leads.2)) b.ends.ended,
     )
 
@@ -103,15 +105,16 @@ is_free m request e = free_in m.phase m request refl (unrefused (submit_refusal 
 
 -- ---- one request more
 
-pub outcomes_more : (most : ℕ) (disk : Disk) (past : List Request) (request : Request)
-    → local_outcomes most disk (past ++ request ∷ []) ≡ local_outcomes most disk past ++ (local most (local_disk most disk past) request).outcome ∷ []
+pub outcomes_more : (most : ℕ) (unit : Option LogicalUnit) (disk : Disk) (past : List Request) (request : Request)
+    → local_outcomes most unit disk (past ++ request ∷ []) ≡ local_outcomes most unit disk past
+    ++ (local most unit (local_disk most unit disk past) request).outcome ∷ []
 unfolding local_outcomes local_disk
-outcomes_more most disk [] request = refl
-outcomes_more most disk (first ∷ past) request = ap (λ (x : List Done). (local most disk first).outcome ∷ x) (outcomes_more most (local most disk first).disk
-    past request)
+outcomes_more most unit disk [] request = refl
+outcomes_more most unit disk (first ∷ past) request = ap (λ (x : List Done). (local most unit disk first).outcome ∷ x)
+    (outcomes_more most unit (local most unit disk first).disk past request)
 
-pub disk_more : (most : ℕ) (disk : Disk) (past : List Request) (request : Request)
-    → local_disk most disk (past ++ request ∷ []) ≡ (local most (local_disk most disk past) request).disk
+pub disk_more : (most : ℕ) (unit : Option LogicalUnit) (disk : Disk) (past : List Request) (request : Request)
+    → local_disk most unit disk (past ++ request ∷ []) ≡ (local most unit (local_disk most unit disk past) request).disk
 unfolding local_disk
-disk_more most disk [] request = refl
-disk_more most disk (first ∷ past) request = disk_more most (local most disk first).disk past request
+disk_more most unit disk [] request = refl
+disk_more most unit disk (first ∷ past) request = disk_more most unit (local most unit disk first).disk past request

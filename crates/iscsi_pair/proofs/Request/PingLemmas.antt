@@ -150,7 +150,7 @@ local_ping m t disk bytes a e =
     few in
     let told_ : told_window m.window t' ≡ window_of_eight n = tells_eight n m.window fits (near_next n m.cmd_sn m.window a.cmd_sn_fits refl a.window) in
     let last : DiskExchange = record { initiator = pinged begun_ t' m.window given; target = counted_on t'; disk = disk; answers = [] } in
-    let ends_ : Ends most_answers m.held (pinging begun_ m.window) executed (record { outcome = done.Ping given; disk = disk }) = record {
+    let ends_ : Ends most_answers m.held (target.unit_of t.session) (pinging begun_ m.window) executed (record { outcome = done.Ping given; disk = disk }) = record {
       last = last;
       leads = receives_quiet 0 most_answers (omega arith) m.held (pinging begun_ m.window) (pinged begun_ t' m.window given) (counted_on t') disk answer []
           last one refl refl a.none_done
@@ -159,7 +159,7 @@ local_ping m t disk bytes a e =
         done_is = refl;
         silent = refl;
         disk_is = refl;
-        at_rest = inl (in_step_again begun_ t m.window a.held a.is_held a.segment a.plain tag fits told_, refl);
+        at_rest = inl (in_step_again begun_ t m.window a.held a.is_held a.segment tag fits told_, refl, refl);
       };
     } in
     let written : ArePlain m.held.target_max_recv (ping_message m bytes ∷ []) =
@@ -173,13 +173,13 @@ local_ping m t disk bytes a e =
           (plain_one m.held.initiator_max_recv answer
           (λ logins. pong_readable logins t' (ping_head m) given (omega (arith, tag)) a.stat_sn_fits fits (omega (arith, few, a.is_held.initiator_max_recv.1)))
           (short_message answer.head given m.held.initiator_max_recv few));
-      ends = subst (λ (s : SubmitStep). Ends most_answers m.held s.machine (answers false t disk (submitted m request).output)
+      ends = subst (λ (s : SubmitStep). Ends most_answers m.held (target.unit_of t.session) s.machine (answers false t disk (submitted m request).output)
           (record { outcome = done.Ping given; disk = disk }))
           (sym sent)
-          (subst (λ (x : initiator.InitiatorSession). Ends most_answers m.held x (answers false t disk (submitted m request).output)
+          (subst (λ (x : initiator.InitiatorSession). Ends most_answers m.held (target.unit_of t.session) x (answers false t disk (submitted m request).output)
           (record { outcome = done.Ping given; disk = disk }))
           (sym is_m)
-          (subst (λ (x : target.TargetStep). Ends most_answers m.held (pinging begun_ m.window) x (record { outcome = done.Ping given; disk = disk }))
+          (subst (λ (x : target.TargetStep). Ends most_answers m.held (target.unit_of t.session) (pinging begun_ m.window) x (record { outcome = done.Ping given; disk = disk }))
           (sym r) ends_));
     }
 
@@ -257,7 +257,7 @@ local_logout m t disk a e =
     ∙ ap (λ (x : target.Machine). step_on (reliable false) x disk (logout_message m)) is_t
     ∙ logout_taken m t disk a.cmd_sn_fits in
     let last : DiskExchange = record { initiator = left begun_ t' m.window; target = executed.machine; disk = disk; answers = [] } in
-    let ends_ : Ends most_answers m.held (leaving begun_ m.window) executed (record { outcome = done.Closed; disk = disk }) = record {
+    let ends_ : Ends most_answers m.held (target.unit_of t.session) (leaving begun_ m.window) executed (record { outcome = done.Closed; disk = disk }) = record {
       last = last;
       leads = receives_quiet 0 most_answers (omega arith) m.held (leaving begun_ m.window) (left begun_ t' m.window) executed.machine disk answer [] last
           (logout_received begun_ m t' m.window a.stat_sn refl) refl refl a.none_done (0, omega arith, refl);
@@ -285,12 +285,12 @@ local_logout m t disk a e =
             (plain_one m.held.initiator_max_recv answer (λ logins. left_readable logins t' (logout_request_head m) (omega (arith, tag)) a.stat_sn_fits fits)
             (short_message answer.head [] m.held.initiator_max_recv (omega arith)));
       };
-      ends = subst (λ (s : SubmitStep). Ends most_answers m.held s.machine (answers false t disk (submitted m request).output)
+      ends = subst (λ (s : SubmitStep). Ends most_answers m.held (target.unit_of t.session) s.machine (answers false t disk (submitted m request).output)
           (record { outcome = done.Closed; disk = disk }))
           (sym sent)
-          (subst (λ (x : initiator.InitiatorSession). Ends most_answers m.held x (answers false t disk (submitted m request).output)
+          (subst (λ (x : initiator.InitiatorSession). Ends most_answers m.held (target.unit_of t.session) x (answers false t disk (submitted m request).output)
           (record { outcome = done.Closed; disk = disk }))
           (sym is_m)
-          (subst (λ (x : target.TargetStep). Ends most_answers m.held (leaving begun_ m.window) x (record { outcome = done.Closed; disk = disk })) (sym r)
+          (subst (λ (x : target.TargetStep). Ends most_answers m.held (target.unit_of t.session) (leaving begun_ m.window) x (record { outcome = done.Closed; disk = disk })) (sym r)
           ends_));
     }

@@ -11,9 +11,11 @@ use Rattle.scsi_disk.specs.declared.order.Outcome.{Outcome}
 use Rattle.scsi_disk.specs.declared.order.Plan.{Plan}
 use Rattle.scsi_disk.specs.declared.order.Plan.TheVariants.{Refuse, Take, Give}
 use Rattle.scsi_disk.specs.Disk.{Disk}
-use Rattle.scsi_disk.specs.Effect.{Effect, effect, outcome_by, wanted_data}
+use Rattle.scsi_disk.specs.Effect.{Effect, outcome_by, wanted_data}
 use Rattle.scsi_disk.specs.Plan.{expected_length, first_refusal, is_unknown, is_write, plan_by, plan_of, taken_length, named_transfer, wanted_length}
 use Rattle.scsi_disk.proofs.PlanLemmas.{none_refused}
+use Rattle.scsi_unit.specs.LogicalUnit.{LogicalUnit}
+use Rattle.scsi_unit.specs.WriteSame.{meant}
 use Rattle.iscsi_pdu.specs.declared.head.Head.TheVariants as heads
 use Rattle.iscsi_pdu.specs.declared.serial.Window.{Window}
 use Rattle.iscsi_pdu.specs.Serial.{next_sn, is_within}
@@ -44,11 +46,11 @@ use Rattle.iscsi_initiator.specs.declared.request.SubmitFault.{SubmitFault}
 use Rattle.iscsi_initiator.specs.declared.request.SubmitFault.TheVariants as refusals_
 use Rattle.iscsi_initiator.specs.Submitted.{SubmitStep, accepted, command_head, or_accepted, submit_refusal, refusal_in, refusal_when_full, submitted}
 use Rattle.iscsi_initiator.specs.Progress.{ReadProgress}
-use Rattle.iscsi_target.proofs.Answers.CommandLemmas.{plain_executed, plain_order, plainly}
-use Rattle.iscsi_pair.specs.LocalDisk.{AreInStep, DiskExchange, reading_order, window_of_eight, local_command}
+use Rattle.iscsi_pair.specs.LocalDisk.{AreInStep, DiskExchange, effect_here, reading_order, window_of_eight, local_command}
 use Rattle.iscsi_pair.proofs.Wire.WindowLemmas.{near_next, near_now, tag_after, tells_eight}
 use Rattle.iscsi_pair.proofs.Wire.WrittenPdus.{command_readable, data_in_readable, outcome_readable}
-use Rattle.iscsi_pair.proofs.Wire.OutcomeRanges.{HasRoom, outcome_fits}
+use Rattle.iscsi_pair.proofs.Wire.ToldOutcomes.{here_is, told, told_few}
+use Rattle.iscsi_pair.proofs.Wire.OutcomeRanges.{HasRoom, outcome_fits, short_block}
 use Rattle.iscsi_pair.proofs.Request.AnswersInOrder.{ArePlain, Begins, Ends, most_answers, received_by, plain_more, plain_one, short_message}
 use Rattle.iscsi_target.proofs.Answers.OrderLemmas.{expected_by}
 use Rattle.iscsi_target.proofs.Answers.DataInLengthLemmas.{AreShort}
@@ -130,16 +132,23 @@ planned_now (Give n) t cmd_sn disk h order none = refl
 planned_now (Refuse sense) t cmd_sn disk h order none = refl
 
 -- a write without data is refused, unless it has no blocks
-none_by : (b : Bool) (count n total : ℕ) → (b && not false && nat_lt 0 count) ≡ false → (if b then Take (512 * count) else Give n) ≡ Take total → total ≡ 0
-none_by true count n total test e = (let is : 512 * count ≡ total = cc in omega (arith, is, ltb-false 0 count test))
-none_by false count n total test e = absurd cc
+none_by : (b same : Bool) (count n total : ℕ) → (b && not false && (same || nat_lt 0 count)) ≡ false
+    → (if b then Take (if same then 512 else 512 * count) else Give n) ≡ Take total → total ≡ 0
+none_by true true count n total test e = absurd cc
+none_by true false count n total test e = (let is : 512 * count ≡ total = cc in omega (arith, is, ltb-false 0 count test))
+none_by false same count n total test e = absurd cc
 
-takes_none : (f : Option Sense) (lun : ℕ) (cdb : List ℕ) (expected blocks total : ℕ) → first_refusal (reading_order lun cdb expected) blocks ≡ f
-    → plan_by f (reading_order lun cdb expected) blocks ≡ Take total → total ≡ 0
-takes_none (Some sense) lun cdb expected blocks total f e = absurd cc
-takes_none None lun cdb expected blocks total f e =
-    let order : Order = reading_order lun cdb expected in
-    none_by (is_write order.cdb) (named_transfer order.cdb).count (min (wanted_length order blocks) (expected_length order)) total
+-- what a read orders of a disk that may have a unit
+abbrev reads_here : Option LogicalUnit → ℕ → List ℕ → ℕ → Order
+reads_here unit lun cdb expected = meant unit (reading_order lun cdb expected)
+
+takes_none : (f : Option Sense) (unit : Option LogicalUnit) (lun : ℕ) (cdb : List ℕ) (expected blocks total : ℕ)
+    → first_refusal (reads_here unit lun cdb expected) blocks ≡ f
+    → plan_by f (reads_here unit lun cdb expected) blocks ≡ Take total → total ≡ 0
+takes_none (Some sense) unit lun cdb expected blocks total f e = absurd cc
+takes_none None unit lun cdb expected blocks total f e =
+    let order : Order = reads_here unit lun cdb expected in
+    none_by (is_write order.cdb) order.same (named_transfer order.cdb).count (min (wanted_length order blocks) (expected_length order)) total
     (none_refused order blocks f).sends_some e
 
 -- no more is given than is expected
@@ -163,13 +172,12 @@ outcome_few (Give n) disk order most few = omega (arith, few n refl, length-take
 
 -- the command is executed
 read_taken : (m : initiator.InitiatorSession) (t : target.Machine) (disk : Disk) (lun : ℕ) (cdb : List ℕ) (expected : ℕ) → m.cmd_sn < 2 ^ 32
-    → t.session.settings.extras.unit ≡ None
     → step_on (reliable false) (ready t m.cmd_sn) disk (read_command m lun cdb expected)
     ≡ having_accepted (read_command m lun cdb expected ∷ []) (execute (reliable false) (ready t (next_sn m.cmd_sn)) disk (next_tag m.initiator_task_tag)
-    (reading_order lun cdb expected) [])
+    (reads_here t.session.settings.extras.unit lun cdb expected) [])
 unfolding segment_bytes
-read_taken m t disk lun cdb expected lt plain =
-    let order : Order = reading_order lun cdb expected in
+read_taken m t disk lun cdb expected lt =
+    let order : Order = reads_here t.session.settings.extras.unit lun cdb expected in
     let h : ScsiCommand = record (command_head m true lun cdb) { read = not (expected == 0); expected_data_transfer_length = expected } in
     request_alone (reliable false) (ready t m.cmd_sn).session disk (read_command m lun cdb expected) _
     (record {
@@ -179,12 +187,9 @@ read_taken m t disk lun cdb expected lt plain =
       may = refl;
       short = le-ltb t.session.held.target_max_recv 0 (omega arith);
     }) refl refl (window_now m.cmd_sn lt) refl
-    ∙ ap (λ (o : Order). having_accepted (read_command m lun cdb expected ∷ []) (task_begun (reliable false) (ready t (next_sn m.cmd_sn)) disk
-    (task_planned h o [] (plan_of o disk.count)))) (plain_order t.session.settings.extras.unit h plain)
     ∙ ap (having_accepted (read_command m lun cdb expected ∷ []))
     (planned_now (plan_of order disk.count) t (next_sn m.cmd_sn) disk h order
-    (λ total. takes_none (first_refusal order disk.count) lun cdb expected disk.count total
-    refl))
+    (λ total. takes_none (first_refusal order disk.count) t.session.settings.extras.unit lun cdb expected disk.count total refl))
 
 -- ---- the whole of a read
 
@@ -222,8 +227,7 @@ few_expected m lun cdb expected full e =
 
 -- A command or a ping was answered: both ends are in step again.
 pub in_step_again : (m : initiator.InitiatorSession) (t : target.Machine) (window : Window) → t.session.held ≡ m.held → IsHeld m.held
-    → m.held.target_max_recv ≤ target_session.target_limit t.session.settings → t.session.settings.extras.unit ≡ None → m.initiator_task_tag ≤ 0xffff_fffe →
-    m.cmd_sn < 2 ^ 32
+    → m.held.target_max_recv ≤ target_session.target_limit t.session.settings → m.initiator_task_tag ≤ 0xffff_fffe → m.cmd_sn < 2 ^ 32
     → told_window window (ready t m.cmd_sn) ≡ window_of_eight m.cmd_sn
     → AreInStep (record m {
       phase = phases.Full;
@@ -233,7 +237,7 @@ pub in_step_again : (m : initiator.InitiatorSession) (t : target.Machine) (windo
           None;
       done = None;
     }) (counted_on (ready t m.cmd_sn))
-in_step_again m t window held is_held segment plain tag cmd_sn told_ = record {
+in_step_again m t window held is_held segment tag cmd_sn told_ = record {
   initiator_phase = refl;
   target_phase = refl;
   session = refl;
@@ -243,7 +247,6 @@ in_step_again m t window held is_held segment plain tag cmd_sn told_ = record {
   held = held;
   is_held = is_held;
   segment = segment;
-  plain = plain;
   tag_fits = tag;
   cmd_sn = refl;
   cmd_sn_fits = cmd_sn;
@@ -258,13 +261,15 @@ stat_sn_sent m t a = subst (λ (n : Option ℕ). unwrap_or n 0 < 2 ^ 32) (sym a.
 
 pub local_read : (m : initiator.InitiatorSession) (t : target.Machine) (disk : Disk) (lun : ℕ) (cdb : List ℕ) (expected : ℕ) → lun < 2 ^ 64 → length cdb ≡ 16
     → AreBytes cdb → AreInStep m t → (submitted m (requests.In lun cdb expected)).refusal ≡ None
-    → (let after : Effect = effect false disk (reading_order lun cdb expected) [] in Begins m.held m t disk (requests.In lun cdb expected)
-    (local_command after))
+    → Begins m.held m t disk (requests.In lun cdb expected)
+    (local_command (effect_here (target.unit_of t.session) disk (reading_order lun cdb expected) []))
 unfolding answers
 local_read m t disk lun cdb expected on_ size are a e =
     let request : Request = requests.In lun cdb expected in
-    let order : Order = reading_order lun cdb expected in
-    let after : Effect = effect false disk order [] in
+    let unit : Option LogicalUnit = t.session.settings.extras.unit in
+    let order : Order = reads_here unit lun cdb expected in
+    let after : Effect = told unit disk order [] in
+    let here : effect_here unit disk (reading_order lun cdb expected) [] ≡ after = here_is unit disk (reading_order lun cdb expected) [] in
     let n : ℕ = next_sn m.cmd_sn in
     let fits : n < 2 ^ 32 = mod-lt (m.cmd_sn + 1) (omega arith) in
     let few : expected ≤ 4194304 = few_expected m lun cdb expected a.initiator_phase e in
@@ -287,18 +292,16 @@ local_read m t disk lun cdb expected on_ size are a e =
           Some (opens.In r0);
     } in
     let executed : target.TargetStep = having_accepted (read_command m lun cdb expected ∷ [])
-    (plainly (reliable false) t' disk (next_tag m.initiator_task_tag) order
+    (execute (reliable false) t' disk (next_tag m.initiator_task_tag) order
     []) in
     let r : answers false t disk (submitted m request).output ≡ executed =
     ap (λ (s : SubmitStep). answers false t disk s.output) sent
     ∙ then_nothing (step_on (reliable false) t disk (read_command m lun cdb expected))
     ∙ ap (λ (x : target.Machine). step_on (reliable false) x disk (read_command m lun cdb expected)) is_t
-    ∙ read_taken m t disk lun cdb expected a.cmd_sn_fits a.plain
-    ∙ ap (having_accepted (read_command m lun cdb expected ∷ []))
-    (plain_executed (reliable false) t' disk (next_tag m.initiator_task_tag) order [] a.plain) in
+    ∙ read_taken m t disk lun cdb expected a.cmd_sn_fits in
     let tag : next_tag m.initiator_task_tag ≤ 0xffff_fffe = tag_after m.initiator_task_tag a.tag_fits in
-    let room : length after.outcome.bytes ≤ expected = outcome_few (plan_of order disk.count) disk order expected
-    (λ n. gives_few (first_refusal order disk.count) order disk.count n) in
+    let room : length after.outcome.bytes ≤ expected = told_few unit disk order []
+    (outcome_few (plan_of order disk.count) disk order expected (λ n. gives_few (first_refusal order disk.count) order disk.count n)) in
     let h : ReadReceived begun_ t' r0 m.window after.outcome = read_received begun_ t' m.window after.outcome expected a.held a.is_held a.stat_sn a.none_done
     room
     (omega (arith, few)) in
@@ -312,14 +315,14 @@ local_read m t disk lun cdb expected on_ size are a e =
     let told_ : told_window h.told t' ≡ window_of_eight n =
     tells_eight n h.told fits (h.kept n (λ w near. near_now n (told_window w t') fits (tells_eight n w fits near))
     (near_next n m.cmd_sn m.window a.cmd_sn_fits refl a.window)) in
-    let ends_ : Ends most_answers m.held (reading begun_ r0 m.window) executed (local_command after) = record {
+    let ends_ : Ends most_answers m.held unit (reading begun_ r0 m.window) executed (local_command after) = record {
       last = last;
       leads = h.leads 0 most_answers (omega (arith, room, few)) m.held (counted_on t') after.disk last (0, omega arith, refl);
       ended = record {
         done_is = refl;
         silent = refl;
         disk_is = refl;
-        at_rest = inl (in_step_again begun_ t h.told a.held a.is_held a.segment a.plain tag fits told_, refl);
+        at_rest = inl (in_step_again begun_ t h.told a.held a.is_held a.segment tag fits told_, refl, refl);
       };
     } in
     let written : ArePlain m.held.target_max_recv (read_command m lun cdb expected ∷ []) =
@@ -327,15 +330,15 @@ local_read m t disk lun cdb expected on_ size are a e =
     (λ logins. command_readable logins m true (not (expected == 0)) false lun cdb [] expected on_ size are a.tag_fits
     (omega (arith, few)) a.cmd_sn_fits (stat_sn_sent m t a) (omega arith))
     (short_message (read_command m lun cdb expected).head [] m.held.target_max_recv (omega arith)) in
-    record {
+    subst (λ (x : Effect). Begins m.held m t disk request (local_command x)) (sym here) (record {
       received = received_by m.held t disk (submitted m request).output executed r (subst (λ (s : SubmitStep). ArePlain m.held.target_max_recv s.output) (sym
           sent)
           written) refl refl
           (subst (λ (k : Held). ArePlain k.initiator_max_recv executed.answers) a.held
           (command_written t' (next_tag m.initiator_task_tag) after.outcome (subst IsHeld (sym a.held) a.is_held) (omega (arith, tag)) fits a.stat_sn_fits
-          (omega (arith, room, few)) (outcome_fits disk order [] few)));
-      ends = subst (λ (s : SubmitStep). Ends most_answers m.held s.machine (answers false t disk (submitted m request).output) (local_command after)) (sym sent)
-          (subst (λ (x : initiator.InitiatorSession). Ends most_answers m.held x (answers false t disk (submitted m request).output) (local_command after))
+          (omega (arith, room, few)) (outcome_fits unit disk order [] few (short_block unit cdb size are))));
+      ends = subst (λ (s : SubmitStep). Ends most_answers m.held unit s.machine (answers false t disk (submitted m request).output) (local_command after)) (sym sent)
+          (subst (λ (x : initiator.InitiatorSession). Ends most_answers m.held unit x (answers false t disk (submitted m request).output) (local_command after))
           (sym is_m)
-          (subst (λ (x : target.TargetStep). Ends most_answers m.held (reading begun_ r0 m.window) x (local_command after)) (sym r) ends_));
-    }
+          (subst (λ (x : target.TargetStep). Ends most_answers m.held unit (reading begun_ r0 m.window) x (local_command after)) (sym r) ends_));
+    })

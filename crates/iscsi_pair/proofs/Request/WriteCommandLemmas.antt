@@ -6,12 +6,14 @@ use Rattle.std.proofs.lemmas.Bool.{eqb-true, le-ltb, lt-leb, ltb-true, not-false
 use Rattle.std.proofs.lemmas.List.{length-take}
 use Rattle.scsi_cdb.specs.declared.sense.Sense.{Sense}
 use Rattle.scsi_disk.specs.Disk.{Disk}
-use Rattle.scsi_disk.specs.Effect.{Effect, disk_by, effect, outcome_by, wanted_data}
+use Rattle.scsi_disk.specs.Effect.{Effect, disk_by, outcome_by, wanted_data}
 use Rattle.scsi_disk.specs.Plan.{expected_length, first_refusal, is_unknown, is_write, plan_by, plan_of, taken_length, wanted_length}
 use Rattle.scsi_disk.specs.declared.order.Plan.{Plan}
 use Rattle.scsi_disk.specs.declared.order.Plan.TheVariants.{Refuse, Take, Give}
 use Rattle.scsi_disk.specs.declared.order.Order.{Order}
 use Rattle.scsi_disk.proofs.PlanLemmas.{none_refused}
+use Rattle.scsi_unit.specs.LogicalUnit.{LogicalUnit}
+use Rattle.scsi_unit.specs.WriteSame.{meant}
 use Rattle.iscsi_pdu.specs.declared.head.Head.TheVariants as heads
 use Rattle.iscsi_pdu.specs.declared.head.data_out.DataOut.{DataOut}
 use Rattle.iscsi_pdu.specs.declared.head.scsi_command.ScsiCommand.{ScsiCommand}
@@ -38,8 +40,8 @@ use Rattle.iscsi_initiator.specs.Progress.{WriteProgress}
 use Rattle.iscsi_initiator.specs.Full.{data_outs, is_last_piece, sequence}
 use Rattle.iscsi_initiator.specs.Submitted as initiator_writes
 use Rattle.iscsi_initiator.specs.Submitted.{command_head, has_more, immediate_data}
-use Rattle.iscsi_target.proofs.Answers.CommandLemmas.{plain_executed, plain_order, plainly}
 use Rattle.iscsi_pair.specs.LocalDisk.{writing_order, local_command}
+use Rattle.iscsi_pair.proofs.Wire.ToldOutcomes.{told}
 use Rattle.iscsi_pair.proofs.Wire.WindowLemmas.{IsNear}
 use Rattle.iscsi_pair.proofs.Request.AnswersInOrder.{Ends}
 use Rattle.iscsi_pair.proofs.Request.ReadLemmas.{counted_on, ready}
@@ -111,12 +113,17 @@ give_by true write unknown size wanted expected n test e = absurd cc
 give_by false true unknown size wanted expected n test e = absurd cc
 give_by false false unknown size wanted expected n test e = (let is : min wanted 0 ≡ n = cc in omega (arith, is))
 
+-- what a write orders of a disk that may have a unit
+abbrev pub writes_here : Option LogicalUnit → ℕ → List ℕ → List ℕ → Order
+writes_here unit lun cdb bytes = meant unit (writing_order lun cdb bytes)
+
 -- any other command gives nothing to it
-pub gives_none : (f : Option Sense) (lun : ℕ) (cdb bytes : List ℕ) (blocks n : ℕ) → first_refusal (writing_order lun cdb bytes) blocks ≡ f
-    → plan_by f (writing_order lun cdb bytes) blocks ≡ Give n → n ≡ 0
-gives_none (Some sense) lun cdb bytes blocks n f e = absurd cc
-gives_none None lun cdb bytes blocks n f e =
-    let order : Order = writing_order lun cdb bytes in
+pub gives_none : (f : Option Sense) (unit : Option LogicalUnit) (lun : ℕ) (cdb bytes : List ℕ) (blocks n : ℕ)
+    → first_refusal (writes_here unit lun cdb bytes) blocks ≡ f
+    → plan_by f (writes_here unit lun cdb bytes) blocks ≡ Give n → n ≡ 0
+gives_none (Some sense) unit lun cdb bytes blocks n f e = absurd cc
+gives_none None unit lun cdb bytes blocks n f e =
+    let order : Order = writes_here unit lun cdb bytes in
     give_by (is_write order.cdb) order.write (is_unknown order.cdb) (taken_length order) (wanted_length order blocks) order.expected n
     (none_refused order blocks f).takes_data e
 
@@ -159,13 +166,13 @@ unasked_data m bytes = sequence (begun_write m) None reserved_tag (length (immed
 
 pub command_taken : (m : initiator.InitiatorSession) (t : target.Machine) (disk : Disk) (lun : ℕ) (cdb bytes : List ℕ) → m.cmd_sn < 2 ^ 32 → t.session.held ≡ m.held
     → t.session.held.target_max_recv ≤ target_session.target_limit t.session.settings
-    → length (immediate_data m bytes) ≤ t.session.held.target_max_recv → t.session.settings.extras.unit ≡ None
+    → length (immediate_data m bytes) ≤ t.session.held.target_max_recv
     → step_on (reliable false) (ready t m.cmd_sn) disk (write_message m lun cdb bytes)
     ≡ having_accepted (write_message m lun cdb bytes ∷ []) (task_begun (reliable false) (ready t (next_sn m.cmd_sn)) disk
-    (task_planned (write_head m lun cdb bytes) (writing_order lun cdb bytes) (immediate_data m bytes)
-    (plan_of (writing_order lun cdb bytes) disk.count)))
+    (task_planned (write_head m lun cdb bytes) (writes_here (target.unit_of t.session) lun cdb bytes) (immediate_data m bytes)
+    (plan_of (writes_here (target.unit_of t.session) lun cdb bytes) disk.count)))
 unfolding segment_bytes
-command_taken m t disk lun cdb bytes lt held limit short plain =
+command_taken m t disk lun cdb bytes lt held limit short =
     let kept : breaks_burst_rules t.session.held (write_head m lun cdb bytes) (length (immediate_data m bytes)) ≡ false =
     ap (λ (k : Held). breaks_burst_rules k (write_head m lun cdb bytes) (length (immediate_data m bytes))) held ∙ burst_kept m lun cdb bytes in
     request_alone (reliable false) (ready t m.cmd_sn).session disk (write_message m lun cdb bytes) _
@@ -176,20 +183,17 @@ command_taken m t disk lun cdb bytes lt held limit short plain =
       may = refl;
       short = le-ltb t.session.held.target_max_recv (length (immediate_data m bytes)) short;
     }) refl refl (window_now m.cmd_sn lt) kept
-    ∙ ap (λ (o : Order). having_accepted (write_message m lun cdb bytes ∷ []) (task_begun (reliable false) (ready t (next_sn m.cmd_sn)) disk
-    (task_planned (write_head m lun cdb bytes) o (immediate_data m bytes) (plan_of o disk.count))))
-    (plain_order t.session.settings.extras.unit (write_head m lun cdb bytes) plain)
 
 -- the answers to the command and the data behind it
 abbrev pub first_answers : initiator.InitiatorSession → target.Machine → Disk → ℕ → List ℕ → List ℕ → Plan → TargetStep
 first_answers m t disk lun cdb bytes p =
     let r = task_begun (reliable false) (ready t (next_sn m.cmd_sn)) disk
-    (task_planned (write_head m lun cdb bytes) (writing_order lun cdb bytes) (immediate_data m bytes) p) in
+    (task_planned (write_head m lun cdb bytes) (writes_here (target.unit_of t.session) lun cdb bytes) (immediate_data m bytes) p) in
     then_stepped r (answers false r.machine r.disk (unasked_data m bytes))
 
 -- The target answers well, and it comes to the outcome of this order.
-abbrev pub Comes : initiator.InitiatorSession → initiator.InitiatorSession → Order → List ℕ → Disk → TargetStep → Type 0
-Comes m i order bytes disk r = IsAnswered m.held r × Ends (length bytes + 1) m.held i r (local_command (effect false disk order bytes))
+abbrev pub Comes : Option LogicalUnit → initiator.InitiatorSession → initiator.InitiatorSession → Order → List ℕ → Disk → TargetStep → Type 0
+Comes unit m i order bytes disk r = IsAnswered m.held r × Ends (length bytes + 1) m.held unit i r (local_command (told unit disk order bytes))
 
 same_effect : (p : Plan) (disk : Disk) (order : Order) (bytes : List ℕ) → ((n : ℕ) → p ≡ Take n → ⊥) → disk_by p disk order [] ≡ disk_by p disk order bytes
 same_effect (Take n) disk order bytes none = absurd (none n refl)
@@ -198,16 +202,17 @@ same_effect (Refuse sense) disk order bytes none = refl
 
 -- a command that takes no data: what follows it is dropped
 pub executed_alone : (m : initiator.InitiatorSession) (t : target.Machine) (disk : Disk) (lun : ℕ) (cdb bytes : List ℕ) (window : Window)
-    → Throughout (begun_write m) t (next_sn m.cmd_sn) bytes (writing_order lun cdb bytes) disk → IsNear (next_sn m.cmd_sn) window
-    → ((n : ℕ) → plan_of (writing_order lun cdb bytes) disk.count ≡ Take n → ⊥)
-    → Comes m (writing (begun_write m) (first_sent m bytes) window) (writing_order lun cdb bytes) bytes disk
-    (let r = execute (reliable false) (ready t (next_sn m.cmd_sn)) disk (next_tag m.initiator_task_tag) (writing_order lun cdb bytes) [] in
+    → Throughout (begun_write m) t (next_sn m.cmd_sn) bytes (writes_here (target.unit_of t.session) lun cdb bytes) disk → IsNear (next_sn m.cmd_sn) window
+    → ((n : ℕ) → plan_of (writes_here (target.unit_of t.session) lun cdb bytes) disk.count ≡ Take n → ⊥)
+    → Comes (target.unit_of t.session) m (writing (begun_write m) (first_sent m bytes) window) (writes_here (target.unit_of t.session) lun cdb bytes) bytes disk
+    (let r = execute (reliable false) (ready t (next_sn m.cmd_sn)) disk (next_tag m.initiator_task_tag) (writes_here (target.unit_of t.session) lun cdb bytes) [] in
     then_stepped r (answers false r.machine r.disk (unasked_data m bytes)))
 executed_alone m t disk lun cdb bytes window a near none =
-    let order : Order = writing_order lun cdb bytes in
+    let unit : Option LogicalUnit = target.unit_of t.session in
+    let order : Order = writes_here unit lun cdb bytes in
     let n : ℕ = next_sn m.cmd_sn in
-    let r : TargetStep = plainly (reliable false) (ready t n) disk (next_tag m.initiator_task_tag) order [] in
-    let after : Effect = effect false disk order bytes in
+    let r : TargetStep = execute (reliable false) (ready t n) disk (next_tag m.initiator_task_tag) order [] in
+    let after : Effect = told unit disk order bytes in
     let i : initiator.InitiatorSession = writing (begun_write m) (first_sent m bytes) window in
     let uns : List ℕ = initiator_writes.unsolicited m bytes in
     let h : DataOut = record {
@@ -223,17 +228,15 @@ executed_alone m t disk lun cdb bytes window a near none =
     let gone : answers false r.machine r.disk (unasked_data m bytes) ≡ unchanged r.machine r.disk =
     ap (λ (k : Held). answers false r.machine r.disk (data_outs h (chunks k.target_max_recv uns))) (sym a.held)
     ∙ dropped (counted_on t) n r.disk h (chunks t.session.held.target_max_recv uns) a.segment (pieces_are (length uns) t.session.held.target_max_recv uns lt) in
-    let same : effect false disk order [] ≡ after = λ i_. record {
+    let same : told unit disk order [] ≡ after = λ i_. record {
       disk = same_effect (plan_of order disk.count) disk order bytes none i_;
       outcome =
           after.outcome;
     } in
     let well : IsAnswered m.held r = executed_written (begun_write m) t n bytes order disk (next_tag m.initiator_task_tag) [] a refl in
-    let ends_ : Ends (length bytes + 1) m.held i r (local_command after) =
+    let ends_ : Ends (length bytes + 1) m.held unit i r (local_command after) =
     response_ends (length bytes + 1) (omega arith) (begun_write m) t n (opens.Out (first_sent m bytes)) window bytes order disk
     (next_tag m.initiator_task_tag) [] a near (λ h_. refl) refl
     same in
-    subst (λ (x : TargetStep). Comes m i order bytes disk (then_stepped x (answers false x.machine x.disk (unasked_data m bytes))))
-    (sym (plain_executed (reliable false) (ready t n) disk (next_tag m.initiator_task_tag) order [] a.plain))
-    (subst (λ (x : TargetStep). Comes m i order bytes disk (then_stepped r x)) (sym gone)
-    (subst (Comes m i order bytes disk) (sym (then_nothing r)) (well, ends_)))
+    subst (λ (x : TargetStep). Comes unit m i order bytes disk (then_stepped r x)) (sym gone)
+    (subst (Comes unit m i order bytes disk) (sym (then_nothing r)) (well, ends_))

@@ -1,16 +1,17 @@
 -- The whole of a write.
 use Rattle.std.specs.Prelude.{◌-◌, min, nat_lt, ◌==◌, ◌||◌, not, if◌then◌else◌, is_some}
-use Rattle.std.proofs.Common.{◌≡◌, ◌<◌, ◌≤◌, ℕ, ◌+◌, ◌^◌, Bool, true, false, List, [], ◌∷◌, ◌++◌, length, take, drop, Some}
+use Rattle.std.proofs.Common.{◌≡◌, ◌<◌, ◌≤◌, ℕ, ◌+◌, ◌^◌, Bool, true, false, List, [], ◌∷◌, ◌++◌, length, take, drop, Option, Some}
 use Rattle.std.proofs.Common.{None, refl, sym, ap, ◌∙◌, subst, arith, ne_eqb}
 use Rattle.std.proofs.Math.Nat.{mod-lt}
 use Rattle.std.proofs.lemmas.Bool.{and_parts, ltb-false, ltb-true}
 use Rattle.std.proofs.lemmas.List.{length-take, length-drop, take-append-drop, take-take, take_min}
 use Rattle.scsi_disk.specs.Disk.{Disk}
-use Rattle.scsi_disk.specs.Effect.{Effect, effect}
+use Rattle.scsi_disk.specs.Effect.{Effect}
 use Rattle.scsi_disk.specs.Plan.{first_refusal, plan_of}
 use Rattle.scsi_disk.specs.declared.order.Plan.{Plan}
 use Rattle.scsi_disk.specs.declared.order.Plan.TheVariants.{Refuse, Take, Give}
 use Rattle.scsi_disk.specs.declared.order.Order.{Order}
+use Rattle.scsi_unit.specs.LogicalUnit.{LogicalUnit}
 use Rattle.iscsi_pdu.specs.declared.head.data_out.DataOut.{DataOut}
 use Rattle.iscsi_pdu.specs.declared.serial.Window.{Window}
 use Rattle.iscsi_pdu.specs.Fields.{reserved_tag}
@@ -42,7 +43,9 @@ use Rattle.iscsi_initiator.specs.Submitted.{SubmitStep, accepted, has_more, imme
 use Rattle.iscsi_initiator.specs.declared.request.Request.{Request}
 use Rattle.iscsi_initiator.specs.declared.request.Request.TheVariants as requests
 use Rattle.iscsi_target.proofs.Writes.OpenWriteLemmas.{data_of_one}
-use Rattle.iscsi_pair.specs.LocalDisk.{AreInStep, writing_order, local_command}
+use Rattle.iscsi_pair.specs.LocalDisk.{AreInStep, effect_here, writing_order, local_command}
+use Rattle.iscsi_pair.proofs.Wire.ToldOutcomes.{here_is, told, told_none}
+use Rattle.iscsi_pair.proofs.Wire.OutcomeRanges.{short_block}
 use Rattle.iscsi_pair.proofs.Wire.WindowLemmas.{IsNear, near_next, tag_after}
 use Rattle.iscsi_pair.proofs.Wire.WrittenPdus.{command_readable}
 use Rattle.iscsi_pair.proofs.Request.AnswersInOrder.{ArePlain, Begins, Ends, leads_less, most_answers}
@@ -53,7 +56,7 @@ use Rattle.iscsi_pair.proofs.Request.ReadLemmas.{stat_sn_sent, submitted_is, unr
 use Rattle.iscsi_pair.proofs.Request.Invariant.{between}
 use Rattle.iscsi_pair.proofs.Request.DataOutLemmas.{writer, unsolicited, SequenceTaken, sequence_written, batch_taken}
 use Rattle.iscsi_pair.proofs.Request.WriteTurnLemmas.{writing, Throughout, InHand, proceed_written, goes_on}
-use Rattle.iscsi_pair.proofs.Request.WriteCommandLemmas.{write_head, takes_all, gives_none, outcome_none, begun_write, first_sent, write_message, unasked_data, command_taken, first_answers, Comes, executed_alone}
+use Rattle.iscsi_pair.proofs.Request.WriteCommandLemmas.{write_head, writes_here, takes_all, gives_none, outcome_none, begun_write, first_sent, write_message, unasked_data, command_taken, first_answers, Comes, executed_alone}
 
 -- ---- a write whose bytes are taken
 
@@ -62,21 +65,22 @@ immediate_are true size bytes = sym (ap (λ (k : ℕ). take k bytes) (length-tak
 immediate_are false size bytes = refl
 
 -- what is open once the command came, and no data are due unasked
-abbrev first_write : initiator.InitiatorSession → ℕ → List ℕ → List ℕ → ℕ → Write
-first_write m lun cdb bytes total = write_opened (write_head m lun cdb bytes) (writing_order lun cdb bytes) total (immediate_data m bytes)
+abbrev first_write : initiator.InitiatorSession → Option LogicalUnit → ℕ → List ℕ → List ℕ → ℕ → Write
+first_write m unit lun cdb bytes total = write_opened (write_head m lun cdb bytes) (writes_here unit lun cdb bytes) total (immediate_data m bytes)
 
 -- all first data are in the command
 none_unasked : (m : initiator.InitiatorSession) (t : target.Machine) (disk : Disk) (lun : ℕ) (cdb bytes : List ℕ) (window : Window) (total : ℕ)
-    → Throughout (begun_write m) t (next_sn m.cmd_sn) bytes (writing_order lun cdb bytes) disk → IsNear (next_sn m.cmd_sn) window → total ≡ length bytes
+    → Throughout (begun_write m) t (next_sn m.cmd_sn) bytes (writes_here (target.unit_of t.session) lun cdb bytes) disk → IsNear (next_sn m.cmd_sn) window → total ≡ length bytes
     → has_more m bytes ≡ false
-    → Comes m (writing (begun_write m) (first_sent m bytes) window) (writing_order lun cdb bytes) bytes disk
-    (let r = proceed (reliable false) (ready t (next_sn m.cmd_sn)) disk (first_write m lun cdb bytes total) in
+    → Comes (target.unit_of t.session) m (writing (begun_write m) (first_sent m bytes) window) (writes_here (target.unit_of t.session) lun cdb bytes) bytes disk
+    (let r = proceed (reliable false) (ready t (next_sn m.cmd_sn)) disk (first_write m (target.unit_of t.session) lun cdb bytes total) in
     then_stepped r (answers false r.machine r.disk (unasked_data m bytes)))
 unfolding answers
 none_unasked m t disk lun cdb bytes window total a near all none =
-    let order : Order = writing_order lun cdb bytes in
+    let unit : Option LogicalUnit = target.unit_of t.session in
+    let order : Order = writes_here unit lun cdb bytes in
     let n : ℕ = next_sn m.cmd_sn in
-    let w : Write = first_write m lun cdb bytes total in
+    let w : Write = first_write m unit lun cdb bytes total in
     let v : WriteProgress = first_sent m bytes in
     let imm : List ℕ = immediate_data m bytes in
     let uns : initiator_writes.unsolicited m bytes ≡ [] = rw none refl in
@@ -96,8 +100,8 @@ none_unasked m t disk lun cdb bytes window total a near all none =
     } in
     let silent : unasked_data m bytes ≡ [] = ap (λ (x : List ℕ). sequence (begun_write m) None reserved_tag (length imm) x) uns in
     let r : TargetStep = proceed (reliable false) (ready t n) disk w in
-    subst (λ (ms : List Message). Comes m (writing (begun_write m) v window) order bytes disk (then_stepped r (answers false r.machine r.disk ms))) (sym silent)
-    (subst (Comes m (writing (begun_write m) v window) order bytes disk) (sym (then_nothing r)) (
+    subst (λ (ms : List Message). Comes unit m (writing (begun_write m) v window) order bytes disk (then_stepped r (answers false r.machine r.disk ms))) (sym silent)
+    (subst (Comes unit m (writing (begun_write m) v window) order bytes disk) (sym (then_nothing r)) (
       proceed_written (begun_write m) t n v w order disk a i (is_whole_write w) refl,
       goes_on (length bytes) (length bytes + 1) (omega arith) (begun_write m) t n v w window order disk a near i
           (omega arith) (is_whole_write w) refl,
@@ -105,15 +109,16 @@ none_unasked m t disk lun cdb bytes window total a near all none =
 
 -- more first data follow the command
 some_unasked : (m : initiator.InitiatorSession) (t : target.Machine) (disk : Disk) (lun : ℕ) (cdb bytes : List ℕ) (window : Window) (total : ℕ)
-    → Throughout (begun_write m) t (next_sn m.cmd_sn) bytes (writing_order lun cdb bytes) disk → IsNear (next_sn m.cmd_sn) window → total ≡ length bytes
+    → Throughout (begun_write m) t (next_sn m.cmd_sn) bytes (writes_here (target.unit_of t.session) lun cdb bytes) disk → IsNear (next_sn m.cmd_sn) window → total ≡ length bytes
     → has_more m bytes ≡ true
-    → Comes m (writing (begun_write m) (first_sent m bytes) window) (writing_order lun cdb bytes) bytes disk
-    (let r = proceed (reliable false) (ready t (next_sn m.cmd_sn)) disk (first_write m lun cdb bytes total) in
+    → Comes (target.unit_of t.session) m (writing (begun_write m) (first_sent m bytes) window) (writes_here (target.unit_of t.session) lun cdb bytes) bytes disk
+    (let r = proceed (reliable false) (ready t (next_sn m.cmd_sn)) disk (first_write m (target.unit_of t.session) lun cdb bytes total) in
     then_stepped r (answers false r.machine r.disk (unasked_data m bytes)))
 some_unasked m t disk lun cdb bytes window total a near all more =
-    let order : Order = writing_order lun cdb bytes in
+    let unit : Option LogicalUnit = target.unit_of t.session in
+    let order : Order = writes_here unit lun cdb bytes in
     let n : ℕ = next_sn m.cmd_sn in
-    let w : Write = first_write m lun cdb bytes total in
+    let w : Write = first_write m unit lun cdb bytes total in
     let v : WriteProgress = first_sent m bytes in
     let imm : List ℕ = immediate_data m bytes in
     let uns : List ℕ = drop (length imm) (take (unasked m.held (length bytes)) bytes) in
@@ -171,7 +176,7 @@ some_unasked m t disk lun cdb bytes window total a near all more =
     ≡ proceed (reliable false) (ready t n) disk w' =
     ap (λ (x : TargetStep). then_stepped x (answers false x.machine x.disk (unasked_data m bytes))) first ∙ ap (answers false (writer t n w) disk) data_
     ∙ r.is in
-    subst (Comes m (writing (begun_write m) v window) order bytes disk) (sym is) (
+    subst (Comes unit m (writing (begun_write m) v window) order bytes disk) (sym is) (
       proceed_written (begun_write m) t n v w' order disk a i (is_whole_write w') refl,
       goes_on (length bytes) (length bytes + 1) (omega arith) (begun_write m) t n v w' window order disk a near i
           (omega arith) (is_whole_write w') refl,
@@ -180,16 +185,16 @@ some_unasked m t disk lun cdb bytes window total a near all more =
 -- ---- the whole of a write
 
 by_plan : (p : Plan) (m : initiator.InitiatorSession) (t : target.Machine) (disk : Disk) (lun : ℕ) (cdb bytes : List ℕ) (window : Window)
-    → plan_of (writing_order lun cdb bytes) disk.count ≡ p
-    → Throughout (begun_write m) t (next_sn m.cmd_sn) bytes (writing_order lun cdb bytes) disk → IsNear (next_sn m.cmd_sn) window → (more : Bool)
+    → plan_of (writes_here (target.unit_of t.session) lun cdb bytes) disk.count ≡ p
+    → Throughout (begun_write m) t (next_sn m.cmd_sn) bytes (writes_here (target.unit_of t.session) lun cdb bytes) disk → IsNear (next_sn m.cmd_sn) window → (more : Bool)
     → has_more m bytes ≡ more
-    → Comes m (writing (begun_write m) (first_sent m bytes) window) (writing_order lun cdb bytes) bytes disk (first_answers m t disk lun cdb bytes p)
+    → Comes (target.unit_of t.session) m (writing (begun_write m) (first_sent m bytes) window) (writes_here (target.unit_of t.session) lun cdb bytes) bytes disk (first_answers m t disk lun cdb bytes p)
 by_plan (Take total) m t disk lun cdb bytes window is a near true more =
-    some_unasked m t disk lun cdb bytes window total a near (takes_all (first_refusal (writing_order lun cdb bytes) disk.count) (writing_order lun cdb bytes)
-    disk.count total refl is) more
+    some_unasked m t disk lun cdb bytes window total a near (takes_all (first_refusal (writes_here (target.unit_of t.session) lun cdb bytes) disk.count)
+    (writes_here (target.unit_of t.session) lun cdb bytes) disk.count total refl is) more
 by_plan (Take total) m t disk lun cdb bytes window is a near false none =
-    none_unasked m t disk lun cdb bytes window total a near (takes_all (first_refusal (writing_order lun cdb bytes) disk.count) (writing_order lun cdb bytes)
-    disk.count total refl is) none
+    none_unasked m t disk lun cdb bytes window total a near (takes_all (first_refusal (writes_here (target.unit_of t.session) lun cdb bytes) disk.count)
+    (writes_here (target.unit_of t.session) lun cdb bytes) disk.count total refl is) none
 by_plan (Give n) m t disk lun cdb bytes window is a near more e =
     executed_alone m t disk lun cdb bytes window a near (λ k f. (let bad : Give n ≡ Take k = sym is ∙ f in absurd cc))
 by_plan (Refuse sense) m t disk lun cdb bytes window is a near more e =
@@ -224,12 +229,14 @@ first_few m bytes =
 pub local_write : (m : initiator.InitiatorSession) (t : target.Machine) (disk : Disk) (lun : ℕ) (cdb bytes : List ℕ) → lun < 2 ^ 64 → length cdb ≡ 16
     → AreBytes cdb
     → AreInStep m t → (submitted m (requests.Out lun cdb bytes)).refusal ≡ None
-    → (let after : Effect = effect false disk (writing_order lun cdb bytes) bytes in Begins m.held m t disk (requests.Out lun cdb bytes) (local_command after))
+    → Begins m.held m t disk (requests.Out lun cdb bytes) (local_command (effect_here (target.unit_of t.session) disk (writing_order lun cdb bytes) bytes))
 unfolding answers
 local_write m t disk lun cdb bytes on_ size are a e =
     let request : Request = requests.Out lun cdb bytes in
-    let order : Order = writing_order lun cdb bytes in
-    let after : Effect = effect false disk order bytes in
+    let unit : Option LogicalUnit = target.unit_of t.session in
+    let order : Order = writes_here unit lun cdb bytes in
+    let after : Effect = told unit disk order bytes in
+    let here : effect_here unit disk (writing_order lun cdb bytes) bytes ≡ after = here_is unit disk (writing_order lun cdb bytes) bytes in
     let p : Plan = plan_of order disk.count in
     let few : length bytes ≤ 4194304 = few_bytes m lun cdb bytes a.initiator_phase e in
     let sent : submitted m request ≡ accepted m request = submitted_is m request e in
@@ -257,22 +264,22 @@ local_write m t disk lun cdb bytes on_ size are a e =
       held = a.held;
       is_held = a.is_held;
       segment = limit;
-      plain = a.plain;
       stat_sn = a.stat_sn;
       tag_fits = tag_after m.initiator_task_tag a.tag_fits;
       cmd_sn_is = refl;
       cmd_sn_fits = mod-lt (m.cmd_sn + 1) (omega arith);
       few = few;
-      none_given = outcome_none p disk order (λ n. gives_none (first_refusal order disk.count) lun cdb bytes disk.count n refl);
+      none_given = told_none unit disk order bytes refl (outcome_none p disk order (λ n. gives_none (first_refusal order disk.count) unit lun cdb bytes disk.count n refl));
       stat_sn_fits = a.stat_sn_fits;
       stat_sn_sends = stat_sn_sent m t a;
       lun = on_;
       expected = few;
+      short = short_block unit cdb size are;
       none_done = a.none_done;
     } in
     let first : TargetStep = task_begun (reliable false) (ready t (next_sn m.cmd_sn)) disk
-    (task_planned (write_head m lun cdb bytes) (writing_order lun cdb bytes) (immediate_data m bytes) p) in
-    let x : Comes m i order bytes disk (first_answers m t disk lun cdb bytes p) =
+    (task_planned (write_head m lun cdb bytes) order (immediate_data m bytes) p) in
+    let x : Comes unit m i order bytes disk (first_answers m t disk lun cdb bytes p) =
     by_plan p m t disk lun cdb bytes m.window refl all (near_next (next_sn m.cmd_sn) m.cmd_sn m.window a.cmd_sn_fits refl a.window) (has_more m bytes) refl in
     let r : TargetStep = then_stepped (having_accepted (write_message m lun cdb bytes ∷ []) first)
     (answers false first.machine first.disk (unasked_data m bytes)) in
@@ -281,7 +288,7 @@ local_write m t disk lun cdb bytes on_ size are a e =
     ∙ ap (λ (y : target.Machine). answers false y disk (accepted m request).output) is_t
     ∙ ap (λ (y : TargetStep). then_stepped y (answers false y.machine y.disk (unasked_data m bytes)))
     (command_taken m t disk lun cdb bytes a.cmd_sn_fits a.held limit
-    short a.plain) in
+    short) in
     let most : ℕ = m.held.target_max_recv in
     let short_ : length (immediate_data m bytes) ≤ most = subst (λ (h : Held). length (immediate_data m bytes) ≤ h.target_max_recv) a.held short in
     let written : ArePlain most (write_message m lun cdb bytes ∷ unasked_data m bytes) =
@@ -293,17 +300,17 @@ local_write m t disk lun cdb bytes on_ size are a e =
     (sequence_written (begun_write m) None reserved_tag (length (immediate_data m bytes)) (initiator_writes.unsolicited m bytes) a.is_held all.tag_fits
     all.stat_sn_sends refl tt (omega arith)
     (omega (arith, first_few m bytes, few))) in
-    let ends_ : Ends most_answers m.held i r (local_command after) = record {
+    let ends_ : Ends most_answers m.held unit i r (local_command after) = record {
       last = x.1.last;
       leads = leads_less (length bytes + 1) most_answers m.held (between i r.machine r.disk r.answers) x.1.last (omega (arith, few)) x.1.leads;
       ended = x.1.ended;
     } in
-    record {
+    subst (λ (x : Effect). Begins m.held m t disk request (local_command x)) (sym here) (record {
       received = received_by m.held t disk (submitted m request).output r is (subst (λ (s : SubmitStep). ArePlain most s.output) (sym sent) written) x.0.live
           x.0.rule
           x.0.answered;
-      ends = subst (λ (s : SubmitStep). Ends most_answers m.held s.machine (answers false t disk (submitted m request).output) (local_command after)) (sym sent)
-          (subst (λ (k : initiator.InitiatorSession). Ends most_answers m.held k (answers false t disk (submitted m request).output) (local_command after))
+      ends = subst (λ (s : SubmitStep). Ends most_answers m.held unit s.machine (answers false t disk (submitted m request).output) (local_command after)) (sym sent)
+          (subst (λ (k : initiator.InitiatorSession). Ends most_answers m.held unit k (answers false t disk (submitted m request).output) (local_command after))
           (sym is_m)
-          (subst (λ (y : TargetStep). Ends most_answers m.held i y (local_command after)) (sym is) ends_));
-    }
+          (subst (λ (y : TargetStep). Ends most_answers m.held unit i y (local_command after)) (sym is) ends_));
+    })

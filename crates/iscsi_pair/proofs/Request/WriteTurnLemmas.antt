@@ -1,14 +1,15 @@
 -- A write, from turn to turn: an R2T goes out, and its sequence comes.
 use Rattle.std.specs.Prelude.{◌==◌}
 use Rattle.std.specs.Bool.{then_some}
-use Rattle.std.proofs.Common.{◌≡◌, inl, ◌<◌, ◌≤◌, ℕ, zero, suc, ◌+◌, ◌^◌, Bool, true, false, List, [], ◌∷◌, ◌++◌, length, take, drop, Some}
+use Rattle.std.proofs.Common.{◌≡◌, inl, ◌<◌, ◌≤◌, ℕ, zero, suc, ◌+◌, ◌^◌, Bool, true, false, List, [], ◌∷◌, ◌++◌, length, take, drop, Option, Some}
 use Rattle.std.proofs.Common.{None, refl, sym, ap, ◌∙◌, subst, arith}
 use Rattle.std.proofs.Math.Seq.{take-add}
 use Rattle.std.proofs.lemmas.Bool.{eq-eqb, eqb-false, eqb-true, le-leb, le-ltb}
 use Rattle.std.proofs.lemmas.List.{length-take, length-drop, take_all}
 use Rattle.scsi_disk.specs.Disk.{Disk}
-use Rattle.scsi_disk.specs.Effect.{Effect, effect}
+use Rattle.scsi_disk.specs.Effect.{Effect}
 use Rattle.scsi_disk.specs.declared.order.Order.{Order}
+use Rattle.scsi_unit.specs.LogicalUnit.{LogicalUnit}
 use Rattle.iscsi_pdu.specs.declared.head.data_out.DataOut.{DataOut}
 use Rattle.iscsi_pdu.specs.declared.serial.Window.{Window}
 use Rattle.iscsi_pdu.specs.Fields.{is_tag}
@@ -38,12 +39,12 @@ use Rattle.iscsi_initiator.specs.Progress.{WriteProgress}
 use Rattle.iscsi_initiator.specs.Steps.{quiet, step_sending}
 use Rattle.iscsi_initiator.specs.Full.{data_outs, sequence}
 use Rattle.iscsi_initiator.specs.Machine.{initiator_step, outcome_taken}
-use Rattle.iscsi_target.proofs.Answers.CommandLemmas.{plain_executed, plainly}
 use Rattle.iscsi_pair.specs.LocalDisk.{AreInStep, DiskExchange, reported_sense, local_command}
 use Rattle.iscsi_pair.proofs.Wire.WindowLemmas.{IsNear, last_with, tells_fewer, tells_eight}
 use Rattle.iscsi_pair.proofs.Login.RoundAgrees.{some_then}
 use Rattle.iscsi_pair.proofs.Wire.WrittenPdus.{ready_readable}
-use Rattle.iscsi_pair.proofs.Wire.OutcomeRanges.{outcome_fits}
+use Rattle.iscsi_pair.proofs.Wire.ToldOutcomes.{told}
+use Rattle.iscsi_pair.proofs.Wire.OutcomeRanges.{IsShort, outcome_fits}
 use Rattle.iscsi_pair.proofs.Request.AnswersInOrder.{AreReceived, ArePlain, Ends, LeadsWithin}
 use Rattle.iscsi_pair.proofs.Request.AnswersInOrder.{received_by, receives_quiet, receives_sends, plain_one}
 use Rattle.iscsi_pair.proofs.Request.AnswersInOrder.{short_message}
@@ -88,17 +89,17 @@ pub record Throughout (m : initiator.InitiatorSession) (t : target.Machine) (cmd
   pub held : t.session.held ≡ m.held
   pub is_held : IsHeld m.held
   pub segment : t.session.held.target_max_recv ≤ target_session.target_limit t.session.settings
-  pub plain : t.session.settings.extras.unit ≡ None
   pub stat_sn : m.exp_stat_sn ≡ Some t.session.stat_sn
   pub tag_fits : m.initiator_task_tag ≤ 0xffff_fffe
   pub cmd_sn_is : cmd_sn ≡ m.cmd_sn
   pub cmd_sn_fits : m.cmd_sn < 2 ^ 32
   pub few : length bytes ≤ 4194304
-  pub none_given : (effect false disk order bytes).outcome.bytes ≡ []
+  pub none_given : (told (target.unit_of t.session) disk order bytes).outcome.bytes ≡ []
   pub stat_sn_fits : t.session.stat_sn < 2 ^ 32
   pub stat_sn_sends : sent_exp_stat_sn m < 2 ^ 32
   pub lun : order.lun < 2 ^ 64
   pub expected : order.expected ≤ 4194304
+  pub short : IsShort order.cdb
   pub none_done : m.done ≡ None
 
 -- both ends have the same of the data
@@ -129,14 +130,14 @@ pub record IsAnswered (held : Held) (r : TargetStep) : Type 0 where
 -- the response to a command is read as it was written
 pub executed_written : (m : initiator.InitiatorSession) (t : target.Machine) (cmd_sn : ℕ) (bytes : List ℕ) (order : Order) (disk : Disk) (tag : ℕ)
     (pieces_ : Pieces)
-    → Throughout m t cmd_sn bytes order disk → tag ≡ m.initiator_task_tag → IsAnswered m.held (plainly (reliable false) (ready t cmd_sn) disk tag order pieces_)
+    → Throughout m t cmd_sn bytes order disk → tag ≡ m.initiator_task_tag → IsAnswered m.held (execute (reliable false) (ready t cmd_sn) disk tag order pieces_)
 executed_written m t cmd_sn bytes order disk tag pieces_ a same = record {
   live = refl;
   rule = refl;
-  answered = subst (λ (k : Held). ArePlain k.initiator_max_recv (plainly (reliable false) (ready t cmd_sn) disk tag order pieces_).answers) a.held
-      (command_written (ready t cmd_sn) tag (effect false disk order (piece_data pieces_)).outcome (subst IsHeld (sym a.held) a.is_held)
+  answered = subst (λ (k : Held). ArePlain k.initiator_max_recv (execute (reliable false) (ready t cmd_sn) disk tag order pieces_).answers) a.held
+      (command_written (ready t cmd_sn) tag (told (target.unit_of t.session) disk order (piece_data pieces_)).outcome (subst IsHeld (sym a.held) a.is_held)
       (omega (arith, same, a.tag_fits)) (omega (arith, a.cmd_sn_is, a.cmd_sn_fits)) a.stat_sn_fits
-      (omega (arith, ap (λ (x : List ℕ). length x) a.none_given)) (outcome_fits disk order (piece_data pieces_) a.expected));
+      (omega (arith, ap (λ (x : List ℕ). length x) a.none_given)) (outcome_fits (target.unit_of t.session) disk order (piece_data pieces_) a.expected a.short));
 }
 
 -- the response to a command that gives no data
@@ -144,11 +145,12 @@ pub response_ends : (most : ℕ) → 1 ≤ most → (m : initiator.InitiatorSess
     (bytes : List ℕ) (order : Order) (disk : Disk)
     (tag : ℕ) (pieces_ : Pieces)
     → Throughout m t cmd_sn bytes order disk → IsNear cmd_sn window → Awaits open_ [] → tag ≡ m.initiator_task_tag
-    → effect false disk order (piece_data pieces_) ≡ effect false disk order bytes
-    → Ends most m.held (waiting m open_ window) (plainly (reliable false) (ready t cmd_sn) disk tag order pieces_)
-    (local_command (effect false disk order bytes))
+    → told (target.unit_of t.session) disk order (piece_data pieces_) ≡ told (target.unit_of t.session) disk order bytes
+    → Ends most m.held (target.unit_of t.session) (waiting m open_ window) (execute (reliable false) (ready t cmd_sn) disk tag order pieces_)
+    (local_command (told (target.unit_of t.session) disk order bytes))
 response_ends most le m t cmd_sn open_ window bytes order disk tag pieces_ a near d same data_ =
-    let after : Effect = effect false disk order bytes in
+    let unit : Option LogicalUnit = target.unit_of t.session in
+    let after : Effect = told unit disk order bytes in
     let s : target.Machine = ready t cmd_sn in
     let response : Message = answer_message (response_head s.session (target.waiting_tasks s.tasks) m.initiator_task_tag after.outcome 0)
     (sense_segment after.outcome.sense) in
@@ -157,20 +159,20 @@ response_ends most le m t cmd_sn open_ window bytes order disk tag pieces_ a nea
     let one : initiator_step (waiting m open_ window) response ≡ quiet ended_ =
     outcome_received m s open_ [] window after.outcome.status after.outcome.sense after.outcome.bytes after.outcome.residual 0 d a.stat_sn
     (omega (arith, a.is_held.initiator_max_recv.0)) in
-    let is : (plainly (reliable false) s disk tag order pieces_).answers ≡ response ∷ [] =
+    let is : (execute (reliable false) s disk tag order pieces_).answers ≡ response ∷ [] =
     ap (λ (x : Effect). command_answers s.session (target.waiting_tasks s.tasks) tag x.outcome (data_in_parts s.session x.outcome.bytes)) data_
     ∙ ap (λ (x : List ℕ). command_answers s.session (target.waiting_tasks s.tasks) tag after.outcome (data_in_parts s.session x)) a.none_given
     ∙ ap (λ (x : ℕ). command_answers s.session (target.waiting_tasks s.tasks) x after.outcome []) same in
-    let disk_is : (plainly (reliable false) s disk tag order pieces_).disk ≡ after.disk = ap (λ (x : Effect). x.disk) data_ in
+    let disk_is : (execute (reliable false) s disk tag order pieces_).disk ≡ after.disk = ap (λ (x : Effect). x.disk) data_ in
     let again : AreInStep (outcome_taken (finished m (ready t m.cmd_sn) window after.outcome [])) (counted_on (ready t m.cmd_sn)) =
     in_step_again m t window a.held a.is_held (subst (λ (h : Held). h.target_max_recv ≤ target_session.target_limit t.session.settings) a.held a.segment)
-    a.plain a.tag_fits
+    a.tag_fits
     a.cmd_sn_fits
     (tells_eight m.cmd_sn window a.cmd_sn_fits (subst (λ (x : ℕ). IsNear x window) a.cmd_sn_is near)) in
     record {
       last = last;
       leads = subst (λ (ms : List Message). LeadsWithin most m.held (between (waiting m open_ window) (counted_on s)
-          (plainly (reliable false) s disk tag order pieces_).disk ms)
+          (execute (reliable false) s disk tag order pieces_).disk ms)
           last)
           (sym is)
           (subst (λ (x : Disk). LeadsWithin most m.held (between (waiting m open_ window) (counted_on s) x (response ∷ [])) last) (sym disk_is)
@@ -183,6 +185,7 @@ response_ends most le m t cmd_sn open_ window bytes order disk tag pieces_ a nea
         disk_is = refl;
         at_rest = inl (
           subst (λ (x : ℕ). AreInStep (outcome_taken (finished m (ready t x) window after.outcome [])) (counted_on (ready t x))) (sym a.cmd_sn_is) again,
+          refl,
           refl,
         );
       };
@@ -202,16 +205,15 @@ write_exchange m t cmd_sn order disk = record { initiator = m; target = t; cmd_s
 -- the write goes on from where all that was due came
 abbrev pub GoesOn : ℕ → WriteExchange → WriteProgress → Write → Window → Type 0
 GoesOn most c v w window =
-    Ends most c.initiator.held (writing c.initiator v window) (proceed (reliable false) (ready c.target c.cmd_sn) c.disk w)
-    (local_command (effect false c.disk c.order v.bytes))
+    Ends most c.initiator.held (target.unit_of c.target.session) (writing c.initiator v window) (proceed (reliable false) (ready c.target c.cmd_sn) c.disk w)
+    (local_command (told (target.unit_of c.target.session) c.disk c.order v.bytes))
 
 -- where all came the command is executed
 whole_is : (m : initiator.InitiatorSession) (t : target.Machine) (cmd_sn : ℕ) (v : WriteProgress) (w : Write) (order : Order) (disk : Disk) → InHand m v w order
-    → is_whole_write w ≡ true → t.session.settings.extras.unit ≡ None
-    → proceed (reliable false) (ready t cmd_sn) disk w ≡ plainly (reliable false) (ready t cmd_sn) disk w.initiator_task_tag order w.pieces
-whole_is m t cmd_sn v w order disk i whole plain =
+    → is_whole_write w ≡ true
+    → proceed (reliable false) (ready t cmd_sn) disk w ≡ execute (reliable false) (ready t cmd_sn) disk w.initiator_task_tag order w.pieces
+whole_is m t cmd_sn v w order disk i whole =
     rw whole (ap (λ (x : Order). execute (reliable false) (ready t cmd_sn) disk w.initiator_task_tag x w.pieces) i.order_is)
-    ∙ plain_executed (reliable false) (ready t cmd_sn) disk w.initiator_task_tag order w.pieces plain
 
 -- else the target asks for more
 part_is : (m : initiator.InitiatorSession) (t : target.Machine) (cmd_sn : ℕ) (v : WriteProgress) (w : Write) (order : Order) (disk : Disk) → InHand m v w order
@@ -224,7 +226,7 @@ pub proceed_written : (m : initiator.InitiatorSession) (t : target.Machine) (cmd
     → Throughout m t cmd_sn v.bytes order disk → InHand m v w order
     → (whole : Bool) → is_whole_write w ≡ whole → IsAnswered m.held (proceed (reliable false) (ready t cmd_sn) disk w)
 proceed_written m t cmd_sn v w order disk a i true whole =
-    subst (IsAnswered m.held) (sym (whole_is m t cmd_sn v w order disk i whole a.plain))
+    subst (IsAnswered m.held) (sym (whole_is m t cmd_sn v w order disk i whole))
     (executed_written m t cmd_sn v.bytes order disk w.initiator_task_tag w.pieces a
     i.tag)
 proceed_written m t cmd_sn v w order disk a i false part =
@@ -249,10 +251,11 @@ all_came : (most : ℕ) → 1 ≤ most → (m : initiator.InitiatorSession) (t :
 all_came most le m t cmd_sn v w window order disk a near i whole =
     let all : v.sent ≡ length v.bytes = sym (received_is m v w order i) ∙ sym (eqb-true w.total (bytes_received w) whole) ∙ i.total in
     let bytes : piece_data w.pieces ≡ v.bytes = i.came ∙ take_all v.sent v.bytes (omega (arith, all)) in
-    subst (λ (r : TargetStep). Ends most m.held (writing m v window) r (local_command (effect false disk order v.bytes)))
-    (sym (whole_is m t cmd_sn v w order disk i whole a.plain))
+    let unit : Option LogicalUnit = target.unit_of t.session in
+    subst (λ (r : TargetStep). Ends most m.held unit (writing m v window) r (local_command (told unit disk order v.bytes)))
+    (sym (whole_is m t cmd_sn v w order disk i whole))
     (response_ends most le m t cmd_sn (opens.Out v) window v.bytes order disk w.initiator_task_tag w.pieces a near (λ h. refl) i.tag
-    (ap (effect false disk order) bytes))
+    (ap (told unit disk order) bytes))
 
 -- what isn't equal and not more is less
 below : (n total : ℕ) (part : (total == n) ≡ false) → n ≤ total → n < total

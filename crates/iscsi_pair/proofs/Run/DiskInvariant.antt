@@ -4,6 +4,7 @@ use Rattle.std.proofs.Common.{arith}
 use Rattle.std.specs.Prelude.{is_some}
 use Rattle.std.proofs.lemmas.List.{append-nil}
 use Rattle.scsi_disk.specs.Disk.{Disk, disk_of}
+use Rattle.scsi_unit.specs.LogicalUnit.{LogicalUnit}
 use Rattle.iscsi_stream.specs.declared.logins.Logins.{Logins}
 use Rattle.iscsi_stream.specs.Segment.{logins_after, no_login}
 use Rattle.iscsi_stream.specs.Stream.{Message, logins_after_all}
@@ -77,15 +78,16 @@ pub record HaveAgreed (c : Opening) (held : Held) : Type 0 where
   pub out : held.target_max_recv ≤ most_out c
   pub back_ : held.initiator_max_recv ≤ most_back c
 
--- both ends are in step and hold this, or have parted after the last request, a logout
-abbrev pub AreSettled : Held → History → initiator.InitiatorSession → target.Machine → Type 0
-AreSettled held h i t = (AreInStep i t × (i.held ≡ held)) ⊎ (HaveParted i t × EndsInLogout h.requests)
+-- both ends are in step and hold this, and the disk has this unit, or they have parted after the last request, a logout
+abbrev pub AreSettled : Held → Option LogicalUnit → History → initiator.InitiatorSession → target.Machine → Type 0
+AreSettled held unit h i t =
+    (AreInStep i t × (i.held ≡ held) × (target.unit_of t.session ≡ unit)) ⊎ (HaveParted i t × EndsInLogout h.requests)
 
 -- nothing is open, and each request has had its outcome
 pub record Rests (c : Opening) (x : DiskExchange) (h : History) : Type 0 where
   pub held : Held
   pub agreed : HaveAgreed c held
-  pub at_rest : AreSettled held h x.initiator x.target
+  pub at_rest : AreSettled held c.target.extras.unit h x.initiator x.target
   pub none_back : x.answers ≡ []
   pub none_done : x.initiator.done ≡ None
   pub disk_is : x.disk ≡ local_disk_after c h.requests
@@ -101,7 +103,8 @@ pub record IsServing (c : Opening) (x : DiskExchange) (h : History) : Type 0 whe
   pub outcomes_are : h.outcomes ≡ disk_outcomes c past
   pub last : DiskExchange
   pub leads : LeadsWithin most_answers held x last
-  pub ended : (let here = local (pinged c) (local_disk_after c past) request in RequestHasEnded held here.outcome here.disk last)
+  pub ended : (let here = local (pinged c) c.target.extras.unit (local_disk_after c past) request in
+      RequestHasEnded held c.target.extras.unit here.outcome here.disk last)
 
 -- what both ends keep
 pub data Serves (c : Opening) (x : DiskExchange) (s : SoFar) : Type 0 where
@@ -207,7 +210,7 @@ full_sends c i out t there here o is met =
           out = subst (λ (x : target_settings.TargetSettings). i.held.target_max_recv ≤ target_session.target_limit x) met.target_settings met.in_step.segment;
           back_ = (let most = met.most in omega (arith, most));
         };
-        at_rest = inl (met.in_step, refl);
+        at_rest = inl (met.in_step, refl, ap (λ (x : target_settings.TargetSettings). x.extras.unit) met.target_settings);
         none_back = refl;
         none_done = met.in_step.none_done;
         disk_is = refl;
@@ -230,7 +233,7 @@ login_goes c i t disk m back there here h o l =
       live = ap is_closed_phase l.asking.phase;
       fault = w.fault;
       sends = elim w.on [
-        | inl agreed ↦ full_sends c s.machine s.output now.machine there here o agreed.silent (meet.met o.plain agreed)
+        | inl agreed ↦ full_sends c s.machine s.output now.machine there here o agreed.silent (meet.met agreed)
         | inr next ↦ login_sends c s.machine s.output now.machine there here next.0.request o next.0.is next.0.asking next.1 (meet.goes_on next.0) l.whole
       ];
     } in
@@ -275,15 +278,17 @@ serving_goes (suc n) few c i t disk m back there here h v l =
 -- a request is accepted
 rest_sends : (c : Opening) (i : initiator.InitiatorSession) (t : target.Machine) (disk : Disk) (there here : Logins) (h : History) (request : Request)
     (held : Held)
-    → HaveAgreed c held → AreInStep i t → i.held ≡ held
+    → HaveAgreed c held → AreInStep i t → i.held ≡ held → target.unit_of t.session ≡ c.target.extras.unit
     → disk ≡ local_disk_after c h.requests → h.outcomes ≡ disk_outcomes c h.requests → IsServed request → (submitted i request).refusal ≡ None
     → Sends (limits_of c) (Serves c) (between (submitted i request).machine t disk []) (submitted i request).output
     (so_far there here (record h { requests = h.requests ++ request ∷ [] }))
-rest_sends c i t disk there here h request held agreed a same disk_is outcomes_are served e =
+rest_sends c i t disk there here h request held agreed a same has disk_is outcomes_are served e =
     let most : i.held.initiator_max_recv ≡ pinged c = ap (λ (x : Held). x.initiator_max_recv) same ∙ agreed.most in
     let now : HaveAgreed c i.held = subst (HaveAgreed c) (sym same) agreed in
-    let b : Begins i.held i t disk request (local (pinged c) disk request) =
-    subst (λ (n : ℕ). Begins i.held i t disk request (local n disk request)) most (begins i t disk request served a e) in
+    let unit : Option LogicalUnit = c.target.extras.unit in
+    let b : Begins i.held i t disk request (local (pinged c) unit disk request) =
+    subst (λ (u : Option LogicalUnit). Begins i.held i t disk request (local (pinged c) u disk request)) has
+    (subst (λ (n : ℕ). Begins i.held i t disk request (local n (target.unit_of t.session) disk request)) most (begins i t disk request served a e)) in
     record {
       written = written_within i.held.target_max_recv (most_out c) there (submitted i request).output now.out (b.received.written there);
       received = receives_well c i.held t disk here (submitted i request).output now b.received;
@@ -296,8 +301,10 @@ rest_sends c i t disk there here h request held agreed a same disk_is outcomes_a
         outcomes_are = outcomes_are;
         last = b.ends.last;
         leads = b.ends.leads;
-        ended = subst (λ (d : Disk). RequestHasEnded i.held (local (pinged c) d request).outcome (local (pinged c) d request).disk b.ends.last) disk_is
-            b.ends.ended;
+        ended = subst (λ (d : Disk). RequestHasEnded i.held unit (local (pinged c) unit d request).outcome (local (pinged c) unit d request).disk b.ends.last)
+            disk_is
+            (subst (λ (u : Option LogicalUnit). RequestHasEnded i.held u (local (pinged c) unit disk request).outcome
+            (local (pinged c) unit disk request).disk b.ends.last) has b.ends.ended);
       });
     }
 
@@ -318,26 +325,28 @@ serving_accepts (suc n) c i t disk (m ∷ back) h request v l e = (let bad : tru
 -- ---- outcomes
 
 -- a logout alone closes the session
-pub is_logout : (most : ℕ) (disk : Disk) (request : Request) → (local most disk request).outcome ≡ done.Closed → request ≡ requests.Logout
-is_logout most disk (requests.In lun cdb expected) e = absurd (cc e)
-is_logout most disk (requests.Out lun cdb bytes) e = absurd (cc e)
-is_logout most disk (requests.Ping bytes) e = absurd (cc e)
-is_logout most disk (requests.Text bytes) e = absurd (cc e)
-is_logout most disk requests.Logout e = refl
+pub is_logout : (most : ℕ) (unit : Option LogicalUnit) (disk : Disk) (request : Request) → (local most unit disk request).outcome ≡ done.Closed
+    → request ≡ requests.Logout
+is_logout most unit disk (requests.In lun cdb expected) e = absurd (cc e)
+is_logout most unit disk (requests.Out lun cdb bytes) e = absurd (cc e)
+is_logout most unit disk (requests.Ping bytes) e = absurd (cc e)
+is_logout most unit disk (requests.Text bytes) e = absurd (cc e)
+is_logout most unit disk requests.Logout e = refl
 
 settles : (c : Opening) (held : Held) (h : History) (past : List Request) (request : Request) (i : initiator.InitiatorSession) (t : target.Machine)
     → h.requests ≡ past ++ request ∷ []
-    → AreAtRest held (local (pinged c) (local_disk_after c past) request).outcome i t → AreSettled held h i t
+    → AreAtRest held c.target.extras.unit (local (pinged c) c.target.extras.unit (local_disk_after c past) request).outcome i t
+    → AreSettled held c.target.extras.unit h i t
 settles c held h past request i t all rest =
     elim rest [
       | inl on_ ↦ inl on_
-      | inr over ↦ inr (over.0, (past, all ∙ ap (λ (r : Request). past ++ r ∷ []) (is_logout (pinged c) (local_disk_after c past) request over.1)))
+      | inr over ↦ inr (over.0, (past, all ∙ ap (λ (r : Request). past ++ r ∷ []) (is_logout (pinged c) c.target.extras.unit (local_disk_after c past) request over.1)))
     ]
 
 -- the outcome that is there is the last request's, and no answer is on its way
 record IsDone (c : Opening) (held : Held) (x : DiskExchange) (h : History) (d : Done) : Type 0 where
   silent : x.answers ≡ []
-  settled : AreSettled held h (outcome_taken x.initiator) x.target
+  settled : AreSettled held c.target.extras.unit h (outcome_taken x.initiator) x.target
   disk_is : x.disk ≡ local_disk_after c h.requests
   outcomes_are : h.outcomes ++ d ∷ [] ≡ disk_outcomes c h.requests
 
@@ -345,16 +354,16 @@ serving_done : (n : ℕ) (c : Opening) (i : initiator.InitiatorSession) (t : tar
     (v : IsServing c (between i t disk back) h) → Leads v.held n (between i t disk back) v.last → i.done ≡ Some d
     → IsDone c v.held (between i t disk back) h d
 serving_done zero c i t disk back h d v l is =
-    let here : Local = local (pinged c) (local_disk_after c v.past) v.request in
+    let here : Local = local (pinged c) c.target.extras.unit (local_disk_after c v.past) v.request in
     let one : here.outcome ≡ d = (let e : Some here.outcome ≡ Some d = sym v.ended.done_is ∙ ap (λ (x : DiskExchange). x.initiator.done) (sym l) ∙ is in cc) in
     record {
       silent = ap (λ (x : DiskExchange). x.answers) l ∙ v.ended.silent;
       settled = settles c v.held h v.past v.request (outcome_taken i) t v.requests_are
-          (subst (λ (x : DiskExchange). AreAtRest v.held here.outcome (outcome_taken x.initiator) x.target) (sym l) v.ended.at_rest);
-      disk_is = ap (λ (x : DiskExchange). x.disk) l ∙ v.ended.disk_is ∙ sym (disk_more (pinged c) (disk_of c.blocks) v.past v.request)
+          (subst (λ (x : DiskExchange). AreAtRest v.held c.target.extras.unit here.outcome (outcome_taken x.initiator) x.target) (sym l) v.ended.at_rest);
+      disk_is = ap (λ (x : DiskExchange). x.disk) l ∙ v.ended.disk_is ∙ sym (disk_more (pinged c) c.target.extras.unit (disk_of c.blocks) v.past v.request)
           ∙ ap (local_disk_after c) (sym v.requests_are);
       outcomes_are = ap (λ (x : List Done). x ++ d ∷ []) v.outcomes_are ∙ ap (λ (x : Done). disk_outcomes c v.past ++ x ∷ []) (sym one)
-          ∙ sym (outcomes_more (pinged c) (disk_of c.blocks) v.past v.request) ∙ ap (disk_outcomes c) (sym v.requests_are);
+          ∙ sym (outcomes_more (pinged c) c.target.extras.unit (disk_of c.blocks) v.past v.request) ∙ ap (disk_outcomes c) (sym v.requests_are);
     }
 serving_done (suc n) c i t disk [] h d v l is = absurd l
 serving_done (suc n) c i t disk (m ∷ back) h d v l is = absurd (let bad : None ≡ Some d = sym l.0.none_done ∙ is in cc)
@@ -380,7 +389,7 @@ serves_asks c i t disk back there here h request (Rest r) served e =
     subst (λ (x : List Message). Sends (limits_of c) (Serves c) (between (submitted i request).machine t disk x) (submitted i request).output
     (so_far there here (record h { requests = h.requests ++ request ∷ [] }))) (sym r.none_back)
     (elim r.at_rest [
-      | inl on_ ↦ rest_sends c i t disk there here h request r.held r.agreed on_.0 on_.1 r.disk_is r.outcomes_are served e
+      | inl on_ ↦ rest_sends c i t disk there here h request r.held r.agreed on_.0 on_.1 on_.2 r.disk_is r.outcomes_are served e
       | inr over ↦ absurd (parted_accepts i request over.0.initiator_phase e)
     ])
 serves_asks c i t disk back there here h request (Serve v) served e = absurd (serving_accepts v.leads.0 c i t disk back h request v v.leads.2 e)
@@ -424,25 +433,25 @@ unfolding local_outcomes
 first_outcomes c i t disk back there here h (Logs l) = subst (AreFirst c) (sym l.none) (record { later = []; one = omega arith; is = refl })
 first_outcomes c i t disk back there here h (Rest r) = record { later = []; one = omega arith; is = append-nil h.outcomes ∙ r.outcomes_are }
 first_outcomes c i t disk back there here h (Serve v) =
-    let d : Done = (local (pinged c) (local_disk_after c v.past) v.request).outcome in
+    let d : Done = (local (pinged c) c.target.extras.unit (local_disk_after c v.past) v.request).outcome in
     record {
       later = d ∷ [];
       one = omega arith;
-      is = ap (λ (x : List Done). x ++ d ∷ []) v.outcomes_are ∙ sym (outcomes_more (pinged c) (disk_of c.blocks) v.past v.request)
+      is = ap (λ (x : List Done). x ++ d ∷ []) v.outcomes_are ∙ sym (outcomes_more (pinged c) c.target.extras.unit (disk_of c.blocks) v.past v.request)
           ∙ ap (disk_outcomes c) (sym v.requests_are);
     }
 
 -- with nothing on its way every request has its outcome
 pub record IsIdle (c : Opening) (i : initiator.InitiatorSession) (t : target.Machine) (disk : Disk) (h : History) : Type 0 where
   pub held : Held
-  pub at_rest : AreSettled held h (outcome_taken i) t
+  pub at_rest : AreSettled held c.target.extras.unit h (outcome_taken i) t
   pub disk_is : disk ≡ local_disk_after c h.requests
   pub outcomes_are : h.outcomes ++ listed i.done ≡ disk_outcomes c h.requests
 
 idle_serving : (n : ℕ) (c : Opening) (i : initiator.InitiatorSession) (t : target.Machine) (disk : Disk) (h : History) (v : IsServing c (between i t disk []) h)
     → Leads v.held n (between i t disk []) v.last → IsIdle c i t disk h
 idle_serving zero c i t disk h v l =
-    let d : Done = (local (pinged c) (local_disk_after c v.past) v.request).outcome in
+    let d : Done = (local (pinged c) c.target.extras.unit (local_disk_after c v.past) v.request).outcome in
     let is : i.done ≡ Some d = ap (λ (x : DiskExchange). x.initiator.done) l ∙ v.ended.done_is in
     let e : IsDone c v.held (between i t disk []) h d = serving_done zero c i t disk [] h d v l is in
     record { held = v.held; at_rest = e.settled; disk_is = e.disk_is; outcomes_are = ap (λ (o : Option Done). h.outcomes ++ listed o) is ∙ e.outcomes_are }
@@ -455,7 +464,7 @@ idle_serves c i t disk there here h (Rest r) =
     let none : outcome_taken i ≡ i = ap (λ (d : Option Done). record i { done = d }) (sym r.none_done) in
     record {
       held = r.held;
-      at_rest = subst (λ (x : initiator.InitiatorSession). AreSettled r.held h x t) (sym none) r.at_rest;
+      at_rest = subst (λ (x : initiator.InitiatorSession). AreSettled r.held c.target.extras.unit h x t) (sym none) r.at_rest;
       disk_is = r.disk_is;
       outcomes_are = ap (λ (o : Option Done). h.outcomes ++ listed o) r.none_done ∙ append-nil h.outcomes ∙ r.outcomes_are;
     }

@@ -118,10 +118,10 @@ pub record AreOnDisk (c : Opening) (taken : List Step) (w : World) (outcomes : L
 pub given_on_disk : (c : Opening) (taken : List Step) (w : World) (outcomes : List Done) → IsOpening c
     → GivesOutcomes (new_pair c) (step_events taken) w outcomes
     → ((new_pair c).initiator.machine.done ≡ None → w.initiator.machine.done ≡ None) → IsIdle w → SuitEachOther c
-    → c.initiator.proposal.session ≡ sessions.Normal → c.target.extras.unit ≡ None → AllByRecursion IsServed (requests_among taken)
+    → c.initiator.proposal.session ≡ sessions.Normal → AllByRecursion IsServed (requests_among taken)
     → AreOnDisk c taken w outcomes
-given_on_disk c taken w outcomes o gives left idle suits normal plain served =
-    let n : IsNormal c = record { opening = o; suits = suits; session = normal; plain = plain } in
+given_on_disk c taken w outcomes o gives left idle suits normal served =
+    let n : IsNormal c = record { opening = o; suits = suits; session = normal } in
     let none : w.initiator.machine.done ≡ None = left (first_asks c o).asking.no_outcome in
     let well : keeps_no_memory w ≡ false =
     or_from (target_ran_out w.target_fault) (initiator_ran_out w.initiator_fault) (ap target_ran_out idle.0) (ap initiator_ran_out idle.1) in

@@ -1,6 +1,7 @@
 -- One local disk, in every world of a served run.
-use Rattle.std.proofs.Common.{false, ◌≡◌, ◌≤◌, inl, inr, List, [], ◌++◌, length, map, None, sym, ap, ◌∙◌, subst}
+use Rattle.std.proofs.Common.{false, ◌≡◌, ◌≤◌, inl, inr, List, [], ◌++◌, length, map, Option, None, sym, ap, ◌∙◌, subst}
 use Rattle.scsi_disk.specs.Disk.{Disk, disk_of}
+use Rattle.scsi_unit.specs.LogicalUnit.{LogicalUnit}
 use Rattle.iscsi_stream.specs.declared.logins.Logins.{Logins}
 use Rattle.iscsi_stream.specs.Stream.{Message, logins_after_all}
 use Rattle.iscsi_login.specs.Held.{Held}
@@ -85,9 +86,9 @@ idle_whole c events w outcomes n r p q =
     let i = (still c events w outcomes n r p q).is_idle in (i.outcomes_are, i.disk_is)
 
 -- the program keeps no write as one piece where there is no task
-joined_ends : (held : Held) (h : History) (i : initiator.InitiatorSession) (t : target.Machine) → AreSettled held h i t
+joined_ends : (held : Held) (unit : Option LogicalUnit) (h : History) (i : initiator.InitiatorSession) (t : target.Machine) → AreSettled held unit h i t
     → AreAtEnd h.requests i (writes_joined t)
-joined_ends held h i t rest =
+joined_ends held unit h i t rest =
     elim rest [
       | inl on_ ↦ (let same : t ≡ writes_joined t =
           ap (λ (tasks : List Task). record t { tasks = tasks }) on_.0.no_task
@@ -101,5 +102,5 @@ pub idle_rests : (c : Opening) (events : List PairEvent) (w : World) (outcomes :
     → AreAtEnd (requests_of events) (outcome_taken w.initiator.machine) w.target.machine
 idle_rests c events w outcomes n r p q =
     let s = still c events w outcomes n r p q in
-    subst (AreAtEnd (requests_of events) (outcome_taken w.initiator.machine)) (sym s.machine) (joined_ends s.is_idle.held (history events outcomes)
+    subst (AreAtEnd (requests_of events) (outcome_taken w.initiator.machine)) (sym s.machine) (joined_ends s.is_idle.held c.target.extras.unit (history events outcomes)
     (outcome_taken w.initiator.machine) s.session s.is_idle.at_rest)

@@ -1,12 +1,16 @@
 -- The numbers of an outcome have room in its response.
-use Rattle.std.specs.Prelude.{◌≡◌, ◌-◌, ◌*◌, ◌^◌, ◌<◌, ◌≤◌, nat_lt, ◌==◌, ◌||◌, ◌&&◌, IfSome, unwrap_or}
+use Rattle.std.specs.Prelude.{◌≡◌, ◌-◌, ◌*◌, ◌^◌, ◌<◌, ◌≤◌, nat_lt, ◌==◌, ◌||◌, ◌&&◌, IfSome, is_some, unwrap_or}
 use Rattle.std.specs.Option.{option_map}
-use Rattle.std.proofs.Common.{ℕ, Bool, true, false, List, [], length, take, Option, Some, None, refl, arith}
+use Rattle.std.proofs.Common.{ℕ, Bool, true, false, List, [], ◌++◌, length, take, Option, Some, None, refl, subst, arith}
 use Rattle.std.proofs.lemmas.Bool.{cond_both}
 use Rattle.std.proofs.lemmas.List.{length-take}
+use Rattle.scsi_cdb.specs.Blocks.{cdb_rows, record_of}
+use Rattle.scsi_cdb.specs.Layout.{HaveRoom, is_set, number_at}
 use Rattle.scsi_cdb.specs.ParameterData.{plain_inquiry_data, vpd, capacity16_of, luns}
 use Rattle.scsi_cdb.specs.declared.cdb.Cdb.{Cdb}
-use Rattle.scsi_cdb.specs.declared.cdb.Cdb.TheVariants.{Inquiry, Capacity16, ReportLuns}
+use Rattle.scsi_cdb.specs.declared.cdb.Cdb.TheVariants.{Inquiry, Capacity16, ReportLuns, Unknown}
+use Rattle.scsi_cdb.specs.declared.cdb.Transfer16.{Transfer16}
+use Rattle.scsi_cdb.specs.declared.sense.Sense.{Sense}
 use Rattle.scsi_cdb.specs.declared.residual.Residual.{Residual}
 use Rattle.scsi_cdb.specs.declared.residual.Residual.TheVariants.{Exact, Under, Over}
 use Rattle.scsi_disk.specs.declared.order.Order.{Order}
@@ -15,10 +19,18 @@ use Rattle.scsi_disk.specs.declared.order.Plan.{Plan}
 use Rattle.scsi_disk.specs.declared.order.Plan.TheVariants.{Refuse, Take, Give}
 use Rattle.scsi_disk.specs.Disk.{Disk}
 use Rattle.scsi_disk.specs.Effect.{effect, outcome_by, residual_of}
-use Rattle.scsi_disk.specs.Plan.{cut_parameter_data, expected_length, is_read, is_unknown, is_write, parameter_data, plan_of, named_transfer, wanted_length}
+use Rattle.scsi_disk.specs.Plan.{cut_parameter_data, expected_length, first_reason, is_read, is_unknown, is_write, parameter_data, plan_of, named_transfer, wanted_length}
+use Rattle.scsi_cdb.proofs.RecordLemmas.{IsRecord-room, record_is}
 use Rattle.scsi_disk.proofs.PlanLemmas.{given, taken}
 use Rattle.scsi_disk.proofs.RepeatLemmas.{takes_few}
+use Rattle.scsi_unit.specs.LogicalUnit.{LogicalUnit}
+use Rattle.scsi_unit.specs.Modes.{ModePage, asked_page, behind_long_header, behind_short_header, caching_page, control_page, is_enabled, mode_pages}
+use Rattle.scsi_unit.specs.Pages.{thin_capacity}
+use Rattle.scsi_unit.specs.Telling.{data_told, inquiry_data, no_sense, outcome_or_refused, told_outcome, told_refusals, unit_block_data}
+use Rattle.scsi_unit.specs.WriteSame.{as_write, same_blocks, same_taken}
+use Rattle.iscsi_pdu.specs.Meaning.{AreBytes}
 use Rattle.iscsi_target.specs.Execution.{residual_count}
+use Rattle.iscsi_pair.proofs.Wire.ToldOutcomes.{by_unit, told}
 
 -- the numbers of the response have room
 pub record HasRoom (outcome : Outcome) : Type 0 where
@@ -102,6 +114,114 @@ fits_by (Give n) disk order e few =
           (expected_most order few);
     }
 
+-- ---- what a unit tells of itself
+
+-- an INQUIRY, the answer to which may be long, has an allocation length of two bytes
+abbrev pub IsShort : Cdb → Type 0
+IsShort (Inquiry evpd page n control) = n < 65536
+IsShort _ = Unit {0}
+
+short_rows : (cdb : Cdb) → HaveRoom (cdb_rows cdb) → IsShort cdb
+short_rows (Inquiry evpd page n control) room = room.1.1.1.0.1
+short_rows _ room = tt
+
+short_write : (named : Option Transfer16) (cdb : Cdb) → IsShort cdb → IsShort (as_write named cdb)
+short_write None cdb short = short
+short_write (Some named) cdb short = tt
+
+-- so a block of bytes has, whatever it means to a unit
+pub short_block : (unit : Option LogicalUnit) (block : List ℕ) → length block ≡ 16 → AreBytes block
+    → IsShort (as_write (same_taken unit (record_of block)) (record_of block))
+short_block unit block size are =
+    short_write (same_taken unit (record_of block)) (record_of block)
+    (short_rows (record_of block) (IsRecord-room block (record_of block) are (record_is block size)))
+
+-- data that are told, if there are any, have fewer than 65,536 bytes
+abbrev AreBelow : Option (List ℕ) → Type 0
+AreBelow found = IfSome found (λ bytes. length bytes ≤ 65535)
+
+abbrev AreTold : Option (Option (List ℕ)) → Type 0
+AreTold found = IfSome found AreBelow
+
+below_of : (n : ℕ) (found : Option (List ℕ)) → n < 65536 → AreBelow (option_map (take n) found)
+below_of n None room = tt
+below_of n (Some bytes) room = omega (arith, room, length-take n bytes)
+
+abbrev AreFewPages : Option (List ℕ) → Type 0
+AreFewPages found = IfSome found (λ pages. length pages ≤ 32)
+
+caching_size : (enabled : Bool) → length (caching_page enabled) ≡ 20
+caching_size true = refl
+caching_size false = refl
+
+all_size : (enabled : Bool) → length (caching_page enabled ++ control_page) ≡ 32
+all_size true = refl
+all_size false = refl
+
+few_pages : (unit : LogicalUnit) (asked : ModePage) → AreFewPages (mode_pages unit asked)
+few_pages unit asked =
+    cond_both (asked.values == 3) _ _ AreFewPages (λ e. tt) (λ e.
+    cond_both (asked.page == 0x08 && asked.subpage == 0x00) _ _ AreFewPages (λ e. omega (arith, caching_size (is_enabled unit asked))) (λ e.
+    cond_both (asked.page == 0x0a && asked.subpage == 0x00) _ _ AreFewPages (λ e. omega arith) (λ e.
+    cond_both (asked.page == 0x3f && (asked.subpage == 0x00 || asked.subpage == 0xff)) _ _ AreFewPages
+    (λ e. omega (arith, all_size (is_enabled unit asked))) (λ e. tt))))
+
+short_pages : (n : ℕ) (unit : LogicalUnit) (found : Option (List ℕ)) → AreFewPages found
+    → AreBelow (option_map (λ pages. take n (behind_short_header unit pages)) found)
+short_pages n unit None few = tt
+short_pages n unit (Some pages) few = omega (arith, few, length-take n (behind_short_header unit pages))
+
+long_pages : (n : ℕ) (unit : LogicalUnit) (found : Option (List ℕ)) → AreFewPages found
+    → AreBelow (option_map (λ pages. take n (behind_long_header unit pages)) found)
+long_pages n unit None few = tt
+long_pages n unit (Some pages) few = omega (arith, few, length-take n (behind_long_header unit pages))
+
+few_sense : (descriptor : Bool) → length (no_sense descriptor) ≤ 18
+few_sense true = omega arith
+few_sense false = omega arith
+
+few_block : (unit : LogicalUnit) (block : List ℕ) → AreTold (unit_block_data unit block)
+few_block unit block =
+    cond_both (number_at 0 0 block == 0x03) _ _ AreTold
+    (λ e. omega (arith, few_sense (is_set 1 0x01 block), length-take (number_at 4 4 block) (no_sense (is_set 1 0x01 block)))) (λ e.
+    cond_both (number_at 0 0 block == 0x1a) _ _ AreTold
+    (λ e. short_pages (number_at 4 4 block) unit (mode_pages unit (asked_page block)) (few_pages unit (asked_page block))) (λ e.
+    cond_both (number_at 0 0 block == 0x5a) _ _ AreTold
+    (λ e. long_pages (number_at 7 8 block) unit (mode_pages unit (asked_page block)) (few_pages unit (asked_page block))) (λ e.
+    cond_both (unit.thin && is_some (same_blocks block)) _ _ AreTold (λ e. tt) (λ e. tt))))
+
+few_told : (unit : LogicalUnit) (present : Bool) (blocks : ℕ) (cdb : Cdb) → IsShort cdb → AreTold (data_told unit present blocks cdb)
+few_told unit present blocks (Inquiry evpd page n control) short = below_of n (inquiry_data unit present evpd page) short
+few_told unit present blocks (Capacity16 n control) short =
+    (let all : length (thin_capacity (blocks - 1)) ≡ 32 = refl in
+    cond_both unit.thin _ _ AreTold (λ e. omega (arith, all, length-take n (thin_capacity (blocks - 1)))) (λ e. tt))
+few_told unit present blocks (Unknown block) short = few_block unit block
+few_told unit present blocks _ short = tt
+
+refused_fits : (order : Order) (sense : Sense) → order.expected ≤ 4194304 → HasRoom (outcome_or_refused (Some sense) order [])
+refused_fits order sense few = record {
+  status = omega arith;
+  residual = residual_fits 0 (expected_length order) (omega arith) (expected_most order few);
+}
+
+answer_fits : (f : Option Sense) (order : Order) (bytes : List ℕ) → order.expected ≤ 4194304 → length bytes ≤ 65535
+    → HasRoom (outcome_or_refused f order bytes)
+answer_fits (Some sense) order bytes few size = refused_fits order sense few
+answer_fits None order bytes few size = record {
+  status = omega arith;
+  residual = residual_fits (length bytes) (expected_length order) (omega (arith, size)) (expected_most order few);
+}
+
+told_fits : (order : Order) (f : Option (List ℕ)) → order.expected ≤ 4194304 → AreBelow f → HasRoom (told_outcome order f)
+told_fits order None few size = record {
+  status = omega arith;
+  residual = residual_fits 0 (expected_length order) (omega arith) (expected_most order few);
+}
+told_fits order (Some bytes) few size = answer_fits (first_reason (told_refusals order)) order bytes few size
+
 -- what an order that expects so few bytes answers has room
-pub outcome_fits : (disk : Disk) (order : Order) (bytes : List ℕ) → order.expected ≤ 4194304 → HasRoom (effect false disk order bytes).outcome
-outcome_fits disk order bytes few = fits_by (plan_of order disk.count) disk order refl few
+pub outcome_fits : (unit : Option LogicalUnit) (disk : Disk) (order : Order) (bytes : List ℕ) → order.expected ≤ 4194304 → IsShort order.cdb
+    → HasRoom (told unit disk order bytes).outcome
+outcome_fits unit disk order bytes few short =
+    by_unit HasRoom unit disk.count order (effect false disk order bytes).outcome (fits_by (plan_of order disk.count) disk order refl few)
+    (λ u f e. told_fits order f few (subst AreTold e (few_told u (order.lun == 0) disk.count order.cdb short)))

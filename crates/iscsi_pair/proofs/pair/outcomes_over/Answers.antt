@@ -14,11 +14,11 @@ returns-in-Ok-given c =
     let gives : GivesOutcomes (new_pair o) (step_events c.args.steps.items) last outcomes =
     subst (λ (w : World). GivesOutcomes w (step_events c.args.steps.items) last outcomes) c.in-Ok.ensures.opening c.in-Ok-given.ensures.gives in
     record {
-      on_disk = λ suits normal plain served.
+      on_disk = λ suits normal served.
           (let d : AreOnDisk o c.args.steps.items last outcomes =
           given_on_disk o c.args.steps.items last outcomes c.in-Ok.ensures.in_range gives
           (subst (λ (w : World). w.initiator.machine.done ≡ None → last.initiator.machine.done ≡ None) c.in-Ok.ensures.opening c.in-Ok-given.ensures.none_left)
-          c.in-Ok-given.ensures.idle suits normal plain served in
+          c.in-Ok-given.ensures.idle suits normal served in
           (d.outcomes_are, ap disk_of c.into_store-store.ensures.store ∙ d.disk_is));
       ran = record { world = last; gives = gives; idle = c.in-Ok-given.ensures.idle; blocks_are = c.into_store-store.ensures.store };
     }
