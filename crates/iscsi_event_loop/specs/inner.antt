@@ -1,4 +1,5 @@
 pub mod Giving
+pub mod Limited
 pub mod Moving
 pub mod Room
 pub mod Running

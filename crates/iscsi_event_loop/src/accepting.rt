@@ -13,7 +13,7 @@ const REST: u64 = 1;
 const OF_A_CONNECTION: [i32; 10] = [1, 64, 71, 92, 95, 100, 101, 103, 112, 113];
 
 /// What an error of accept means.
-#[derive(Clone, Copy, Debug, PartialEq, Eq)]
+#[derive(Clone, Copy)]
 pub enum AcceptError {
     /// Nobody waits.
     Nobody,
@@ -38,7 +38,7 @@ impl AcceptError {
 }
 
 /// Whether connections are accepted now.
-#[derive(Clone, Copy, Debug)]
+#[derive(Clone, Copy)]
 pub struct Accepting {
     /// Whether a connection may wait.
     is_asked: bool,

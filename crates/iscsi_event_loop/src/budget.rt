@@ -18,7 +18,7 @@ const MOST_GIVEN: usize = 262_144;
 
 /// What is left of a turn. A turn goes on while nothing is spent, so one command that alone is more
 /// is done all the same.
-#[derive(Clone, Copy, Debug, PartialEq, Eq)]
+#[derive(Clone, Copy)]
 pub struct Budget {
     /// How many PDUs are taken still.
     pub pdus: usize,

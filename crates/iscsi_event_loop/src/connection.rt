@@ -1,17 +1,20 @@
 //! The connection of a slot: what the system told of it, and when a byte went over it.
 
-ghost use Rattle.std.specs.Prelude.{length};
+ghost use Rattle.std.specs.Prelude.{◌≡◌, length, true};
+ghost use Rattle.iscsi_sessions.specs.Slots.{may_read_at, slot_at};
+ghost use Rattle.iscsi_event_loop.specs.declared.connection.Moved.TheVariants as moved;
+ghost use Rattle.iscsi_event_loop.specs.inner.Running.{RunsIdleAt};
 ghost use Rattle.iscsi_event_loop.specs.inner.Moving.{MovesAtMost};
 
-use iscsi_sessions::Offered;
+use iscsi_sessions::{MOST_READ, Offered, SessionTable};
 use mio::event::Event;
 use mio::net::TcpStream;
-use std::io::{self, ErrorKind, Read, Write};
+use std::io::{self, ErrorKind, Write};
 use std::net::SocketAddr;
 use std::time::{Duration, Instant};
 
 /// What a read or a write of a connection gave.
-#[derive(Clone, Copy, Debug, PartialEq, Eq)]
+#[derive(Clone, Copy)]
 pub enum Moved {
     /// `n` bytes went.
     Bytes(usize),
@@ -21,6 +24,8 @@ pub enum Moved {
     End,
     /// It failed.
     Failed,
+    /// There is no memory for it.
+    NoMemory,
 }
 
 /// The connection of a slot. The system tells once that it is ready, and not again before a read or
@@ -79,16 +84,20 @@ impl Connection {
         self.is_writable
     }
 
-    /// Reads what came, at this time.
-    pub fn read(&mut self, buffer: &mut [u8], now: Instant) -> Moved
-        ensures bound { MovesAtMost (length buffer.new) result }
+    /// Reads for a slot what came, at this time.
+    #[tactic(auto, using(crate::proofs::RunningLemmas::none_idle_at))]
+    pub fn read(&mut self, table: &mut SessionTable, slot: usize, now: Instant) -> Moved
+        requires may { may_read_at (slot_at table.old slot) ≡ true }
+        ensures runs { RunsIdleAt slot table.old table.new }
+        ensures slots { length table.new.slots ≡ length table.old.slots }
+        ensures end { result ≡ moved.End → table.new ≡ table.old }
     {
-        match self.stream.read(buffer) {
+        match table.read(slot, &mut self.stream) {
             Ok(0) => Moved::End,
             Ok(count) => {
                 // A short read has emptied the socket, unless it stopped at a mark; only the peer's
                 // end may follow without an event of its own.
-                let is_emptied = count < buffer.len() && !self.has_mark;
+                let is_emptied = count < MOST_READ && !self.has_mark;
                 self.is_readable = self.is_half_closed || !is_emptied;
                 self.moved = now;
                 self.received = self.received.saturating_add(count as u64);
@@ -159,6 +168,7 @@ fn unmoved(error: &io::Error) -> Moved
 {
     match error.kind() {
         ErrorKind::WouldBlock | ErrorKind::Interrupted => Moved::Nothing,
+        ErrorKind::OutOfMemory => Moved::NoMemory,
         _ => Moved::Failed,
     }
 }

@@ -1,9 +1,11 @@
 //! A disk in memory that takes so much memory at most.
 
-ghost use Rattle.std.specs.Prelude.{◌≡◌, refl, ◌+◌, ◌*◌, ◌%◌, ◌<◌, ◌≤◌, length, true, OnOk, OnErr, IsErrOf};
+ghost use Rattle.std.specs.Prelude.{◌≡◌, refl, ◌+◌, ◌*◌, ◌/◌, ◌%◌, ◌<◌, ◌≤◌, length, true, IsTrue, IsFalse, IfNone, IfSome, OnOk, OnErr, IsErrOf};
+ghost use Rattle.scsi_disk.specs.Sparse.{AreZeros};
 ghost use Rattle.scsi_disk.specs.Disk.{most_blocks, IsOldOrNew, StoreTellsFailures, disk_written, zeros};
 ghost use Rattle.scsi_disk.specs.Lasting.{CrashAddsDisk, Within};
-ghost use Rattle.iscsi_event_loop.specs.Limited.{limited_disk, left_by};
+ghost use Rattle.iscsi_event_loop.specs.Limited.{HasNoRoom, IsWithinLimit, limited_disk, left_by};
+ghost use Rattle.iscsi_event_loop.specs.inner.Limited.{FitsLimit};
 
 use scsi_disk::{BlockStore, SparseStore, StoreFault};
 use std::alloc::Global;
@@ -26,20 +28,20 @@ pub(crate) const EXTENT_BYTES: u64 = 32_768;
 pub struct LimitedStore {
     store: SparseStore,
     refused: u64,
-    // how many times 64 blocks may be kept
-    most: u64,
-    // whether the disk has more
-    is_short: bool,
+    // how many times 64 blocks may be kept, if the disk has more
+    limit: Option<u64>,
 }
 
 impl Model for LimitedStore {
-    ghost use Rattle.iscsi_event_loop.specs.Limited.{LimitedDisk, limited_code};
+    ghost use Rattle.iscsi_event_loop.specs.Limited.{IsWithinLimit, LimitedDisk, limited_code};
 
     ghost Value = { LimitedDisk };
 
     ghost coded = { limited_code };
 
-    ghost view = { λ s. record { store = s.store; refused = s.refused } };
+    ghost view = { λ s. record { store = s.store; refused = s.refused; limit = s.limit } };
+
+    ghost invariant = { λ s. IsWithinLimit (record { store = s.store; refused = s.refused; limit = s.limit }) };
 }
 
 impl LimitedStore {
@@ -50,13 +52,30 @@ impl LimitedStore {
         requires few { blocks ≤ most_blocks }
         ensures disk { limited_disk result ≡ zeros blocks }
         ensures refused { result.refused ≡ 0 }
+        // What is kept takes no more bytes than asked for, or else the disk has no more.
+        ensures limit { IfSome result.limit (λ most. most * 32768 ≤ memory) }
+        ensures whole { IfNone result.limit (blocks * 512 ≤ memory) }
     {
         let most = memory / EXTENT_BYTES;
+        let is_short = most < blocks.div_ceil(EXTENT_BLOCKS);
         LimitedStore {
             store: SparseStore::new(alloc, blocks),
             refused: 0,
-            most,
-            is_short: most < blocks.div_ceil(EXTENT_BLOCKS),
+            limit: if is_short { Some(most) } else { None },
+        }
+    }
+
+    // Whether there is no room for these bytes.
+    fn has_no_room_for(&self, lba: u64, bytes: &[u8]) -> bool
+        requires whole { length bytes.now % 512 ≡ 0 }
+        requires inside { 512 * lba + length bytes.now ≤ 512 * (limited_disk self.now).count }
+        ensures full { IsTrue result → HasNoRoom self.now lba (length bytes.now / 512) }
+        ensures blank { IsTrue result → AreZeros bytes.now → ⊥ }
+        ensures room { IsFalse result → FitsLimit self.now lba bytes.now }
+    {
+        match self.limit {
+            Some(most) => self.store.extents_with(lba, bytes) > most,
+            None => false,
         }
     }
 }
@@ -108,11 +127,19 @@ impl BlockStore for LimitedStore {
             (left_by self.old)
             (left_by self.new) }
         ensures tells { StoreTellsFailures true self.old.refused self.new.refused 0 0 result }
+        // No more is kept than the limit allows.
+        ensures limit { self.new.limit ≡ self.old.limit }
+        ensures within { IsWithinLimit self.new }
+        // A write is refused as one where a device fails only if there is no room for it, which bytes that
+        // are all 00 always have.
+        ensures room { IsErrOf result StoreFault.Device
+            → HasNoRoom self.old lba (length bytes.now / 512) }
+        ensures blank { IsErrOf result StoreFault.Device → AreZeros bytes.now → ⊥ }
     {
         if self.refused == u64::MAX {
             return Err(StoreFault::NoMemory);
         }
-        if self.is_short && self.store.extents_with(lba, bytes) > self.most {
+        if self.has_no_room_for(lba, bytes) {
             self.refused += 1;
             return Err(StoreFault::Device);
         }

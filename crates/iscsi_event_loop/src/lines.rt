@@ -20,7 +20,7 @@ const OF_GUESTS: u32 = 1;
 
 /// Lines on standard error. One that would have to wait for a reader is lost, and counted. Of lines of peers
 /// so many a second are told, and the others are counted, too.
-#[derive(Debug, Drop)]
+#[derive(Drop)]
 pub struct Lines {
     lost: u64,
     peers: Pace,
@@ -116,7 +116,7 @@ impl Lines {
 }
 
 /// A line, and how many before it were left out.
-#[derive(Clone, Copy, Debug)]
+#[derive(Clone, Copy)]
 struct Counted<'a, L> {
     line: &'a L,
     others: u64,
@@ -133,7 +133,7 @@ impl<L: Display> Display for Counted<'_, L> {
 }
 
 /// Tells how many lines were left out.
-#[derive(Clone, Copy, Debug)]
+#[derive(Clone, Copy)]
 struct LeftOut {
     lines: u64,
 }
@@ -145,7 +145,7 @@ impl Display for LeftOut {
 }
 
 /// Tells how many lines were lost.
-#[derive(Clone, Copy, Debug)]
+#[derive(Clone, Copy)]
 struct Lost {
     lines: u64,
 }

@@ -6,7 +6,7 @@ use std::marker::Model;
 use std::time::{Duration, Instant};
 
 /// So many lines a second at most, and how many were left out since one was told.
-#[derive(Debug, Drop)]
+#[derive(Drop)]
 pub struct Pace {
     most: u32,
     // when the second began in which lines are counted

@@ -14,7 +14,7 @@ use crate::tally::Tally;
 use iscsi_login::Phase;
 use iscsi_options::Limits;
 use iscsi_serving::SessionEnd;
-use iscsi_sessions::{MOST_READ, SessionTable};
+use iscsi_sessions::SessionTable;
 use scsi_disk::BlockStore;
 use std::alloc::{AllocError, Global};
 use std::time::Instant;
@@ -95,7 +95,7 @@ impl Peer {
     }
 
     /// A turn of its session: at most 64 reads, PDUs and writes, and no more once the budget is spent.
-    /// What is read goes through `buffer`. Says whether the session is over; where that is for a
+    /// Says whether the session is over; where that is for a
     /// fault, it is kept as its end.
     #[tactic(auto, using(crate::proofs::RunningLemmas::none_at, crate::proofs::RunningLemmas::spent_at))]
     pub fn turn<S: BlockStore>(
@@ -104,7 +104,6 @@ impl Peer {
         store: &mut S,
         slot: usize,
         now: Instant,
-        buffer: &mut [u8; MOST_READ],
         budget: Budget,
     ) -> bool
         // It takes as many PDUs at most as the budget says. It gives as many bytes at most in all
@@ -119,7 +118,7 @@ impl Peer {
             if left.is_spent() {
                 return false;
             }
-            match self.step(table, store, slot, now, buffer, &mut left) {
+            match self.step(table, store, slot, now, &mut left) {
                 Step::Went => {}
                 Step::Rests => return false,
                 Step::Over => return true,
@@ -154,7 +153,6 @@ impl Peer {
         store: &mut S,
         slot: usize,
         now: Instant,
-        buffer: &mut [u8; MOST_READ],
         left: &mut Budget,
     ) -> Step
         requires some { 0 < left.old.pdus }
@@ -166,7 +164,7 @@ impl Peer {
         match due_at(table, slot) {
             Due::Take => self.take(table, store, slot, left),
             Due::Write => self.write(table, store, slot, now, left),
-            Due::Read => self.read(table, slot, now, buffer),
+            Due::Read => self.read(table, slot, now),
             Due::End => Step::Over,
         }
     }
@@ -204,7 +202,7 @@ impl Peer {
                 table.sent(slot, 0);
                 Step::Rests
             }
-            Moved::End | Moved::Failed => self.over(SessionEnd::Write),
+            Moved::End | Moved::Failed | Moved::NoMemory => self.over(SessionEnd::Write),
         }
     }
 
@@ -269,13 +267,7 @@ impl Peer {
 
     // Reads what came.
     #[tactic(auto, using(crate::proofs::RunningLemmas::none_idle_at))]
-    fn read(
-        &mut self,
-        table: &mut SessionTable,
-        slot: usize,
-        now: Instant,
-        buffer: &mut [u8; MOST_READ],
-    ) -> Step
+    fn read(&mut self, table: &mut SessionTable, slot: usize, now: Instant) -> Step
         requires may { may_read_at (slot_at table.old slot) ≡ true }
         ensures runs { RunsIdleAt slot table.old table.new }
         ensures slots { length table.new.slots ≡ length table.old.slots }
@@ -283,14 +275,12 @@ impl Peer {
         if !self.connection.is_readable() {
             return Step::Rests;
         }
-        match self.connection.read(buffer, now) {
-            Moved::Bytes(count) => match table.receive(slot, &buffer[..count]) {
-                Ok(()) => Step::Went,
-                Err(_) => self.over(SessionEnd::NoMemory),
-            },
+        match self.connection.read(table, slot, now) {
+            Moved::Bytes(_) => Step::Went,
             Moved::Nothing => Step::Rests,
             Moved::End => self.finish(table, slot),
             Moved::Failed => self.over(SessionEnd::Read),
+            Moved::NoMemory => self.over(SessionEnd::NoMemory),
         }
     }
 

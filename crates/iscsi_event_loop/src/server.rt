@@ -21,7 +21,7 @@ use crate::peer::{Peer, no_peers};
 use crate::system::{listen, now};
 use iscsi_options::{Options, Stop};
 use iscsi_serving::{Access, ServeFault};
-use iscsi_sessions::{MOST_READ, SessionTable};
+use iscsi_sessions::SessionTable;
 use mio::net::TcpListener;
 use mio::{Events, Poll};
 use scsi_disk::BlockStore;
@@ -52,8 +52,8 @@ pub struct Server<'a> {
     arrivals: Vec<u64>,
     // how many connections were accepted
     accepted: u64,
-    // what a read of a peer goes through
-    buffer: Box<[u8; MOST_READ]>,
+    // how many turns were taken since the system was asked who is ready
+    unasked: u32,
 }
 
 impl<'a> Model for Server<'a> {
@@ -98,9 +98,6 @@ impl<'a> Server<'a> {
         let arrivals = vec![in alloc; 0u64; count]?;
         let events = Events::with_capacity(alloc, count + 1)?;
         let table = SessionTable::new(alloc, count)?;
-        let Ok(buffer) = Box::new(alloc, [0u8; MOST_READ]) else {
-            return Err(ServeFault::NoMemory);
-        };
         let (poll, listener) = listen(rt, SocketAddr::new(options.listen, options.port))?;
         Ok(Server {
             options,
@@ -118,7 +115,7 @@ impl<'a> Server<'a> {
             last_number: 0,
             arrivals,
             accepted: 0,
-            buffer,
+            unasked: 0,
         })
     }
 

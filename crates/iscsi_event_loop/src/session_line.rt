@@ -5,7 +5,7 @@ use std::net::SocketAddr;
 
 /// The line of a session: its number, where its peer is, and the initiator's name, if there is one,
 /// before what is told of it.
-#[derive(Clone, Copy, Debug)]
+#[derive(Clone, Copy)]
 pub struct SessionLine<'a, T> {
     /// The session's number.
     pub number: u16,
@@ -28,7 +28,7 @@ impl<T: Display> Display for SessionLine<'_, T> {
 }
 
 /// A line for a disk that initiators of two names may write.
-#[derive(Clone, Copy, Debug)]
+#[derive(Clone, Copy)]
 pub struct TwoWriters<'a> {
     /// Who was logged in before.
     pub first: Name<'a>,
@@ -48,7 +48,7 @@ impl Display for TwoWriters<'_> {
 
 /// The name of an initiator in a line. A byte that is none of `!` to `~`, and the backslash, is `\x` and two hex
 /// digits.
-#[derive(Clone, Copy, Debug)]
+#[derive(Clone, Copy)]
 pub struct Name<'a>(pub &'a [u8]);
 
 impl Display for Name<'_> {

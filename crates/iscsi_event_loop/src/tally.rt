@@ -9,7 +9,7 @@ use std::fmt::{self, Display, Write};
 const STATUS: usize = 36;
 
 /// What came of a session so far, for the log.
-#[derive(Clone, Copy, Debug)]
+#[derive(Clone, Copy)]
 pub struct Tally {
     // the CmdSN that the next numbered request is to have; none before the login is completed
     next: Option<u32>,
@@ -73,7 +73,7 @@ impl Tally {
 }
 
 /// How a session ends, in the log.
-#[derive(Clone, Copy, Debug)]
+#[derive(Clone, Copy)]
 pub enum LoggedEnd {
     /// By a fault, which has a line in any case.
     Fault(SessionEnd),
@@ -99,7 +99,7 @@ impl Display for LoggedEnd {
 }
 
 /// How a session ends, and what went over its connection.
-#[derive(Clone, Copy, Debug)]
+#[derive(Clone, Copy)]
 pub struct Ended {
     /// How it ends.
     pub end: LoggedEnd,

@@ -64,7 +64,7 @@ may_take s =
 
 -- The most bytes that are read at a time.
 abbrev pub most_read : ℕ
-most_read = 65_536
+most_read = 262_144
 
 -- The slot with what was read.
 abbrev pub slot_with_read : List ℕ → Slot → Slot

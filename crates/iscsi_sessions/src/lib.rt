@@ -3,9 +3,10 @@
 
 pub mod laws;
 mod offered;
+mod read_buffer;
 mod session_table;
 mod slot;
 
 pub use offered::Offered;
+pub use read_buffer::MOST_READ;
 pub use session_table::SessionTable;
-pub use slot::MOST_READ;

@@ -1,8 +1,9 @@
 //! The slots of several sessions over one store. One file, more than half of which is the contracts
 //! of one type.
 
-ghost use Rattle.std.specs.Prelude.{◌≡◌, ◌≤◌, ℕ, false, length, option_map, is_none, is_some, replicate, true, None, Some, IfOk, IfSome, IfNone, OnOk, OnErr};
+ghost use Rattle.std.specs.Prelude.{◌≡◌, ◌<◌, ◌≤◌, ℕ, List, false, length, option_map, is_none, is_some, replicate, true, None, Ok, Some, IfOk, IfSome, IfNone, OnOk, OnErr};
 ghost use Rattle.std.specs.List.{position};
+ghost use Rattle.std.specs.Io.KnownBytes.{Consumes};
 ghost use Rattle.scsi_disk.specs.Disk.{StoreTellsFailures};
 ghost use Rattle.scsi_disk.specs.Lasting.{LastsOnceSynced, SettledDisk, Within};
 ghost use Rattle.iscsi_target.specs.Crash.{CrashesNext};
@@ -12,12 +13,15 @@ ghost use Rattle.iscsi_sessions.specs.Reinstatement.{is_served_at, takes_place_o
 ghost use Rattle.iscsi_sessions.specs.Turns.{Comes, Ends, Goes, SlotEventStep, HappensIn, SameMachines, Syncs, TakesTurn, machines};
 
 use crate::offered::Offered;
+use crate::read_buffer::ReadBuffer;
 use crate::slot::Slot;
 use iscsi_login::Phase;
 use iscsi_target::{Config, TargetFault};
 use scsi_disk::{BlockStore, StoreFault};
 use std::alloc::{AllocError, Global};
+use std::io::{self, Read};
 use std::marker::Model;
+use std::mem;
 
 /// Several sessions at a time over one store, which each turn is given: a row of slots, each free
 /// or with a session.
@@ -28,10 +32,17 @@ use std::marker::Model;
 /// rule). So the answers to one read leave in one write, a peer that reads nothing is not read, and
 /// beyond those bytes a slot keeps the answers to one PDU. Slots are numbered from 0; a place behind
 /// the last one counts as free.
+///
+/// All slots are read into one buffer, and take PDUs from there. What a slot has not taken when another one is
+/// read goes to memory of its own.
 #[derive(Drop)]
 pub struct SessionTable {
     alloc: Global,
     slots: Vec<Option<Slot>>,
+    // what reads go into; a slot may be lent it
+    buffer: ReadBuffer,
+    // the slot that is lent the buffer, if one is
+    holder: Option<usize>,
 }
 
 impl Model for SessionTable {
@@ -51,7 +62,12 @@ impl SessionTable {
         for _ in 0..slots {
             free.push(None)?;
         }
-        Ok(SessionTable { alloc, slots: free })
+        Ok(SessionTable {
+            alloc,
+            slots: free,
+            buffer: ReadBuffer::new(alloc)?,
+            holder: None,
+        })
     }
 
     /// How many slots there are.
@@ -145,7 +161,7 @@ impl SessionTable {
         }
     }
 
-    /// Whether `receive` may be called: the slot's session goes on, has taken all that was read,
+    /// Whether `read` may be called: the slot's session goes on, has taken all that was read,
     /// and nothing of it waits to be written.
     pub fn may_read(&self, slot: usize) -> bool
         ensures { result ≡ may_read_at (slot_at self.now slot) }
@@ -195,20 +211,53 @@ impl SessionTable {
         }
     }
 
-    /// Keeps what was read for a slot: at most 65,536 bytes. Where memory runs out nothing is kept.
-    pub fn receive(&mut self, slot: usize, piece: &[u8]) -> Result<(), AllocError>
+    /// Reads for a slot, once, at most 262,144 bytes. Says how many came, which the slot keeps. The error is the
+    /// reader's, or that memory ran out; then nothing changed.
+    pub fn read<R: Read>(&mut self, slot: usize, reader: &mut R) -> io::Result<usize>
         requires may { may_read_at (slot_at self.old slot) ≡ true }
-        requires short { length piece.now ≤ most_read }
-        ensures ok { OnOk result
-            (SlotChanges slot self.old self.new
-            (λ before after. after ≡ slot_with_read piece.now before)) }
+        ensures some { IfOk result (λ count. 0 < count → (piece : List ℕ) × (length piece ≡ count)
+            × Consumes (R.remaining reader.old) (R.remaining reader.new) piece
+            × SlotChanges slot self.old self.new
+            (λ before after. after ≡ slot_with_read piece before)) }
+        ensures few { IfOk result (λ count. count ≤ most_read) }
+        ensures none { result ≡ Ok 0 → self.new ≡ self.old }
         ensures err { OnErr result (self.new ≡ self.old) }
         ensures machines { SameMachines self.old self.new }
     {
+        self.reclaim()?;
+        let count = self.buffer.read(reader)?;
+        if count == 0 {
+            return Ok(0);
+        }
         let Some(taken) = &mut self.slots[slot] else {
             unreachable!()
         };
-        taken.receive(piece)
+        taken.receive(self.alloc, &mut self.buffer);
+        self.holder = Some(slot);
+        Ok(count)
+    }
+
+    // The slot that was read for last gives back the memory that it was lent.
+    fn reclaim(&mut self) -> Result<(), AllocError>
+        ensures same { self.new ≡ self.old }
+    {
+        match self.holder {
+            Some(holder) if self.is_taken(holder) => self.reclaim_from(holder),
+            _ => Ok(()),
+        }
+    }
+
+    // A slot gives back the memory that it was lent.
+    fn reclaim_from(&mut self, holder: usize) -> Result<(), AllocError>
+        requires taken { is_some (slot_at self.old holder) ≡ true }
+        ensures same { self.new ≡ self.old }
+    {
+        let Some(taken) = &mut self.slots[holder] else {
+            unreachable!()
+        };
+        taken.give_back(self.alloc, &mut self.buffer)?;
+        self.holder = None;
+        Ok(())
     }
 
     /// One turn, over the store of all sessions. The session of a slot takes what was read up to
@@ -329,7 +378,20 @@ impl SessionTable {
         ensures goes { HappensIn (Goes slot) self.old self.new }
     {
         if slot < self.slots() {
-            self.slots[slot] = None;
+            let left = mem::replace(&mut self.slots[slot], None);
+            self.recover(slot, left);
+        }
+    }
+
+    // A slot was left; if it was lent the buffer, it gives that back.
+    fn recover(&mut self, slot: usize, left: Option<Slot>)
+        ensures same { self.new ≡ self.old }
+    {
+        if self.holder == Some(slot) {
+            if let Some(left) = left {
+                self.buffer = left.into_buffer();
+            }
+            self.holder = None;
         }
     }
 }

@@ -1,21 +1,21 @@
 //! The session of a slot, with what it has still to take and to write.
 
-ghost use Rattle.std.specs.Prelude.{◌≡◌, ◌≤◌, length, not, true, OnOk, OnErr, Some};
+ghost use Rattle.std.specs.Prelude.{◌≡◌, ◌≤◌, length, not, true, Some};
 ghost use Rattle.iscsi_target.specs.Machine.{is_machine_closed};
 ghost use Rattle.iscsi_target.specs.Crash.{CrashesNext};
 ghost use Rattle.iscsi_target.specs.Advances.{store_of};
 ghost use Rattle.iscsi_sessions.specs.Reinstatement.{is_served, session_of, takes_over};
-ghost use Rattle.iscsi_sessions.specs.Slots.{opening_slot, phase_of, is_slot_idle, has_answer_room, may_read, may_take, most_read, must_sync, slot_with_read, with_sent, SlotFeedsNext, SlotFinishes};
+ghost use Rattle.iscsi_sessions.specs.Slots.{opening_slot, phase_of, is_slot_idle, has_answer_room, may_read, may_take, must_sync, slot_with_read, with_sent, SlotFeedsNext, SlotFinishes};
 ghost use Rattle.iscsi_sessions.specs.inner.Slots.{gathering};
 
+use crate::read_buffer::ReadBuffer;
 use iscsi_login::{Phase, Session as SessionType};
 use iscsi_target::{Config, FIRST_STAT_SN, Target, TargetFault};
 use scsi_disk::BlockStore;
 use std::alloc::{AllocError, Global};
 use std::marker::Model;
+use std::mem;
 
-/// The most bytes that are read at a time.
-pub const MOST_READ: usize = 65_536;
 /// How many bytes of answers wait at most: these are written before more are gathered.
 const GATHERED: usize = 65_536;
 
@@ -26,14 +26,13 @@ pub struct Slot {
     output: Vec<u8>,
     sent: usize,
     offered: bool,
-    unfed: Vec<u8>,
-    fed: usize,
+    unfed: ReadBuffer,
     asks: bool,
 }
 
 impl Model for Slot {
     ghost use Rattle.std.specs.Prelude.{◌≡◌, ◌≤◌, drop, false, length};
-    ghost use Rattle.iscsi_sessions.specs.Slots.{Slot, most_read};
+    ghost use Rattle.iscsi_sessions.specs.Slots.{Slot};
 
     ghost Value = { Slot };
 
@@ -41,12 +40,11 @@ impl Model for Slot {
       connection = s.target;
       waiting = drop s.sent s.output.items;
       offered = s.offered;
-      unfed = drop s.fed s.unfed.items;
+      unfed = s.unfed;
       asks = s.asks;
     } };
 
-    ghost invariant = { λ s. (s.sent ≤ length s.output.items) × (s.fed ≤ length s.unfed.items)
-        × (length s.unfed.items ≤ most_read) × (s.offered ≡ false → s.sent ≡ 0) };
+    ghost invariant = { λ s. (s.sent ≤ length s.output.items) × (s.offered ≡ false → s.sent ≡ 0) };
 }
 
 impl Slot {
@@ -59,8 +57,7 @@ impl Slot {
             output: Vec::new(alloc),
             sent: 0,
             offered: false,
-            unfed: Vec::new(alloc),
-            fed: 0,
+            unfed: ReadBuffer::none(alloc),
             asks: false,
         }
     }
@@ -90,7 +87,7 @@ impl Slot {
     pub fn may_read(&self) -> bool
         ensures { result ≡ may_read self.now }
     {
-        self.is_idle() && self.fed == self.unfed.len()
+        self.is_idle() && self.unfed.is_empty()
     }
 
     /// Whether the session goes on, something that was read was not taken, and there is room for
@@ -98,7 +95,7 @@ impl Slot {
     pub fn may_take(&self) -> bool
         ensures { result ≡ may_take self.now }
     {
-        self.has_room() && self.goes_on() && self.fed != self.unfed.len()
+        self.has_room() && self.goes_on() && !self.unfed.is_empty()
     }
 
     /// Whether this session takes the place of another: both are normal sessions in full feature
@@ -145,16 +142,27 @@ impl Slot {
         }
     }
 
-    /// Keeps what was read.
-    pub fn receive(&mut self, piece: &[u8]) -> Result<(), AllocError>
+    /// Takes over what was read, with the memory that it is in.
+    pub fn receive(&mut self, alloc: Global, piece: &mut ReadBuffer)
         requires may { may_read self.old ≡ true }
-        requires short { length piece.now ≤ most_read }
-        ensures ok { OnOk result (self.new ≡ slot_with_read piece.now self.old) }
-        ensures err { OnErr result (self.new ≡ self.old) }
+        ensures { self.new ≡ slot_with_read piece.old self.old }
     {
-        self.unfed.clear();
-        self.fed = 0;
-        self.unfed.extend_from_slice(piece)
+        self.unfed = mem::replace(piece, ReadBuffer::none(alloc));
+    }
+
+    /// Gives back the memory that it took over. What is not taken stays, in memory of the slot's own. The error
+    /// is that there is none; then nothing changed.
+    pub fn give_back(&mut self, alloc: Global, piece: &mut ReadBuffer) -> Result<(), AllocError>
+        ensures { self.new ≡ self.old }
+    {
+        let rest = self.unfed.rest(alloc)?;
+        *piece = mem::replace(&mut self.unfed, rest);
+        Ok(())
+    }
+
+    /// The memory that it took over, once the session leaves.
+    pub fn into_buffer(self) -> ReadBuffer {
+        self.unfed
     }
 
     // Has answers gathered behind those that wait. What was written is dropped.
@@ -182,17 +190,17 @@ impl Slot {
     {
         self.gather();
         match self.target.feed_asking(
-            &self.unfed[self.fed..],
+            self.unfed.as_bytes(),
             store,
             &mut self.output,
             &mut self.asks,
         ) {
             Ok((taken, _)) => {
-                self.fed += taken;
+                self.unfed.take(taken);
                 Ok(taken)
             }
             Err(fault) => {
-                self.fed = self.unfed.len();
+                self.unfed.clear();
                 Err(fault)
             }
         }

@@ -106,10 +106,18 @@ fn write_out(room: &mut Room, slot: usize, out: &mut Vec<u8>) -> Result<(), Trou
 
 // Reads a piece for a slot.
 fn read_into(room: &mut Room, slot: usize, piece: &[u8]) -> Result<(), Trouble> {
-    if piece.len() > MOST_READ || !room.table.may_read(slot) {
+    read_for(&mut room.table, slot, piece)
+}
+
+// Reads a piece for a slot of a table.
+fn read_for(table: &mut SessionTable, slot: usize, mut piece: &[u8]) -> Result<(), Trouble> {
+    if piece.len() > MOST_READ || !table.may_read(slot) {
         return Err(Trouble::Step("may not be read"));
     }
-    Ok(room.table.receive(slot, piece)?)
+    match table.read(slot, &mut piece) {
+        Ok(_) => Ok(()),
+        Err(_) => Err(Trouble::NoMemory),
+    }
 }
 
 // Reads a piece for a slot, has it taken turn by turn, and writes all answers. Gives the fault that

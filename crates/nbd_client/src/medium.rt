@@ -31,7 +31,7 @@ pub struct NbdMedium<L: Line, R: Report> {
 }
 
 /// Why a request was not done.
-#[derive(Clone, Copy, Debug, PartialEq, Eq)]
+#[derive(Clone, Copy, PartialEq, Eq)]
 enum AskFault {
     /// The medium has ended.
     Ended,

@@ -59,7 +59,7 @@ impl<M: Medium> Served<M> {
 }
 
 /// A request about blocks of an export.
-#[derive(Clone, Copy, Debug, PartialEq, Eq)]
+#[derive(Clone, Copy, PartialEq, Eq)]
 struct Asked {
     request: Request,
     lba: u64,
@@ -101,7 +101,7 @@ fn request_in(head: &[u8]) -> Option<Request>
 }
 
 /// What came of a request: its error, and the blocks of a read.
-#[derive(Debug, Drop)]
+#[derive(Drop)]
 struct Outcome {
     error: u32,
     blocks: Vec<u8>,

@@ -9,3 +9,4 @@ MovesAtMost most (moved.Bytes count) = count ≤ most
 MovesAtMost most moved.Nothing = Unit {0}
 MovesAtMost most moved.End = Unit {0}
 MovesAtMost most moved.Failed = Unit {0}
+MovesAtMost most moved.NoMemory = Unit {0}

@@ -60,7 +60,7 @@ impl<'a> Server<'a> {
             return;
         };
         let was = self.table.phase(slot);
-        let is_over = peer.turn(&mut self.table, store, slot, now, &mut self.buffer, budget)
+        let is_over = peer.turn(&mut self.table, store, slot, now, budget)
             || peer.is_late(&self.options.limits, self.table.phase(slot), now);
         let end = peer.end;
         let phase = self.table.phase(slot);

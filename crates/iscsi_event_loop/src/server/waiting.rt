@@ -10,13 +10,22 @@ use iscsi_options::sooner;
 use iscsi_serving::ServeFault;
 use std::time::{Duration, Instant};
 
+/// How many turns of a lone session follow each other at most before it is seen who else is ready.
+const MOST_UNASKED: u32 = 16;
+
 impl<'a> Server<'a> {
     // Waits until there is something to do, and notes what the system tells.
     pub(super) fn wait(&mut self, now: Instant) -> Result<(), ServeFault>
         ensures same { self.new ≡ self.old }
         ensures ends { IfErr result EndsService }
     {
-        let timeout = if self.is_busy(now) {
+        let is_busy = self.is_busy(now);
+        if is_busy && self.may_go_on() {
+            self.unasked = self.unasked.saturating_add(1);
+            return Ok(());
+        }
+        self.unasked = 0;
+        let timeout = if is_busy {
             Some(Duration::ZERO)
         } else {
             sooner(
@@ -35,6 +44,12 @@ impl<'a> Server<'a> {
             }
         }
         Ok(())
+    }
+
+    // Whether turns may follow each other without a look at who else is ready: nobody else has a slot, and few
+    // did so.
+    fn may_go_on(&self) -> bool {
+        self.unasked < MOST_UNASKED && self.peers.iter().filter(|peer| peer.is_some()).count() == 1
     }
 
     // Whether there is something to do of which the system will not tell again.

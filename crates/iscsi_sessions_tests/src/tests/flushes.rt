@@ -1,6 +1,6 @@
 //! A disk with a write cache: what a crash leaves of a write behind which some commands came.
 
-use super::{LOGIN, NAME, PING, Trouble, WRITE, config, pdus_at, pdus_in};
+use super::{LOGIN, NAME, PING, Trouble, WRITE, config, pdus_at, pdus_in, read_for};
 use crate::asserts::same;
 use iscsi_sessions::SessionTable;
 use scsi_disk::BlockStore;
@@ -75,10 +75,7 @@ fn one_slot(alloc: Global, cached: bool) -> Result<Room, Trouble> {
 // Reads a stream for the slot, and writes all answers.
 fn read(room: &mut Room, stream: &[u8]) -> Result<(), Trouble> {
     for piece in stream.chunks(4096) {
-        if !room.table.may_read(0) {
-            return Err(Trouble::Step("may not be read"));
-        }
-        room.table.receive(0, piece)?;
+        read_for(&mut room.table, 0, piece)?;
         for _ in 0..64 {
             if room.table.may_take(0) && room.table.take(0, &mut room.store).is_err() {
                 return Err(Trouble::Step("a fault"));

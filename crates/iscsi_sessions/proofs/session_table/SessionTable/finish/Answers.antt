@@ -8,7 +8,7 @@ use Rattle.iscsi_sessions.proofs.session_table.SessionTable.finish.Goals as goal
 
 pub returns-clause-ends : goal.returns-clause-ends
 returns-clause-ends c =
-    let new : SessionTable = the_view (record { alloc = c.self.inside.alloc; slots = with_item c.self.inside.slots c.args.slot (Some c.finish.new.self) }) in
+    let new : SessionTable = the_view (record { alloc = c.self.inside.alloc; slots = with_item c.self.inside.slots c.args.slot (Some c.finish.new.self); buffer = c.self.inside.buffer; holder = c.self.inside.holder }) in
     let changes : SlotChanges c.args.slot c.args.self.now new (λ before after. SlotFinishes before c.finish.result after) =
     record {
       before = c.in-Some.taken;

@@ -14,7 +14,7 @@ pub returns-clause-turn : goal.returns-clause-turn
 returns-clause-turn g c =
     let before : Store = store_of (g.S.BlockStore.disk c.args.store.now) (g.S.BlockStore.failures c.args.store.now) in
     let after : Store = store_of (g.S.BlockStore.disk c.take.new.store) (g.S.BlockStore.failures c.take.new.store) in
-    let new : SessionTable = the_view (record { alloc = c.self.inside.alloc; slots = with_item c.self.inside.slots c.args.slot (Some c.take.new.self) }) in
+    let new : SessionTable = the_view (record { alloc = c.self.inside.alloc; slots = with_item c.self.inside.slots c.args.slot (Some c.take.new.self); buffer = c.self.inside.buffer; holder = c.self.inside.holder }) in
     let takes : SlotTakesPdu g.S.BlockStore.protected c.args.slot c.args.self.now before c.take.result new after =
     record {
       before = c.in-Some.fed;

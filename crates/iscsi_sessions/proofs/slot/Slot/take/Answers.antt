@@ -1,5 +1,4 @@
-use Rattle.std.proofs.Common.{List, ℕ, ◌+◌, drop, ap, subst, sym, ◌∙◌}
-use Rattle.std.proofs.lemmas.List.{drop-drop, take_rest}
+use Rattle.std.proofs.Common.{List, ℕ, ap, subst, ◌∙◌}
 use Rattle.iscsi_target.specs.Crash.{CrashesNext}
 use Rattle.iscsi_target.specs.Feed.{scene, TargetConnection}
 use Rattle.iscsi_target.specs.Advances.{store_of}
@@ -12,23 +11,18 @@ returns-in-Ok-clause-takes g c =
     takes_at g.S.BlockStore.protected c.args.self.now (scene c.self.inside.target
     (store_of (g.S.BlockStore.disk c.args.store.now) (g.S.BlockStore.failures c.args.store.now)) c.self.inside.output.items)
     (scene c.feed_asking.new.self (store_of (g.S.BlockStore.disk c.feed_asking.new.store) (g.S.BlockStore.failures c.feed_asking.new.store))
-    c.feed_asking.new.out.items) (c.in-Ok.taken, c.in-Ok.field-0-1) _
-    (drop c.self.inside.fed c.self.inside.unfed.items) (drop (c.self.inside.fed + c.in-Ok.taken) c.self.inside.unfed.items) c.self.inside.sent
-    c.self.inside.asks c.feed_asking.new.asks c.self.inside.offered c.requires.may (c.self.view_is ∙ c.gather.ensures) c.self.invariant.3
-    (take_rest c.self.inside.unfed.items c.self.inside.fed) (sym (drop-drop c.in-Ok.taken c.self.inside.fed c.self.inside.unfed.items))
-    (rw c.deref.ensures.value at c.in-Ok.ensures.fed) (rw c.deref.ensures.value at c.in-Ok.ensures.asks)
+    c.feed_asking.new.out.items) (c.in-Ok.taken, c.in-Ok.field-0-1) c.as_bytes.result.now
+    c.self.inside.unfed c.take.new.self c.self.inside.sent
+    c.self.inside.asks c.feed_asking.new.asks c.self.inside.offered c.requires.may (c.self.view_is ∙ c.gather.ensures) c.self.invariant.1
+    c.as_bytes.ensures.value c.take.ensures c.in-Ok.ensures.fed c.in-Ok.ensures.asks
 
 pub returns-in-Err-clause-crash : goal.returns-in-Err-clause-crash
 returns-in-Err-clause-crash g c =
     let same = c.self.view_is ∙ c.gather.ensures in
     subst (λ (u : List ℕ). CrashesNext g.S.BlockStore.protected c.args.self.now.connection u (g.S.BlockStore.disk c.args.store.now)
     (g.S.BlockStore.disk c.feed_asking.new.store) (g.S.BlockStore.kept c.args.store.now) (g.S.BlockStore.kept c.feed_asking.new.store))
-    (ap (λ (s : Slot). s.unfed) same)
-    (subst (λ (x : TargetConnection). CrashesNext g.S.BlockStore.protected x (drop c.self.inside.fed c.self.inside.unfed.items)
+    (c.as_bytes.ensures.value ∙ ap (λ (s : Slot). s.unfed) same)
+    (subst (λ (x : TargetConnection). CrashesNext g.S.BlockStore.protected x c.as_bytes.result.now
     (g.S.BlockStore.disk c.args.store.now)
     (g.S.BlockStore.disk c.feed_asking.new.store) (g.S.BlockStore.kept c.args.store.now) (g.S.BlockStore.kept c.feed_asking.new.store))
-    (ap (λ (s : Slot). s.connection) same)
-    (subst (λ (u : List ℕ). CrashesNext g.S.BlockStore.protected c.self.inside.target u (g.S.BlockStore.disk c.args.store.now)
-    (g.S.BlockStore.disk c.feed_asking.new.store) (g.S.BlockStore.kept c.args.store.now) (g.S.BlockStore.kept c.feed_asking.new.store))
-    (take_rest c.self.inside.unfed.items c.self.inside.fed)
-    (rw c.deref.ensures.value at c.in-Err.ensures.crash)))
+    (ap (λ (s : Slot). s.connection) same) c.in-Err.ensures.crash)
