@@ -104,28 +104,17 @@ pub fn bare_command<'a>(alloc: Global) -> Result<Command<'a>, AllocError> {
         .bin_name("lanthovur")
 }
 
-/// The usage error for a word whose value is wrong: the text says what it is not, and what was meant.
-pub fn bad_value(
-    alloc: Global,
-    program: Result<Command<'_>, AllocError>,
-    value: &str,
-    text: &str,
-) -> LineFault {
-    match format!(in alloc; "'{value}' {text}") {
-        Ok(text) => bad_number(alloc, program, text.as_str()),
+/// The usage error for words that name no command.
+pub fn no_command(alloc: Global) -> LineFault {
+    match bare_command(alloc) {
+        Ok(program) => refusal_by(alloc, program, "the words name no job"),
         Err(_) => LineFault::NoMemory,
     }
 }
 
-/// The usage error for words that are a job's and ask for none.
-pub fn bad_number(
-    alloc: Global,
-    program: Result<Command<'_>, AllocError>,
-    text: &str,
-) -> LineFault {
-    let Ok(mut program) = program else {
-        return LineFault::NoMemory;
-    };
+// The usage error of a command for words that do not go together.
+pub(crate) fn refusal_by(alloc: Global, program: Command<'_>, text: &str) -> LineFault {
+    let mut program = program;
     match program.error(ErrorKind::ValueValidation, text) {
         Ok(error) => usage(alloc, error),
         Err(_) => LineFault::NoMemory,

@@ -1,5 +1,7 @@
 //! Commands, as rows of a table.
 
+use crate::command_line::{LineFault, refusal_by};
+use crate::disk_size::{BAD_BLOCKS, BAD_SIZE, NO_SIZE, SizeFault, TWO_SIZES};
 use crate::word::{Word, with_words};
 use clap::Command;
 use std::alloc::{AllocError, Global};
@@ -39,5 +41,32 @@ impl CommandRow {
             command = with_words(alloc, command, words)?;
         }
         Ok(command)
+    }
+
+    /// The usage error for words of the command that do not go together.
+    pub fn refusal(&self, alloc: Global, text: &str) -> LineFault {
+        match self.declared(alloc) {
+            Ok(program) => refusal_by(alloc, program, text),
+            Err(_) => LineFault::NoMemory,
+        }
+    }
+
+    /// The usage error for a word whose value is wrong: the text says what it is not, and what was
+    /// meant.
+    pub fn bad_value(&self, alloc: Global, value: &str, text: &str) -> LineFault {
+        match format!(in alloc; "'{value}' {text}") {
+            Ok(text) => self.refusal(alloc, text.as_str()),
+            Err(_) => LineFault::NoMemory,
+        }
+    }
+
+    /// The usage error for words that give no disk size.
+    pub fn bad_size(&self, alloc: Global, fault: SizeFault<'_>) -> LineFault {
+        match fault {
+            SizeFault::Blocks(value) => self.bad_value(alloc, value, BAD_BLOCKS),
+            SizeFault::Size(value) => self.bad_value(alloc, value, BAD_SIZE),
+            SizeFault::Both => self.refusal(alloc, TWO_SIZES),
+            SizeFault::Neither => self.refusal(alloc, NO_SIZE),
+        }
     }
 }

@@ -3,12 +3,10 @@
 ghost use Rattle.std.specs.Prelude.{◌<◌, ◌≤◌, IfOk, IfSome};
 ghost use Rattle.scsi_disk.specs.Disk.{most_blocks};
 
-use crate::command_line::{LineFault, bad_number, bad_value};
 use crate::word::{Word, WordKind};
-use clap::{ArgMatches, Command};
+use clap::ArgMatches;
 use iscsi_options::number_of;
 use scsi_disk::MOST_BLOCKS;
-use std::alloc::{AllocError, Global};
 
 /// The bytes of a block.
 const BLOCK: u64 = 512;
@@ -21,16 +19,17 @@ const GIB: u64 = 1 << 30;
 
 const TIB: u64 = 1 << 40;
 
-const BAD_BLOCKS: &str =
+pub(crate) const BAD_BLOCKS: &str =
     "is no number of blocks: '--blocks <N>' takes a number from 1 to 1099511627776";
 
-const BAD_SIZE: &str =
+pub(crate) const BAD_SIZE: &str =
     "is no disk size: '--size <SIZE>' takes bytes, or a number with K, M, G or T, such as 32M; a \
     multiple of 512, at most 512T";
 
-const TWO_SIZES: &str = "'--size <SIZE>' cannot be used with '--blocks <N>': each is the disk size";
+pub(crate) const TWO_SIZES: &str =
+    "'--size <SIZE>' cannot be used with '--blocks <N>': each is the disk size";
 
-const NO_SIZE: &str =
+pub(crate) const NO_SIZE: &str =
     "the disk size is missing: use '--size <SIZE>', such as '--size 32M', or '--blocks <N>'";
 
 /// The words for the size of a disk.
@@ -88,20 +87,6 @@ pub fn needed_blocks<'a>(asked: &ArgMatches<'a>) -> Result<u64, SizeFault<'a>>
         Ok(Some(blocks)) => Ok(blocks),
         Ok(None) => Err(SizeFault::Neither),
         Err(fault) => Err(fault),
-    }
-}
-
-/// The usage error for words that give no disk size.
-pub fn bad_size(
-    alloc: Global,
-    program: Result<Command<'_>, AllocError>,
-    fault: SizeFault<'_>,
-) -> LineFault {
-    match fault {
-        SizeFault::Blocks(value) => bad_value(alloc, program, value, BAD_BLOCKS),
-        SizeFault::Size(value) => bad_value(alloc, program, value, BAD_SIZE),
-        SizeFault::Both => bad_number(alloc, program, TWO_SIZES),
-        SizeFault::Neither => bad_number(alloc, program, NO_SIZE),
     }
 }
 

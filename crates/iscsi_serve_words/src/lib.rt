@@ -14,11 +14,11 @@ mod serve_words;
 mod storage;
 mod word;
 
-pub use command_line::{LineFault, bad_number, bad_value, bare_command, read_command_line, usage};
+pub use command_line::{LineFault, bare_command, no_command, read_command_line, usage};
 pub use command_row::CommandRow;
-pub use disk_size::{SIZE, SizeFault, bad_size, needed_blocks};
+pub use disk_size::{SIZE, SizeFault, needed_blocks};
 pub use nbd_storage::{FaultLine, NbdExport, NbdFault};
-pub use serve_options::serve_program;
+pub use serve_options::SERVE;
 pub use serve_words::{
     MOST_INITIATORS, ServeJob, Service, read_initiators, read_serve_words, service_of,
 };

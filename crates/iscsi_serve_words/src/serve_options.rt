@@ -1,12 +1,9 @@
 //! The command `serve` with its options, and how its words are refused.
 
-use crate::command_line::{LineFault, bad_number, bad_value};
 use crate::command_row::CommandRow;
 use crate::disk_size::SIZE;
 use crate::examples;
 use crate::word::{Word, WordKind};
-use clap::Command;
-use std::alloc::{AllocError, Global};
 
 // What the disk is kept in, behind its size.
 pub(crate) const DISK: &[Word] = &[
@@ -180,7 +177,8 @@ pub(crate) const LENGTHS: &[Word] = &[
     },
 ];
 
-const SERVE: CommandRow = CommandRow {
+/// The words of `serve`, with their help.
+pub const SERVE: &CommandRow = &CommandRow {
     name: "serve",
     bin_name: "lanthovur serve",
     about: "Serve a disk to iSCSI initiators, from memory, an image or an NBD server",
@@ -190,18 +188,3 @@ const SERVE: CommandRow = CommandRow {
     examples: Some(examples::SERVE),
     words: &[SIZE, DISK, UNIT, SERVICE, LENGTHS],
 };
-
-/// The words of `serve`, with their help. The error is want of memory.
-pub fn serve_program<'a>(alloc: Global) -> Result<Command<'a>, AllocError> {
-    SERVE.declared(alloc)
-}
-
-// The usage error for a word of `serve` whose value is wrong.
-pub(crate) fn refused(alloc: Global, value: &str, text: &str) -> LineFault {
-    bad_value(alloc, serve_program(alloc), value, text)
-}
-
-// The usage error for words of `serve` that do not go together.
-pub(crate) fn refusal(alloc: Global, text: &str) -> LineFault {
-    bad_number(alloc, serve_program(alloc), text)
-}

@@ -4,15 +4,16 @@ ghost use Rattle.std.specs.Prelude.{◌<◌, IfOk, IfSome};
 ghost use Rattle.iscsi_words.specs.Jobs.{CanWork, IsJob};
 
 use crate::capture_comparing::{CaptureComparison, STDIN, named};
+use crate::commands::{ANSWER, COMPARE, NORMALISE, SHOW};
 use crate::telling::form_of;
 use crate::words::Job;
-use clap::{ArgMatches, Command};
+use clap::ArgMatches;
 use iscsi_captures::{CapturesFault, End, Wanted};
 use iscsi_comparison::Sameness;
 use iscsi_explain::Form;
 use iscsi_options::number_of;
-use iscsi_serve_words::{LineFault, Word, WordKind, bad_number, bad_size, needed_blocks};
-use std::alloc::{AllocError, Global};
+use iscsi_serve_words::{LineFault, Word, WordKind, needed_blocks};
+use std::alloc::Global;
 
 /// What is done with a capture.
 #[derive(Clone, Copy, Debug)]
@@ -124,16 +125,12 @@ pub(crate) fn asks_for_capture(asked: &ArgMatches<'_>) -> bool {
 }
 
 /// The job of showing a capture: all of it, one connection, or one direction.
-pub(crate) fn shown_job<'a>(
-    alloc: Global,
-    program: Result<Command<'_>, AllocError>,
-    asked: &ArgMatches<'a>,
-) -> Result<Job<'a>, LineFault>
+pub(crate) fn shown_job<'a>(alloc: Global, asked: &ArgMatches<'a>) -> Result<Job<'a>, LineFault>
     ensures job { IfOk result IsJob }
 {
     match (asked.get_str("capture"), shown_work(asked)) {
         (Some(file), Some(work)) if !asked.get_flag("hex") => capture_job(file, work),
-        _ => Err(bad_number(alloc, program, BAD_SHOWN)),
+        _ => Err(SHOW.refusal(alloc, BAD_SHOWN)),
     }
 }
 
@@ -163,7 +160,6 @@ const BAD_SHOWN: &str =
 /// The job of normalising one direction of a capture.
 pub(crate) fn normalised_job<'a>(
     alloc: Global,
-    program: Result<Command<'_>, AllocError>,
     asked: &ArgMatches<'a>,
 ) -> Result<Job<'a>, LineFault>
     ensures job { IfOk result IsJob }
@@ -173,7 +169,7 @@ pub(crate) fn normalised_job<'a>(
         (Some(file), Some(wanted)) if bytes_alone => {
             capture_job(file, CaptureWork::Normalise(wanted))
         }
-        _ => Err(bad_number(alloc, program, BAD_CAPTURE)),
+        _ => Err(NORMALISE.refusal(alloc, BAD_CAPTURE)),
     }
 }
 
@@ -181,11 +177,7 @@ const BAD_CAPTURE: &str = "a capture is read with '--capture <FILE> --connection
     initiator|target', and without '--hex' or '--text'";
 
 /// The job of answering the initiator's side of a connection of a capture.
-pub(crate) fn answered_job<'a>(
-    alloc: Global,
-    program: Result<Command<'_>, AllocError>,
-    asked: &ArgMatches<'a>,
-) -> Result<Job<'a>, LineFault>
+pub(crate) fn answered_job<'a>(alloc: Global, asked: &ArgMatches<'a>) -> Result<Job<'a>, LineFault>
     ensures job { IfOk result IsJob }
 {
     let number = match asked.get_str("connection") {
@@ -196,8 +188,8 @@ pub(crate) fn answered_job<'a>(
         (Some(file), Some(connection), Ok(blocks)) if !asked.get_flag("hex") => {
             capture_job(file, CaptureWork::Answer { connection, blocks })
         }
-        (Some(_), Some(_), Err(fault)) => Err(bad_size(alloc, program, fault)),
-        _ => Err(bad_number(alloc, program, BAD_ANSWERED)),
+        (Some(_), Some(_), Err(fault)) => Err(ANSWER.bad_size(alloc, fault)),
+        _ => Err(ANSWER.refusal(alloc, BAD_ANSWERED)),
     }
 }
 
@@ -207,7 +199,6 @@ const BAD_ANSWERED: &str = "a capture is answered with '--capture <FILE> --conne
 /// The job of comparing two captures.
 pub(crate) fn compared_job<'a>(
     alloc: Global,
-    program: Result<Command<'_>, AllocError>,
     sameness: Sameness,
     asked: &ArgMatches<'a>,
 ) -> Result<Job<'a>, LineFault>
@@ -216,7 +207,7 @@ pub(crate) fn compared_job<'a>(
     let ends = (end_of(asked), both_numbers(asked));
     let (a, b) = (asked.get_str("A").unwrap_or(""), asked.get_str("B"));
     if a == STDIN && b.unwrap_or(STDIN) == STDIN {
-        return Err(bad_number(alloc, program, TWICE_STDIN));
+        return Err(COMPARE.refusal(alloc, TWICE_STDIN));
     }
     match ends {
         (Some(end), Some((first, second))) if !asked.get_flag("hex") && asked.get_flag("capture") =>
@@ -235,7 +226,7 @@ pub(crate) fn compared_job<'a>(
                     },
                 }))
             }
-        _ => Err(bad_number(alloc, program, BAD_COMPARED)),
+        _ => Err(COMPARE.refusal(alloc, BAD_COMPARED)),
     }
 }
 

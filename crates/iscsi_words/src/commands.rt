@@ -3,9 +3,7 @@
 use crate::capture_words::{DIRECTION, INITIATOR, TWO_CAPTURES};
 use crate::examples;
 use crate::telling::FORMS;
-use clap::Command;
 use iscsi_serve_words::{CommandRow, SIZE, Word, WordKind};
-use std::alloc::{AllocError, Global};
 
 // The word of a command whose input may be hex text.
 const HEX: &[Word] = &[Word {
@@ -15,7 +13,7 @@ const HEX: &[Word] = &[Word {
     help: "Read hex text instead of bytes, and write bytes as a line of hex",
 }];
 
-const SHOW: CommandRow = CommandRow {
+pub(crate) const SHOW: &CommandRow = &CommandRow {
     name: "show",
     bin_name: "lanthovur show",
     about: "Print one line for each PDU of a stream",
@@ -31,7 +29,7 @@ const TEXT: &[Word] = &[Word {
     help: "Read one text of keys, such as that of a login, instead of a stream",
 }];
 
-const NORMALISE: CommandRow = CommandRow {
+pub(crate) const NORMALISE: &CommandRow = &CommandRow {
     name: "normalise",
     bin_name: "lanthovur normalise",
     about: "Write a stream in canonical form: equal meaning becomes equal bytes",
@@ -62,7 +60,7 @@ const STREAMS: &[Word] = &[
     },
 ];
 
-const COMPARE: CommandRow = CommandRow {
+pub(crate) const COMPARE: &CommandRow = &CommandRow {
     name: "compare",
     bin_name: "lanthovur compare",
     about: "Print the first two PDUs in which two streams differ in meaning",
@@ -78,7 +76,7 @@ const FILE: &[Word] = &[Word {
     help: "Capture file; - is standard input",
 }];
 
-const CONNECTIONS: CommandRow = CommandRow {
+pub(crate) const CONNECTIONS: &CommandRow = &CommandRow {
     name: "connections",
     bin_name: "lanthovur connections",
     about: "List the TCP connections of a capture file (pcap or pcapng)",
@@ -87,7 +85,7 @@ const CONNECTIONS: CommandRow = CommandRow {
     words: &[FILE],
 };
 
-const ANSWER: CommandRow = CommandRow {
+pub(crate) const ANSWER: &CommandRow = &CommandRow {
     name: "answer",
     bin_name: "lanthovur answer",
     about: "Write a target's responses to a stream from an initiator",
@@ -103,7 +101,7 @@ const PIECE: &[Word] = &[Word {
     help: "Most bytes written to the socket before they are read, 1 to 4096",
 }];
 
-const LOOP: CommandRow = CommandRow {
+pub(crate) const LOOP: &CommandRow = &CommandRow {
     name: "loop",
     bin_name: "lanthovur loop",
     about: "Run a script of commands between an initiator and a target, over a local socket",
@@ -111,27 +109,3 @@ const LOOP: CommandRow = CommandRow {
     examples: Some(examples::LOOP),
     words: &[SIZE, PIECE],
 };
-
-pub(crate) fn show_program<'a>(alloc: Global) -> Result<Command<'a>, AllocError> {
-    SHOW.declared(alloc)
-}
-
-pub(crate) fn normalise_program<'a>(alloc: Global) -> Result<Command<'a>, AllocError> {
-    NORMALISE.declared(alloc)
-}
-
-pub(crate) fn compare_program<'a>(alloc: Global) -> Result<Command<'a>, AllocError> {
-    COMPARE.declared(alloc)
-}
-
-pub(crate) fn connections_program<'a>(alloc: Global) -> Result<Command<'a>, AllocError> {
-    CONNECTIONS.declared(alloc)
-}
-
-pub(crate) fn answer_program<'a>(alloc: Global) -> Result<Command<'a>, AllocError> {
-    ANSWER.declared(alloc)
-}
-
-pub(crate) fn loop_program<'a>(alloc: Global) -> Result<Command<'a>, AllocError> {
-    LOOP.declared(alloc)
-}

@@ -10,10 +10,7 @@ use crate::capture_words::{
     CaptureJob, answered_job, asks_for_capture, compared_job, connections_of, normalised_job,
     shown_job,
 };
-use crate::commands::{
-    answer_program, compare_program, connections_program, loop_program, normalise_program,
-    show_program,
-};
+use crate::commands::{ANSWER, COMPARE, CONNECTIONS, LOOP, NORMALISE, SHOW};
 use crate::filter::{Filter, Work};
 use crate::telling::{Telling, form_of};
 use clap::{ArgMatches, Command, Error};
@@ -21,8 +18,8 @@ use iscsi_comparison::{Comparison, Sameness};
 use iscsi_explain::Form;
 use iscsi_options::{LONGEST_PIECE, number_of};
 use iscsi_serve_words::{
-    LineFault, ServeJob, bad_number, bad_size, bad_value, bare_command, needed_blocks,
-    serve_program, service_of, usage,
+    CommandRow, LineFault, SERVE, ServeJob, bare_command, needed_blocks, no_command, service_of,
+    usage,
 };
 use std::alloc::{AllocError, Global};
 use std::convert::AsStr;
@@ -76,15 +73,15 @@ impl JobWord {
     ];
 
     // The words of the job.
-    fn program<'a>(self, alloc: Global) -> Result<Command<'a>, AllocError> {
+    fn row(self) -> &'static CommandRow {
         match self {
-            JobWord::Show => show_program(alloc),
-            JobWord::Normalise => normalise_program(alloc),
-            JobWord::Compare => compare_program(alloc),
-            JobWord::Connections => connections_program(alloc),
-            JobWord::Answer => answer_program(alloc),
-            JobWord::Serve => serve_program(alloc),
-            JobWord::Loop => loop_program(alloc),
+            JobWord::Show => SHOW,
+            JobWord::Normalise => NORMALISE,
+            JobWord::Compare => COMPARE,
+            JobWord::Connections => CONNECTIONS,
+            JobWord::Answer => ANSWER,
+            JobWord::Serve => SERVE,
+            JobWord::Loop => LOOP,
         }
     }
 
@@ -121,7 +118,7 @@ fn with_job<'a>(
 fn command<'a>(alloc: Global) -> Result<Command<'a>, AllocError> {
     let mut command = bare_command(alloc)?;
     for job in JobWord::ALL {
-        command = with_job(command, job.program(alloc))?;
+        command = with_job(command, job.row().declared(alloc))?;
     }
     Ok(command)
 }
@@ -184,7 +181,7 @@ fn job_of<'a>(alloc: Global, matches: &ArgMatches<'a>) -> Result<Job<'a>, LineFa
     ensures disk { IfOk result IsJob }
 {
     let Some((word, asked)) = matches.subcommand() else {
-        return Err(no_job(alloc));
+        return Err(no_command(alloc));
     };
     match JobWord::of(word) {
         Some(JobWord::Show) => show_of(alloc, asked),
@@ -194,13 +191,8 @@ fn job_of<'a>(alloc: Global, matches: &ArgMatches<'a>) -> Result<Job<'a>, LineFa
         Some(JobWord::Answer) => answer_of(alloc, asked),
         Some(JobWord::Serve) => Ok(Job::Serve(service_of(alloc, asked)?)),
         Some(JobWord::Loop) => loop_of(alloc, asked),
-        None => Err(no_job(alloc)),
+        None => Err(no_command(alloc)),
     }
-}
-
-// The refusal of words that name no job.
-fn no_job(alloc: Global) -> LineFault {
-    bad_number(alloc, bare_command(alloc), "the words name no job")
 }
 
 // The lines of a stream, or of a direction of a capture.
@@ -208,7 +200,7 @@ fn show_of<'a>(alloc: Global, asked: &ArgMatches<'a>) -> Result<Job<'a>, LineFau
     ensures disk { IfOk result IsJob }
 {
     if asks_for_capture(asked) {
-        return shown_job(alloc, show_program(alloc), asked);
+        return shown_job(alloc, asked);
     }
     match form_of(asked) {
         Form::Line => Ok(filter_of(Work::Show, asked)),
@@ -224,7 +216,7 @@ fn normalise_of<'a>(alloc: Global, asked: &ArgMatches<'a>) -> Result<Job<'a>, Li
     ensures disk { IfOk result IsJob }
 {
     if asks_for_capture(asked) {
-        return normalised_job(alloc, normalise_program(alloc), asked);
+        return normalised_job(alloc, asked);
     }
     Ok(filter_of(normal_work(asked), asked))
 }
@@ -253,11 +245,11 @@ fn answer_of<'a>(alloc: Global, asked: &ArgMatches<'a>) -> Result<Job<'a>, LineF
     ensures disk { IfOk result IsJob }
 {
     if asked.get_str("capture").is_some() || asked.get_str("connection").is_some() {
-        return answered_job(alloc, answer_program(alloc), asked);
+        return answered_job(alloc, asked);
     }
     match needed_blocks(asked) {
         Ok(blocks) => Ok(filter_of(Work::Answer(blocks), asked)),
-        Err(fault) => Err(bad_size(alloc, answer_program(alloc), fault)),
+        Err(fault) => Err(ANSWER.bad_size(alloc, fault)),
     }
 }
 
@@ -273,7 +265,7 @@ fn comparison_of<'a>(alloc: Global, asked: &ArgMatches<'a>) -> Result<Job<'a>, L
         || asked.get_str("connection").is_some()
         || asked.get_str("from").is_some();
     if captured {
-        return compared_job(alloc, compare_program(alloc), sameness, asked);
+        return compared_job(alloc, sameness, asked);
     }
     Ok(Job::Compare(Comparison {
         first: asked.get_str("A").unwrap_or(""),
@@ -289,8 +281,8 @@ fn loop_of(alloc: Global, asked: &ArgMatches<'_>) -> Result<Job<'static>, LineFa
     let piece = asked.get_str("piece").unwrap_or("");
     match (needed_blocks(asked), piece_of(piece)) {
         (Ok(blocks), Some(piece)) => Ok(Job::Loop { blocks, piece }),
-        (Err(fault), _) => Err(bad_size(alloc, loop_program(alloc), fault)),
-        (Ok(_), None) => Err(bad_value(alloc, loop_program(alloc), piece, BAD_PIECE)),
+        (Err(fault), _) => Err(LOOP.bad_size(alloc, fault)),
+        (Ok(_), None) => Err(LOOP.bad_value(alloc, piece, BAD_PIECE)),
     }
 }
 
