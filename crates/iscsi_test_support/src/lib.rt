@@ -1,5 +1,5 @@
 //! What tests of iSCSI sessions share: PDUs as lines of text, a session of both ends, and readers
-//! and writers that fail. No program uses it.
+//! and writers that fail. Of programs `tool_rows` alone uses it.
 #![tactic(auto)]
 
 mod failing;
