@@ -17,7 +17,7 @@ import argparse
 import re
 import sys
 from collections import defaultdict
-from dataclasses import dataclass
+from dataclasses import dataclass, replace
 from pathlib import Path
 
 TOP = Path(__file__).resolve().parents[2]
@@ -31,6 +31,7 @@ class Part:
 
     `says` is the sentence of the headline that the clause is, if it is one. A definition that is `unread` is counted
     and not followed: the headline holds whatever function it is. `model` names the type whose value the clause compares.
+    `beside` is the clause that says what was done to get there: of the same function, or of one with the same owner.
     """
 
     title: str
@@ -41,6 +42,7 @@ class Part:
     unread: tuple[str, ...] = ()
     model: str | None = None
     says: str | None = None
+    beside: tuple[str, str] | None = None
 
     def __str__(self):
         owner = f"{self.owner}::" if self.owner else "laws::" if self.clause is None else ""
@@ -49,25 +51,25 @@ class Part:
 
 
 PARTS = [
-    Part("normalise", "iscsi_stream", "normalise", "ok",
+    Part("normalise", "iscsi_stream", "normalise", "ok", beside=("normalise", "end"),
          says="`normalise` writes the canonical stream of what it read"),
-    Part("its faults", "iscsi_stream", "normalise", "fault",
+    Part("its faults", "iscsi_stream", "normalise", "fault", beside=("normalise", "end"),
          says="a fault comes where its cause is, after all that was due before it"),
-    Part("one meaning", "iscsi_stream", "have_one_meaning", "same",
+    Part("one meaning", "iscsi_stream", "have_one_meaning", "same", beside=("have_one_meaning", "end"),
          says="`have_one_meaning` says yes exactly if two streams have one meaning"),
-    Part("compare", "iscsi_compare", "compare", "same",
+    Part("compare", "iscsi_compare", "compare", "same", beside=("compare", "tells"),
          says="`compare`, which holds one PDU of each, says that two streams are the same only if they have one meaning"),
-    Part("served alike", "iscsi_serve", "serve_stream", "answered", unread=("answers_from",),
+    Part("served alike", "iscsi_serve", "serve_stream", "answered", unread=("answers_from",), beside=("serve_stream", "serves"),
          says="what the program answers and stores depends on settings, blocks and meaning alone"),
-    Part("alike", "iscsi_target", "answers_alike", "alike",
+    Part("alike", "iscsi_target", "answers_alike", "alike", beside=("answers_alike", "first"),
          says="a target answers two streams of one meaning with the same bytes and holds the same blocks"),
-    Part("params", "iscsi_pair", "params", "equal", owner="Pair", model="Params",
+    Part("params", "iscsi_pair", "params", "equal", owner="Pair", model="Pair", beside=("run", "ran"),
          says="two ends that have completed login hold equal values, over every schedule"),
-    Part("outcomes", "iscsi_pair", "outcomes_over", "on_disk",
+    Part("outcomes", "iscsi_pair", "outcomes_over", "on_disk", beside=("outcomes_over", "ran"),
          says="the outcomes of such a pair are those of one local disk, over every schedule"),
-    Part("own steps", "iscsi_pair", "serve_requests", "on_disk",
+    Part("own steps", "iscsi_pair", "serve_requests", "on_disk", beside=("serve_requests", "ran"),
          says="so are those of requests that are handed in one after another, in steps of the call's own"),
-    Part("comes about", "iscsi_pair", "serve_requests", "served",
+    Part("comes about", "iscsi_pair", "serve_requests", "served", beside=("serve_requests", "on_disk"),
          says="where memory holds, requests that any target takes are served so"),
     Part("feed", "iscsi_target", "feed", "fed", owner="Target", model="Target"),
     Part("served", "iscsi_serve", "serve_stream", "answered"),
@@ -325,8 +327,8 @@ def public_texts(crate):
             yield file, text[one.end() - 1:braced(text, one.end() - 1)]
 
 
-def inner_reached(workspace):
-    """The definitions of `specs/inner` that a public clause reaches: there should be none."""
+def reached_by_public(workspace):
+    """The definitions and types that public clauses reach."""
     waiting, reached = [one for crate in workspace.order for one in public_texts(crate)], set()
     while waiting:
         file, text = waiting.pop()
@@ -334,6 +336,11 @@ def inner_reached(workspace):
             if isinstance(one, Definition) and one not in reached:
                 reached.add(one)
                 waiting.append((one.file, one.text))
+    return reached
+
+
+def inner_of(reached):
+    """The definitions of `specs/inner` among these: a public clause reaches none."""
     return sorted(f"{one.file}: {one.name}" for one in reached if "/specs/inner/" in one.file)
 
 
@@ -369,13 +376,20 @@ def defined_in(reached):
     return [one for one in reached if "/specs/" in one.file]
 
 
-def headline(reaches):
-    """The lines of definitions that each sentence of the headline takes."""
-    yield row(["The headline says", "Clause", "Lines"])
-    yield row(["---"] * 3)
+def lines_of(reached):
+    return sum(one.lines for one in defined_in(reached))
+
+
+def headline(workspace, reaches):
+    """The lines of definitions that each sentence of the headline takes, and those of the clause beside it."""
+    yield row(["The headline says", "Clause", "Lines", "Beside it", "Lines"])
+    yield row(["---"] * 5)
     for part, (reached, _) in zip(PARTS, reaches):
         if part.says:
-            yield row([part.says, part, sum(one.lines for one in defined_in(reached))])
+            function, clause = part.beside
+            other = replace(part, function=function, clause=clause, unread=(), says=None, beside=None)
+            name = f"`{clause}`" if function == part.function else f"{other}"
+            yield row([part.says, part, lines_of(reached), name, lines_of(reach(workspace, other)[0])])
 
 
 def summary(reaches):
@@ -402,11 +416,27 @@ def matrix(workspace, reaches):
     yield row(["all", *(sum(column.values()) for column in [whole, *columns])])
 
 
-def others(workspace, reaches):
-    """The files of definitions that no part reaches."""
+def others(workspace, reaches, public):
+    """The files of definitions that no part reaches: those that clauses of other public calls do, and the rest."""
     reached = {one.file for definitions, _ in reaches for one in definitions}
-    files = in_order(workspace, {file for file in list(workspace.names) if workspace.names[file] and "/inner/" not in file} - reached)
-    yield f"No part reaches: {', '.join(map(shown, files))}."
+    all_files = {file for file in list(workspace.names) if workspace.names[file] and "/inner/" not in file}
+    cited = {one.file for one in public}
+    yield "No part reaches these, and clauses of other public calls do:"
+    yield ""
+    by_crate = defaultdict(list)
+    for file in in_order(workspace, (all_files - reached) & cited):
+        by_crate[file.split("/")[1]].append(f"`{file.split('/specs/')[1].removesuffix('.antt')}`")
+    for crate, files in by_crate.items():
+        yield f"- `{crate}`: {', '.join(files)}"
+    rest = in_order(workspace, all_files - reached - cited)
+    yield ""
+    yield f"No public clause reaches these: {', '.join(map(shown, rest))}." if rest else "Every other file is reached by none but its own crate."
+
+
+def range_of(reaches):
+    """What README says of the lines that a sentence of the headline takes."""
+    lines = [lines_of(reached) for part, (reached, _) in zip(PARTS, reaches) if part.says]
+    return f"from {min(lines)} to {max(lines)}"
 
 
 def written(page, name, table):
@@ -424,8 +454,9 @@ def main():
     asked = parser.parse_args()
     workspace = Workspace()
     reaches = [reach(workspace, part) for part in PARTS]
-    first = "\n".join(headline(reaches))
-    tables = "\n".join([*summary(reaches), "", *matrix(workspace, reaches), "", *others(workspace, reaches)])
+    public = reached_by_public(workspace)
+    first = "\n".join(headline(workspace, reaches))
+    tables = "\n".join([*summary(reaches), "", *matrix(workspace, reaches), "", *others(workspace, reaches, public)])
     if not asked.write and not asked.check:
         print(f"{first}\n\n{tables}")
         return
@@ -435,7 +466,9 @@ def main():
         PAGE.write_text(new)
     elif new != old:
         sys.exit("docs/TRUST.md: its figures are old: tools/reach/reach.py --write")
-    elif inner := inner_reached(workspace):
+    elif (told := range_of(reaches)) not in (TOP / "README.md").read_text():
+        sys.exit(f"README.md: the lines of definitions are not '{told}'")
+    elif inner := inner_of(public):
         sys.exit("a public clause reaches what stands apart from it: " + ", ".join(inner))
 
 
