@@ -53,7 +53,7 @@ class Script:
 
 # The cheapest first.
 SCRIPTS = [
-    Script("check_docs", "check_docs/check_docs.py", "2 seconds", 2, r"[0-9]+ looked at, 0 not so", []),
+    Script("check_docs", "check_docs/check_docs.py", "seconds", 2, r"[0-9]+ looked at, 0 not so", []),
     Script("process", "process/run.py", "seconds", 5, unproved=UNPROVED),
     Script("speed, client", "speed/check_client.py", "seconds", 5, unproved=[]),
     Script("strangers", "strangers/run.py", "three minutes", 20, unproved=UNPROVED),

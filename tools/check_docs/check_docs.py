@@ -1,5 +1,5 @@
 #!/usr/bin/env python3
-"""Holds documents and wrong bodies against the tree, in two seconds. It proves nothing and is no part of the gate.
+"""Holds documents and wrong bodies against the tree, in a few seconds. It proves nothing and is no part of the gate.
 
     tools/check_docs/check_docs.py [--lengths]
 
@@ -8,6 +8,7 @@ It looks at:
 - files that pages name between backquotes: they are there, below the top, crates/, the page's folder or some crate;
 - Rust between fences: it stands so in a file of crates/;
 - each row of docs/THEOREMS.md: the call stands in a file of its row, and a call of the row has each clause;
+- each public call with two clauses or more, but in crates of tests: some row of docs/THEOREMS.md names it;
 - the tables of docs/FORMATS.md: the fields of each kind of PDU against specs/Fields.antt, specs/Meaning.antt and the
   words of `show`; the text keys against both specs/Key.antt; the copy of the page that crates/format_tables holds
   against the code in the gate (rt ci takes no link in the place of a file);
@@ -30,6 +31,10 @@ from fnmatch import fnmatch
 from pathlib import Path
 
 TOP = Path(__file__).resolve().parents[2]
+sys.dont_write_bytecode = True
+sys.path.insert(0, str(TOP / "tools/reach"))
+import reach
+
 CRATES = TOP / "crates"
 # Names that stand for others: crates/NAME/src/THING.rt.
 DEFINITION = re.compile(r"^(?:(?:abbrev|unfoldable|foldable) )?pub (?:(?:record|data) )?(?!mod |use )(\S+)", re.M)
@@ -138,6 +143,21 @@ def check_claims():
                 found += here
         for clause in re.findall(r"`([a-z_]+)`", re.split(r", with|, over|; of", " ".join(cells[3:]))[0]):
             look(re.search(rf"ensures\*? {clause} ", "\n".join(found)), where, f"no clause {clause}")
+
+
+def named_calls(page):
+    """The calls that rows of a page name, each with its owner, if one is said."""
+    return {"::".join(call.split("::")[-2:]) for call in re.findall(r"`([\w:]+)`", page)} | set(re.findall(r"`(?:\w+::)*(\w+)`", page))
+
+
+def check_named():
+    """A public call with two clauses or more stands in a row of docs/THEOREMS.md."""
+    named = named_calls(read("docs/THEOREMS.md"))
+    for crate in reach.Workspace().order:
+        if crate.endswith("_tests"):
+            continue
+        for call, promises in reach.public_calls(crate):
+            look(promises < 2 or call in named, f"crates/{crate}", f"no row of docs/THEOREMS.md names {call}")
 
 
 # ---- tables of FORMATS
@@ -424,6 +444,7 @@ def main():
         check_page(page)
     check_snippets(pages)
     check_claims()
+    check_named()
     check_copy()
     check_kinds()
     check_keys()

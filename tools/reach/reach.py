@@ -300,18 +300,47 @@ def clauses_from(text, start):
         yield text[found.end() - 1:start]
 
 
+def public_names(crate):
+    """The names that a library makes public, and its public modules."""
+    lib = TOP / "crates" / crate / "src/lib.rt"
+    said = without_comments(lib.read_text()) if lib.exists() else ""
+    names = {name for use in re.findall(r"pub use ([^;]+);", said) for name in re.findall(r"\w+", use)}
+    return names, set(re.findall(r"pub mod (\w+);", said))
+
+
+def impls_of(text):
+    """Each block of an `impl`: where it begins and ends, its trait, and its type."""
+    return [(one.start(), braced(text, one.end() - 1), one[1], one[2]) for one in IMPL.finditer(text)]
+
+
+def public_calls(crate):
+    """Each public function of a library, by its name behind that of its type, and how many things it promises."""
+    names, modules = public_names(crate)
+    for path in sorted((TOP / "crates" / crate / "src").glob("**/*.rt")):
+        text = without_comments(path.read_text())
+        blocks = impls_of(text)
+        for one in re.finditer(r"pub fn (\w+)\b", text):
+            owner = next((kind for start, end, _, kind in blocks if start < one.start() < end), None)
+            if (owner or one[1]) in names or path.stem in modules:
+                yield f"{owner}::{one[1]}" if owner else one[1], promises_from(text, one.end())
+
+
+def promises_from(text, start):
+    """How many clauses the function whose name ends here ensures."""
+    count = 0
+    while found := CLAUSE.match(text, start):
+        count += "ensures" in found[0]
+        start = braced(text, found.end() - 1)
+    return count
+
+
 def public_texts(crate):
     """The clauses of what a crate makes public, and the values of its types: each with its file."""
-    lib = TOP / "crates" / crate / "src/lib.rt"
-    if not lib.exists():
-        return
-    said = without_comments(lib.read_text())
-    names = {name for use in re.findall(r"pub use ([^;]+);", said) for name in re.findall(r"\w+", use)}
-    modules = set(re.findall(r"pub mod (\w+);", said))
-    for path in sorted(lib.parent.glob("**/*.rt")):
+    names, modules = public_names(crate)
+    for path in sorted((TOP / "crates" / crate / "src").glob("**/*.rt")):
         text, file = without_comments(path.read_text()), str(path.relative_to(TOP))
         is_public = path.stem in modules or path.parent.name in modules
-        blocks = [(one.start(), braced(text, one.end() - 1), one[1], one[2]) for one in IMPL.finditer(text)]
+        blocks = impls_of(text)
         for one in re.finditer(r"pub fn (\w+)\b", text):
             owner = next((kind for start, end, _, kind in blocks if start < one.start() < end), one[1])
             if is_public or owner in names:
