@@ -4,6 +4,7 @@ use iscsi_initiator::Request;
 use iscsi_login::{Auth, ConfigFault, Offers, Preferences, Session, Stage};
 use iscsi_pair::{Pair, Step};
 use scsi_disk::MemoryStore;
+use scsi_unit::LogicalUnit;
 use std::alloc::{AllocError, Global};
 use std::process::Abort;
 
@@ -58,6 +59,9 @@ impl Schedule {
     }
 }
 
+// The target's name.
+const TARGET_NAME: &[u8] = b"iqn.2026-01.example:disk";
+
 // The login of a normal session without a password.
 fn standard_offers() -> Offers<'static> {
     Offers {
@@ -85,6 +89,8 @@ enum Setup {
     AnotherName,
     /// The initiator wants CHAP.
     Chap,
+    /// The target's disk is thin, and has a serial number.
+    ThinUnit,
 }
 
 // What the initiator of a test offers.
@@ -98,7 +104,11 @@ fn offers_of(setup: Setup) -> Offers<'static> {
             offers.session = Session::Discovery;
             offers.target = b"x";
         }
-        Setup::Standard | Setup::ShortSegments | Setup::OneStage | Setup::ShortBursts => {}
+        Setup::Standard
+        | Setup::ShortSegments
+        | Setup::OneStage
+        | Setup::ShortBursts
+        | Setup::ThinUnit => {}
     }
     offers
 }
@@ -126,7 +136,11 @@ fn target_of(alloc: Global, setup: Setup) -> Result<iscsi_target::Config, Config
         prefs.max_burst = 1024;
         prefs.max_recv = 512;
     }
-    iscsi_target::Config::new(alloc, b"iqn.2026-01.example:disk", 1, 1, prefs)
+    let config = iscsi_target::Config::new(alloc, TARGET_NAME, 1, 1, prefs)?;
+    match LogicalUnit::new(TARGET_NAME, b"S1", false) {
+        Some(unit) if setup == Setup::ThinUnit => Ok(config.with_unit(unit.with_thin())),
+        _ => Ok(config),
+    }
 }
 
 // A new pair, with a disk of 2,048 blocks. It stands in a box: a function that owns it is then proved

@@ -1,6 +1,6 @@
 //! Requests that are served in steps of the pair's own.
 
-use super::scripts::{BURSTS, COMMANDS, request_of, told};
+use super::scripts::{BURSTS, COMMANDS, UNIT, request_of, told};
 use super::{Setup, initiator_of, target_of};
 use crate::asserts::same;
 use iscsi_initiator::{Done, Request};
@@ -78,6 +78,7 @@ fn scripts_are_served(rt: HostRuntime) {
     check_script(&rt, rt.alloc(), Setup::OneStage, COMMANDS);
     check_script(&rt, rt.alloc(), Setup::ShortBursts, BURSTS);
     check_script(&rt, rt.alloc(), Setup::ChapOrNone, "");
+    check_script(&rt, rt.alloc(), Setup::ThinUnit, UNIT);
 }
 
 #[test]
