@@ -16,6 +16,8 @@ HEAD = re.compile(r"\s*(?:pub(?:\([a-z]+\))? )?(?:const |unsafe )*fn \w")
 ABOVE = re.compile(r"\s*(?:///|#\[)")
 # A goal that stayed open: its file, its line, and what is said of it.
 OPEN = re.compile(r"note: (src/\S+?):(\d+):\d+: (.*\bnot proved\b.*)")
+# What isn't Rust: its file and its line.
+NO_CODE = re.compile(r"^(src/\S+?):(\d+):\d+: error", re.M)
 
 
 @dataclass
@@ -119,15 +121,24 @@ def refusals(sources, said):
 
 
 def tried_together(rt, crate, sources, bodies, kept):
-    """Tries a round in one check over a copy of what the crate's check kept. Returns why each was refused, as far as it was."""
-    with tempfile.TemporaryDirectory(prefix="wrong-bodies-") as room:
-        shutil.copytree(kept, f"{room}/kept")
-        ran = rt.checked(crate, sources.edited(bodies), ["--jobs", "1"], f"{room}/kept")
-    if ran.returncode != 1 or not ran.stdout.rstrip("\n").split("\n")[-1].startswith("logic=not-proved"):
-        return {}
-    found = refusals(sources, ran.stdout)
-    own = {body.name: next((found[it] for it in body.functions if it in found), None) for body in bodies}
-    return {name: why for name, why in own.items() if why}
+    """Tries a round in one check over a copy of what the crate's check kept. Returns why each was refused, as far as it was.
+
+    An edit that isn't Rust would hide all others. So it is left out, and the rest is tried again."""
+    while bodies:
+        with tempfile.TemporaryDirectory(prefix="wrong-bodies-") as room:
+            shutil.copytree(kept, f"{room}/kept")
+            ran = rt.checked(crate, sources.edited(bodies), ["--jobs", "1"], f"{room}/kept")
+        if ran.returncode == 1 and ran.stdout.rstrip("\n").split("\n")[-1].startswith("logic=not-proved"):
+            found = refusals(sources, ran.stdout)
+            own = {body.name: next((found[it] for it in body.functions if it in found), None) for body in bodies}
+            return {name: why for name, why in own.items() if why}
+        places = NO_CODE.findall(ran.stdout)
+        faulty = {(path, function_at(sources.starts[path], int(line))) for path, line in places if path in sources.starts}
+        rest = [body for body in bodies if not body.functions & faulty]
+        if len(rest) == len(bodies):
+            break
+        bodies = rest
+    return {}
 
 
 def tried_alone(rt, crate, body, kept):
