@@ -18,7 +18,7 @@ pub use command_line::{LineFault, bare_command, no_command, read_command_line, u
 pub use command_row::CommandRow;
 pub use disk_size::{SIZE, SizeFault, needed_blocks};
 pub use nbd_storage::{FaultLine, NbdExport, NbdFault};
-pub use serve_options::SERVE;
+pub use serve_options::serve_row;
 pub use serve_words::{
     MOST_INITIATORS, ServeJob, Service, read_initiators, read_serve_words, service_of,
 };

@@ -9,7 +9,7 @@ ghost use Rattle.iscsi_serve_words.specs.Storage.{IsStorage};
 use crate::command_line::LineFault;
 use crate::disk_size::{SizeFault, said_blocks};
 use crate::nbd_storage::export_of;
-use crate::serve_options::SERVE;
+use crate::serve_options::serve_row;
 use crate::storage::{Image, Origin, Storage};
 use clap::ArgMatches;
 use iscsi_options::{LEAST_MEMORY, MOST_MEMORY, UnitOptions, number_of};
@@ -45,7 +45,7 @@ const MEMORY_OF_EXPORT: &str = "'--memory <BYTES>' cannot be used with '--nbd <S
 pub(crate) fn read_only_of(alloc: Global, asked: &ArgMatches<'_>) -> Result<bool, LineFault> {
     let read_only = asked.get_flag("read-only");
     if read_only && asked.get_flag("create") {
-        return Err(SERVE.refusal(alloc, CREATED_READ_ONLY));
+        return Err(serve_row().refusal(alloc, CREATED_READ_ONLY));
     }
     Ok(read_only)
 }
@@ -59,7 +59,7 @@ pub(crate) fn storage_of<'a>(
 {
     let said = match said_blocks(asked) {
         Ok(said) => said,
-        Err(fault) => return Err(SERVE.bad_size(alloc, fault)),
+        Err(fault) => return Err(serve_row().bad_size(alloc, fault)),
     };
     if let Some(word) = asked.get_str("nbd") {
         return exported(alloc, asked, word, said);
@@ -74,7 +74,7 @@ pub(crate) fn storage_of<'a>(
             path,
             origin: Origin::Found { blocks },
         })),
-        (_, _, None) => Err(SERVE.bad_size(alloc, SizeFault::Neither)),
+        (_, _, None) => Err(serve_row().bad_size(alloc, SizeFault::Neither)),
     }
 }
 
@@ -89,11 +89,11 @@ fn exported<'a>(
     ensures disk { IfOk result IsStorage }
 {
     if asked.get_str("file").is_some() {
-        return Err(SERVE.refusal(alloc, EXPORT_OF_IMAGE));
+        return Err(serve_row().refusal(alloc, EXPORT_OF_IMAGE));
     }
     match export_of(word, blocks) {
         Some(export) => Ok(Storage::Nbd(export)),
-        None => Err(SERVE.bad_value(alloc, word, BAD_EXPORT)),
+        None => Err(serve_row().bad_value(alloc, word, BAD_EXPORT)),
     }
 }
 
@@ -108,7 +108,7 @@ pub(crate) fn serial_of<'a>(
         return Ok(None);
     };
     if !is_serial(serial.as_bytes()) {
-        return Err(SERVE.bad_value(alloc, serial, BAD_SERIAL));
+        return Err(serve_row().bad_value(alloc, serial, BAD_SERIAL));
     }
     Ok(Some(serial.as_bytes()))
 }
@@ -140,10 +140,10 @@ fn write_back_of(alloc: Global, asked: &ArgMatches<'_>) -> Result<bool, LineFaul
         return Ok(false);
     }
     if asked.get_flag("read-only") {
-        return Err(SERVE.refusal(alloc, CACHE_READ_ONLY));
+        return Err(serve_row().refusal(alloc, CACHE_READ_ONLY));
     }
     if !is_kept_elsewhere(asked) {
-        return Err(SERVE.refusal(alloc, CACHE_OF_MEMORY));
+        return Err(serve_row().refusal(alloc, CACHE_OF_MEMORY));
     }
     Ok(true)
 }
@@ -157,13 +157,13 @@ pub(crate) fn memory_of(alloc: Global, asked: &ArgMatches<'_>) -> Result<Option<
         return Ok(None);
     };
     if asked.get_str("file").is_some() {
-        return Err(SERVE.refusal(alloc, MEMORY_OF_IMAGE));
+        return Err(serve_row().refusal(alloc, MEMORY_OF_IMAGE));
     }
     if asked.get_str("nbd").is_some() {
-        return Err(SERVE.refusal(alloc, MEMORY_OF_EXPORT));
+        return Err(serve_row().refusal(alloc, MEMORY_OF_EXPORT));
     }
     match number_of(digits, MOST_MEMORY) {
         Some(bytes) if LEAST_MEMORY <= bytes => Ok(Some(bytes)),
-        _ => Err(SERVE.bad_value(alloc, digits, BAD_MEMORY)),
+        _ => Err(serve_row().bad_value(alloc, digits, BAD_MEMORY)),
     }
 }

@@ -4,7 +4,7 @@ ghost use Rattle.std.specs.Prelude.{◌<◌, ◌≤◌, IfOk, IfSome};
 ghost use Rattle.iscsi_options.specs.Options.{AreOffered, longest_asked};
 
 use crate::command_line::LineFault;
-use crate::serve_options::SERVE;
+use crate::serve_options::serve_row;
 use clap::ArgMatches;
 use iscsi_login::Preferences;
 use iscsi_options::{DATA_IN, LONGEST_ASKED, SEGMENT, SHORTEST_ASKED, number_of};
@@ -31,7 +31,7 @@ pub(crate) fn data_in_of(alloc: Global, asked: &ArgMatches<'_>) -> Result<Option
     let bytes = said.unwrap_or(DATA_IN);
     if bytes % SHORTEST_ASKED != 0 {
         let digits = asked.get_str("data-in").unwrap_or("");
-        return Err(SERVE.bad_value(alloc, digits, BAD_DATA_IN));
+        return Err(serve_row().bad_value(alloc, digits, BAD_DATA_IN));
     }
     Ok(Some(bytes))
 }
@@ -56,7 +56,7 @@ pub(crate) fn preferences_of(
     };
     if burst < first {
         let digits = asked.get_str("first-burst").unwrap_or("");
-        return Err(SERVE.bad_value(alloc, digits, BAD_FIRST_BURST));
+        return Err(serve_row().bad_value(alloc, digits, BAD_FIRST_BURST));
     }
     Ok(Preferences {
         max_burst: burst,
@@ -81,7 +81,7 @@ fn length_of(
     };
     match bytes_of(digits) {
         Some(length) => Ok(Some(length)),
-        None => Err(SERVE.bad_value(alloc, digits, text)),
+        None => Err(serve_row().bad_value(alloc, digits, text)),
     }
 }
 

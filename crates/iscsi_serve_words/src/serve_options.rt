@@ -177,8 +177,7 @@ pub(crate) const LENGTHS: &[Word] = &[
     },
 ];
 
-/// The words of `serve`, with their help.
-pub const SERVE: &CommandRow = &CommandRow {
+const SERVE: &CommandRow = &CommandRow {
     name: "serve",
     bin_name: "lanthovur serve",
     about: "Serve a disk to iSCSI initiators, from memory, an image or an NBD server",
@@ -188,3 +187,9 @@ pub const SERVE: &CommandRow = &CommandRow {
     examples: Some(examples::SERVE),
     words: &[SIZE, DISK, UNIT, SERVICE, LENGTHS],
 };
+
+/// The words of `serve`, with their help. It is a call, since a function that names this table is dear to
+/// prove.
+pub fn serve_row() -> &'static CommandRow {
+    SERVE
+}

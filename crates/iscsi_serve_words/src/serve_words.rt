@@ -11,7 +11,7 @@ use crate::command_line::{LineFault, bare_command, no_command, usage};
 use crate::portal_address::is_address;
 use crate::serve_disk::{memory_of, read_only_of, serial_of, storage_of, unit_of};
 use crate::serve_lengths::{data_in_of, preferences_of};
-use crate::serve_options::{DISK, LENGTHS, SERVE, SERVICE, UNIT};
+use crate::serve_options::{DISK, LENGTHS, SERVICE, UNIT, serve_row};
 use crate::storage::Storage;
 use crate::word::{Word, WordKind};
 use clap::{ArgMatches, Command};
@@ -152,10 +152,10 @@ fn initiators_of<'a>(alloc: Global, asked: &ArgMatches<'a>) -> Result<Vec<&'a [u
     };
     for name in names {
         if !is_name(name.as_bytes()) {
-            return Err(SERVE.bad_value(alloc, name, BAD_INITIATOR));
+            return Err(serve_row().bad_value(alloc, name, BAD_INITIATOR));
         }
         if initiators.len() == MOST_INITIATORS {
-            return Err(SERVE.bad_value(alloc, name, MANY_INITIATORS));
+            return Err(serve_row().bad_value(alloc, name, MANY_INITIATORS));
         }
         initiators.push(name.as_bytes())?;
     }
@@ -164,7 +164,7 @@ fn initiators_of<'a>(alloc: Global, asked: &ArgMatches<'a>) -> Result<Vec<&'a [u
 
 // The program whose only command is `serve`.
 fn with_serve<'a>(alloc: Global) -> Result<Command<'a>, AllocError> {
-    bare_command(alloc)?.subcommand(SERVE.declared(alloc)?)
+    bare_command(alloc)?.subcommand(serve_row().declared(alloc)?)
 }
 
 /// The service that the words of `serve` ask for, without the names of initiators, which
@@ -273,7 +273,7 @@ fn allow_plain(alloc: Global, asked: &ArgMatches<'_>) -> Result<(), LineFault> {
 // The usage error for a word that does not go with the bare profile.
 fn not_plain(alloc: Global, name: &str) -> LineFault {
     match format!(in alloc; "'--plain' cannot be used with '--{name}'") {
-        Ok(text) => SERVE.refusal(alloc, text.as_str()),
+        Ok(text) => serve_row().refusal(alloc, text.as_str()),
         Err(_) => LineFault::NoMemory,
     }
 }
@@ -295,7 +295,7 @@ fn number_said(
     };
     match short_number_of(digits) {
         Some(number) => Ok(Some(number)),
-        None => Err(SERVE.bad_value(alloc, digits, text)),
+        None => Err(serve_row().bad_value(alloc, digits, text)),
     }
 }
 
@@ -304,7 +304,7 @@ fn stop_of(alloc: Global, asked: &ArgMatches<'_>) -> Result<Option<Stop>, LineFa
     let connections = number_said(alloc, asked, "sessions", BAD_SESSIONS)?;
     let logins = number_said(alloc, asked, "logins", BAD_LOGINS)?;
     match (connections, logins) {
-        (Some(_), Some(_)) => Err(SERVE.refusal(alloc, TWO_STOPS)),
+        (Some(_), Some(_)) => Err(serve_row().refusal(alloc, TWO_STOPS)),
         (Some(count), None) => Ok(Some(Stop::Connections(count))),
         (None, Some(count)) => Ok(Some(Stop::Logins(count))),
         (None, None) => Ok(None),
@@ -318,12 +318,12 @@ fn listen_of(alloc: Global, asked: &ArgMatches<'_>) -> Result<IpAddr, LineFault>
         return Ok(IpAddr::V4(Ipv4Addr::LOCALHOST));
     };
     let Ok(address) = text.parse::<IpAddr>() else {
-        return Err(SERVE.bad_value(alloc, text, BAD_LISTEN));
+        return Err(serve_row().bad_value(alloc, text, BAD_LISTEN));
     };
     let lasts = asked.get_str("file").is_some() || asked.get_str("nbd").is_some();
     let is_named = asked.get_str("name").is_some() || asked.get_str("serial").is_some();
     if lasts && !is_named && !address.is_loopback() && !asked.get_flag("plain") {
-        return Err(SERVE.refusal(alloc, UNNAMED));
+        return Err(serve_row().refusal(alloc, UNNAMED));
     }
     Ok(address)
 }
@@ -334,7 +334,7 @@ fn name_of<'a>(alloc: Global, asked: &ArgMatches<'a>) -> Result<&'a [u8], LineFa
 {
     let name = asked.get_str("name").unwrap_or(NAME);
     if !is_name(name.as_bytes()) {
-        return Err(SERVE.bad_value(alloc, name, BAD_NAME));
+        return Err(serve_row().bad_value(alloc, name, BAD_NAME));
     }
     Ok(name.as_bytes())
 }
@@ -352,7 +352,7 @@ fn portal_of<'a>(alloc: Global, asked: &ArgMatches<'a>) -> Result<PortalOption<'
         });
     };
     if !is_address(address) {
-        return Err(SERVE.bad_value(alloc, address, BAD_PORTAL));
+        return Err(serve_row().bad_value(alloc, address, BAD_PORTAL));
     }
     Ok(PortalOption::Other(address.as_bytes()))
 }
@@ -362,7 +362,7 @@ fn limits_of(alloc: Global, asked: &ArgMatches<'_>) -> Result<Limits, LineFault>
     ensures some { IfOk result AreLimits }
 {
     let idle = match number_said(alloc, asked, "idle", BAD_IDLE)? {
-        Some(0) => return Err(SERVE.bad_value(alloc, "0", BAD_IDLE)),
+        Some(0) => return Err(serve_row().bad_value(alloc, "0", BAD_IDLE)),
         idle => idle,
     };
     let login_within = match number_said(alloc, asked, "login-within", BAD_LOGIN)? {
@@ -382,7 +382,7 @@ fn at_once_of(alloc: Global, asked: &ArgMatches<'_>) -> Result<u16, LineFault>
     };
     match short_number_of(digits) {
         Some(count) if 0 < count && count <= MOST_AT_ONCE => Ok(count),
-        _ => Err(SERVE.bad_value(alloc, digits, BAD_AT_ONCE)),
+        _ => Err(serve_row().bad_value(alloc, digits, BAD_AT_ONCE)),
     }
 }
 

@@ -4,7 +4,7 @@ ghost use Rattle.std.specs.Prelude.{◌<◌, IfOk, IfSome};
 ghost use Rattle.iscsi_words.specs.Jobs.{CanWork, IsJob};
 
 use crate::capture_comparing::{CaptureComparison, STDIN, named};
-use crate::commands::{ANSWER, COMPARE, NORMALISE, SHOW};
+use crate::commands::{answer_row, compare_row, normalise_row, show_row};
 use crate::telling::form_of;
 use crate::words::Job;
 use clap::ArgMatches;
@@ -130,7 +130,7 @@ pub(crate) fn shown_job<'a>(alloc: Global, asked: &ArgMatches<'a>) -> Result<Job
 {
     match (asked.get_str("capture"), shown_work(asked)) {
         (Some(file), Some(work)) if !asked.get_flag("hex") => capture_job(file, work),
-        _ => Err(SHOW.refusal(alloc, BAD_SHOWN)),
+        _ => Err(show_row().refusal(alloc, BAD_SHOWN)),
     }
 }
 
@@ -169,7 +169,7 @@ pub(crate) fn normalised_job<'a>(
         (Some(file), Some(wanted)) if bytes_alone => {
             capture_job(file, CaptureWork::Normalise(wanted))
         }
-        _ => Err(NORMALISE.refusal(alloc, BAD_CAPTURE)),
+        _ => Err(normalise_row().refusal(alloc, BAD_CAPTURE)),
     }
 }
 
@@ -188,8 +188,8 @@ pub(crate) fn answered_job<'a>(alloc: Global, asked: &ArgMatches<'a>) -> Result<
         (Some(file), Some(connection), Ok(blocks)) if !asked.get_flag("hex") => {
             capture_job(file, CaptureWork::Answer { connection, blocks })
         }
-        (Some(_), Some(_), Err(fault)) => Err(ANSWER.bad_size(alloc, fault)),
-        _ => Err(ANSWER.refusal(alloc, BAD_ANSWERED)),
+        (Some(_), Some(_), Err(fault)) => Err(answer_row().bad_size(alloc, fault)),
+        _ => Err(answer_row().refusal(alloc, BAD_ANSWERED)),
     }
 }
 
@@ -207,7 +207,7 @@ pub(crate) fn compared_job<'a>(
     let ends = (end_of(asked), both_numbers(asked));
     let (a, b) = (asked.get_str("A").unwrap_or(""), asked.get_str("B"));
     if a == STDIN && b.unwrap_or(STDIN) == STDIN {
-        return Err(COMPARE.refusal(alloc, TWICE_STDIN));
+        return Err(compare_row().refusal(alloc, TWICE_STDIN));
     }
     match ends {
         (Some(end), Some((first, second))) if !asked.get_flag("hex") && asked.get_flag("capture") =>
@@ -226,7 +226,7 @@ pub(crate) fn compared_job<'a>(
                     },
                 }))
             }
-        _ => Err(COMPARE.refusal(alloc, BAD_COMPARED)),
+        _ => Err(compare_row().refusal(alloc, BAD_COMPARED)),
     }
 }
 

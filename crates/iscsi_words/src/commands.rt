@@ -13,7 +13,7 @@ const HEX: &[Word] = &[Word {
     help: "Read hex text instead of bytes, and write bytes as a line of hex",
 }];
 
-pub(crate) const SHOW: &CommandRow = &CommandRow {
+const SHOW: &CommandRow = &CommandRow {
     name: "show",
     bin_name: "lanthovur show",
     about: "Print one line for each PDU of a stream",
@@ -29,7 +29,7 @@ const TEXT: &[Word] = &[Word {
     help: "Read one text of keys, such as that of a login, instead of a stream",
 }];
 
-pub(crate) const NORMALISE: &CommandRow = &CommandRow {
+const NORMALISE: &CommandRow = &CommandRow {
     name: "normalise",
     bin_name: "lanthovur normalise",
     about: "Write a stream in canonical form: equal meaning becomes equal bytes",
@@ -60,7 +60,7 @@ const STREAMS: &[Word] = &[
     },
 ];
 
-pub(crate) const COMPARE: &CommandRow = &CommandRow {
+const COMPARE: &CommandRow = &CommandRow {
     name: "compare",
     bin_name: "lanthovur compare",
     about: "Print the first two PDUs in which two streams differ in meaning",
@@ -76,7 +76,7 @@ const FILE: &[Word] = &[Word {
     help: "Capture file; - is standard input",
 }];
 
-pub(crate) const CONNECTIONS: &CommandRow = &CommandRow {
+const CONNECTIONS: &CommandRow = &CommandRow {
     name: "connections",
     bin_name: "lanthovur connections",
     about: "List the TCP connections of a capture file (pcap or pcapng)",
@@ -85,7 +85,7 @@ pub(crate) const CONNECTIONS: &CommandRow = &CommandRow {
     words: &[FILE],
 };
 
-pub(crate) const ANSWER: &CommandRow = &CommandRow {
+const ANSWER: &CommandRow = &CommandRow {
     name: "answer",
     bin_name: "lanthovur answer",
     about: "Write a target's responses to a stream from an initiator",
@@ -101,7 +101,7 @@ const PIECE: &[Word] = &[Word {
     help: "Most bytes written to the socket before they are read, 1 to 4096",
 }];
 
-pub(crate) const LOOP: &CommandRow = &CommandRow {
+const LOOP: &CommandRow = &CommandRow {
     name: "loop",
     bin_name: "lanthovur loop",
     about: "Run a script of commands between an initiator and a target, over a local socket",
@@ -109,3 +109,29 @@ pub(crate) const LOOP: &CommandRow = &CommandRow {
     examples: Some(examples::LOOP),
     words: &[SIZE, PIECE],
 };
+
+// A function that names such a table is dear to prove, so one for each does.
+
+pub(crate) fn show_row() -> &'static CommandRow {
+    SHOW
+}
+
+pub(crate) fn normalise_row() -> &'static CommandRow {
+    NORMALISE
+}
+
+pub(crate) fn compare_row() -> &'static CommandRow {
+    COMPARE
+}
+
+pub(crate) fn connections_row() -> &'static CommandRow {
+    CONNECTIONS
+}
+
+pub(crate) fn answer_row() -> &'static CommandRow {
+    ANSWER
+}
+
+pub(crate) fn loop_row() -> &'static CommandRow {
+    LOOP
+}

@@ -10,7 +10,9 @@ use crate::capture_words::{
     CaptureJob, answered_job, asks_for_capture, compared_job, connections_of, normalised_job,
     shown_job,
 };
-use crate::commands::{ANSWER, COMPARE, CONNECTIONS, LOOP, NORMALISE, SHOW};
+use crate::commands::{
+    answer_row, compare_row, connections_row, loop_row, normalise_row, show_row,
+};
 use crate::filter::{Filter, Work};
 use crate::telling::{Telling, form_of};
 use clap::{ArgMatches, Command, Error};
@@ -18,8 +20,8 @@ use iscsi_comparison::{Comparison, Sameness};
 use iscsi_explain::Form;
 use iscsi_options::{LONGEST_PIECE, number_of};
 use iscsi_serve_words::{
-    CommandRow, LineFault, SERVE, ServeJob, bare_command, needed_blocks, no_command, service_of,
-    usage,
+    CommandRow, LineFault, ServeJob, bare_command, needed_blocks, no_command, serve_row,
+    service_of, usage,
 };
 use std::alloc::{AllocError, Global};
 use std::convert::AsStr;
@@ -49,7 +51,7 @@ pub enum Job<'a> {
 }
 
 /// The word of a job.
-#[derive(Clone, Copy, Debug)]
+#[derive(Clone, Copy)]
 enum JobWord {
     Show,
     Normalise,
@@ -75,13 +77,13 @@ impl JobWord {
     // The words of the job.
     fn row(self) -> &'static CommandRow {
         match self {
-            JobWord::Show => SHOW,
-            JobWord::Normalise => NORMALISE,
-            JobWord::Compare => COMPARE,
-            JobWord::Connections => CONNECTIONS,
-            JobWord::Answer => ANSWER,
-            JobWord::Serve => SERVE,
-            JobWord::Loop => LOOP,
+            JobWord::Show => show_row(),
+            JobWord::Normalise => normalise_row(),
+            JobWord::Compare => compare_row(),
+            JobWord::Connections => connections_row(),
+            JobWord::Answer => answer_row(),
+            JobWord::Serve => serve_row(),
+            JobWord::Loop => loop_row(),
         }
     }
 
@@ -249,7 +251,7 @@ fn answer_of<'a>(alloc: Global, asked: &ArgMatches<'a>) -> Result<Job<'a>, LineF
     }
     match needed_blocks(asked) {
         Ok(blocks) => Ok(filter_of(Work::Answer(blocks), asked)),
-        Err(fault) => Err(ANSWER.bad_size(alloc, fault)),
+        Err(fault) => Err(answer_row().bad_size(alloc, fault)),
     }
 }
 
@@ -281,8 +283,8 @@ fn loop_of(alloc: Global, asked: &ArgMatches<'_>) -> Result<Job<'static>, LineFa
     let piece = asked.get_str("piece").unwrap_or("");
     match (needed_blocks(asked), piece_of(piece)) {
         (Ok(blocks), Some(piece)) => Ok(Job::Loop { blocks, piece }),
-        (Err(fault), _) => Err(LOOP.bad_size(alloc, fault)),
-        (Ok(_), None) => Err(LOOP.bad_value(alloc, piece, BAD_PIECE)),
+        (Err(fault), _) => Err(loop_row().bad_size(alloc, fault)),
+        (Ok(_), None) => Err(loop_row().bad_value(alloc, piece, BAD_PIECE)),
     }
 }
 
