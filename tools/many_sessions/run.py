@@ -517,27 +517,23 @@ def middle(numbers):
 
 
 def speed_figures(program, room):
-    """Reads and writes a second of one client of a service in turn and of one of several sessions, and of two of the latter: the ratios of
-    runs that follow each other, in turn in this order and the other one, and the medians."""
+    """Reads and writes a second of two clients of a service beside those of one: the ratios of runs that follow each other, in this order
+    and the other one in turn, and the medians."""
     speed = f"{room}/speed"
     built = subprocess.run(["cc", "-O2", "-o", speed, f"{TOP}/tools/speed/speed.c", "-liscsi"], stderr=subprocess.DEVNULL)
     if built.returncode:
         print("speed: skipped, cc or libiscsi-dev is not installed")
         return
-    # The preferences are those of the service in turn.
-    ways = (("alone", True, 1), ("at once", False, 1), ("two", False, 2))
-    print("| | Alone | At once, of that | Two, of one at once |\n|---|---|---|---|")
+    print("| | Two, of one |\n|---|---|")
     for size, depth in ((4096, 1), (4096, 8), (65536, 1), (65536, 8)):
-        seen = {name: [] for name, _, _ in ways}
+        seen = {1: [], 2: []}
         for number in range(ROUNDS):
-            for name, in_turn, clients in ways if number % 2 else ways[::-1]:
-                with Service(program, 100, *([] if in_turn else ["--plain"]), in_turn=in_turn) as service:
-                    seen[name].append(rates(speed, service, clients, size, depth))
+            for clients in (1, 2) if number % 2 else (2, 1):
+                with Service(program, 100, "--plain") as service:
+                    seen[clients].append(rates(speed, service, clients, size, depth))
         for kind, what in enumerate(("reads", "writes")):
-            alone, one, two = ([rate[kind] for rate in seen[name]] for name, _, _ in ways)
-            cells = [f"{statistics.median(alone):,.0f}"]
-            cells += [middle([b / a for a, b in zip(x, y)]) for x, y in ((alone, one), (one, two))]
-            print(f"| {what} of {size // 1024} KiB, {depth} outstanding | {' | '.join(cells)} |", flush=True)
+            ratios = [two[kind] / one[kind] for one, two in zip(seen[1], seen[2])]
+            print(f"| {what} of {size // 1024} KiB, {depth} outstanding | {middle(ratios)} |", flush=True)
 
 
 def main(words):

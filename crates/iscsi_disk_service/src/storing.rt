@@ -7,9 +7,8 @@ ghost use Rattle.iscsi_serve_words.specs.Storage.{IsStorage};
 ghost use Rattle.iscsi_disk_service.specs.Disks.{EndsDisk, EndsStorage, disk_status};
 
 use crate::serial::own_serial;
-use iscsi_event_loop::{serve_at_once, serve_memory_at_once};
+use iscsi_event_loop::{serve_at_once, serve_in_turn, serve_memory_at_once};
 use iscsi_secrets::{Secrets, SecretsFault};
-use iscsi_serve::serve;
 use iscsi_serve_words::{
     Image, ImageFault, NbdExport, NbdFault, ServeJob, Service, Storage, read_initiators,
 };
@@ -212,9 +211,9 @@ fn serve_memory(rt: &HostRuntime, service: Serving<'_>, blocks: u64) -> Result<(
     requires few { blocks ≤ most_blocks }
 {
     match service.service {
-        Service::InTurn { port, sessions } => {
+        Service::InTurn(options) => {
             let mut store = SparseStore::new(rt.alloc(), blocks);
-            serve(rt, port, &mut store, count_of(sessions), service.access)
+            serve_in_turn(rt, options, &mut store)
         }
         Service::AtOnce(options) => serve_memory_at_once(
             rt,
@@ -246,7 +245,7 @@ fn serve_medium<M: Medium + Drop>(
 // Whether a disk with a write cache is asked for.
 fn has_cache(service: &Service<'_>) -> bool {
     match service {
-        Service::InTurn { .. } => false,
+        Service::InTurn(_) => false,
         Service::AtOnce(options) => match &options.unit {
             Some(unit) => unit.write_back,
             None => false,
@@ -263,16 +262,9 @@ fn serve_store<S: BlockStore>(
     requires service { CanServe service.service }
 {
     match service.service {
-        Service::InTurn { port, sessions } => {
-            serve(rt, port, store, count_of(sessions), service.access)
-        }
+        Service::InTurn(options) => serve_in_turn(rt, options, store),
         Service::AtOnce(options) => {
             serve_at_once(rt, options, service.serial, service.access, store)
         }
     }
-}
-
-// How many connections are served; any number is more than there will ever be.
-fn count_of(sessions: Option<u16>) -> u64 {
-    sessions.map_or(u64::MAX, u64::from)
 }

@@ -1,5 +1,6 @@
 //! When connections are accepted, and what an error of that means.
 
+use crate::manner::Manner;
 use std::io::{self, ErrorKind};
 use std::time::{Duration, Instant};
 
@@ -11,6 +12,9 @@ const REST: u64 = 1;
 /// a filter, ENONET, EPROTO, ENOPROTOOPT, EOPNOTSUPP, ENETDOWN, ENETUNREACH, ECONNABORTED,
 /// EHOSTDOWN and EHOSTUNREACH.
 const OF_A_CONNECTION: [i32; 10] = [1, 64, 71, 92, 95, 100, 101, 103, 112, 113];
+
+/// Those of them that pass where connections are taken in turn: EPROTO and ECONNABORTED.
+const OF_ONE_IN_TURN: [i32; 2] = [71, 103];
 
 /// What an error of accept means.
 #[derive(Clone, Copy)]
@@ -24,16 +28,24 @@ pub enum AcceptError {
 }
 
 impl AcceptError {
-    /// What this error means.
-    pub fn of(error: &io::Error) -> AcceptError {
+    /// What this error means for a service that takes connections in this manner.
+    pub fn of(error: &io::Error, manner: &Manner) -> AcceptError {
         match error.kind() {
             ErrorKind::WouldBlock => AcceptError::Nobody,
             ErrorKind::Interrupted => AcceptError::Gone,
             _ => match error.raw_os_error() {
-                Some(number) if OF_A_CONNECTION.contains(&number) => AcceptError::Gone,
+                Some(number) if is_of_a_connection(number, manner) => AcceptError::Gone,
                 _ => AcceptError::NoRoom,
             },
         }
+    }
+}
+
+// Whether an error of this number is of the connection that waited.
+fn is_of_a_connection(number: i32, manner: &Manner) -> bool {
+    match manner {
+        Manner::AtOnce => OF_A_CONNECTION.contains(&number),
+        Manner::InTurn(_) => OF_ONE_IN_TURN.contains(&number),
     }
 }
 

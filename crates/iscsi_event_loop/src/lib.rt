@@ -9,6 +9,7 @@ pub mod laws;
 mod limited;
 mod lines;
 mod local_portal;
+mod manner;
 mod numbers;
 mod pace;
 mod peer;
@@ -26,4 +27,4 @@ pub use iscsi_options::{
 pub use iscsi_serving::SessionEnd;
 pub use limited::LimitedStore;
 pub use server::Server;
-pub use service::{serve_at_once, serve_memory_at_once};
+pub use service::{serve_at_once, serve_in_turn, serve_memory_at_once};

@@ -10,6 +10,7 @@ ghost use Rattle.iscsi_event_loop.specs.inner.Running.{SlotRuns, RunsIdleAt};
 
 use crate::budget::Budget;
 use crate::connection::{Connection, Moved};
+use crate::manner::Manner;
 use crate::tally::Tally;
 use iscsi_login::Phase;
 use iscsi_options::Limits;
@@ -127,8 +128,18 @@ impl Peer {
         false
     }
 
-    /// Whether the time of its session is over, which is then kept as its end.
-    pub fn is_late(&mut self, limits: &Limits, phase: Option<Phase>, now: Instant) -> bool {
+    /// Whether the time of its session is over, which is then kept as its end. It is never over where
+    /// connections are taken in turn.
+    pub fn is_late(
+        &mut self,
+        manner: &Manner,
+        limits: &Limits,
+        phase: Option<Phase>,
+        now: Instant,
+    ) -> bool {
+        if manner.is_in_turn() {
+            return false;
+        }
         let accepted = self.connection.since_accepted(now).as_secs();
         let silent = self.connection.since_moved(now).as_secs();
         match SessionEnd::by_limits(limits, phase.unwrap_or(Phase::Closed), accepted, silent) {

@@ -17,20 +17,23 @@ mod waiting;
 
 use crate::accepting::Accepting;
 use crate::lines::Lines;
+use crate::manner::Manner;
 use crate::peer::{Peer, no_peers};
 use crate::system::{listen, now};
 use iscsi_options::{Options, Stop};
-use iscsi_serving::{Access, ServeFault};
+use iscsi_serving::{Access, EVERYBODY, ServeFault};
 use iscsi_sessions::SessionTable;
 use mio::net::TcpListener;
 use mio::{Events, Poll};
 use scsi_disk::BlockStore;
+use std::alloc::{AllocError, Global};
 use std::marker::Model;
 use std::net::SocketAddr;
 
 /// A listening socket, and the sessions of those who came there, some at a time, by calls of `turn`.
 #[derive(Drop)]
 pub struct Server<'a> {
+    manner: Manner,
     options: Options<'a>,
     serial: &'a [u8],
     access: Access<'a>,
@@ -91,15 +94,48 @@ impl<'a> Server<'a> {
             server.most ≡ option_map stop_count options.entry.stop) }
         ensures ends { IfErr result EndsService }
     {
+        Server::opened(rt, options, serial, access, Manner::AtOnce)
+    }
+
+    /// Listens for one connection after another, with the slot free. Everybody may log in, and the disk
+    /// tells nothing beyond the bare profile, whatever the options say. `Network` is returned where listening
+    /// fails, and `NoMemory` where memory runs out.
+    pub fn open_in_turn(rt: &HostRuntime, options: Options<'a>) -> Result<Server<'a>, ServeFault>
+        ensures slots { IfOk result (λ server. length server.table.slots ≡ 1) }
+        ensures free { IfOk result (λ server.
+            server.table ≡ record { slots = replicate 1 None }) }
+        ensures counted { IfOk result (λ server. server.counted ≡ 0) }
+        ensures most { IfOk result (λ server.
+            server.most ≡ option_map stop_count options.entry.stop) }
+        ensures ends { IfErr result EndsService }
+    {
+        Server::opened(rt, in_turn(options), b"", EVERYBODY, Manner::InTurn(None))
+    }
+
+    // Listens, with all slots free, for connections that are taken in this manner.
+    pub(crate) fn opened(
+        rt: &HostRuntime,
+        options: Options<'a>,
+        serial: &'a [u8],
+        access: Access<'a>,
+        manner: Manner,
+    ) -> Result<Server<'a>, ServeFault>
+        ensures slots { IfOk result (λ server. length server.table.slots ≡ options.entry.at_once) }
+        ensures free { IfOk result (λ server.
+            server.table ≡ record { slots = replicate options.entry.at_once None }) }
+        ensures counted { IfOk result (λ server. server.counted ≡ 0) }
+        ensures most { IfOk result (λ server.
+            server.most ≡ option_map stop_count options.entry.stop) }
+        ensures ends { IfErr result EndsService }
+    {
         let alloc = rt.alloc();
         let count = usize::from(options.at_once);
-        let peers = no_peers(alloc, count)?;
-        let numbers = vec![in alloc; 0u16; count]?;
-        let arrivals = vec![in alloc; 0u64; count]?;
-        let events = Events::with_capacity(alloc, count + 1)?;
+        let (peers, numbers, arrivals) = no_places(alloc, count)?;
         let table = SessionTable::new(alloc, count)?;
+        let events = Events::with_capacity(alloc, count + 1)?;
         let (poll, listener) = listen(rt, SocketAddr::new(options.listen, options.port))?;
         Ok(Server {
+            manner,
             options,
             serial,
             access,
@@ -178,6 +214,10 @@ impl<'a> Server<'a> {
     /// on. A connection that the system does not watch, or for which there is no memory, is closed.
     /// If the system has no room for connections, nobody is accepted until a slot gets free or a
     /// second is over. Only the system's refusing to wait or to tell the time (`Network`) is returned.
+    ///
+    /// One that takes connections in turn accepts the next one behind the end of the last, and ends none
+    /// for its time. It returns `NoMemory` where memory runs out, in a session too, and `Network` where the
+    /// system accepts nobody.
     #[tactic(auto, using(crate::proofs::RunningLemmas::none_turns, crate::proofs::RunningLemmas::idle_turns, crate::proofs::RunningLemmas::none_few, crate::proofs::RunningLemmas::none_runs, crate::proofs::RunningLemmas::idle_few, crate::proofs::RunningLemmas::few_runs, crate::proofs::RunningLemmas::none_executed, crate::proofs::RunningLemmas::runs_executed))]
     pub fn turn<S: BlockStore>(&mut self, rt: &HostRuntime, store: &mut S) -> Result<(), ServeFault>
         // Whatever comes of it, it is a run of the table, of which the laws of `iscsi_sessions` speak.
@@ -205,8 +245,30 @@ impl<'a> Server<'a> {
         self.admit(rt, now);
         self.serve_peers(rt, store, now);
         self.lines.tell_more(rt, now);
-        Ok(())
+        self.manner.goes_on()
     }
+}
+
+/// The options of a service of one connection after another: one slot, and a disk that tells nothing beyond
+/// the bare profile.
+pub(crate) fn in_turn(options: Options<'_>) -> Options<'_>
+    ensures { result ≡ record options.entry { at_once = 1; unit = None } }
+{
+    Options {
+        at_once: 1,
+        unit: None,
+        ..options
+    }
+}
+
+/// Places for the peers of slots, for their numbers and for their arrivals.
+type Places = (Vec<Option<Peer>>, Vec<u16>, Vec<u64>);
+
+// `n` places, all free.
+fn no_places(alloc: Global, count: usize) -> Result<Places, AllocError> {
+    let numbers = vec![in alloc; 0u16; count]?;
+    let arrivals = vec![in alloc; 0u64; count]?;
+    Ok((no_peers(alloc, count)?, numbers, arrivals))
 }
 
 // The port of a listener.

@@ -10,10 +10,11 @@ ghost use Rattle.iscsi_event_loop.specs.Running.{RunsWithin, Served};
 ghost use Rattle.iscsi_options.specs.Options.{IsService};
 
 use crate::limited::{EXTENT_BLOCKS, EXTENT_BYTES, LimitedStore};
-use crate::server::Server;
+use crate::manner::Manner;
+use crate::server::{Server, in_turn};
 use crate::system::{OTHER_DESCRIPTORS, memory_of_machine, most_descriptors};
 use iscsi_options::Options;
-use iscsi_serving::{Access, ServeFault};
+use iscsi_serving::{Access, EVERYBODY, ServeFault};
 use scsi_disk::BlockStore;
 use std::net::{IpAddr, SocketAddr};
 
@@ -29,7 +30,7 @@ use std::net::{IpAddr, SocketAddr};
 ///
 /// Each session is one of RFC 7143, sections 6 and 11; that they take turns in one thread, a PDU at a
 /// time, is own rule.
-#[tactic(auto, using(crate::proofs::RunningLemmas::none_served, crate::proofs::RunningLemmas::all_served, crate::proofs::RunningLemmas::none_executed, crate::proofs::RunningLemmas::runs_executed))]
+#[tactic(auto, using(crate::proofs::RunningLemmas::none_served, crate::proofs::RunningLemmas::none_executed))]
 pub fn serve_at_once<S: BlockStore>(
     rt: &HostRuntime,
     options: Options<'_>,
@@ -48,10 +49,78 @@ pub fn serve_at_once<S: BlockStore>(
     ensures ends { IfErr result (λ fault. EndsService fault ⊎ (fault ≡ serve.Write)) }
 {
     allow_slots(rt, options.at_once)?;
-    let mut server = Server::open(rt, options, serial, access)?;
-    warn(rt, &server, options.listen, access, store.is_protected())?;
-    announce(rt, &server, options.print_port)?;
-    serve_all(rt, &mut server, store)
+    serve_in(rt, Manner::AtOnce, options, serial, access, store)
+}
+
+/// Listens, and prints `listening` and, if asked, the port on a line of its own. Serves one connection after
+/// another over one store, until the wanted number of them is over. The next one waits until the last is over,
+/// whatever its time. Everybody may log in, and the disk tells nothing beyond the bare profile. Of the options it
+/// has the address, the port, the stop, the name, the portal, the preferences and the longest Data-In.
+///
+/// A session that ends with a fault has the fault's line on standard error, and the next one is served. Sessions
+/// have no other line. `NoMemory` is returned where memory runs out, in a session too, `Network` where the system accepts
+/// nobody, and `Write` where what it prints first cannot be printed.
+pub fn serve_in_turn<S: BlockStore>(
+    rt: &HostRuntime,
+    options: Options<'_>,
+    store: &mut S,
+) -> Result<(), ServeFault>
+    requires service { IsService options }
+    // Whatever comes of it, it was a run of a table from one free slot on.
+    ensures served { Served S.protected 1
+        (store_of (S.disk store.old) (S.failures store.old))
+        (store_of (S.disk store.new) (S.failures store.new)) }
+    // The blocks are those that commands left.
+    ensures blocks { HasExecuted S.protected (S.disk store.old) (S.disk store.new) }
+    ensures ends { IfErr result (λ fault. EndsService fault ⊎ (fault ≡ serve.Write)) }
+{
+    serve_in(
+        rt,
+        Manner::InTurn(None),
+        in_turn(options),
+        b"",
+        EVERYBODY,
+        store,
+    )
+}
+
+// Listens, and serves connections that are taken in this manner.
+#[tactic(auto, using(crate::proofs::RunningLemmas::none_served, crate::proofs::RunningLemmas::all_served, crate::proofs::RunningLemmas::none_executed, crate::proofs::RunningLemmas::runs_executed))]
+fn serve_in<S: BlockStore>(
+    rt: &HostRuntime,
+    manner: Manner,
+    options: Options<'_>,
+    serial: &[u8],
+    access: Access<'_>,
+    store: &mut S,
+) -> Result<(), ServeFault>
+    ensures served { Served S.protected options.entry.at_once
+        (store_of (S.disk store.old) (S.failures store.old))
+        (store_of (S.disk store.new) (S.failures store.new)) }
+    ensures blocks { HasExecuted S.protected (S.disk store.old) (S.disk store.new) }
+    ensures ends { IfErr result (λ fault. EndsService fault ⊎ (fault ≡ serve.Write)) }
+{
+    let mut server = Server::opened(rt, options, serial, access, manner)?;
+    serve_by(rt, &mut server, options, access, store)
+}
+
+// Announces a server that listens, and serves until all sessions were served.
+#[tactic(auto, using(crate::proofs::RunningLemmas::none_runs))]
+fn serve_by<S: BlockStore>(
+    rt: &HostRuntime,
+    server: &mut Server<'_>,
+    options: Options<'_>,
+    access: Access<'_>,
+    store: &mut S,
+) -> Result<(), ServeFault>
+    ensures runs { RunsWithin S.protected
+        server.old.table (store_of (S.disk store.old) (S.failures store.old))
+        server.new.table (store_of (S.disk store.new) (S.failures store.new)) }
+    ensures ends { IfErr result (λ fault. EndsService fault ⊎ (fault ≡ serve.Write)) }
+{
+    warn(rt, server, options.listen, access, store.is_protected())?;
+    announce(rt, server, options.print_port)?;
+    serve_all(rt, server, store)
 }
 
 /// Serves in the same way over a disk in memory of `n` blocks of 00, from 1 to 2^40. So many bytes of its blocks

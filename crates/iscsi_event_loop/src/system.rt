@@ -4,6 +4,7 @@ ghost use Rattle.std.specs.Prelude.{IfErr};
 ghost use Rattle.libc.specs.Net.{SockOption};
 ghost use Rattle.iscsi_serving.specs.Faults.{EndsService};
 
+use crate::manner::Manner;
 use iscsi_serving::ServeFault;
 use libc::net::{
     IPPROTO_TCP, SO_KEEPALIVE, SOL_SOCKET, TCP_KEEPCNT, TCP_KEEPIDLE, TCP_KEEPINTVL, setsockopt,
@@ -70,11 +71,14 @@ pub fn listen(rt: &HostRuntime, address: SocketAddr) -> Result<(Poll, TcpListene
 }
 
 /// Has the system tell when a connection may be read again, or written again, or has urgent data,
-/// under the number of its slot. Says whether it will.
-pub fn watch(poll: &Poll, stream: &mut TcpStream, slot: usize) -> bool {
+/// under the number of its slot. Says whether it will. A silent peer is asked whether it is there, unless
+/// connections are taken in turn.
+pub fn watch(poll: &Poll, stream: &mut TcpStream, slot: usize, manner: &Manner) -> bool {
     // An answer waits for no other one; where the system refuses this, it is only slower.
     let _ = stream.set_nodelay(true);
-    keep_alive(stream);
+    if !manner.is_in_turn() {
+        keep_alive(stream);
+    }
     let interest = Interest::READABLE | Interest::WRITABLE | Interest::PRIORITY;
     poll.registry()
         .register(stream, Token(slot), interest)

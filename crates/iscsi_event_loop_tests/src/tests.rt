@@ -152,6 +152,17 @@ fn open<'a>(
     Box::new(rt.alloc(), Service { server, store }).expect(abort, "a service")
 }
 
+// A service of so many connections, one after another. A limit of time would end each of them at once.
+fn open_in_turn(rt: &HostRuntime, abort: &impl Abort, connections: u16) -> Box<Service<'static>> {
+    let asked = Options {
+        stop: Some(Stop::Connections(connections)),
+        ..options(0, 1, 0)
+    };
+    let store = SparseStore::new(rt.alloc(), BLOCKS);
+    let server = Server::open_in_turn(rt, asked).expect(abort, "a server");
+    Box::new(rt.alloc(), Service { server, store }).expect(abort, "a service")
+}
+
 // A client at a port of this machine.
 fn client_at<N: Net<Stream = TcpStream>>(rt: &N, abort: &impl Abort, port: u16) -> TcpStream {
     let client = TcpStream::connect(rt, (Ipv4Addr::LOCALHOST, port)).expect(abort, "a client");
@@ -159,16 +170,20 @@ fn client_at<N: Net<Stream = TcpStream>>(rt: &N, abort: &impl Abort, port: u16) 
     client
 }
 
-// Two clients, in the order in which they are accepted.
-fn clients(rt: &HostRuntime, abort: &impl Abort, server: &Server<'_>) -> Vec<TcpStream> {
+// So many clients, in the order in which they are accepted.
+fn clients(
+    rt: &HostRuntime,
+    abort: &impl Abort,
+    server: &Server<'_>,
+    count: usize,
+) -> Vec<TcpStream> {
     let port = server.port().expect(abort, "a port");
     let mut clients = Vec::new(rt.alloc());
-    clients
-        .push(client_at(rt, abort, port))
-        .expect(abort, "a client");
-    clients
-        .push(client_at(rt, abort, port))
-        .expect(abort, "a client");
+    for _ in 0..count {
+        clients
+            .push(client_at(rt, abort, port))
+            .expect(abort, "a client");
+    }
     clients
 }
 
@@ -269,7 +284,7 @@ fn check_for(
     name: &str,
 ) {
     let mut service = open(rt, abort, options, access);
-    let clients = clients(rt, abort, &service.server);
+    let clients = clients(rt, abort, &service.server, 2);
     check_rows(rt, abort, &mut service, &clients, rows, name);
 }
 
@@ -440,7 +455,7 @@ fn is_ended(
 #[test]
 fn the_last_login_closes(rt: HostRuntime) {
     let mut service = open(&rt, &rt, options(1, 3, 5), EVERYBODY);
-    let clients = clients(&rt, &rt, &service.server);
+    let clients = clients(&rt, &rt, &service.server, 2);
     let first = clients.get(0).expect(&rt, "a client");
     let other = clients.get(1).expect(&rt, "a client");
     let row = ("the last login", 0);
@@ -474,7 +489,7 @@ fn no_login_is_the_last(rt: HostRuntime) {
         ..options(0, 2, 5)
     };
     let mut service = open(&rt, &rt, asked, EVERYBODY);
-    let clients = clients(&rt, &rt, &service.server);
+    let clients = clients(&rt, &rt, &service.server, 2);
     for (at, (place, requests, due)) in BEHIND.iter().enumerate() {
         let client = clients.get(*place).expect(&rt, "no such client");
         check_answers(
@@ -513,6 +528,50 @@ fn connections_are_counted(rt: HostRuntime) {
         ..options(0, 2, 5)
     };
     check(&rt, &rt, asked, COUNTED, "connections");
+}
+
+/// Connections that are served in turn: a fault ends its session alone, and each session has TSIH 1.
+const IN_TURN: Rows<'static> = &[
+    (0, PING, ""),
+    (1, LOGIN, LOGIN_1),
+    (1, WRITE, WRITTEN),
+    (1, LOGOUT, LEFT),
+    (2, LOGIN, LOGIN_1),
+    (2, READ, GIVEN),
+    (2, LOGOUT, LEFT),
+];
+
+#[test]
+fn one_connection_after_another(rt: HostRuntime) {
+    let mut service = open_in_turn(&rt, &rt, 3);
+    let clients = clients(&rt, &rt, &service.server, 3);
+    check_rows(&rt, &rt, &mut service, &clients, IN_TURN, "in turn");
+}
+
+/// A connection that has not logged in makes no room for the next one, which waits until it is over.
+#[test]
+fn the_next_connection_waits(rt: HostRuntime) {
+    let mut service = open_in_turn(&rt, &rt, 2);
+    let mut clients = clients(&rt, &rt, &service.server, 2);
+    let mut next = clients.pop().expect(&rt, "a client");
+    let stream = pdus_of(rt.alloc(), LOGIN).expect(&rt, LOGIN);
+    next.write_all(&stream).expect(&rt, LOGIN);
+    let mut out = Vec::new(rt.alloc());
+    service.turn(&rt, &rt);
+    same(&rt, &receive(&rt, &next, &mut out), &false, &"the next");
+    drop(clients);
+    let due = pdus_of(rt.alloc(), LOGIN_1).expect(&rt, LOGIN_1);
+    answers(&rt, &rt, &mut service, &next, due.len(), &mut out);
+    same(&rt, &out, &due, &"the next");
+    drop(next);
+    finish(&rt, &rt, &mut service, "the next");
+}
+
+/// With no connection to serve the service is done.
+#[test]
+fn no_connection_is_served(rt: HostRuntime) {
+    let service = open_in_turn(&rt, &rt, 0);
+    same(&rt, &service.server.is_done(), &true, &"no connection");
 }
 
 /// The first block of a write, how many it has, their byte, and the answer.

@@ -1,17 +1,16 @@
-//! A target's service on a socket: one connection after another, over one store.
+//! A target's session on a socket.
 
-ghost use Rattle.std.specs.Prelude.{◌≡◌, ◌≢◌, ◌⊎◌, ◌<◌, ℕ, List, true, length, Err, IfOk, IfErr};
+ghost use Rattle.std.specs.Prelude.{◌≡◌, ◌≢◌, ◌<◌, ℕ, List, true, length, Err, IfOk};
 ghost use Rattle.iscsi_serving.specs.Executed.{HasExecuted};
-ghost use Rattle.iscsi_serving.specs.Faults.{EndsService};
 ghost use Rattle.iscsi_serve.specs.Serving.{ServeOnePost};
 
-use crate::session::{configuration, serve_reads};
-use iscsi_serving::{Access, AccessFault, ServeFault};
+use crate::session::serve_reads;
+use iscsi_serving::ServeFault;
 use iscsi_target::Config;
 use scsi_disk::BlockStore;
 use std::alloc::{AllocError, Global};
 use std::io::{self, Write};
-use std::net::{Ipv4Addr, TcpListener, TcpStream};
+use std::net::{TcpListener, TcpStream};
 
 /// Errors of accept that are those of a connection which is gone, by their numbers on Linux: EPROTO and
 /// ECONNABORTED.
@@ -113,99 +112,5 @@ impl Write for Answers<'_> {
 
     fn flush(&mut self) -> io::Result<()> {
         self.stream.flush()
-    }
-}
-
-/// Listens on 127.0.0.1, prints `listening`, and serves `n` connections, one after another,
-/// over one store. Port 0 is one that the system picks.
-///
-/// A session that ends with a fault has the fault's line on standard error, and the next one is
-/// served. Only being out of memory and a fault of the network end the service; `Write` is returned
-/// where `listening` cannot be printed.
-#[tactic(auto, using(crate::proofs::FedMoreLemmas::none_executed))]
-pub fn serve<S: BlockStore>(
-    rt: &HostRuntime,
-    port: u16,
-    store: &mut S,
-    sessions: u64,
-    access: Access<'_>,
-) -> Result<(), ServeFault>
-    // Whatever comes of it, the blocks are those that commands left.
-    ensures blocks { HasExecuted S.protected (S.disk store.old) (S.disk store.new) }
-    ensures ends { IfErr result (λ fault. EndsService fault ⊎ (fault ≡ ServeFault.Write)) }
-{
-    let listener = listen(rt, port)?;
-    serve_connections(rt, &listener, store, sessions, access)
-}
-
-// A listener, which is announced. It alone returns Write.
-fn listen(rt: &HostRuntime, port: u16) -> Result<TcpListener, ServeFault>
-    ensures fault { IfErr result
-        (λ fault. (fault ≡ ServeFault.Network) ⊎ (fault ≡ ServeFault.Write)) }
-{
-    let Ok(listener) = TcpListener::bind(rt, (Ipv4Addr::LOCALHOST, port)) else {
-        return Err(ServeFault::Network);
-    };
-    if println!(rt; "listening").is_err() {
-        return Err(ServeFault::Write);
-    }
-    Ok(listener)
-}
-
-/// Serves `n` connections of a listener, one after another, over one store.
-///
-/// A session that ends with a fault has the fault's line on standard error, and the next one is
-/// served. Only being out of memory and a fault of the network end the service.
-///
-/// Each session is that of `serve_one`, with the target of the programs (`configuration`). A connection
-/// for which the system gives no random bytes ends with that.
-#[tactic(auto, using(crate::proofs::FedMoreLemmas::none_executed))]
-pub fn serve_connections<S: BlockStore>(
-    rt: &HostRuntime,
-    listener: &TcpListener,
-    store: &mut S,
-    sessions: u64,
-    access: Access<'_>,
-) -> Result<(), ServeFault>
-    ensures blocks { HasExecuted S.protected (S.disk store.old) (S.disk store.new) }
-    ensures ends { IfErr result EndsService }
-{
-    for _ in 0..sessions {
-        match serve_next(rt, listener, store, access) {
-            Ok(()) => {}
-            Err(fault @ (ServeFault::NoMemory | ServeFault::Network)) => return Err(fault),
-            Err(fault) => {
-                let _ = eprintln!(rt; "{fault}");
-            }
-        }
-    }
-    Ok(())
-}
-
-// Serves the next connection of a listener. It is closed if the system gives no random bytes for it.
-#[tactic(auto, using(crate::proofs::FedMoreLemmas::none_executed))]
-fn serve_next<S: BlockStore>(
-    rt: &HostRuntime,
-    listener: &TcpListener,
-    store: &mut S,
-    access: Access<'_>,
-) -> Result<(), ServeFault>
-    ensures blocks { HasExecuted S.protected (S.disk store.old) (S.disk store.new) }
-{
-    let alloc = rt.alloc();
-    match access.demand(alloc, rt, configuration(alloc)?) {
-        Ok(config) => serve_one(alloc, listener, store, config),
-        Err(AccessFault::NoMemory) => Err(ServeFault::NoMemory),
-        Err(AccessFault::NoRandom) => turned_away(listener),
-    }
-}
-
-// Accepts a connection, and closes it.
-fn turned_away(listener: &TcpListener) -> Result<(), ServeFault>
-    ensures ends { IfErr result (λ fault. (fault ≡ ServeFault.NoRandom) ⊎ EndsService fault) }
-{
-    match accepted(listener) {
-        Some(_) => Err(ServeFault::NoRandom),
-        None => Err(ServeFault::Network),
     }
 }

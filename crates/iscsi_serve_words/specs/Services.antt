@@ -7,10 +7,10 @@ use Rattle.iscsi_serve_words.specs.declared.serve_words.Service.{Service}
 use Rattle.iscsi_serve_words.specs.declared.serve_words.Service.TheVariants as service
 use Rattle.iscsi_serve_words.specs.Storage.{IsStorage}
 
--- A service of several sessions at a time has from 1 to 64 of them, and a target's name. A limit of
--- time is 1 second at least.
+-- A service has from 1 to 64 sessions at a time, and a target's name. A limit of time is 1 second at
+-- least.
 abbrev pub CanServe : Service → Type 0
-CanServe (service.InTurn port sessions) = Unit {0}
+CanServe (service.InTurn options) = IsService options
 CanServe (service.AtOnce options) = IsService options × AreLimits options.limits
 
 -- The disk has 1 to 2^40 blocks, but for that of an image that is there, and it can be served so. A serial

@@ -15,7 +15,7 @@ use crate::serve_options::{DISK, LENGTHS, SERVICE, UNIT, serve_row};
 use crate::storage::Storage;
 use crate::word::{Word, WordKind};
 use clap::{ArgMatches, Command};
-use iscsi_login::is_name;
+use iscsi_login::{Preferences, is_name};
 use iscsi_options::{
     AT_ONCE, LOGIN_WITHIN, Limits, MOST_AT_ONCE, Options, PortalOption, Stop, number_of,
 };
@@ -26,13 +26,8 @@ use std::net::{IpAddr, Ipv4Addr};
 /// How a disk is served.
 #[derive(Clone, Copy, Debug)]
 pub enum Service<'a> {
-    /// On 127.0.0.1, to one connection after another, with no limit of time, and as the bare profile has it.
-    InTurn {
-        /// The port; 0 is one that the system picks.
-        port: u16,
-        /// How many connections are served; none: any number.
-        sessions: Option<u16>,
-    },
+    /// To one connection after another, with no limit of time, and as the bare profile has it.
+    InTurn(Options<'a>),
     /// In several sessions at a time.
     AtOnce(Options<'a>),
 }
@@ -179,7 +174,7 @@ pub fn service_of<'a>(alloc: Global, asked: &ArgMatches<'a>) -> Result<ServeJob<
     let memory = memory_of(alloc, asked)?;
     initiators_of(alloc, asked)?;
     let service = if is_required_form(asked) {
-        in_turn(alloc, asked)?
+        Service::InTurn(in_turn(alloc, asked)?)
     } else {
         Service::AtOnce(options_of(alloc, asked)?)
     };
@@ -217,13 +212,27 @@ fn is_there(asked: &ArgMatches<'_>, word: &Word) -> bool {
     }
 }
 
-// The service of one connection after another.
-fn in_turn<'a>(alloc: Global, asked: &ArgMatches<'a>) -> Result<Service<'a>, LineFault>
-    ensures range { IfOk result CanServe }
+// The options of a service of one connection after another: those of the bare profile on 127.0.0.1.
+fn in_turn<'a>(alloc: Global, asked: &ArgMatches<'a>) -> Result<Options<'a>, LineFault>
+    ensures range { IfOk result (λ options. CanServe (service.InTurn options)) }
 {
-    Ok(Service::InTurn {
+    let name = name_of(alloc, asked)?;
+    Ok(Options {
+        listen: IpAddr::V4(Ipv4Addr::LOCALHOST),
         port: port_of(alloc, asked)?,
-        sessions: number_said(alloc, asked, "sessions", BAD_SESSIONS)?,
+        stop: stop_of(alloc, asked)?,
+        at_once: 1,
+        name,
+        portal: PortalOption::Untold,
+        unit: None,
+        limits: Limits {
+            idle: None,
+            login_within: None,
+        },
+        preferences: Preferences::standard(),
+        data_in: None,
+        print_port: false,
+        quiet: true,
     })
 }
 

@@ -9,6 +9,7 @@ use crate::accepting::AcceptError;
 use crate::configuration::{with_address, with_data_in, with_unit};
 use crate::connection::Connection;
 use crate::local_portal::portal_text;
+use crate::manner::Failure;
 use crate::numbers::next_number;
 use crate::peer::Peer;
 use crate::room::makes_room;
@@ -47,11 +48,17 @@ impl<'a> Server<'a> {
         self.has_place() && self.accepting.is_due(now)
     }
 
-    // Whether one more connection is to be accepted, and has a slot that is free or can be.
+    // Whether one more connection is to be accepted, and has a slot that is free or can be. No session makes
+    // room where connections are taken in turn.
     pub(super) fn has_place(&self) -> bool
         ensures open { result ≡ true → has_all self.now.most self.now.counted ≡ false }
     {
-        !self.has_all() && (self.has_free() || makes_room(&self.table, &self.arrivals).is_some())
+        !self.has_all() && (self.has_free() || self.has_room())
+    }
+
+    // Whether a slot makes room.
+    fn has_room(&self) -> bool {
+        !self.manner.is_in_turn() && makes_room(&self.table, &self.arrivals).is_some()
     }
 
     // Whether a slot is free.
@@ -60,7 +67,8 @@ impl<'a> Server<'a> {
     }
 
     // Accepts those who wait, as far as there are slots. If as many as there are slots, and one more,
-    // are gone one after another, the error is one that lasts, and counts as a want of room.
+    // are gone one after another, the error is one that lasts, and counts as a want of room, unless
+    // connections are taken in turn.
     #[tactic(auto, using(crate::proofs::RunningLemmas::none_idle, crate::proofs::RunningLemmas::then_idle, crate::proofs::RunningLemmas::rises_on))]
     pub(super) fn admit(&mut self, rt: &HostRuntime, now: Instant)
         ensures runs { RunsIdle self.old.table self.new.table }
@@ -76,7 +84,7 @@ impl<'a> Server<'a> {
                 Accepted::Enough => return,
             }
         }
-        if are_gone {
+        if are_gone && !self.manner.is_in_turn() {
             self.rest(rt, now);
         }
     }
@@ -127,7 +135,7 @@ impl<'a> Server<'a> {
     fn pass_over(&mut self, rt: &HostRuntime, error: &io::Error, now: Instant) -> Accepted
         ensures same { self.new ≡ self.old }
     {
-        match AcceptError::of(error) {
+        match AcceptError::of(error, &self.manner) {
             AcceptError::Nobody => {
                 self.accepting.nobody();
                 Accepted::Enough
@@ -140,17 +148,20 @@ impl<'a> Server<'a> {
         }
     }
 
-    // Accepts nobody for a while, and tells it.
+    // Accepts nobody for a while, and tells it; or stops, where connections are taken in turn.
     fn rest(&mut self, rt: &HostRuntime, now: Instant)
         ensures same { self.new ≡ self.old }
     {
-        if self.accepting.rest(now) {
+        if self.manner.is_in_turn() {
+            self.manner.stop_by(Failure::Network);
+        } else if self.accepting.rest(now) {
             self.lines.tell(rt, &NO_ROOM);
         }
     }
 
     // Gives a connection a slot, and a number that no other one has, which is the TSIH of its session.
-    // One for which there is no memory, or no random bytes, or that the system does not watch, is closed.
+    // One for which there is no memory, or no random bytes, or that the system does not watch, is closed. That
+    // stops a service that takes connections in turn, which demands no random bytes.
     #[tactic(auto, using(crate::proofs::RunningLemmas::none_idle, crate::proofs::RunningLemmas::then_idle))]
     fn welcome(
         &mut self,
@@ -172,14 +183,14 @@ impl<'a> Server<'a> {
         };
         self.last_number = number;
         let Some(config) = self.configured(rt, number, &stream) else {
-            return;
+            return self.manner.stop_by(Failure::NoMemory);
         };
         let Some(slot) = self.slot(config) else {
-            return;
+            return self.manner.stop_by(Failure::NoMemory);
         };
-        if !watch(&self.poll, &mut stream, slot) {
+        if !watch(&self.poll, &mut stream, slot, &self.manner) {
             self.free(slot);
-            return;
+            return self.manner.stop_by(Failure::NoMemory);
         }
         self.note(
             slot,

@@ -4,6 +4,7 @@ ghost use Rattle.std.specs.Prelude.{◌≡◌, length};
 ghost use Rattle.iscsi_event_loop.specs.Running.{RunsIdle};
 
 use super::Server;
+use crate::manner::Failure;
 use crate::session_line::{Name, SessionLine, TwoWriters};
 use crate::system::now;
 use crate::tally::{Ended, LoggedEnd};
@@ -74,7 +75,7 @@ impl<'a> Server<'a> {
     pub(super) fn tell_login(&mut self, rt: &HostRuntime, slot: usize)
         ensures same { self.new ≡ self.old }
     {
-        if !self.options.quiet {
+        if !self.options.quiet && !self.manner.is_in_turn() {
             self.tell(rt, slot, "logged in");
         }
     }
@@ -142,7 +143,9 @@ impl<'a> Server<'a> {
     fn tell_end(&mut self, rt: &HostRuntime, slot: usize, end: Option<SessionEnd>)
         ensures same { self.new ≡ self.old }
     {
-        if !self.options.quiet {
+        if self.manner.is_in_turn() {
+            self.tell_fault(rt, end);
+        } else if !self.options.quiet {
             if let Some(ended) = self.ended(rt, slot, end) {
                 self.tell(rt, slot, ended);
             }
@@ -150,6 +153,20 @@ impl<'a> Server<'a> {
             self.tell(rt, slot, end);
         } else if let Some(refused) = self.refused(slot) {
             self.tell(rt, slot, refused);
+        }
+    }
+
+    // Tells by a line alone why a session ended, where connections are taken in turn. Want of memory stops the
+    // service, which tells it.
+    fn tell_fault(&mut self, rt: &HostRuntime, end: Option<SessionEnd>)
+        ensures same { self.new ≡ self.old }
+    {
+        match end {
+            None => {}
+            Some(SessionEnd::NoMemory) => self.manner.stop_by(Failure::NoMemory),
+            Some(fault) => {
+                let _ = eprintln!(rt; "{fault}");
+            }
         }
     }
 

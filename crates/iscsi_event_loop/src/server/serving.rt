@@ -61,7 +61,12 @@ impl<'a> Server<'a> {
         };
         let was = self.table.phase(slot);
         let is_over = peer.turn(&mut self.table, store, slot, now, budget)
-            || peer.is_late(&self.options.limits, self.table.phase(slot), now);
+            || peer.is_late(
+                &self.manner,
+                &self.options.limits,
+                self.table.phase(slot),
+                now,
+            );
         let end = peer.end;
         let phase = self.table.phase(slot);
         self.settle(

@@ -25,17 +25,31 @@ impl<'a> Server<'a> {
             return Ok(());
         }
         self.unasked = 0;
-        let timeout = if is_busy {
-            Some(Duration::ZERO)
-        } else {
-            sooner(
-                sooner(self.time_left(now), self.rest_left(now)),
-                self.lines_left(),
-            )
-        };
+        let timeout = self.timeout(is_busy, now);
         if self.poll.poll(&mut self.events, timeout).is_err() {
             return Err(ServeFault::Network);
         }
+        self.note_events();
+        Ok(())
+    }
+
+    // For how long nothing is to be done if nothing comes; none: for ever.
+    fn timeout(&self, is_busy: bool, now: Instant) -> Option<Duration> {
+        if is_busy {
+            return Some(Duration::ZERO);
+        }
+        let rest = sooner(self.rest_left(now), self.lines_left());
+        if self.manner.is_in_turn() {
+            rest
+        } else {
+            sooner(self.time_left(now), rest)
+        }
+    }
+
+    // Notes what the system told.
+    fn note_events(&mut self)
+        ensures same { self.new ≡ self.old }
+    {
         for event in self.events.iter() {
             if event.token() == LISTENER {
                 self.accepting.ask();
@@ -43,7 +57,6 @@ impl<'a> Server<'a> {
                 peer.connection.note(event);
             }
         }
-        Ok(())
     }
 
     // Whether turns may follow each other without a look at who else is ready: nobody else has a slot, and few

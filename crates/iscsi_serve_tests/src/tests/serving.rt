@@ -2,8 +2,7 @@
 
 use crate::asserts::same;
 use iscsi_initiator::InitiatorFault;
-use iscsi_serve::{ServeFault, configuration, serve, serve_connections, serve_one};
-use iscsi_serving::EVERYBODY;
+use iscsi_serve::{ServeFault, configuration, serve_one};
 use iscsi_stream::StreamFault;
 use iscsi_target::TargetFault;
 use iscsi_test_support::{CUT, FIRST_ANSWER, NAMELESS, PING, REFUSAL, pdus_of};
@@ -130,56 +129,6 @@ fn a_session_reads_what_an_earlier_one_wrote(rt: HostRuntime) {
     for row in BEHIND {
         check_session(&rt, rt.alloc(), &mut store, row);
     }
-}
-
-/// Connections of one listener, one after another: what each asks, and its answers.
-const CONNECTIONS: &[(&str, &str)] = &[
-    // A session that ends with a fault is no end of the service.
-    (PING, ""),
-    (WRITE, WRITE_ANSWERS),
-    (READ, READ_ANSWERS),
-];
-
-fn check_answers(rt: &impl Abort, alloc: Global, mut initiator: TcpStream, answers: &str) {
-    let mut out = Vec::new(alloc);
-    initiator.read_to_end(&mut out).expect(rt, "answers");
-    let want = pdus_of(alloc, answers).expect(rt, answers);
-    same(rt, &out, &want, &answers);
-}
-
-#[test]
-fn connections_one_after_another(rt: HostRuntime) {
-    let alloc = rt.alloc();
-    let listener = TcpListener::bind(&rt, (Ipv4Addr::LOCALHOST, 0)).expect(&rt, "a listener");
-    let mut initiators = Vec::new(alloc);
-    for (requests, _) in CONNECTIONS {
-        let initiator = ask(&rt, alloc, &listener, requests, true);
-        initiators.push(initiator).expect(&rt, "an initiator");
-    }
-    let mut store = SparseStore::new(alloc, 8);
-    let ended = serve_connections(&rt, &listener, &mut store, 3, EVERYBODY);
-    same(
-        &rt,
-        &line_of(&rt, alloc, ended).as_str(),
-        &"",
-        &"connections",
-    );
-    for (initiator, (_, answers)) in initiators.into_iter().zip(CONNECTIONS) {
-        check_answers(&rt, alloc, initiator, answers);
-    }
-}
-
-/// A port that the system picks is announced, and with no connection to serve the service ends.
-#[test]
-fn no_connection_is_served(rt: HostRuntime) {
-    let mut store = SparseStore::new(rt.alloc(), 1);
-    let served = serve(&rt, 0, &mut store, 0, EVERYBODY);
-    same(
-        &rt,
-        &line_of(&rt, rt.alloc(), served).as_str(),
-        &"",
-        &"no connection",
-    );
 }
 
 /// Faults, with their lines and statuses.
