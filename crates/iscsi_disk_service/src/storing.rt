@@ -1,13 +1,13 @@
 //! A disk, served over what it is kept in.
 
-ghost use Rattle.std.specs.Prelude.{◌≡◌, ◌<◌, ◌≤◌};
+ghost use Rattle.std.specs.Prelude.{◌≡◌, ◌<◌, ◌≤◌, false, true};
 ghost use Rattle.scsi_disk.specs.Disk.{most_blocks};
-ghost use Rattle.iscsi_serve_words.specs.Services.{CanServe, IsServeJob};
-ghost use Rattle.iscsi_serve_words.specs.Storage.{IsStorage};
+ghost use Rattle.iscsi_serve_words.specs.Services.{IsServeJob};
 ghost use Rattle.iscsi_disk_service.specs.Disks.{EndsDisk, EndsStorage, disk_status};
+ghost use Rattle.iscsi_disk_service.specs.inner.Asked.{IsAsked};
 
 use crate::serial::own_serial;
-use iscsi_event_loop::{serve_at_once, serve_in_turn, serve_memory_at_once};
+use iscsi_event_loop::{memory_store, serve_at_once, serve_in_turn};
 use iscsi_secrets::{Secrets, SecretsFault};
 use iscsi_serve_words::{
     Image, ImageFault, NbdExport, NbdFault, ServeJob, Service, Storage, read_initiators,
@@ -100,26 +100,22 @@ pub fn serve_storage<'a, S: AsStr>(
         Ok(own) => own,
         Err(fault) => return Err(DiskFault::Session(fault)),
     };
-    let service = Serving {
-        service: job.service,
+    let served = Serving {
         serial: job.serial.unwrap_or(&own),
         access,
-        memory: job.memory,
     };
     if job.read_only {
-        serve_read_only(rt, job.storage, service)
+        serve_read_only(rt, job, served)
     } else {
-        serve_written(rt, job.storage, service)
+        serve_written(rt, job, served)
     }
 }
 
-/// A service of a disk: how it is served, with which serial number, to whom, and in how much memory.
+/// What a job does not say of its service: the serial number, and who may log in.
 #[derive(Clone, Copy)]
 struct Serving<'a> {
-    service: Service<'a>,
     serial: &'a [u8],
     access: Access<'a>,
-    memory: Option<u64>,
 }
 
 // A serial number of the disk's own, if it tells one and none is said.
@@ -141,25 +137,25 @@ fn listed<'a>(initiators: &'a [&'a [u8]]) -> Option<&'a [&'a [u8]]> {
     }
 }
 
-// Serves a disk to the initiators of these names, or to everybody if there is none.
+// Serves a disk that may be written.
 #[tactic(auto, using(crate::proofs::OpenLemmas::can_be_opened))]
 fn serve_written<'a>(
     rt: &HostRuntime,
-    storage: Storage<'a>,
-    service: Serving<'_>,
+    job: ServeJob<'a>,
+    served: Serving<'_>,
 ) -> Result<(), DiskFault<'a>>
-    requires storage { IsStorage storage }
-    requires service { CanServe service.service }
-    ensures ends { EndsStorage storage.entry result }
+    requires job { IsServeJob job }
+    requires asked { IsAsked job served.access false }
+    ensures ends { EndsStorage job.entry.storage result }
 {
-    match storage {
-        Storage::Memory { blocks } => ended(storage, serve_memory(rt, service, blocks)),
+    match job.storage {
+        Storage::Memory { blocks } => ended(job.storage, serve_memory(rt, job, served, blocks)),
         Storage::Image(image) => match image.open(rt) {
-            Ok(store) => ended(storage, serve_medium(rt, service, store)),
+            Ok(store) => ended(job.storage, serve_medium(rt, job, served, store)),
             Err(fault) => Err(DiskFault::Image(image, fault)),
         },
         Storage::Nbd(export) => match export.open(rt) {
-            Ok(store) => ended(storage, serve_medium(rt, service, store)),
+            Ok(store) => ended(job.storage, serve_medium(rt, job, served, store)),
             Err(fault) => Err(DiskFault::Nbd(export, fault)),
         },
     }
@@ -168,26 +164,26 @@ fn serve_written<'a>(
 // Serves a disk in the same way, of which no block changes.
 fn serve_read_only<'a>(
     rt: &HostRuntime,
-    storage: Storage<'a>,
-    service: Serving<'_>,
+    job: ServeJob<'a>,
+    served: Serving<'_>,
 ) -> Result<(), DiskFault<'a>>
-    requires storage { IsStorage storage }
-    requires service { CanServe service.service }
-    ensures ends { EndsStorage storage.entry result }
+    requires job { IsServeJob job }
+    requires asked { IsAsked job served.access true }
+    ensures ends { EndsStorage job.entry.storage result }
 {
-    match storage {
+    match job.storage {
         Storage::Memory { blocks } => {
             let mut store = ReadOnly::new(SparseStore::new(rt.alloc(), blocks));
-            ended(storage, serve_store(rt, service, &mut store))
+            ended(job.storage, serve_store(rt, job, served, &mut store))
         }
         Storage::Image(image) => match image.open_read_only(rt) {
-            Ok(mut store) => ended(storage, serve_store(rt, service, &mut store)),
+            Ok(mut store) => ended(job.storage, serve_store(rt, job, served, &mut store)),
             Err(fault) => Err(DiskFault::Image(image, fault)),
         },
         Storage::Nbd(export) => match export.open(rt) {
             Ok(store) => {
                 let mut store = ReadOnly::new(store);
-                ended(storage, serve_store(rt, service, &mut store))
+                ended(job.storage, serve_store(rt, job, served, &mut store))
             }
             Err(fault) => Err(DiskFault::Nbd(export, fault)),
         },
@@ -205,41 +201,45 @@ fn ended<'a>(storage: Storage<'a>, said: Result<(), ServeFault>) -> Result<(), D
 }
 
 // Serves a disk in memory.
-fn serve_memory(rt: &HostRuntime, service: Serving<'_>, blocks: u64) -> Result<(), ServeFault>
-    requires service { CanServe service.service }
+fn serve_memory(
+    rt: &HostRuntime,
+    job: ServeJob<'_>,
+    served: Serving<'_>,
+    blocks: u64,
+) -> Result<(), ServeFault>
+    requires job { IsServeJob job }
+    requires asked { IsAsked job served.access false }
     requires some { 0 < blocks }
     requires few { blocks ≤ most_blocks }
 {
-    match service.service {
-        Service::InTurn(options) => {
+    match job.service {
+        Service::InTurn(_) => {
             let mut store = SparseStore::new(rt.alloc(), blocks);
-            serve_in_turn(rt, options, &mut store)
+            serve_store(rt, job, served, &mut store)
         }
-        Service::AtOnce(options) => serve_memory_at_once(
-            rt,
-            options,
-            service.serial,
-            service.access,
-            blocks,
-            service.memory,
-        ),
+        Service::AtOnce(_) => {
+            let mut store = memory_store(rt, blocks, job.memory);
+            serve_store(rt, job, served, &mut store)
+        }
     }
 }
 
 // Serves a store on a medium, with a write cache if one is asked for.
 fn serve_medium<M: Medium + Drop>(
     rt: &HostRuntime,
-    service: Serving<'_>,
+    job: ServeJob<'_>,
+    served: Serving<'_>,
     store: FileStore<M>,
 ) -> Result<(), ServeFault>
-    requires service { CanServe service.service }
+    requires job { IsServeJob job }
+    requires asked { IsAsked job served.access false }
 {
-    let mut store = if has_cache(&service.service) {
+    let mut store = if has_cache(&job.service) {
         store.with_write_back()
     } else {
         store
     };
-    serve_store(rt, service, &mut store)
+    serve_store(rt, job, served, &mut store)
 }
 
 // Whether a disk with a write cache is asked for.
@@ -253,18 +253,20 @@ fn has_cache(service: &Service<'_>) -> bool {
     }
 }
 
-// Serves a store.
+// Serves a store, as the job asks: who calls this has to have the access and the store that it asks for.
 fn serve_store<S: BlockStore>(
     rt: &HostRuntime,
-    service: Serving<'_>,
+    job: ServeJob<'_>,
+    served: Serving<'_>,
     store: &mut S,
 ) -> Result<(), ServeFault>
-    requires service { CanServe service.service }
+    requires job { IsServeJob job }
+    requires asked { IsAsked job served.access S.protected }
 {
-    match service.service {
-        Service::InTurn(options) => serve_in_turn(rt, options, store),
+    match job.service {
+        Service::InTurn(options) => serve_in_turn(rt, options, served.access, store),
         Service::AtOnce(options) => {
-            serve_at_once(rt, options, service.serial, service.access, store)
+            serve_at_once(rt, options, served.serial, served.access, store)
         }
     }
 }

@@ -17,13 +17,18 @@ use Rattle.iscsi_serving.specs.Executed.{HasExecuted}
 use Rattle.iscsi_sessions.specs.Slots.{SlotFinishes, SessionTable, Slot, opening_slot, may_take_at, slot_with_read, slot_at, slot_waiting, with_slot, with_sent, SlotChanges}
 use Rattle.iscsi_sessions.specs.Slots.{SlotTakesPdu as TakesAtSlot}
 use Rattle.iscsi_sessions.specs.Turns.{SlotEvent, Comes, Ends, Goes, Syncs, Takes, SlotEventStep, HappensIn, SlotEventsRun, Slots, SameMachines, TakesTurn}
-use Rattle.iscsi_sessions.specs.Turns.{SessionEvents, KeepsSlot, slot_events, executed_in, machine_in, machines}
+use Rattle.iscsi_sessions.specs.Turns.{SessionEvents, KeepsSession, KeepsSlot, slot_events, Turn, executed_in, executed_of, machine_in, machines}
+use Rattle.iscsi_sessions.specs.Access.{IsLetIn}
+use Rattle.iscsi_sessions.proofs.AccessLemmas.{let_in}
 use Rattle.iscsi_sessions.proofs.SlotLemmas.{changed_other, some_within, taken_within}
 use Rattle.iscsi_sessions.proofs.RunLemmas.{own_session, runs_append, runs_lead, runs_none, runs_one}
 pub use Rattle.iscsi_serving.proofs.ExecutedLemmas.{none_executed}
 use Rattle.iscsi_event_loop.specs.declared.budget.Budget.{Budget}
 use Rattle.iscsi_event_loop.specs.Giving.{most_given}
 use Rattle.iscsi_event_loop.specs.inner.Giving.{GivesWithin}
+use Rattle.iscsi_serving.specs.Access.{Door, IsAdmitted}
+use Rattle.iscsi_event_loop.specs.Admitting.{ComesBy}
+use Rattle.iscsi_event_loop.specs.Running.{Room, IsSameRoom, AreAdmitted, with_table}
 use Rattle.iscsi_event_loop.specs.Running.{InTurns, IsAmong, IsSlotEvent, OthersAreKept, RunsFew, RunsIdle, RunsInTurns, RunsWithin, Served, TurnOf, SlotTurns, most_taken, no_sessions, only_at_slot, taken_at, taken_by}
 use Rattle.iscsi_event_loop.specs.inner.Running.{SlotRuns, RunsIdleAt, below}
 use Rattle.iscsi_event_loop.proofs.GivingLemmas.{comes_kept, goes_kept, none_gives, none_kept, same_kept, sent_gives, silent_gives, then_gives, then_kept, turn_gives, waits_less, waits_same}
@@ -74,84 +79,107 @@ rises_on a b c p q = omega (arith, p, q)
 
 -- ---- in the whole table
 
-pub none_runs : (protected : Bool) (table : SessionTable) (store : Store) → RunsWithin protected table store table store
-unfolding RunsWithin
-none_runs protected table store = (refl, [], tt, runs_none protected (machines table) (machines table) store (λ k. refl))
+-- the same room
+same_room : (room : Room) → IsSameRoom room room
+same_room room = (refl, refl)
 
-pub then_runs : (protected : Bool) (a b c : SessionTable) (s t u : Store) → RunsWithin protected a s b t → RunsWithin protected b t c u →
-    RunsWithin protected a s c u
+then_same : (a b c : Room) → IsSameRoom a b → IsSameRoom b c → IsSameRoom a c
+then_same a b c p q = (q.0 ∙ p.0, q.1 ∙ p.1)
+
+-- events of two runs of it
+both_admitted : (a b : Room) (es fs : List SlotEvent) → IsSameRoom a b → AreAdmitted a es → AreAdmitted b fs → AreAdmitted a (es ++ fs)
+both_admitted a b es fs same p q = (
+  all_append (IsAmong (length a.table.slots)) es fs p.0 (subst (λ (n : ℕ). AllByRecursion (IsAmong n) fs) same.0 q.0),
+  all_append (ComesBy a.door) es fs p.1 (subst (λ (d : Door). AllByRecursion (ComesBy d) fs) same.1 q.1),
+)
+
+pub none_runs : (protected : Bool) (room : Room) (store : Store) → RunsWithin protected room store room store
+unfolding RunsWithin
+none_runs protected room store =
+    (same_room room, [], (tt, tt), runs_none protected (machines room.table) (machines room.table) store (λ k. refl))
+
+pub then_runs : (protected : Bool) (a b c : Room) (s t u : Store) → RunsWithin protected a s b t → RunsWithin protected b t c u → RunsWithin protected a s c u
 unfolding RunsWithin
 then_runs protected a b c s t u p q = (
-  q.0 ∙ p.0,
+  then_same a b c p.0 q.0,
   p.1 ++ q.1,
-  all_append (IsAmong (length a.slots)) p.1 q.1 p.2 (subst (λ (n : ℕ). AllByRecursion (IsAmong n) q.1) p.0 q.2),
-  runs_append protected (machines a) (machines b) (machines c) s t u p.1 q.1 p.3 q.3,
+  both_admitted a b p.1 q.1 p.0 p.2 q.2,
+  runs_append protected (machines a.table) (machines b.table) (machines c.table) s t u p.1 q.1 p.3 q.3,
 )
 
 -- few events are events
-pub few_runs : (protected : Bool) (most : ℕ → ℕ) (old new : SessionTable) (before after : Store) → RunsFew protected most old before new after
+pub few_runs : (protected : Bool) (most : ℕ → ℕ) (old new : Room) (before after : Store) → RunsFew protected most old before new after
     → RunsWithin protected old before new after
 unfolding RunsFew RunsWithin
 few_runs protected most old new before after p = (p.0, p.1, p.2, p.3)
 
-pub none_few : (protected : Bool) (most : ℕ → ℕ) (table : SessionTable) (store : Store) → RunsFew protected most table store table store
+pub none_few : (protected : Bool) (most : ℕ → ℕ) (room : Room) (store : Store) → RunsFew protected most room store room store
 unfolding RunsFew
-none_few protected most table store = (refl, [], tt, runs_none protected (machines table) (machines table) store (λ k. refl), λ k. omega arith)
+none_few protected most room store =
+    (same_room room, [], (tt, tt), runs_none protected (machines room.table) (machines room.table) store (λ k. refl), λ k. omega arith)
 
-pub then_few : (protected : Bool) (f g most : ℕ → ℕ) (a b c : SessionTable) (s t u : Store) → ((k : ℕ) → f k + g k ≤ most k)
+pub then_few : (protected : Bool) (f g most : ℕ → ℕ) (a b c : Room) (s t u : Store) → ((k : ℕ) → f k + g k ≤ most k)
     → RunsFew protected f a s b t → RunsFew protected g b t c u → RunsFew protected most a s c u
 unfolding RunsFew
 then_few protected f g most a b c s t u le p q = (
-  q.0 ∙ p.0,
+  then_same a b c p.0 q.0,
   p.1 ++ q.1,
-  all_append (IsAmong (length a.slots)) p.1 q.1 p.2 (subst (λ (n : ℕ). AllByRecursion (IsAmong n) q.1) p.0 q.2),
-  runs_append protected (machines a) (machines b) (machines c) s t u p.1 q.1 p.3 q.3,
+  both_admitted a b p.1 q.1 p.0 p.2 q.2,
+  runs_append protected (machines a.table) (machines b.table) (machines c.table) s t u p.1 q.1 p.3 q.3,
   λ k. omega (arith, taken_append k p.1 q.1, p.4 k, q.4 k, le k),
 )
 
-pub none_idle : (table : SessionTable) → RunsIdle table table
+pub none_idle : (room : Room) → RunsIdle room room
 unfolding RunsIdle
-none_idle table = (none_kept table, λ protected store. none_few protected (λ k. 0) table store)
+none_idle room = (none_kept room.table, λ protected store. none_few protected (λ k. 0) room store)
 
-pub then_idle : (a b c : SessionTable) → RunsIdle a b → RunsIdle b c → RunsIdle a c
+pub then_idle : (a b c : Room) → RunsIdle a b → RunsIdle b c → RunsIdle a c
 unfolding RunsIdle
 then_idle a b c p q = (
-  then_kept a b c p.0 q.0,
+  then_kept a.table b.table c.table p.0 q.0,
   λ protected store. then_few protected (λ k. 0) (λ k. 0) (λ k. 0) a b c store store store (λ k. omega arith) (p.1 protected store) (q.1 protected store),
 )
 
-pub idle_few : (protected : Bool) (most : ℕ → ℕ) (a b c : SessionTable) (s t : Store) → RunsIdle a b → RunsFew protected most b s c t → RunsFew protected
+pub idle_few : (protected : Bool) (most : ℕ → ℕ) (a b c : Room) (s t : Store) → RunsIdle a b → RunsFew protected most b s c t → RunsFew protected
     most a s c t
 unfolding RunsIdle
 idle_few protected most a b c s t p q = then_few protected (λ k. 0) most most a b c s s t (λ k. omega arith) (p.1 protected s) q
 
-pub few_idle : (protected : Bool) (most : ℕ → ℕ) (a b c : SessionTable) (s t : Store) → RunsFew protected most a s b t → RunsIdle b c → RunsFew protected
+pub few_idle : (protected : Bool) (most : ℕ → ℕ) (a b c : Room) (s t : Store) → RunsFew protected most a s b t → RunsIdle b c → RunsFew protected
     most a s c t
 unfolding RunsIdle
 few_idle protected most a b c s t p q = then_few protected most (λ k. 0) most a b c s t t (λ k. omega arith) p (q.1 protected t)
 
+-- the slots of a room at whose door these come
+abbrev at_door : Door → SessionTable → Room
+at_door door table = record { table = table; door = door }
+
 -- a session comes
-comes_idle : (old new : SessionTable) (place : ℕ) (settings : TargetSettings) → position is_none old.slots ≡ Some place
-    → new ≡ with_slot old place (Some (opening_slot settings)) → HappensIn (Comes place settings) old new → RunsIdle old new
+comes_idle : (door : Door) (old new : SessionTable) (place : ℕ) (settings : TargetSettings) → IsAdmitted door settings
+    → position is_none old.slots ≡ Some place
+    → new ≡ with_slot old place (Some (opening_slot settings)) → HappensIn (Comes place settings) old new → RunsIdle (at_door door old) (at_door door new)
 unfolding RunsIdle RunsFew
-comes_idle old new place settings first is h =
+comes_idle door old new place settings admitted first is h =
     let within : place < length old.slots = (position-Some is_none old.slots place None first).0 in (
       comes_kept place old new settings within is,
       λ protected store. (
-        ap (λ (x : SessionTable). length x.slots) is ∙ length-set old.slots place (Some (opening_slot settings)),
+        (ap (λ (x : SessionTable). length x.slots) is ∙ length-set old.slots place (Some (opening_slot settings)), refl),
         Comes place settings ∷ [],
-        (within, tt),
+        ((within, tt), (admitted, tt)),
         runs_one protected (machines old) (machines new) store store (Comes place settings) (h protected store),
         λ k. omega arith,
       ),
     )
 
 -- a session gets a slot, or none is free
-pub slot_idle : (old new : SessionTable) (settings : TargetSettings) (result : Option ℕ) → result ≡ position is_none old.slots
+pub slot_idle : (door : Door) (old new : SessionTable) (settings : TargetSettings) (result : Option ℕ) → IsAdmitted door settings
+    → result ≡ position is_none old.slots
     → IfSome result (λ place. new ≡ with_slot old place (Some (opening_slot settings))) → IfNone result (new ≡ old)
-    → IfSome result (λ place. HappensIn (Comes place settings) old new) → RunsIdle old new
-slot_idle old new settings None first filled full comes = subst (λ (x : SessionTable). RunsIdle old x) (sym full) (none_idle old)
-slot_idle old new settings (Some place) first filled full comes = comes_idle old new place settings (sym first) filled comes
+    → IfSome result (λ place. HappensIn (Comes place settings) old new) → RunsIdle (at_door door old) (at_door door new)
+slot_idle door old new settings None admitted first filled full comes =
+    subst (λ (x : SessionTable). RunsIdle (at_door door old) (at_door door x)) (sym full) (none_idle (at_door door old))
+slot_idle door old new settings (Some place) admitted first filled full comes =
+    comes_idle door old new place settings admitted (sym first) filled comes
 
 -- a session goes, or the slot was none of the table
 outside_is : (old new : SessionTable) (place : ℕ) → length old.slots ≤ place → new ≡ with_slot old place None → new.slots ≡ old.slots
@@ -160,41 +188,42 @@ outside_is old new place le is =
     ∙ ap (λ (o : Option Slot). set old.slots place o) (sym (get_or_past old.slots place None le))
     ∙ set-get_or old.slots place None
 
-goes_if : (b : Bool) (old new : SessionTable) (place : ℕ) → nat_lt place (length old.slots) ≡ b → new ≡ with_slot old place None
-    → HappensIn (Goes place) old new → RunsIdle old new
+goes_if : (b : Bool) (door : Door) (old new : SessionTable) (place : ℕ) → nat_lt place (length old.slots) ≡ b → new ≡ with_slot old place None
+    → HappensIn (Goes place) old new → RunsIdle (at_door door old) (at_door door new)
 unfolding RunsIdle RunsFew
-goes_if true old new place lt is h =
+goes_if true door old new place lt is h =
     let within : place < length old.slots = ltb-true place (length old.slots) lt in (
       goes_kept place old new within is,
       λ protected store. (
-        ap (λ (x : SessionTable). length x.slots) is ∙ length-set old.slots place None,
+        (ap (λ (x : SessionTable). length x.slots) is ∙ length-set old.slots place None, refl),
         Goes place ∷ [],
-        (within, tt),
+        ((within, tt), (tt, tt)),
         runs_one protected (machines old) (machines new) store store (Goes place) (h protected store),
         λ k. omega arith,
       ),
     )
-goes_if false old new place lt is h =
+goes_if false door old new place lt is h =
     let same : new.slots ≡ old.slots = outside_is old new place (ltb-false place (length old.slots) lt) is in (
       same_kept old new same,
       λ protected store. (
-        ap (λ (x : List (Option Slot)). length x) same,
+        (ap (λ (x : List (Option Slot)). length x) same, refl),
         [],
-        tt,
+        (tt, tt),
         runs_none protected (machines old) (machines new) store (λ k. ap (λ (x : List (Option Slot)). machine_in (get_or x k None)) same),
         λ k. omega arith,
       ),
     )
 
-pub goes_idle : (old new : SessionTable) (place : ℕ) → new ≡ with_slot old place None → HappensIn (Goes place) old new → RunsIdle old new
-goes_idle old new place is h = goes_if (nat_lt place (length old.slots)) old new place refl is h
+pub goes_idle : (door : Door) (old new : SessionTable) (place : ℕ) → new ≡ with_slot old place None → HappensIn (Goes place) old new
+    → RunsIdle (at_door door old) (at_door door new)
+goes_idle door old new place is h = goes_if (nat_lt place (length old.slots)) door old new place refl is h
 
 -- what the events executed left the blocks
-pub runs_executed : (protected : Bool) (old new : SessionTable) (before after : Disk) (counted failures : ℕ)
+pub runs_executed : (protected : Bool) (old new : Room) (before after : Disk) (counted failures : ℕ)
     → RunsWithin protected old (store_of before counted) new (store_of after failures) → HasExecuted protected before after
 unfolding RunsWithin
 runs_executed protected old new before after counted failures r =
-    (executed_in r.1, runs_lead protected (machines old) (machines new) (store_of before counted) (store_of after failures) r.1 r.3)
+    (executed_in r.1, runs_lead protected (machines old.table) (machines new.table) (store_of before counted) (store_of after failures) r.1 r.3)
 
 -- ---- at one slot
 
@@ -243,13 +272,25 @@ all_among : (slot count : ℕ) (es : List SlotEvent) → AllByRecursion (IsSlotE
 all_among slot count [] p = tt
 all_among slot count (e ∷ es) p = (p.0.1, all_among slot count es p.1)
 
-at_few : (protected : Bool) (slot most : ℕ) (budget : Budget) (old new : SessionTable) (before after : Store) → budget.pdus ≤ most
-    → SlotTurns protected slot budget old before new after → RunsFew protected (only_at_slot slot most) old before new after
+-- nobody comes in it
+none_comes : (door : Door) (e : SlotEvent) → KeepsSession true e → ComesBy door e
+none_comes door (Comes k settings) x = absurd x
+none_comes door (Takes turn) x = tt
+none_comes door (Syncs k) x = tt
+none_comes door (Ends k) x = tt
+none_comes door (Goes k) x = tt
+
+none_come : (door : Door) (slot count : ℕ) (es : List SlotEvent) → AllByRecursion (IsSlotEvent slot count) es → AllByRecursion (ComesBy door) es
+none_come door slot count [] p = tt
+none_come door slot count (e ∷ es) p = (none_comes door e p.0.2, none_come door slot count es p.1)
+
+at_few : (protected : Bool) (slot most : ℕ) (budget : Budget) (old : Room) (new : SessionTable) (before after : Store) → budget.pdus ≤ most
+    → SlotTurns protected slot budget old.table before new after → RunsFew protected (only_at_slot slot most) old before (with_table new old) after
 unfolding SlotTurns RunsFew
 at_few protected slot most budget old new before after le p = (
-  p.1,
+  (p.1, refl),
   p.2,
-  all_among slot (length old.slots) p.2 p.3,
+  (all_among slot (length old.table.slots) p.2 p.3, none_come old.door slot (length old.table.slots) p.2 p.3),
   p.4,
   λ k. omega (arith, p.5.0 k, only_most (nat_lt k slot) (nat_lt slot k) budget.pdus most le),
 )
@@ -375,22 +416,22 @@ none_turns_at protected slot budget table store = (
 )
 
 -- nobody is at the slot
-pub none_turn : (protected : Bool) (slot : ℕ) (budget : Budget) (table : SessionTable) (store : Store) → TurnOf protected slot budget table store table store
+pub none_turn : (protected : Bool) (slot : ℕ) (budget : Budget) (room : Room) (store : Store) → TurnOf protected slot budget room store room store
 unfolding TurnOf
-none_turn protected slot budget table store = (table, none_turns_at protected slot budget table store, none_idle table)
+none_turn protected slot budget room store = (room.table, none_turns_at protected slot budget room.table store, none_idle room)
 
-pub idle_turn : (protected : Bool) (slot : ℕ) (budget : Budget) (a b c : SessionTable) (s t : Store) → SlotTurns protected slot budget a s b t → RunsIdle b c
-    → TurnOf protected slot budget a s c t
+pub idle_turn : (protected : Bool) (slot : ℕ) (budget : Budget) (a : Room) (b : SessionTable) (c : Room) (s t : Store) → SlotTurns protected slot budget a.table s b t
+    → RunsIdle (with_table b a) c → TurnOf protected slot budget a s c t
 unfolding TurnOf
 idle_turn protected slot budget a b c s t p q = (b, p, q)
 
-turn_few : (protected : Bool) (slot most : ℕ) (budget : Budget) (old new : SessionTable) (before after : Store) → budget.pdus ≤ most
+turn_few : (protected : Bool) (slot most : ℕ) (budget : Budget) (old new : Room) (before after : Store) → budget.pdus ≤ most
     → TurnOf protected slot budget old before new after → RunsFew protected (only_at_slot slot most) old before new after
 unfolding TurnOf
 turn_few protected slot most budget old new before after le p =
-    few_idle protected (only_at_slot slot most) old p.0 new before after (at_few protected slot most budget old p.0 before after le p.1) p.2
+    few_idle protected (only_at_slot slot most) old (with_table p.0 old) new before after (at_few protected slot most budget old p.0 before after le p.1) p.2
 
-in_turns_few : (protected : Bool) (n : ℕ) (old new : SessionTable) (before after : Store) → InTurns protected n old before new after
+in_turns_few : (protected : Bool) (n : ℕ) (old new : Room) (before after : Store) → InTurns protected n old before new after
     → RunsFew protected (below n most_taken) old before new after
 unfolding InTurns
 in_turns_few protected zero old new before after p =
@@ -400,7 +441,7 @@ in_turns_few protected (suc n) old new before after p =
     then_few protected (below n most_taken) (only_at_slot n most_taken) (below (suc n) most_taken) old p.0 new before p.1 after (below_next n most_taken)
     (in_turns_few protected n old p.0 before p.1 p.4) (turn_few protected n most_taken p.2 p.0 new p.1 after p.3.0 p.5)
 
-below_few : (protected : Bool) (i n : ℕ) (old new : SessionTable) (before after : Store) → RunsFew protected (below i n) old before new after
+below_few : (protected : Bool) (i n : ℕ) (old new : Room) (before after : Store) → RunsFew protected (below i n) old before new after
     → RunsFew protected (λ k. n) old before new after
 unfolding RunsFew
 below_few protected i n old new before after p = (
@@ -412,38 +453,38 @@ below_few protected i n old new before after p = (
 )
 
 -- no slot had a turn
-pub none_in_turns : (protected : Bool) (table : SessionTable) (store : Store) → InTurns protected 0 table store table store
+pub none_in_turns : (protected : Bool) (room : Room) (store : Store) → InTurns protected 0 room store room store
 unfolding InTurns
-none_in_turns protected table store = (none_idle table, refl)
+none_in_turns protected room store = (none_idle room, refl)
 
 -- a slot more had its turn
-pub next_turns : (protected : Bool) (n : ℕ) (budget : Budget) (a b c : SessionTable) (s t u : Store) → budget.pdus ≤ most_taken → budget.given ≤ most_given
+pub next_turns : (protected : Bool) (n : ℕ) (budget : Budget) (a b c : Room) (s t u : Store) → budget.pdus ≤ most_taken → budget.given ≤ most_given
     → InTurns protected n a s b t → TurnOf protected n budget b t c u → InTurns protected (n + 1) a s c u
 unfolding InTurns
 next_turns protected n budget a b c s t u few much p q =
     let next : suc n ≡ n + 1 = omega arith in
     subst (λ (j : ℕ). InTurns protected j a s c u) next (b, t, budget, (few, much), p, q)
 
-idle_in_turns : (protected : Bool) (n : ℕ) (a b c : SessionTable) (s t : Store) → RunsIdle a b → InTurns protected n b s c t → InTurns protected n a s c t
+idle_in_turns : (protected : Bool) (n : ℕ) (a b c : Room) (s t : Store) → RunsIdle a b → InTurns protected n b s c t → InTurns protected n a s c t
 unfolding InTurns
 idle_in_turns protected zero a b c s t p q = (then_idle a b c p q.0, q.1)
 idle_in_turns protected (suc n) a b c s t p q = (q.0, q.1, q.2, q.3, idle_in_turns protected n a b q.0 s q.1 p q.4, q.5)
 
 -- all slots had their turns
-pub all_turns : (protected : Bool) (n : ℕ) (old new : SessionTable) (before after : Store) → InTurns protected n old before new after
+pub all_turns : (protected : Bool) (n : ℕ) (old new : Room) (before after : Store) → InTurns protected n old before new after
     → RunsInTurns protected old before new after
 unfolding RunsInTurns
 all_turns protected n old new before after p = (n, p)
 
-pub all_few : (protected : Bool) (n : ℕ) (old new : SessionTable) (before after : Store) → InTurns protected n old before new after
+pub all_few : (protected : Bool) (n : ℕ) (old new : Room) (before after : Store) → InTurns protected n old before new after
     → RunsFew protected (λ k. most_taken) old before new after
 all_few protected n old new before after p = below_few protected n most_taken old new before after (in_turns_few protected n old new before after p)
 
-pub none_turns : (protected : Bool) (table : SessionTable) (store : Store) → RunsInTurns protected table store table store
+pub none_turns : (protected : Bool) (room : Room) (store : Store) → RunsInTurns protected room store room store
 unfolding RunsInTurns
-none_turns protected table store = (0, none_in_turns protected table store)
+none_turns protected room store = (0, none_in_turns protected room store)
 
-pub idle_turns : (protected : Bool) (a b c : SessionTable) (s t : Store) → RunsIdle a b → RunsInTurns protected b s c t → RunsInTurns protected a s c t
+pub idle_turns : (protected : Bool) (a b c : Room) (s t : Store) → RunsIdle a b → RunsInTurns protected b s c t → RunsInTurns protected a s c t
 unfolding RunsInTurns
 idle_turns protected a b c s t p q = (q.0, idle_in_turns protected q.0 a b c s t p q.1)
 
@@ -457,19 +498,20 @@ free_at zero k = refl
 free_at (suc n) zero = refl
 free_at (suc n) (suc k) = free_at n k
 
-pub none_served : (protected : Bool) (count : ℕ) (store : Store) → Served protected count store store
-none_served protected count store =
-    record { events = []; few = tt; slots = no_sessions; runs = runs_none protected no_sessions no_sessions store (λ k. refl) }
+pub none_served : (protected : Bool) (count : ℕ) (door : Door) (store : Store) → Served protected count door store store
+none_served protected count door store =
+    record { events = []; few = tt; admitted = tt; slots = no_sessions; runs = runs_none protected no_sessions no_sessions store (λ k. refl) }
 
-pub all_served : (protected : Bool) (count : ℕ) (old new : SessionTable) (before after : Store) → length old.slots ≡ count
-    → old ≡ record { slots = replicate count no_slot }
-    → RunsWithin protected old before new after → Served protected count before after
+pub all_served : (protected : Bool) (count : ℕ) (door : Door) (old new : Room) (before after : Store) → length old.table.slots ≡ count
+    → old.table ≡ record { slots = replicate count no_slot } → old.door ≡ door
+    → RunsWithin protected old before new after → Served protected count door before after
 unfolding RunsWithin
-all_served protected count old new before after many free r = record {
+all_served protected count door old new before after many free same r = record {
   events = r.1;
-  few = subst (λ (n : ℕ). AllByRecursion (IsAmong n) r.1) many r.2;
-  slots = machines new;
-  runs = subst (λ (x : Slots). SlotEventsRun protected x before r.1 (machines new) after)
+  few = subst (λ (n : ℕ). AllByRecursion (IsAmong n) r.1) many r.2.0;
+  admitted = subst (λ (d : Door). AllByRecursion (ComesBy d) r.1) same r.2.1;
+  slots = machines new.table;
+  runs = subst (λ (x : Slots). SlotEventsRun protected x before r.1 (machines new.table) after)
       (fun_ext (λ k. ap (λ (h : SessionTable). machines h k) free ∙ ap machine_in (free_at count k))) r.3;
 }
 
@@ -483,12 +525,12 @@ runs_split protected slots after store last (e ∷ es) fs r =
     let rest = runs_split protected r.0 after r.1 last es fs r.3 in (rest.0, rest.1, (r.0, r.1, r.2, rest.2), rest.3)
 
 -- a session from the event by which it comes
-pub served_own : (protected : Bool) (count : ℕ) (before after : Store) (s : Served protected count before after) (past es later : List SlotEvent)
+pub served_own : (protected : Bool) (count : ℕ) (door : Door) (before after : Store) (s : Served protected count door before after) (past es later : List SlotEvent)
     (slot : ℕ) (settings : TargetSettings)
     → s.events ≡ past ++ (Comes slot settings ∷ (es ++ later)) → KeepsSlot slot es
     → (end : Machine) × SessionEvents protected (opening_machine settings 1) (slot_events slot es) end
 unfolding SlotEventsRun
-served_own protected count before after s past es later slot settings is stays =
+served_own protected count door before after s past es later slot settings is stays =
     let whole : SlotEventsRun protected no_sessions before (past ++ (Comes slot settings ∷ (es ++ later))) s.slots after =
     subst (λ (x : List SlotEvent). SlotEventsRun protected no_sessions before x s.slots after) is s.runs in
     let behind = runs_split protected no_sessions s.slots before after past (Comes slot settings ∷ (es ++ later)) whole in
@@ -496,3 +538,26 @@ served_own protected count before after s past es later slot settings is stays =
     let stay = runs_split protected comes.0 s.slots comes.1 after es later comes.3 in
     let own = own_session protected comes.0 stay.0 comes.1 stay.1 es slot (opening_machine settings 1) stay.2 comes.2.1 stays in
     (own.0, own.2)
+
+-- ---- who was let in
+
+all_front : (P : SlotEvent → Type 0) (es fs : List SlotEvent) → AllByRecursion P (es ++ fs) → AllByRecursion P es
+all_front P [] fs p = tt
+all_front P (e ∷ es) fs p = (p.0, all_front P es fs p.1)
+
+all_at : (P : SlotEvent → Type 0) (es : List SlotEvent) (e : SlotEvent) (fs : List SlotEvent) → AllByRecursion P (es ++ e ∷ fs) → P e
+all_at P [] e fs p = p.0
+all_at P (f ∷ es) e fs p = all_at P es e fs p.1
+
+pub let_in_at : (protected : Bool) (count : ℕ) (door : Door) (before after : Store) (s : Served protected count door before after)
+    (past later : List SlotEvent) (t : Turn) → s.events ≡ past ++ Takes t ∷ later → (executed_of t ≡ [] → ⊥)
+    → (settings : TargetSettings) × IsAdmitted door settings × IsLetIn protected past t settings
+let_in_at protected count door before after s past later t is some =
+    let x = let_in protected no_sessions s.slots before after past later t
+    (subst (λ (es : List SlotEvent). SlotEventsRun protected no_sessions before es s.slots after) is s.runs) (λ k. refl) some in
+    let came : AllByRecursion (ComesBy door) past =
+    all_front (ComesBy door) past (Takes t ∷ later) (subst (λ (es : List SlotEvent). AllByRecursion (ComesBy door) es) is s.admitted) in (
+      x.0,
+      all_at (ComesBy door) x.1.earlier (Comes t.slot x.0) x.1.own (subst (λ (es : List SlotEvent). AllByRecursion (ComesBy door) es) x.1.split came),
+      x.1,
+    )

@@ -1,3 +1,4 @@
+pub mod Admitting
 pub mod Giving
 pub mod Limited
 pub mod Paces

@@ -7,6 +7,8 @@ use Rattle.iscsi_target.specs.Feed.{Store}
 use Rattle.iscsi_sessions.specs.Slots.{SessionTable, slot_at}
 use Rattle.iscsi_sessions.specs.Turns.{SlotEvent, Comes, Ends, Goes, KeepsSession, SlotEventsRun, Slots, Syncs, Takes, machines, slot_of}
 use Rattle.iscsi_event_loop.specs.declared.budget.Budget.{Budget}
+use Rattle.iscsi_serving.specs.Access.{Door}
+use Rattle.iscsi_event_loop.specs.Admitting.{ComesBy}
 use Rattle.iscsi_event_loop.specs.Giving.{GivesNothing, given_at, most_given, most_waiting_at}
 
 -- ---- how much is taken
@@ -38,23 +40,39 @@ most_taken = 8
 abbrev pub IsAmong : ℕ → SlotEvent → Type 0
 IsAmong count e = slot_of e < count
 
--- Some events at the slots of a table lead from it and its store to another one, which has as many.
-unfoldable pub RunsWithin : Bool → SessionTable → Store → SessionTable → Store → Type 0
-RunsWithin protected old before new after = (length new.slots ≡ length old.slots)
-    × (es : List SlotEvent) × AllByRecursion (IsAmong (length old.slots)) es
-    × SlotEventsRun protected (machines old) before es (machines new) after
+-- The slots of a service, and who may come there.
+pub record Room : Type 0 where
+  pub table : SessionTable
+  pub door : Door
+
+-- There are as many slots, for the same.
+abbrev pub IsSameRoom : Room → Room → Type 0
+IsSameRoom old new =
+    (length new.table.slots ≡ length old.table.slots) × (new.door ≡ old.door)
+
+-- The events are at the slots of a room, and whoever comes is let in there.
+abbrev pub AreAdmitted : Room → List SlotEvent → Type 0
+AreAdmitted room es =
+    AllByRecursion (IsAmong (length room.table.slots)) es × AllByRecursion (ComesBy room.door) es
+
+-- Some events at the slots of a room, of those who are let in, lead from it and its store to another
+-- one, which has as many.
+unfoldable pub RunsWithin : Bool → Room → Store → Room → Store → Type 0
+RunsWithin protected old before new after = IsSameRoom old new
+    × (es : List SlotEvent) × AreAdmitted old es
+    × SlotEventsRun protected (machines old.table) before es (machines new.table) after
 
 -- Some events do so, and take so many PDUs at each slot at most.
-unfoldable pub RunsFew : Bool → (ℕ → ℕ) → SessionTable → Store → SessionTable → Store → Type 0
-RunsFew protected most old before new after = (length new.slots ≡ length old.slots)
-    × (es : List SlotEvent) × AllByRecursion (IsAmong (length old.slots)) es
-    × SlotEventsRun protected (machines old) before es (machines new) after
+unfoldable pub RunsFew : Bool → (ℕ → ℕ) → Room → Store → Room → Store → Type 0
+RunsFew protected most old before new after = IsSameRoom old new
+    × (es : List SlotEvent) × AreAdmitted old es
+    × SlotEventsRun protected (machines old.table) before es (machines new.table) after
     × ((k : ℕ) → taken_at k es ≤ most k)
 
 -- Some events do so whatever the store, leave it as it is, take no PDU, and give no peer anything.
-unfoldable pub RunsIdle : SessionTable → SessionTable → Type 0
+unfoldable pub RunsIdle : Room → Room → Type 0
 RunsIdle old new =
-    GivesNothing old new × ((protected : Bool) (store : Store)
+    GivesNothing old.table new.table × ((protected : Bool) (store : Store)
     → RunsFew protected (λ k. 0) old store new store)
 
 -- ---- at one slot
@@ -86,24 +104,29 @@ SlotTurns protected slot budget old before new after = HappensAt protected slot 
 
 -- ---- at one slot after another
 
+-- The room with these slots.
+abbrev pub with_table : SessionTable → Room → Room
+with_table table room = record room { table = table }
+
 -- A slot has such a turn, and then sessions come and go.
-unfoldable pub TurnOf : Bool → ℕ → Budget → SessionTable → Store → SessionTable → Store → Type 0
+unfoldable pub TurnOf : Bool → ℕ → Budget → Room → Store → Room → Store → Type 0
 TurnOf protected slot budget old before new after =
-    (left : SessionTable) × SlotTurns protected slot budget old before left after × RunsIdle left new
+    (left : SessionTable) × SlotTurns protected slot budget old.table before left after
+    × RunsIdle (with_table left old) new
 
 -- A budget is no more than eight PDUs and 262,144 bytes.
 abbrev pub IsSmall : Budget → Type 0
 IsSmall budget = (budget.pdus ≤ most_taken) × (budget.given ≤ most_given)
 
 -- Sessions come and go, and then each of the first n slots has such a turn, one after another.
-unfoldable pub InTurns : Bool → ℕ → SessionTable → Store → SessionTable → Store → Type 0
+unfoldable pub InTurns : Bool → ℕ → Room → Store → Room → Store → Type 0
 InTurns protected zero old before new after = RunsIdle old new × (after ≡ before)
-InTurns protected (suc n) old before new after = (met : SessionTable) × (now : Store) × (budget : Budget)
+InTurns protected (suc n) old before new after = (met : Room) × (now : Store) × (budget : Budget)
     × IsSmall budget × InTurns protected n old before met now
     × TurnOf protected n budget met now new after
 
 -- Slots have such turns, each of them one at most.
-unfoldable pub RunsInTurns : Bool → SessionTable → Store → SessionTable → Store → Type 0
+unfoldable pub RunsInTurns : Bool → Room → Store → Room → Store → Type 0
 RunsInTurns protected old before new after = (n : ℕ) × InTurns protected n old before new after
 
 -- ---- from free slots on
@@ -113,9 +136,12 @@ abbrev pub no_sessions : Slots
 no_sessions place = None
 
 -- What a service of n slots did: its events at these slots, and the sessions in the end. The events
--- lead from free slots and one store to those sessions and the other store.
-pub record Served (protected : Bool) (count : ℕ) (before after : Store) : Type 0 where
+-- lead from free slots and one store to those sessions and the other store. Whoever came was let in at
+-- this door.
+pub record Served (protected : Bool) (count : ℕ) (door : Door) (before after : Store) : Type
+    0 where
   pub events : List SlotEvent
   pub few : AllByRecursion (IsAmong count) events
+  pub admitted : AllByRecursion (ComesBy door) events
   pub slots : Slots
   pub runs : SlotEventsRun protected no_sessions before events slots after

@@ -1,10 +1,12 @@
 -- A service of several sessions at a time: what it has, and when it is done.
 use Rattle.std.specs.Prelude.{◌≡◌, ℕ, ◌<◌, Bool, true, false, nat_le, length, Option, None, Some, is_some}
 use Rattle.iscsi_sessions.specs.Slots.{SessionTable, slot_at}
+use Rattle.iscsi_event_loop.specs.Running.{Room}
 
--- The slots, how many connections or logins were counted, and how many are to be; none: any number.
+-- The slots and who may have one, how many connections or logins were counted, and how many are to be;
+-- none: any number.
 pub record ServerState : Type 0 where
-  pub table : SessionTable
+  pub room : Room
   pub counted : ℕ
   pub most : Option ℕ
 
@@ -20,4 +22,4 @@ IsEmpty table =
 
 -- All were counted, and their sessions are over.
 abbrev pub IsServiceDone : ServerState → Type 0
-IsServiceDone service = (has_all service.most service.counted ≡ true) × IsEmpty service.table
+IsServiceDone service = (has_all service.most service.counted ≡ true) × IsEmpty service.room.table

@@ -27,4 +27,4 @@ pub use iscsi_options::{
 pub use iscsi_serving::SessionEnd;
 pub use limited::LimitedStore;
 pub use server::Server;
-pub use service::{serve_at_once, serve_in_turn, serve_memory_at_once};
+pub use service::{memory_store, serve_at_once, serve_in_turn};

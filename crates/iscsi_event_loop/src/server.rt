@@ -7,6 +7,7 @@ ghost use Rattle.iscsi_serving.specs.Faults.{EndsService};
 ghost use Rattle.iscsi_serving.specs.declared.fault.ServeFault.TheVariants as serve;
 ghost use Rattle.std.specs.Option.{option_map};
 ghost use Rattle.iscsi_options.specs.Options.{stop_count};
+ghost use Rattle.iscsi_serving.specs.Access.{door_of};
 ghost use Rattle.iscsi_event_loop.specs.Running.{RunsFew, RunsInTurns, RunsWithin, most_taken};
 ghost use Rattle.iscsi_event_loop.specs.Serving.{has_all, IsServiceDone, IsEmpty};
 
@@ -21,7 +22,7 @@ use crate::manner::Manner;
 use crate::peer::{Peer, no_peers};
 use crate::system::{listen, now};
 use iscsi_options::{Options, Stop};
-use iscsi_serving::{Access, EVERYBODY, ServeFault};
+use iscsi_serving::{Access, ServeFault};
 use iscsi_sessions::SessionTable;
 use mio::net::TcpListener;
 use mio::{Events, Poll};
@@ -63,12 +64,13 @@ impl<'a> Model for Server<'a> {
     ghost use Rattle.std.specs.Prelude.{◌≤◌, IfSome};
     ghost use Rattle.std.specs.Option.{option_map};
     ghost use Rattle.iscsi_options.specs.Options.{stop_count};
+    ghost use Rattle.iscsi_serving.specs.Access.{door_of};
     ghost use Rattle.iscsi_event_loop.specs.Serving.{ServerState};
 
     ghost Value = { ServerState };
 
     ghost view = { λ s. record {
-      table = s.table;
+      room = record { table = s.table; door = door_of s.access };
       counted = s.counted;
       most = option_map stop_count s.options.stop;
     } };
@@ -86,9 +88,10 @@ impl<'a> Server<'a> {
         serial: &'a [u8],
         access: Access<'a>,
     ) -> Result<Server<'a>, ServeFault>
-        ensures slots { IfOk result (λ server. length server.table.slots ≡ options.entry.at_once) }
+        ensures slots { IfOk result (λ server. length server.room.table.slots ≡ options.entry.at_once) }
         ensures free { IfOk result (λ server.
-            server.table ≡ record { slots = replicate options.entry.at_once None }) }
+            server.room.table ≡ record { slots = replicate options.entry.at_once None }) }
+        ensures door { IfOk result (λ server. server.room.door ≡ door_of access.entry) }
         ensures counted { IfOk result (λ server. server.counted ≡ 0) }
         ensures most { IfOk result (λ server.
             server.most ≡ option_map stop_count options.entry.stop) }
@@ -97,19 +100,24 @@ impl<'a> Server<'a> {
         Server::opened(rt, options, serial, access, Manner::AtOnce)
     }
 
-    /// Listens for one connection after another, with the slot free. Everybody may log in, and the disk
-    /// tells nothing beyond the bare profile, whatever the options say. `Network` is returned where listening
+    /// Listens for one connection after another of those who may log in, with the slot free. The disk tells
+    /// nothing beyond the bare profile, whatever the options say. `Network` is returned where listening
     /// fails, and `NoMemory` where memory runs out.
-    pub fn open_in_turn(rt: &HostRuntime, options: Options<'a>) -> Result<Server<'a>, ServeFault>
-        ensures slots { IfOk result (λ server. length server.table.slots ≡ 1) }
+    pub fn open_in_turn(
+        rt: &HostRuntime,
+        options: Options<'a>,
+        access: Access<'a>,
+    ) -> Result<Server<'a>, ServeFault>
+        ensures slots { IfOk result (λ server. length server.room.table.slots ≡ 1) }
         ensures free { IfOk result (λ server.
-            server.table ≡ record { slots = replicate 1 None }) }
+            server.room.table ≡ record { slots = replicate 1 None }) }
+        ensures door { IfOk result (λ server. server.room.door ≡ door_of access.entry) }
         ensures counted { IfOk result (λ server. server.counted ≡ 0) }
         ensures most { IfOk result (λ server.
             server.most ≡ option_map stop_count options.entry.stop) }
         ensures ends { IfErr result EndsService }
     {
-        Server::opened(rt, in_turn(options), b"", EVERYBODY, Manner::InTurn(None))
+        Server::opened(rt, in_turn(options), b"", access, Manner::InTurn(None))
     }
 
     // Listens, with all slots free, for connections that are taken in this manner.
@@ -120,9 +128,10 @@ impl<'a> Server<'a> {
         access: Access<'a>,
         manner: Manner,
     ) -> Result<Server<'a>, ServeFault>
-        ensures slots { IfOk result (λ server. length server.table.slots ≡ options.entry.at_once) }
+        ensures slots { IfOk result (λ server. length server.room.table.slots ≡ options.entry.at_once) }
         ensures free { IfOk result (λ server.
-            server.table ≡ record { slots = replicate options.entry.at_once None }) }
+            server.room.table ≡ record { slots = replicate options.entry.at_once None }) }
+        ensures door { IfOk result (λ server. server.room.door ≡ door_of access.entry) }
         ensures counted { IfOk result (λ server. server.counted ≡ 0) }
         ensures most { IfOk result (λ server.
             server.most ≡ option_map stop_count options.entry.stop) }
@@ -193,7 +202,7 @@ impl<'a> Server<'a> {
 
     // Counts one more. With the last one the listener closes.
     fn count(&mut self)
-        ensures same { self.new.table ≡ self.old.table }
+        ensures same { self.new.room ≡ self.old.room }
         ensures most { self.new.most ≡ self.old.most }
         ensures counted { self.old.counted ≤ self.new.counted }
     {
@@ -222,20 +231,20 @@ impl<'a> Server<'a> {
     pub fn turn<S: BlockStore>(&mut self, rt: &HostRuntime, store: &mut S) -> Result<(), ServeFault>
         // Whatever comes of it, it is a run of the table, of which the laws of `iscsi_sessions` speak.
         ensures runs { RunsWithin S.protected
-            self.old.table (store_of (S.disk store.old) (S.failures store.old))
-            self.new.table (store_of (S.disk store.new) (S.failures store.new)) }
+            self.old.room (store_of (S.disk store.old) (S.failures store.old))
+            self.new.room (store_of (S.disk store.new) (S.failures store.new)) }
         // Each slot takes eight PDUs at most: so much the others do between two turns of one.
         ensures few { RunsFew S.protected (λ k. most_taken)
-            self.old.table (store_of (S.disk store.old) (S.failures store.old))
-            self.new.table (store_of (S.disk store.new) (S.failures store.new)) }
+            self.old.room (store_of (S.disk store.old) (S.failures store.old))
+            self.new.room (store_of (S.disk store.new) (S.failures store.new)) }
         // Each slot has one turn at most. All its writes but the last one give the peer 262,144 bytes
         // at most, and the last one gives no more than what waited.
         ensures turns { RunsInTurns S.protected
-            self.old.table (store_of (S.disk store.old) (S.failures store.old))
-            self.new.table (store_of (S.disk store.new) (S.failures store.new)) }
+            self.old.room (store_of (S.disk store.old) (S.failures store.old))
+            self.new.room (store_of (S.disk store.new) (S.failures store.new)) }
         // The blocks are those that commands left.
         ensures blocks { HasExecuted S.protected (S.disk store.old) (S.disk store.new) }
-        ensures slots { length self.new.table.slots ≡ length self.old.table.slots }
+        ensures slots { length self.new.room.table.slots ≡ length self.old.room.table.slots }
         ensures most { self.new.most ≡ self.old.most }
         ensures counted { self.old.counted ≤ self.new.counted }
         ensures ends { IfErr result EndsService }

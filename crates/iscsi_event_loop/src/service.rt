@@ -1,11 +1,13 @@
 //! A service of several sessions at a time.
 
 ghost use Rattle.std.specs.Prelude.{◌≡◌, ◌⊎◌, ◌<◌, ◌≤◌, IfErr};
-ghost use Rattle.scsi_disk.specs.Disk.{most_blocks};
+ghost use Rattle.scsi_disk.specs.Disk.{most_blocks, zeros};
 ghost use Rattle.iscsi_target.specs.Advances.{store_of};
 ghost use Rattle.iscsi_serving.specs.Executed.{HasExecuted};
 ghost use Rattle.iscsi_serving.specs.Faults.{EndsService};
 ghost use Rattle.iscsi_serving.specs.declared.fault.ServeFault.TheVariants as serve;
+ghost use Rattle.iscsi_serving.specs.Access.{door_of};
+ghost use Rattle.iscsi_event_loop.specs.Limited.{limited_disk};
 ghost use Rattle.iscsi_event_loop.specs.Running.{RunsWithin, Served};
 ghost use Rattle.iscsi_options.specs.Options.{IsService};
 
@@ -14,7 +16,7 @@ use crate::manner::Manner;
 use crate::server::{Server, in_turn};
 use crate::system::{OTHER_DESCRIPTORS, memory_of_machine, most_descriptors};
 use iscsi_options::Options;
-use iscsi_serving::{Access, EVERYBODY, ServeFault};
+use iscsi_serving::{Access, ServeFault};
 use scsi_disk::BlockStore;
 use std::net::{IpAddr, SocketAddr};
 
@@ -41,7 +43,7 @@ pub fn serve_at_once<S: BlockStore>(
     requires service { IsService options }
     // Whatever comes of it, it was a run of a table from free slots on, of which the laws of
     // `iscsi_sessions` speak.
-    ensures served { Served S.protected options.entry.at_once
+    ensures served { Served S.protected options.entry.at_once (door_of access.entry)
         (store_of (S.disk store.old) (S.failures store.old))
         (store_of (S.disk store.new) (S.failures store.new)) }
     // The blocks are those that commands left.
@@ -54,7 +56,7 @@ pub fn serve_at_once<S: BlockStore>(
 
 /// Listens, and prints `listening` and, if asked, the port on a line of its own. Serves one connection after
 /// another over one store, until the wanted number of them is over. The next one waits until the last is over,
-/// whatever its time. Everybody may log in, and the disk tells nothing beyond the bare profile. Of the options it
+/// whatever its time. The access says who may log in. The disk tells nothing beyond the bare profile. Of the options it
 /// has the address, the port, the stop, the name, the portal, the preferences and the longest Data-In.
 ///
 /// A session that ends with a fault has the fault's line on standard error, and the next one is served. Sessions
@@ -63,11 +65,12 @@ pub fn serve_at_once<S: BlockStore>(
 pub fn serve_in_turn<S: BlockStore>(
     rt: &HostRuntime,
     options: Options<'_>,
+    access: Access<'_>,
     store: &mut S,
 ) -> Result<(), ServeFault>
     requires service { IsService options }
     // Whatever comes of it, it was a run of a table from one free slot on.
-    ensures served { Served S.protected 1
+    ensures served { Served S.protected 1 (door_of access.entry)
         (store_of (S.disk store.old) (S.failures store.old))
         (store_of (S.disk store.new) (S.failures store.new)) }
     // The blocks are those that commands left.
@@ -79,7 +82,7 @@ pub fn serve_in_turn<S: BlockStore>(
         Manner::InTurn(None),
         in_turn(options),
         b"",
-        EVERYBODY,
+        access,
         store,
     )
 }
@@ -94,7 +97,7 @@ fn serve_in<S: BlockStore>(
     access: Access<'_>,
     store: &mut S,
 ) -> Result<(), ServeFault>
-    ensures served { Served S.protected options.entry.at_once
+    ensures served { Served S.protected options.entry.at_once (door_of access.entry)
         (store_of (S.disk store.old) (S.failures store.old))
         (store_of (S.disk store.new) (S.failures store.new)) }
     ensures blocks { HasExecuted S.protected (S.disk store.old) (S.disk store.new) }
@@ -114,8 +117,8 @@ fn serve_by<S: BlockStore>(
     store: &mut S,
 ) -> Result<(), ServeFault>
     ensures runs { RunsWithin S.protected
-        server.old.table (store_of (S.disk store.old) (S.failures store.old))
-        server.new.table (store_of (S.disk store.new) (S.failures store.new)) }
+        server.old.room (store_of (S.disk store.old) (S.failures store.old))
+        server.new.room (store_of (S.disk store.new) (S.failures store.new)) }
     ensures ends { IfErr result (λ fault. EndsService fault ⊎ (fault ≡ serve.Write)) }
 {
     warn(rt, server, options.listen, access, store.is_protected())?;
@@ -123,29 +126,20 @@ fn serve_by<S: BlockStore>(
     serve_all(rt, server, store)
 }
 
-/// Serves in the same way over a disk in memory of `n` blocks of 00, from 1 to 2^40. So many bytes of its blocks
-/// are kept at most. If no number is said, these are all, or a half of the machine's memory if that is
-/// less, which a line on standard error tells. A write for which there is no room is answered by CHECK
-/// CONDITION.
-pub fn serve_memory_at_once(
-    rt: &HostRuntime,
-    options: Options<'_>,
-    serial: &[u8],
-    access: Access<'_>,
-    blocks: u64,
-    memory: Option<u64>,
-) -> Result<(), ServeFault>
-    requires service { IsService options }
+/// A disk in memory of `n` blocks of 00, from 1 to 2^40. So many bytes of its blocks are kept at most. If no
+/// number is said, these are all, or a half of the machine's memory if that is less, which a line on standard
+/// error tells. A write for which there is no room is answered by CHECK CONDITION.
+pub fn memory_store(rt: &HostRuntime, blocks: u64, memory: Option<u64>) -> LimitedStore
     requires some { 0 < blocks }
     requires few { blocks ≤ most_blocks }
-    ensures ends { IfErr result (λ fault. EndsService fault ⊎ (fault ≡ serve.Write)) }
+    ensures disk { limited_disk result ≡ zeros blocks }
+    ensures refused { result.refused ≡ 0 }
 {
-    let memory = match memory {
+    let most = match memory {
         Some(bytes) => bytes,
         None => usual_memory(rt, blocks),
     };
-    let mut store = LimitedStore::new(rt.alloc(), blocks, memory);
-    serve_at_once(rt, options, serial, access, &mut store)
+    LimitedStore::new(rt.alloc(), blocks, most)
 }
 
 // How many bytes of blocks are kept if no number is said.
@@ -228,8 +222,8 @@ fn serve_all<S: BlockStore>(
     store: &mut S,
 ) -> Result<(), ServeFault>
     ensures runs { RunsWithin S.protected
-        server.old.table (store_of (S.disk store.old) (S.failures store.old))
-        server.new.table (store_of (S.disk store.new) (S.failures store.new)) }
+        server.old.room (store_of (S.disk store.old) (S.failures store.old))
+        server.new.room (store_of (S.disk store.new) (S.failures store.new)) }
     ensures ends { IfErr result EndsService }
 {
     for _ in 0..u64::MAX {

@@ -159,7 +159,7 @@ fn open_in_turn(rt: &HostRuntime, abort: &impl Abort, connections: u16) -> Box<S
         ..options(0, 1, 0)
     };
     let store = SparseStore::new(rt.alloc(), BLOCKS);
-    let server = Server::open_in_turn(rt, asked).expect(abort, "a server");
+    let server = Server::open_in_turn(rt, asked, EVERYBODY).expect(abort, "a server");
     Box::new(rt.alloc(), Service { server, store }).expect(abort, "a service")
 }
 

@@ -4,6 +4,7 @@ ghost use Rattle.std.specs.Prelude.{◌≡◌};
 ghost use Rattle.iscsi_target.specs.Advances.{store_of};
 ghost use Rattle.iscsi_sessions.specs.Blocks.{ExactExecutionsLead};
 ghost use Rattle.iscsi_sessions.specs.Turns.{executed_in};
+ghost use Rattle.iscsi_serving.specs.Access.{open_door};
 ghost use Rattle.iscsi_event_loop.specs.Running.{Served};
 ghost use Rattle.iscsi_options.specs.Options.{IsService};
 
@@ -17,7 +18,7 @@ use scsi_disk::BlockStore;
 /// after another.
 pub fn serve<S: BlockStore>(rt: &HostRuntime, options: Options<'_>, store: &mut S) -> bool
     requires service { IsService options }
-    ensures blocks { (s : Served S.protected options.entry.at_once
+    ensures blocks { (s : Served S.protected options.entry.at_once open_door
         (store_of (S.disk store.old) (S.failures store.old))
         (store_of (S.disk store.new) (S.failures store.new)))
         × (S.failures store.new ≡ S.failures store.old

@@ -10,3 +10,4 @@ pub mod OwnOrderLemmas
 pub mod BoundLemmas
 pub mod FlushLemmas
 pub mod WrittenLemmas
+pub mod AccessLemmas

@@ -79,7 +79,7 @@ runs_one protected slots after store last e h = (after, last, h, ((λ k. refl), 
 
 -- ---- one session
 
-happens_others : (protected : Bool) (slots : Slots) (store : Store) (e : SlotEvent) (after : Slots) (last : Store)
+pub happens_others : (protected : Bool) (slots : Slots) (store : Store) (e : SlotEvent) (after : Slots) (last : Store)
     → SlotEventStep protected slots store e after last →
     OthersStay (slot_of e) slots after
 happens_others protected slots store (Comes k settings) after last h = h.2

@@ -6,4 +6,5 @@ pub mod Reinstatement
 pub mod OwnOrder
 pub mod Bounds
 pub mod Flushes
+pub mod Access
 pub mod inner

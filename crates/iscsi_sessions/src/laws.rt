@@ -1,7 +1,7 @@
 //! Laws of every interleaving of sessions: functions that do nothing, whose contracts are the
 //! theorems.
 
-ghost use Rattle.std.specs.Prelude.{Bool, ◌≡◌, ◌⊎◌, [], ◌<◌, ◌≤◌, ◌+◌, ◌^◌, ◌∷◌, ◌++◌, ℕ, false, true, List, OnOk, Option, Result, Some, length, map, take};
+ghost use Rattle.std.specs.Prelude.{Bool, ◌≡◌, ◌≢◌, ◌⊎◌, [], ◌<◌, ◌≤◌, ◌+◌, ◌^◌, ◌∷◌, ◌++◌, ℕ, false, true, List, None, OnOk, Option, Result, Some, length, map, take};
 ghost use Rattle.std.specs.List.{AllByRecursion};
 ghost use Rattle.scsi_disk.specs.declared.order.Order.{Order};
 ghost use Rattle.scsi_disk.specs.declared.order.Plan.TheVariants.{Give, Take};
@@ -24,7 +24,8 @@ ghost use Rattle.iscsi_target.specs.Crash.{CrashesNext, IsBehindCommand};
 ghost use Rattle.iscsi_target.specs.Feed.{TargetConnection, Store};
 ghost use Rattle.iscsi_target.specs.Laws.{AreInOrder, TaggedOrder, CountOn, HasCmdSn, ExecutionsLead, cmd_sns, joined_execution, response_tags, stat_sns, orders_done, orders_asked};
 ghost use Rattle.iscsi_sessions.specs.Slots.{SessionTable, Slot, has_cache_at, may_take_at, must_sync, slot_at, slot_waiting};
-ghost use Rattle.iscsi_sessions.specs.Turns.{SlotEvent, SlotEventsRun, Slots, SessionEvents, KeepsSlot, TakesTurn, answers_of, slot_events, executed_in, executed_of};
+ghost use Rattle.iscsi_sessions.specs.Access.{IsLetIn};
+ghost use Rattle.iscsi_sessions.specs.Turns.{SlotEvent, Takes, Turn, SlotEventsRun, Slots, SessionEvents, KeepsSlot, TakesTurn, answers_of, slot_events, executed_in, executed_of};
 ghost use Rattle.iscsi_sessions.specs.Blocks.{ExactExecutionsLead, block_left};
 ghost use Rattle.iscsi_sessions.specs.Flushes.{AreNextCommands, AreNoted, Change, IsOrdered, IsWrittenBy, IsWrittenIn, LeaveInTurn, CrashLeavesCommands, change, owed_behind};
 ghost use Rattle.iscsi_sessions.specs.Bounds.{ExecutesFew, HoldsFew, IsNumbered};
@@ -229,4 +230,15 @@ pub fn in_company()
         gs).machine
         now m in AllByRecursion
         (IsModest t.machine.session.held (total_of t.machine.tasks)) (r2t_ranges t.answers) }
+{}
+
+/// Who has a command executed, whatever sessions do beside each other and whatever the store does: a
+/// session that came before, with settings of its own. Where these demand CHAP, a text of its login
+/// had the right response; where they list names, its initiator has one of them.
+pub fn only_admitted()
+    ensures { (protected : Bool) (slots after : Slots) (store last : Store)
+        (past later : List SlotEvent) (t : Turn)
+        → SlotEventsRun protected slots store (past ++ Takes t ∷ later) after last
+        → ((k : ℕ) → slots k ≡ None) → executed_of t ≢ []
+        → (settings : TargetSettings) × IsLetIn protected past t settings }
 {}

@@ -152,10 +152,12 @@ response_tag _ = []
 abbrev pub response_tags : List Message → List ℕ
 response_tags ms = flat_map (λ m. response_tag m.head) ms
 
--- What the response to a command says (section 11.4). It gives the command's tag, its status, by how
--- many bytes it had more or fewer than were expected, and the sense data behind their length.
+-- What the response to a command says (section 11.4). It gives the command's tag, that the target is
+-- done with it, its status, by how many bytes it had more or fewer than were expected, and the sense
+-- data behind their length.
 pub record ToldResponse : Type 0 where
   pub initiator_task_tag : ℕ
+  pub response : ℕ
   pub status : Option ℕ
   pub overflow : Bool
   pub underflow : Bool
@@ -166,6 +168,7 @@ pub record ToldResponse : Type 0 where
 abbrev pub answer_told : Head → List ℕ → List ToldResponse
 answer_told (heads.ScsiResponse h) segment = record {
   initiator_task_tag = h.initiator_task_tag;
+  response = h.response;
   status = h.status;
   overflow = h.overflow;
   underflow = h.underflow;
@@ -178,10 +181,11 @@ answer_told _ segment = []
 abbrev pub told_in : List Message → List ToldResponse
 told_in ms = flat_map (λ m. answer_told m.head (segment_bytes m.segment)) ms
 
--- What is to be told of this outcome (section 11.4).
+-- What is to be told of this outcome: response 0, completed at the target (section 11.4.3).
 abbrev pub told_of : ℕ → Outcome → ToldResponse
 told_of tag outcome = record {
   initiator_task_tag = tag;
+  response = 0;
   status = Some outcome.status;
   overflow = is_over outcome.residual;
   underflow = is_under outcome.residual;

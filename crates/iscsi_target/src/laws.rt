@@ -118,28 +118,26 @@ pub fn held_stays()
 
 /// Who may log in: where names are listed, a session in full feature phase is that of an initiator
 /// which gave one of them, and so is one in which a command was executed. Any other initiator has
-/// nothing executed, and leaves the blocks as they are.
+/// nothing executed, and leaves the blocks as they are. The store may fail.
 pub fn allowed_only()
     ensures full { (protected : Bool) (settings : TargetSettings)
-        (names : List (List ℕ)) (n : ℕ) (disk : Disk)
-        (ms : List Message) → settings.extras.names ≡ Some names
-        → (answers protected (opening_machine settings n) disk ms).machine.session.phase ≡ Full
-        → is_among names (answers protected (opening_machine settings n) disk
-        ms).machine.session.initiator_name
-        ≡ true }
+        (names : List (List ℕ)) (n : ℕ) (disk : Disk) (before after : ℕ)
+        (ms : List Message) (r : TargetStep) → settings.extras.names ≡ Some names
+        → MayAnswer protected (opening_machine settings n) disk before ms r after
+        → r.machine.session.phase ≡ Full
+        → is_among names r.machine.session.initiator_name ≡ true }
     ensures executed { (protected : Bool) (settings : TargetSettings)
-        (names : List (List ℕ)) (n : ℕ) (disk : Disk)
-        (ms : List Message) → settings.extras.names ≡ Some names
-        → (answers protected (opening_machine settings n) disk ms).executed ≢ []
-        → is_among names (answers protected (opening_machine settings n) disk
-        ms).machine.session.initiator_name
-        ≡ true }
+        (names : List (List ℕ)) (n : ℕ) (disk : Disk) (before after : ℕ)
+        (ms : List Message) (r : TargetStep) → settings.extras.names ≡ Some names
+        → MayAnswer protected (opening_machine settings n) disk before ms r after
+        → r.executed ≢ []
+        → is_among names r.machine.session.initiator_name ≡ true }
     // A login that is refused leaves no name in the session: an empty one.
     ensures others { (protected : Bool) (settings : TargetSettings)
-        (names : List (List ℕ)) (n : ℕ) (disk : Disk)
-        (ms : List Message) → settings.extras.names ≡ Some names
-        → let r = answers protected (opening_machine settings n) disk ms in
-        is_among names r.machine.session.initiator_name ≡ false
+        (names : List (List ℕ)) (n : ℕ) (disk : Disk) (before after : ℕ)
+        (ms : List Message) (r : TargetStep) → settings.extras.names ≡ Some names
+        → MayAnswer protected (opening_machine settings n) disk before ms r after
+        → is_among names r.machine.session.initiator_name ≡ false
         → (r.executed ≡ []) × (r.disk ≡ disk) }
 {}
 
@@ -147,17 +145,21 @@ pub fn allowed_only()
 /// the name of an account that its initiator may use, and the response of this account's secret to
 /// the challenge of this login: MD5 of the identifier, the secret and the challenge (RFC 7143,
 /// section 12.1.3; RFC 1994, section 4.1). So no other message leads there, forged, repeated or cut.
+/// The store may fail.
 pub fn full_if_answered()
     ensures answered { (protected : Bool) (settings : TargetSettings) (n : ℕ) (disk : Disk)
-        (ms : List Message) (c : Chap) → settings.extras.chap ≡ Some c
-        → let r = answers protected (opening_machine settings n) disk ms in
-        r.machine.session.stage ≡ stages.Full
+        (before after : ℕ) (ms : List Message) (r : TargetStep) (c : Chap)
+        → settings.extras.chap ≡ Some c
+        → MayAnswer protected (opening_machine settings n) disk before ms r after
+        → r.machine.session.stage ≡ stages.Full
         → HasResponded protected (opening_machine settings n) disk c
         r.machine.session.initiator_name ms }
     // So has a session in which any order was executed: before, no block is read or written.
     ensures executed { (protected : Bool) (settings : TargetSettings) (n : ℕ) (disk : Disk)
-        (ms : List Message) (c : Chap) → settings.extras.chap ≡ Some c
-        → let r = answers protected (opening_machine settings n) disk ms in r.executed ≢ []
+        (before after : ℕ) (ms : List Message) (r : TargetStep) (c : Chap)
+        → settings.extras.chap ≡ Some c
+        → MayAnswer protected (opening_machine settings n) disk before ms r after
+        → r.executed ≢ []
         → HasResponded protected (opening_machine settings n) disk c
         r.machine.session.initiator_name ms }
 {}

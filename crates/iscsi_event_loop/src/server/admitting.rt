@@ -1,6 +1,7 @@
 //! Who is accepted, and gets which slot.
 
-ghost use Rattle.std.specs.Prelude.{◌≡◌, ◌≤◌, false, length, true};
+ghost use Rattle.std.specs.Prelude.{◌≡◌, ◌≤◌, IfSome, false, length, true};
+ghost use Rattle.iscsi_serving.specs.Access.{IsAdmitted};
 ghost use Rattle.iscsi_event_loop.specs.Running.{RunsIdle};
 ghost use Rattle.iscsi_event_loop.specs.Serving.{has_all};
 
@@ -71,8 +72,8 @@ impl<'a> Server<'a> {
     // connections are taken in turn.
     #[tactic(auto, using(crate::proofs::RunningLemmas::none_idle, crate::proofs::RunningLemmas::then_idle, crate::proofs::RunningLemmas::rises_on))]
     pub(super) fn admit(&mut self, rt: &HostRuntime, now: Instant)
-        ensures runs { RunsIdle self.old.table self.new.table }
-        ensures slots { length self.new.table.slots ≡ length self.old.table.slots }
+        ensures runs { RunsIdle self.old.room self.new.room }
+        ensures slots { length self.new.room.table.slots ≡ length self.old.room.table.slots }
         ensures most { self.new.most ≡ self.old.most }
         ensures counted { self.old.counted ≤ self.new.counted }
     {
@@ -93,8 +94,8 @@ impl<'a> Server<'a> {
     // turn: so whoever came has a turn, to log in, before it may have to make room.
     #[tactic(auto, using(crate::proofs::RunningLemmas::none_idle, crate::proofs::RunningLemmas::then_idle))]
     fn accept(&mut self, rt: &HostRuntime, now: Instant) -> Accepted
-        ensures runs { RunsIdle self.old.table self.new.table }
-        ensures slots { length self.new.table.slots ≡ length self.old.table.slots }
+        ensures runs { RunsIdle self.old.room self.new.room }
+        ensures slots { length self.new.room.table.slots ≡ length self.old.room.table.slots }
         ensures most { self.new.most ≡ self.old.most }
         ensures counted { self.old.counted ≤ self.new.counted }
     {
@@ -121,8 +122,8 @@ impl<'a> Server<'a> {
     // Frees the slot that makes room, if there is one.
     #[tactic(auto, using(crate::proofs::RunningLemmas::none_idle))]
     fn make_room(&mut self, rt: &HostRuntime)
-        ensures runs { RunsIdle self.old.table self.new.table }
-        ensures slots { length self.new.table.slots ≡ length self.old.table.slots }
+        ensures runs { RunsIdle self.old.room self.new.room }
+        ensures slots { length self.new.room.table.slots ≡ length self.old.room.table.slots }
         ensures most { self.new.most ≡ self.old.most }
         ensures counted { self.new.counted ≡ self.old.counted }
     {
@@ -170,8 +171,8 @@ impl<'a> Server<'a> {
         address: SocketAddr,
         now: Instant,
     )
-        ensures runs { RunsIdle self.old.table self.new.table }
-        ensures slots { length self.new.table.slots ≡ length self.old.table.slots }
+        ensures runs { RunsIdle self.old.room self.new.room }
+        ensures slots { length self.new.room.table.slots ≡ length self.old.room.table.slots }
         ensures most { self.new.most ≡ self.old.most }
         ensures counted { self.old.counted ≤ self.new.counted }
     {
@@ -201,7 +202,7 @@ impl<'a> Server<'a> {
 
     // A connection was accepted, and is counted, if connections end the service.
     fn count_connection(&mut self)
-        ensures same { self.new.table ≡ self.old.table }
+        ensures same { self.new.room ≡ self.old.room }
         ensures most { self.new.most ≡ self.old.most }
         ensures counted { self.old.counted ≤ self.new.counted }
     {
@@ -223,6 +224,7 @@ impl<'a> Server<'a> {
     // The configuration of a connection of this number; none without memory or random bytes.
     fn configured(&mut self, rt: &HostRuntime, number: u16, stream: &TcpStream) -> Option<Config>
         ensures same { self.new ≡ self.old }
+        ensures admitted { IfSome result (IsAdmitted self.old.room.door) }
     {
         let options = self.options;
         let alloc = rt.alloc();
@@ -256,8 +258,9 @@ impl<'a> Server<'a> {
 
     // Gives a new session the first free slot of the table.
     fn slot(&mut self, config: Config) -> Option<usize>
-        ensures runs { RunsIdle self.old.table self.new.table }
-        ensures slots { length self.new.table.slots ≡ length self.old.table.slots }
+        requires admitted { IsAdmitted self.old.room.door config }
+        ensures runs { RunsIdle self.old.room self.new.room }
+        ensures slots { length self.new.room.table.slots ≡ length self.old.room.table.slots }
         ensures most { self.new.most ≡ self.old.most }
         ensures counted { self.new.counted ≡ self.old.counted }
     {

@@ -16,8 +16,8 @@ impl<'a> Server<'a> {
     // Ends the session of a slot, and all of them where a sync failed.
     #[tactic(auto, using(crate::proofs::RunningLemmas::then_idle))]
     pub(super) fn close(&mut self, rt: &HostRuntime, slot: usize, end: Option<SessionEnd>)
-        ensures runs { RunsIdle self.old.table self.new.table }
-        ensures slots { length self.new.table.slots ≡ length self.old.table.slots }
+        ensures runs { RunsIdle self.old.room self.new.room }
+        ensures slots { length self.new.room.table.slots ≡ length self.old.room.table.slots }
         ensures most { self.new.most ≡ self.old.most }
         ensures counted { self.new.counted ≡ self.old.counted }
     {
@@ -30,8 +30,8 @@ impl<'a> Server<'a> {
     // Ends the connections that have not logged in.
     #[tactic(auto, using(crate::proofs::RunningLemmas::none_idle, crate::proofs::RunningLemmas::then_idle))]
     pub(super) fn dismiss_guests(&mut self, rt: &HostRuntime)
-        ensures runs { RunsIdle self.old.table self.new.table }
-        ensures slots { length self.new.table.slots ≡ length self.old.table.slots }
+        ensures runs { RunsIdle self.old.room self.new.room }
+        ensures slots { length self.new.room.table.slots ≡ length self.old.room.table.slots }
         ensures most { self.new.most ≡ self.old.most }
         ensures counted { self.new.counted ≡ self.old.counted }
     {
@@ -45,8 +45,8 @@ impl<'a> Server<'a> {
     // Ends an older session whose place that of this slot takes, since its login is completed now.
     #[tactic(auto, using(crate::proofs::RunningLemmas::none_idle))]
     pub(super) fn end_older(&mut self, rt: &HostRuntime, slot: usize)
-        ensures runs { RunsIdle self.old.table self.new.table }
-        ensures slots { length self.new.table.slots ≡ length self.old.table.slots }
+        ensures runs { RunsIdle self.old.room self.new.room }
+        ensures slots { length self.new.room.table.slots ≡ length self.old.room.table.slots }
         ensures most { self.new.most ≡ self.old.most }
         ensures counted { self.new.counted ≡ self.old.counted }
     {
@@ -59,8 +59,8 @@ impl<'a> Server<'a> {
     // that is lost.
     #[tactic(auto, using(crate::proofs::RunningLemmas::none_idle, crate::proofs::RunningLemmas::then_idle))]
     fn dismiss_all(&mut self, rt: &HostRuntime)
-        ensures runs { RunsIdle self.old.table self.new.table }
-        ensures slots { length self.new.table.slots ≡ length self.old.table.slots }
+        ensures runs { RunsIdle self.old.room self.new.room }
+        ensures slots { length self.new.room.table.slots ≡ length self.old.room.table.slots }
         ensures most { self.new.most ≡ self.old.most }
         ensures counted { self.new.counted ≡ self.old.counted }
     {
@@ -196,8 +196,8 @@ impl<'a> Server<'a> {
 
     // Frees a slot, and tells why its session ended.
     pub(super) fn dismiss(&mut self, rt: &HostRuntime, slot: usize, end: Option<SessionEnd>)
-        ensures runs { RunsIdle self.old.table self.new.table }
-        ensures slots { length self.new.table.slots ≡ length self.old.table.slots }
+        ensures runs { RunsIdle self.old.room self.new.room }
+        ensures slots { length self.new.room.table.slots ≡ length self.old.room.table.slots }
         ensures most { self.new.most ≡ self.old.most }
         ensures counted { self.new.counted ≡ self.old.counted }
     {
@@ -208,8 +208,8 @@ impl<'a> Server<'a> {
 
     // Frees a slot of the table.
     pub(super) fn free(&mut self, slot: usize)
-        ensures runs { RunsIdle self.old.table self.new.table }
-        ensures slots { length self.new.table.slots ≡ length self.old.table.slots }
+        ensures runs { RunsIdle self.old.room self.new.room }
+        ensures slots { length self.new.room.table.slots ≡ length self.old.room.table.slots }
         ensures most { self.new.most ≡ self.old.most }
         ensures counted { self.new.counted ≡ self.old.counted }
     {

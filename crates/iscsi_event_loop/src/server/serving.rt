@@ -23,12 +23,12 @@ impl<'a> Server<'a> {
     )
         // Each slot has a turn, in which it takes a few PDUs at most.
         ensures turns { RunsInTurns S.protected
-            self.old.table (store_of (S.disk store.old) (S.failures store.old))
-            self.new.table (store_of (S.disk store.new) (S.failures store.new)) }
+            self.old.room (store_of (S.disk store.old) (S.failures store.old))
+            self.new.room (store_of (S.disk store.new) (S.failures store.new)) }
         ensures few { RunsFew S.protected (λ k. most_taken)
-            self.old.table (store_of (S.disk store.old) (S.failures store.old))
-            self.new.table (store_of (S.disk store.new) (S.failures store.new)) }
-        ensures slots { length self.new.table.slots ≡ length self.old.table.slots }
+            self.old.room (store_of (S.disk store.old) (S.failures store.old))
+            self.new.room (store_of (S.disk store.new) (S.failures store.new)) }
+        ensures slots { length self.new.room.table.slots ≡ length self.old.room.table.slots }
         ensures most { self.new.most ≡ self.old.most }
         ensures counted { self.old.counted ≤ self.new.counted }
     {
@@ -50,9 +50,9 @@ impl<'a> Server<'a> {
         budget: Budget,
     )
         ensures turn { TurnOf S.protected slot budget
-            self.old.table (store_of (S.disk store.old) (S.failures store.old))
-            self.new.table (store_of (S.disk store.new) (S.failures store.new)) }
-        ensures slots { length self.new.table.slots ≡ length self.old.table.slots }
+            self.old.room (store_of (S.disk store.old) (S.failures store.old))
+            self.new.room (store_of (S.disk store.new) (S.failures store.new)) }
+        ensures slots { length self.new.room.table.slots ≡ length self.old.room.table.slots }
         ensures most { self.new.most ≡ self.old.most }
         ensures counted { self.old.counted ≤ self.new.counted }
     {
@@ -89,8 +89,8 @@ impl<'a> Server<'a> {
         is_over: bool,
         end: Option<SessionEnd>,
     )
-        ensures runs { RunsIdle self.old.table self.new.table }
-        ensures slots { length self.new.table.slots ≡ length self.old.table.slots }
+        ensures runs { RunsIdle self.old.room self.new.room }
+        ensures slots { length self.new.room.table.slots ≡ length self.old.room.table.slots }
         ensures most { self.new.most ≡ self.old.most }
         ensures counted { self.old.counted ≤ self.new.counted }
     {
@@ -109,8 +109,8 @@ impl<'a> Server<'a> {
     // connections that have not logged in are ended.
     #[tactic(auto, using(crate::proofs::RunningLemmas::none_idle))]
     fn count_login(&mut self, rt: &HostRuntime)
-        ensures runs { RunsIdle self.old.table self.new.table }
-        ensures slots { length self.new.table.slots ≡ length self.old.table.slots }
+        ensures runs { RunsIdle self.old.room self.new.room }
+        ensures slots { length self.new.room.table.slots ≡ length self.old.room.table.slots }
         ensures most { self.new.most ≡ self.old.most }
         ensures counted { self.old.counted ≤ self.new.counted }
     {

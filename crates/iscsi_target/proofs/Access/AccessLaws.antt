@@ -32,10 +32,10 @@ use Rattle.iscsi_target_session.specs.Login.{exchange_answered, verdict_for, res
 use Rattle.iscsi_target_session.proofs.CaseLemmas.{by_cases}
 use Rattle.iscsi_target_session.proofs.ExchangeLemmas.{text_cases}
 use Rattle.iscsi_target.specs.State.{Machine, TargetStep, opening_machine}
-use Rattle.iscsi_target.specs.Execution.{reliable}
-use Rattle.iscsi_target.specs.Machine.{target_step, phase_step, answers, is_machine_closed, is_over_limit}
+use Rattle.iscsi_target.specs.Execution.{Device, reliable}
+use Rattle.iscsi_target.specs.Machine.{MayStep, MayAnswer, target_step, step_on, then_stepped, phase_step, answers, is_machine_closed, is_over_limit}
 use Rattle.iscsi_target.specs.Access.{HasResponded}
-use Rattle.iscsi_target.proofs.Access.AllowedLaw.{closed_stays, executes_none, behind_none}
+use Rattle.iscsi_target.proofs.Access.AllowedLaw.{closed_stays, behind_none, may_execute_none}
 use Rattle.iscsi_target.proofs.Steps.KeepingLemmas.{IsLater, step_settings, step_stays}
 
 -- the text has a right response, and the session is that of the initiator that may give it
@@ -241,159 +241,215 @@ login_guards c s _ segment e =
 
 -- ---- a message
 
-later_guards : (protected : Bool) (c : Chap) (s : Machine) (disk : Disk) (m : Message) → IsLater s.session.phase
-    → ((target_step protected s disk m).machine.session.phase ≡ phases.Full → s.session.phase ≡ phases.Full)
-    → Guards c s.session (text_ending s.session.gathered m.segment) (target_step protected s disk m).machine.session
-later_guards protected c s disk m l was =
-    let x = step_stays (reliable protected) s disk m l in
+later_guards : (device : Device) (c : Chap) (s : Machine) (disk : Disk) (m : Message) → IsLater s.session.phase
+    → ((step_on device s disk m).machine.session.phase ≡ phases.Full → s.session.phase ≡ phases.Full)
+    → Guards c s.session (text_ending s.session.gathered m.segment) (step_on device s disk m).machine.session
+later_guards device c s disk m l was =
+    let x = step_stays device s disk m l in
     unmoved c s.session _ _ (record { progress = x.progress; stage = x.stage; has_text = x.has_text; name = x.name }) was
 
-step_guards : (protected : Bool) (c : Chap) (s : Machine) (disk : Disk) (m : Message) → s.session.settings.extras.chap ≡ Some c
-    → Guards c s.session (text_ending s.session.gathered m.segment) (target_step protected s disk m).machine.session
-step_guards protected c s disk m d = by_phase s.session.phase refl
+step_guards : (device : Device) (c : Chap) (s : Machine) (disk : Disk) (m : Message) → s.session.settings.extras.chap ≡ Some c
+    → Guards c s.session (text_ending s.session.gathered m.segment) (step_on device s disk m).machine.session
+step_guards device c s disk m d = by_phase s.session.phase refl
   where
-    by_phase : (p : Phase) → s.session.phase ≡ p → Guards c s.session (text_ending s.session.gathered m.segment)
-        (target_step protected s disk m).machine.session
+    by_phase : (p : Phase) → s.session.phase ≡ p → Guards c s.session (text_ending s.session.gathered m.segment) (step_on device s disk m).machine.session
     by_phase phases.Login e =
         let open_ : is_machine_closed s ≡ false = ap is_closed_phase e in
         by_cases (is_over_limit s m.segment)
         (λ f. rw (open_, f) (unmoved c s.session (text_ending s.session.gathered m.segment) _
         (record { progress = refl; stage = refl; has_text = refl; name = refl }) (λ g. absurd (cc g))))
         (λ f. rw (open_, f) (subst (λ (p : Phase). Guards c s.session (text_ending s.session.gathered m.segment)
-        (phase_step (reliable protected) p s disk m).machine.session) (sym e) (login_guards c s.session m.head m.segment d)))
-    by_phase phases.Full e = later_guards protected c s disk m (subst IsLater (sym e) tt) (λ f. e)
+        (phase_step device p s disk m).machine.session) (sym e) (login_guards c s.session m.head m.segment d)))
+    by_phase phases.Full e = later_guards device c s disk m (subst IsLater (sym e) tt) (λ f. e)
     by_phase phases.Closed e =
-        later_guards protected c s disk m (subst IsLater (sym e) tt)
-        (λ f. sym (ap (λ (r : TargetStep). r.machine.session.phase) (closed_stays protected s disk m e)) ∙ f)
+        later_guards device c s disk m (subst IsLater (sym e) tt)
+        (λ f. sym (ap (λ (r : TargetStep). r.machine.session.phase) (closed_stays device s disk m e)) ∙ f)
+
+may_guards : (protected : Bool) (c : Chap) (s : Machine) (disk : Disk) (before : ℕ) (m : Message) (r : TargetStep) (after : ℕ)
+    → MayStep protected s disk before m r after → s.session.settings.extras.chap ≡ Some c
+    → Guards c s.session (text_ending s.session.gathered m.segment) r.machine.session
+may_guards protected c s disk before m r after x d =
+    subst (λ (r : TargetStep). Guards c s.session (text_ending s.session.gathered m.segment) r.machine.session) (sym x.is)
+    (step_guards x.device c s disk m d)
+
+-- before full feature phase a store makes no difference
+same_before : (device other : Device) (s : Machine) (disk : Disk) (m : Message) (p : Phase) → s.session.phase ≡ p → (p ≡ phases.Full → ⊥)
+    → step_on device s disk m ≡ step_on other s disk m
+same_before device other s disk m phases.Full e never = absurd (never refl)
+same_before device other s disk m phases.Closed e never = closed_stays device s disk m e ∙ sym (closed_stays other s disk m e)
+same_before device other s disk m phases.Login e never =
+    let open_ : is_machine_closed s ≡ false = ap is_closed_phase e in
+    by_cases (is_over_limit s m.segment) (λ f. rw (open_, f) refl)
+    (λ f. rw (open_, f) (subst (λ (p : Phase). phase_step device p s disk m ≡ phase_step other p s disk m) (sym e) refl))
 
 -- ---- any messages
 
 -- what holds of a session at each message
-record Held (c : Chap) (s : Session) : Type 0 where
-  demands : s.settings.extras.chap ≡ Some c
-  stage : s.stage ≡ stages.Full → s.progress ≡ Passed
-  phase : s.phase ≡ phases.Full → s.progress ≡ Passed
-
-held_on : (protected : Bool) (c : Chap) (s : Machine) (disk : Disk) (m : Message) → Held c s.session → Held c (target_step protected s disk m).machine.session
-held_on protected c s disk m h =
-    let g : Guards c s.session (text_ending s.session.gathered m.segment) (target_step protected s disk m).machine.session = step_guards protected
-    c s disk m h.demands in
-    record {
-      demands = ap (λ (p : TargetSettings). p.extras.chap) (step_settings (reliable protected) s disk m) ∙ h.demands;
-      stage = g.full h.stage;
-      phase = g.live h.phase h.stage;
-    }
+pub record Held (c : Chap) (s : Session) : Type 0 where
+  pub demands : s.settings.extras.chap ≡ Some c
+  pub stage : s.stage ≡ stages.Full → s.progress ≡ Passed
+  pub phase : s.phase ≡ phases.Full → s.progress ≡ Passed
 
 -- a session that took a text keeps its name
-record Kept (s n : Session) : Type 0 where
-  has_text : s.has_text ≡ true → n.has_text ≡ true
-  name : s.has_text ≡ true → n.initiator_name ≡ s.initiator_name
+pub record Kept (c : Chap) (s n : Session) : Type 0 where
+  pub held : Held c s → Held c n
+  pub has_text : s.has_text ≡ true → n.has_text ≡ true
+  pub name : s.has_text ≡ true → n.initiator_name ≡ s.initiator_name
 
-all_kept : (protected : Bool) (c : Chap) (s : Machine) (disk : Disk) (ms : List Message) → Held c s.session
-    → Kept s.session (answers protected s disk ms).machine.session
+pub all_kept_here : (c : Chap) (s : Session) → Kept c s s
+all_kept_here c s = record { held = λ h. h; has_text = λ e. e; name = λ e. refl }
+
+pub then_kept : (c : Chap) (s t n : Session) → Kept c s t → Kept c t n → Kept c s n
+then_kept c s t n x y = record {
+  held = λ h. y.held (x.held h);
+  has_text = λ e. y.has_text (x.has_text e);
+  name = λ e. y.name (x.has_text e) ∙ x.name e;
+}
+
+may_keep : (protected : Bool) (c : Chap) (s : Machine) (disk : Disk) (before : ℕ) (m : Message) (r : TargetStep) (after : ℕ)
+    → MayStep protected s disk before m r after → s.session.settings.extras.chap ≡ Some c → Kept c s.session r.machine.session
+may_keep protected c s disk before m r after x d =
+    let g : Guards c s.session (text_ending s.session.gathered m.segment) r.machine.session = may_guards protected c s disk before m r after x d in
+    let same : r.machine.session.settings ≡ s.session.settings =
+    ap (λ (r : TargetStep). r.machine.session.settings) x.is ∙ step_settings x.device s disk m in
+    record {
+      held = λ h. record {
+        demands = ap (λ (p : TargetSettings). p.extras.chap) same ∙ d;
+        stage = g.full h.stage;
+        phase = g.live h.phase h.stage;
+      };
+      has_text = g.has_text;
+      name = g.name;
+    }
+
+pub all_kept : (protected : Bool) (c : Chap) (s : Machine) (disk : Disk) (before : ℕ) (ms : List Message) (r : TargetStep) (after : ℕ)
+    → MayAnswer protected s disk before ms r after → Held c s.session → Kept c s.session r.machine.session
+unfolding MayAnswer
+all_kept protected c s disk before [] r after may h =
+    subst (λ (x : TargetStep). Kept c s.session x.machine.session) (sym may.0) (all_kept_here c s.session)
+all_kept protected c s disk before (m ∷ ms) r after may h =
+    let k : Kept c s.session may.0.machine.session = may_keep protected c s disk before m may.0 may.2 may.3 h.demands in
+    subst (λ (x : TargetStep). Kept c s.session x.machine.session) (sym may.5)
+    (then_kept c s.session may.0.machine.session may.1.machine.session k
+    (all_kept protected c may.0.machine may.0.disk may.2 ms may.1 after may.4 (k.held h)))
+
+-- the session had come to its end of the exchange before, or one of these messages ended the text
+abbrev pub Responded : Bool → Chap → Machine → Disk → List ℕ → List Message → Type 0
+Responded protected c s disk name ms = (s.session.progress ≡ Passed) ⊎ HasResponded protected s disk c name ms
+
+-- behind a message that leads where one over a store that doesn't fail does
+text_behind : (protected : Bool) (c : Chap) (s : Machine) (disk : Disk) (name : List ℕ) (m : Message) (ms : List Message) (first : TargetStep)
+    → first ≡ target_step protected s disk m → HasResponded protected first.machine first.disk c name ms → HasResponded protected s disk c name (m ∷ ms)
 unfolding answers
-all_kept protected c s disk [] h = record { has_text = λ e. e; name = λ e. refl }
-all_kept protected c s disk (m ∷ ms) h =
-    let first : TargetStep = target_step protected s disk m in
-    let g : Guards c s.session (text_ending s.session.gathered m.segment) first.machine.session = step_guards protected c s disk m h.demands in
-    let k : Kept first.machine.session (answers protected first.machine first.disk ms).machine.session =
-    all_kept protected c first.machine first.disk ms (held_on protected c s disk m h) in
-    record { has_text = λ e. k.has_text (g.has_text e); name = λ e. k.name (g.has_text e) ∙ g.name e }
-
--- this message ended the text, or one behind it
-abbrev Responded : Bool → Chap → Machine → Disk → List Message → Type 0
-Responded protected c s disk ms =
-    (s.session.progress ≡ Passed) ⊎ HasResponded protected s disk c (answers protected s disk ms).machine.session.initiator_name ms
-
-behind : (protected : Bool) (c : Chap) (s : Machine) (disk : Disk) (m : Message) (ms : List Message) → Held c s.session
-    → Responded protected c (target_step protected s disk m).machine (target_step protected s disk m).disk ms → Responded protected c s disk (m ∷ ms)
-unfolding answers
-behind protected c s disk m ms h (inl now) =
-    let first : TargetStep = target_step protected s disk m in
-    let k : Kept first.machine.session (answers protected first.machine first.disk ms).machine.session =
-    all_kept protected c first.machine first.disk ms (held_on protected c s disk m h) in
-    elim ((step_guards protected c s disk m h.demands).passes now) [
-      | inl was ↦ inl was
-      | inr x ↦ inr (record {
-        before = [];
-        message = m;
-        after = ms;
-        split = refl;
-        pairs = x.pairs;
-        text = x.is;
-        right = subst (λ (name : List ℕ). AnswersChallenge c name x.pairs) (sym (k.name x.has_text)) x.right;
-      })
-    ]
-behind protected c s disk m ms h (inr x) = inr (record {
+text_behind protected c s disk name m ms first same x = record {
   before = m ∷ x.before;
   message = x.message;
   after = x.after;
   split = ap (λ (l : List Message). m ∷ l) x.split;
   pairs = x.pairs;
-  text = x.text;
+  text = subst (λ (f : TargetStep). text_ending (answers protected f.machine f.disk x.before).machine.session.gathered x.message.segment ≡ Some x.pairs) same
+      x.text;
   right = x.right;
-})
+}
 
-passed : (protected : Bool) (c : Chap) (s : Machine) (disk : Disk) (ms : List Message) → Held c s.session
-    → (answers protected s disk ms).machine.session.progress ≡ Passed → Responded protected c s disk ms
+text_here : (protected : Bool) (c : Chap) (s : Machine) (disk : Disk) (m : Message) (ms : List Message) (n last : Session)
+    → Right c (text_ending s.session.gathered m.segment) n → Kept c n last → HasResponded protected s disk c last.initiator_name (m ∷ ms)
 unfolding answers
-passed protected c s disk [] h e = inl e
-passed protected c s disk (m ∷ ms) h e =
-    behind protected c s disk m ms h
-    (passed protected c (target_step protected s disk m).machine (target_step protected s disk m).disk ms (held_on protected c s disk m h) e)
+text_here protected c s disk m ms n last x k = record {
+  before = [];
+  message = m;
+  after = ms;
+  split = refl;
+  pairs = x.pairs;
+  text = x.is;
+  right = subst (λ (name : List ℕ). AnswersChallenge c name x.pairs) (sym (k.name x.has_text)) x.right;
+}
 
-all_held : (protected : Bool) (c : Chap) (s : Machine) (disk : Disk) (ms : List Message) → Held c s.session
-    → Held c (answers protected s disk ms).machine.session
-unfolding answers
-all_held protected c s disk [] h = h
-all_held protected c s disk (m ∷ ms) h =
-    all_held protected c (target_step protected s disk m).machine (target_step protected s disk m).disk ms (held_on protected c s disk m h)
+behind : (protected : Bool) (c : Chap) (s : Machine) (disk : Disk) (before : ℕ) (m : Message) (ms : List Message) (first : TargetStep) (now : ℕ) (last : Session)
+    → MayStep protected s disk before m first now → Held c s.session → Kept c first.machine.session last → (p : Phase) → s.session.phase ≡ p
+    → Responded protected c first.machine first.disk last.initiator_name ms → Responded protected c s disk last.initiator_name (m ∷ ms)
+behind protected c s disk before m ms first now last x h k phases.Full e r = inl (h.phase e)
+behind protected c s disk before m ms first now last x h k p e (inl passed) =
+    elim ((may_guards protected c s disk before m first now x h.demands).passes passed) [
+      | inl was ↦ inl was
+      | inr right ↦ inr (text_here protected c s disk m ms first.machine.session last right k)
+    ]
+behind protected c s disk before m ms first now last x h k phases.Login e (inr r) =
+    inr (text_behind protected c s disk last.initiator_name m ms first
+    (x.is ∙ same_before x.device (reliable protected) s disk m phases.Login e (λ f. absurd (cc f))) r)
+behind protected c s disk before m ms first now last x h k phases.Closed e (inr r) =
+    inr (text_behind protected c s disk last.initiator_name m ms first
+    (x.is ∙ same_before x.device (reliable protected) s disk m phases.Closed e (λ f. absurd (cc f))) r)
 
-executed_at : (protected : Bool) (c : Chap) (s : Machine) (disk : Disk) (m : Message) (ms : List Message) (p : Phase) → s.session.phase ≡ p → Held c s.session
-    → ((answers protected s disk (m ∷ ms)).executed ≡ [] → ⊥)
-    → (((answers protected (target_step protected s disk m).machine (target_step protected s disk m).disk ms).executed ≡ [] → ⊥)
-    → Responded protected c (target_step protected s disk m).machine (target_step protected s disk m).disk ms)
-    → Responded protected c s disk (m ∷ ms)
-executed_at protected c s disk m ms phases.Full e h some later = inl (h.phase e)
-executed_at protected c s disk m ms phases.Login e h some later =
-    behind protected c s disk m ms h
-    (later (behind_none protected s disk m ms (executes_none protected s disk m phases.Login e (λ f. absurd (cc f))) some))
-executed_at protected c s disk m ms phases.Closed e h some later =
-    behind protected c s disk m ms h
-    (later (behind_none protected s disk m ms (executes_none protected s disk m phases.Closed e (λ f. absurd (cc f))) some))
+-- the name is that of a session that these messages, or more, lead to
+pub passed : (protected : Bool) (c : Chap) (s : Machine) (disk : Disk) (before : ℕ) (ms : List Message) (r : TargetStep) (after : ℕ) (last : Session)
+    → MayAnswer protected s disk before ms r after → Held c s.session → Kept c r.machine.session last → r.machine.session.progress ≡ Passed
+    → Responded protected c s disk last.initiator_name ms
+unfolding MayAnswer
+passed protected c s disk before [] r after last may h k e = inl (subst (λ (x : TargetStep). x.machine.session.progress ≡ Passed) may.0 e)
+passed protected c s disk before (m ∷ ms) r after last may h k e =
+    let first : TargetStep = may.0 in
+    let later : TargetStep = may.1 in
+    let held : Held c first.machine.session = (may_keep protected c s disk before m first may.2 may.3 h.demands).held h in
+    let rest : Kept c later.machine.session last = subst (λ (x : TargetStep). Kept c x.machine.session last) may.5 k in
+    behind protected c s disk before m ms first may.2 last may.3 h
+    (then_kept c first.machine.session later.machine.session last (all_kept protected c first.machine first.disk may.2 ms later after may.4 held) rest)
+    s.session.phase refl
+    (passed protected c first.machine first.disk may.2 ms later after last may.4 held rest
+    (subst (λ (x : TargetStep). x.machine.session.progress ≡ Passed) may.5 e))
 
-unchanged_none : (protected : Bool) (s : Machine) (disk : Disk) → (answers protected s disk []).executed ≡ []
-unfolding answers
-unchanged_none protected s disk = refl
+executed_at : (protected : Bool) (c : Chap) (s : Machine) (disk : Disk) (before : ℕ) (m : Message) (ms : List Message) (first later : TargetStep) (now : ℕ)
+    (last : Session) → MayStep protected s disk before m first now → Held c s.session → Kept c first.machine.session last → (p : Phase) → s.session.phase ≡ p
+    → ((then_stepped first later).executed ≡ [] → ⊥)
+    → ((later.executed ≡ [] → ⊥) → Responded protected c first.machine first.disk last.initiator_name ms)
+    → Responded protected c s disk last.initiator_name (m ∷ ms)
+executed_at protected c s disk before m ms first later now last x h k phases.Full e some more = inl (h.phase e)
+executed_at protected c s disk before m ms first later now last x h k phases.Login e some more =
+    behind protected c s disk before m ms first now last x h k phases.Login e
+    (more (behind_none first later (may_execute_none protected s disk before m first now x phases.Login e (λ f. absurd (cc f))) some))
+executed_at protected c s disk before m ms first later now last x h k phases.Closed e some more =
+    behind protected c s disk before m ms first now last x h k phases.Closed e
+    (more (behind_none first later (may_execute_none protected s disk before m first now x phases.Closed e (λ f. absurd (cc f))) some))
 
-executed : (protected : Bool) (c : Chap) (s : Machine) (disk : Disk) (ms : List Message) → Held c s.session
-    → ((answers protected s disk ms).executed ≡ [] → ⊥) → Responded protected c s disk ms
-executed protected c s disk [] h some = absurd (some (unchanged_none protected s disk))
-executed protected c s disk (m ∷ ms) h some =
-    executed_at protected c s disk m ms s.session.phase refl h some
-    (λ more. executed protected c (target_step protected s disk m).machine (target_step protected s disk m).disk ms (held_on protected c s disk m h) more)
+pub executed : (protected : Bool) (c : Chap) (s : Machine) (disk : Disk) (before : ℕ) (ms : List Message) (r : TargetStep) (after : ℕ) (last : Session)
+    → MayAnswer protected s disk before ms r after → Held c s.session → Kept c r.machine.session last → (r.executed ≡ [] → ⊥)
+    → Responded protected c s disk last.initiator_name ms
+unfolding MayAnswer
+executed protected c s disk before [] r after last may h k some = absurd (some (ap (λ (x : TargetStep). x.executed) may.0))
+executed protected c s disk before (m ∷ ms) r after last may h k some =
+    let first : TargetStep = may.0 in
+    let later : TargetStep = may.1 in
+    let held : Held c first.machine.session = (may_keep protected c s disk before m first may.2 may.3 h.demands).held h in
+    let rest : Kept c later.machine.session last = subst (λ (x : TargetStep). Kept c x.machine.session last) may.5 k in
+    executed_at protected c s disk before m ms first later may.2 last may.3 h
+    (then_kept c first.machine.session later.machine.session last (all_kept protected c first.machine first.disk may.2 ms later after may.4 held) rest)
+    s.session.phase refl (subst (λ (x : TargetStep). x.executed ≡ [] → ⊥) may.5 some)
+    (λ more. executed protected c first.machine first.disk may.2 ms later after last may.4 held rest more)
 
 -- ---- the law
 
-opening_held : (settings : TargetSettings) (n : ℕ) (c : Chap) → settings.extras.chap ≡ Some c → Held c (opening_machine settings n).session
+pub opening_held : (settings : TargetSettings) (n : ℕ) (c : Chap) → settings.extras.chap ≡ Some c → Held c (opening_machine settings n).session
 opening_held settings n c d = record { demands = d; stage = λ f. absurd (cc f); phase = λ f. absurd (cc f) }
 
-unpassed : (protected : Bool) (settings : TargetSettings) (n : ℕ) (disk : Disk) (ms : List Message) (c : Chap)
-    → Responded protected c (opening_machine settings n) disk ms
-    → HasResponded protected (opening_machine settings n) disk c (answers protected (opening_machine settings n) disk ms).machine.session.initiator_name ms
-unpassed protected settings n disk ms c (inl was) = absurd (cc was)
-unpassed protected settings n disk ms c (inr h) = h
+unpassed : (protected : Bool) (settings : TargetSettings) (n : ℕ) (disk : Disk) (name : List ℕ) (ms : List Message) (c : Chap)
+    → Responded protected c (opening_machine settings n) disk name ms → HasResponded protected (opening_machine settings n) disk c name ms
+unpassed protected settings n disk name ms c (inl was) = absurd (cc was)
+unpassed protected settings n disk name ms c (inr h) = h
 
-pub full_if_answered : (protected : Bool) (settings : TargetSettings) (n : ℕ) (disk : Disk) (ms : List Message) (c : Chap) → settings.extras.chap ≡ Some c
-    → (answers protected (opening_machine settings n) disk ms).machine.session.stage ≡ stages.Full
-    → HasResponded protected (opening_machine settings n) disk c (answers protected (opening_machine settings n) disk ms).machine.session.initiator_name ms
-full_if_answered protected settings n disk ms c d e =
-    let h : Held c (opening_machine settings n).session = opening_held settings n c d in
-    unpassed protected settings n disk ms c
-    (passed protected c (opening_machine settings n) disk ms h ((all_held protected c (opening_machine settings n) disk ms h).stage e))
+pub full_if_answered : (protected : Bool) (settings : TargetSettings) (n : ℕ) (disk : Disk) (before after : ℕ) (ms : List Message) (r : TargetStep) (c : Chap)
+    → settings.extras.chap ≡ Some c → MayAnswer protected (opening_machine settings n) disk before ms r after → r.machine.session.stage ≡ stages.Full
+    → HasResponded protected (opening_machine settings n) disk c r.machine.session.initiator_name ms
+full_if_answered protected settings n disk before after ms r c d may e =
+    let s : Machine = opening_machine settings n in
+    let h : Held c s.session = opening_held settings n c d in
+    unpassed protected settings n disk r.machine.session.initiator_name ms c
+    (passed protected c s disk before ms r after r.machine.session may h (all_kept_here c r.machine.session)
+    (((all_kept protected c s disk before ms r after may h).held h).stage e))
 
-pub executed_if_answered : (protected : Bool) (settings : TargetSettings) (n : ℕ) (disk : Disk) (ms : List Message) (c : Chap) → settings.extras.chap ≡ Some c
-    → ((answers protected (opening_machine settings n) disk ms).executed ≡ [] → ⊥)
-    → HasResponded protected (opening_machine settings n) disk c (answers protected (opening_machine settings n) disk ms).machine.session.initiator_name ms
-executed_if_answered protected settings n disk ms c d some =
-    unpassed protected settings n disk ms c (executed protected c (opening_machine settings n) disk ms (opening_held settings n c d) some)
+pub executed_if_answered : (protected : Bool) (settings : TargetSettings) (n : ℕ) (disk : Disk) (before after : ℕ) (ms : List Message) (r : TargetStep)
+    (c : Chap) → settings.extras.chap ≡ Some c → MayAnswer protected (opening_machine settings n) disk before ms r after → (r.executed ≡ [] → ⊥)
+    → HasResponded protected (opening_machine settings n) disk c r.machine.session.initiator_name ms
+executed_if_answered protected settings n disk before after ms r c d may some =
+    unpassed protected settings n disk r.machine.session.initiator_name ms c
+    (executed protected c (opening_machine settings n) disk before ms r after r.machine.session may (opening_held settings n c d)
+    (all_kept_here c r.machine.session) some)

@@ -398,3 +398,10 @@ stop_stays protected s disk before m r after h =
           ∙ a.progress;
       later = λ _. b.later (a.later l);
     }
+
+pub stop_settings : (protected : Bool) (s : Machine) (disk : Disk) (before : ℕ) (m : Message) (r : TargetStep) (after : ℕ)
+    → MayStop protected s disk before m r after → r.machine.session.settings ≡ s.session.settings
+stop_settings protected s disk before m r after h =
+    let x : KeptSession s.session h.session = (subst (NextKeeps s.session) h.queued (full_next s disk.count m)).0 in
+    let y : Keeps (with_tasks h.session []) r = subst (Keeps (with_tasks h.session [])) (sym h.is) (first_keeps h.done h.device h.session disk h.tasks) in
+    y.is.settings ∙ x.settings

@@ -7,8 +7,8 @@ use Rattle.iscsi_event_loop.proofs.laws.one_disk_of_all.Goals as goal
 
 pub returns : goal.returns
 returns c = record {
-  may = λ protected count before after s. runs_lead protected no_sessions s.slots before after s.events s.runs;
-  follows = λ protected count before after s same. runs_follows protected no_sessions s.slots before after s.events s.runs same;
-  blocks = λ protected count before after s n same. follow_block protected before.disk after.disk (executed_in s.events)
+  may = λ protected count door before after s. runs_lead protected no_sessions s.slots before after s.events s.runs;
+  follows = λ protected count door before after s same. runs_follows protected no_sessions s.slots before after s.events s.runs same;
+  blocks = λ protected count door before after s n same. follow_block protected before.disk after.disk (executed_in s.events)
       (runs_follows protected no_sessions s.slots before after s.events s.runs same) n;
 }

@@ -4,5 +4,5 @@ use Rattle.iscsi_event_loop.proofs.service.serve_all.Given as goal
 
 abbrev pub invariant-loop : goal.invariant-loop
 invariant-loop g l = RunsWithin g.S.BlockStore.protected
-    l.fn.server.table (store_of (g.S.BlockStore.disk l.fn.store) (g.S.BlockStore.failures l.fn.store))
-    l.server.table (store_of (g.S.BlockStore.disk l.store) (g.S.BlockStore.failures l.store))
+    l.fn.server.room (store_of (g.S.BlockStore.disk l.fn.store) (g.S.BlockStore.failures l.fn.store))
+    l.server.room (store_of (g.S.BlockStore.disk l.store) (g.S.BlockStore.failures l.store))

@@ -5,7 +5,7 @@ use Rattle.iscsi_event_loop.proofs.server.Server.serve_peers.Goals as goal
 
 pub loop-slot-preserved : goal.loop-slot-preserved
 loop-slot-preserved g c = (
-  next_turns g.S.BlockStore.protected c.loop-slot.slot c.of-budget.result c.args.self.now.table c.loop-slot.self.table c.serve_peer.new.self.table
+  next_turns g.S.BlockStore.protected c.loop-slot.slot c.of-budget.result c.args.self.now.room c.loop-slot.self.room c.serve_peer.new.self.room
       (store_of (g.S.BlockStore.disk c.args.store.now) (g.S.BlockStore.failures c.args.store.now))
       (store_of (g.S.BlockStore.disk c.loop-slot.store) (g.S.BlockStore.failures c.loop-slot.store))
       (store_of (g.S.BlockStore.disk c.serve_peer.new.store) (g.S.BlockStore.failures c.serve_peer.new.store))

@@ -6,8 +6,8 @@ use Rattle.iscsi_event_loop.proofs.server.Server.serve_peers.Given as goal
 
 abbrev pub invariant-loop-slot : goal.invariant-loop-slot
 invariant-loop-slot g l = InTurns g.S.BlockStore.protected l.slot
-    l.fn.self.table (store_of (g.S.BlockStore.disk l.fn.store) (g.S.BlockStore.failures l.fn.store))
-    l.self.table (store_of (g.S.BlockStore.disk l.store) (g.S.BlockStore.failures l.store))
-    × (length l.self.table.slots ≡ length l.fn.self.table.slots)
+    l.fn.self.room (store_of (g.S.BlockStore.disk l.fn.store) (g.S.BlockStore.failures l.fn.store))
+    l.self.room (store_of (g.S.BlockStore.disk l.store) (g.S.BlockStore.failures l.store))
+    × (length l.self.room.table.slots ≡ length l.fn.self.room.table.slots)
     × (l.self.most ≡ l.fn.self.most) × (l.fn.self.counted ≤ l.self.counted)
     × (l.budget.pdus ≤ most_taken) × (l.budget.given ≤ most_given)
