@@ -1,6 +1,6 @@
 //! Whole streams, each with a target of its own: streams of one meaning are answered alike.
 
-ghost use Rattle.std.specs.Prelude.{◌≡◌, ◌↔◌, [], ℕ, List, map, IfOk};
+ghost use Rattle.std.specs.Prelude.{◌≡◌, ◌↔◌, [], ℕ, List, map, IfOk, OnOk};
 ghost use Rattle.iscsi_stream.specs.Stream.{Message, SplitsStream, StreamMeans, longest_segment};
 ghost use Rattle.iscsi_login.specs.Negotiation.{ArePreferencesInRange};
 ghost use Rattle.iscsi_target_session.specs.Session.{target_limit};
@@ -40,15 +40,46 @@ pub fn answer_pieces<S: BlockStore>(
         (map (λ piece. piece.items) pieces.now)
         (scene now.target (store_of (S.disk store.new) (S.failures store.new)) now.output.items)) }
 {
-    let mut target = Target::new(alloc, config, first_statsn);
-    let mut output = Vec::new(alloc);
+    let mut answered = fed_nothing(alloc, config, first_statsn);
+    match feed_pieces(&mut answered, pieces, store) {
+        Ok(()) => Ok(answered),
+        Err(fault) => Err(fault),
+    }
+}
+
+// A target that was fed nothing.
+fn fed_nothing(alloc: Global, config: Config, first_statsn: u32) -> Answered
+    ensures in_range { ArePreferencesInRange config.preferences }
+    ensures opening { result.target ≡ opening_target config first_statsn }
+    ensures none { result.output.items ≡ [] }
+{
+    Answered {
+        target: Target::new(alloc, config, first_statsn),
+        output: Vec::new(alloc),
+    }
+}
+
+// Feeds a target these pieces, until memory runs out. The target is lent, since each way out of a
+// function that owns one is dear to prove.
+fn feed_pieces<S: BlockStore>(
+    answered: &mut Answered,
+    pieces: &[Vec<u8>],
+    store: &mut S,
+) -> Result<(), TargetFault>
+    ensures fed { OnOk result (S.failures store.new ≡ S.failures store.old
+        → FeedsAllPieces S.protected (scene answered.old.target
+        (store_of (S.disk store.old) (S.failures store.old)) answered.old.output.items)
+        (map (λ piece. piece.items) pieces.now)
+        (scene answered.new.target (store_of (S.disk store.new) (S.failures store.new))
+        answered.new.output.items)) }
+{
     for piece in pieces {
-        let fed = target.feed(piece, store, &mut output);
+        let fed = answered.target.feed(piece, store, &mut answered.output);
         if has_run_out(&fed) {
             return Err(TargetFault::NoMemory);
         }
     }
-    Ok(Answered { target, output })
+    Ok(())
 }
 
 /// Answers two streams, each by a new target over a store of its own, whose first blocks, settings
@@ -115,9 +146,37 @@ pub fn answers_alike<S: BlockStore>(
         (target_limit configs.0) second_rest)
         → both.1.target.machine.session.phase ≡ both.0.target.machine.session.phase) }
 {
-    let first = answer_pieces(alloc, configs.0, first_statsn, streams.0, store)?;
-    let second = answer_pieces(alloc, configs.1, first_statsn, streams.1, other)?;
-    Ok((first, second))
+    let mut first = fed_nothing(alloc, configs.0, first_statsn);
+    let mut second = fed_nothing(alloc, configs.1, first_statsn);
+    match feed_both(&mut first, &mut second, streams, store, other) {
+        Ok(()) => Ok((first, second)),
+        Err(fault) => Err(fault),
+    }
+}
+
+// Feeds two targets a stream each, until memory runs out.
+fn feed_both<S: BlockStore>(
+    first: &mut Answered,
+    second: &mut Answered,
+    streams: (&[Vec<u8>], &[Vec<u8>]),
+    store: &mut S,
+    other: &mut S,
+) -> Result<(), TargetFault>
+    ensures first { OnOk result (S.failures store.new ≡ S.failures store.old
+        → FeedsAllPieces S.protected (scene first.old.target
+        (store_of (S.disk store.old) (S.failures store.old)) first.old.output.items)
+        (map (λ piece. piece.items) streams.entry.0.now)
+        (scene first.new.target (store_of (S.disk store.new) (S.failures store.new))
+        first.new.output.items)) }
+    ensures second { OnOk result (S.failures other.new ≡ S.failures other.old
+        → FeedsAllPieces S.protected (scene second.old.target
+        (store_of (S.disk other.old) (S.failures other.old)) second.old.output.items)
+        (map (λ piece. piece.items) streams.entry.1.now)
+        (scene second.new.target (store_of (S.disk other.new) (S.failures other.new))
+        second.new.output.items)) }
+{
+    feed_pieces(first, streams.0, store)?;
+    feed_pieces(second, streams.1, other)
 }
 
 // Whether memory ran out in a call of `feed`.

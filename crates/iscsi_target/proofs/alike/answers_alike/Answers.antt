@@ -5,8 +5,8 @@ use Rattle.iscsi_target.specs.Advances.{store_of}
 use Rattle.iscsi_target.proofs.Feed.AlikeLemmas.{done_alike, wrote_alike}
 use Rattle.iscsi_target.proofs.alike.answers_alike.Goals as goal
 
-pub returns : goal.returns
-returns g c =
+pub returns-in-Ok : goal.returns-in-Ok
+returns-in-Ok g c =
     let disk = g.S.BlockStore.disk in
     let failures = g.S.BlockStore.failures in
     let items : Vec ℕ Global → List ℕ = λ piece. piece.items in
@@ -14,32 +14,38 @@ returns g c =
     let n : ℕ = c.args.first_statsn in
     let store : Store = store_of (disk c.args.store.now) (failures c.args.store.now) in
     let other : Store = store_of (disk c.args.other.now) (failures c.args.other.now) in
-    let first : Store = store_of (disk c.answer_pieces.new.store) (failures c.answer_pieces.new.store) in
-    let second : Store = store_of (disk c.answer_pieces-2.new.store) (failures c.answer_pieces-2.new.store) in
+    let first : Store = store_of (disk c.feed_both.new.store) (failures c.feed_both.new.store) in
+    let second : Store = store_of (disk c.feed_both.new.other) (failures c.feed_both.new.other) in
     let pieces : List (List ℕ) = map items c.args.streams.0.now in
     let others : List (List ℕ) = map items c.args.streams.1.now in
-    let a = c.in_ok-first.first in
-    let b = c.in_ok-second.second in
-    let fed_second : failures c.answer_pieces-2.new.store ≡ failures c.args.other.now
+    let a = c.feed_both.new.first in
+    let b = c.feed_both.new.second in
+    let fed_first : failures c.feed_both.new.store ≡ failures c.args.store.now
+    → FeedsAllPieces g.S.BlockStore.protected (scene (opening_target settings n) store []) pieces (scene a.target first a.output.items) =
+    rw (c.fed_nothing-first.ensures.opening, c.fed_nothing-first.ensures.none) at c.in-Ok.ensures.first in
+    let fed_own : failures c.feed_both.new.other ≡ failures c.args.other.now
+    → FeedsAllPieces g.S.BlockStore.protected (scene (opening_target c.args.configs.1 n) other []) others (scene b.target second b.output.items) =
+    rw (c.fed_nothing-second.ensures.opening, c.fed_nothing-second.ensures.none) at c.in-Ok.ensures.second in
+    let fed_second : failures c.feed_both.new.other ≡ failures c.args.other.now
     → FeedsAllPieces g.S.BlockStore.protected (scene (opening_target settings n) other []) others (scene b.target second b.output.items) =
-    subst (λ (x : TargetSettings). failures c.answer_pieces-2.new.store ≡ failures c.args.other.now
+    subst (λ (x : TargetSettings). failures c.feed_both.new.other ≡ failures c.args.other.now
     → FeedsAllPieces g.S.BlockStore.protected (scene (opening_target x n) other []) others (scene b.target second b.output.items)) c.requires.config
-    c.in_ok-second.ensures.fed in
+    fed_own in
     record {
-      first = c.in_ok-first.ensures.fed;
-      second = c.in_ok-second.ensures.fed;
+      first = fed_first;
+      second = fed_own;
       alike = λ ms well well_other p q.
           (let d = done_alike g.S.BlockStore.protected settings n store other (scene a.target first a.output.items) (scene b.target second b.output.items)
           pieces others ms c.requires.disk
-          (c.in_ok-first.ensures.fed well) (fed_second well_other) p q in
+          (fed_first well) (fed_second well_other) p q in
           (d.output, d.disk, d.machine));
       front = λ ms given rest same_given second_rest well well_other p q.
           (let d = wrote_alike g.S.BlockStore.protected settings n store other (scene a.target first a.output.items) (scene b.target second b.output.items)
-          pieces others ms (record { given = given; rest = rest }) (record { given = same_given; rest = second_rest }) c.in_ok-first.ensures.in_range
-          c.requires.disk (c.in_ok-first.ensures.fed well) (fed_second well_other) p q in
+          pieces others ms (record { given = given; rest = rest }) (record { given = same_given; rest = second_rest }) c.fed_nothing-first.ensures.in_range
+          c.requires.disk (fed_first well) (fed_second well_other) p q in
           (d.output, d.disk, d.held, d.stage));
       phase = λ ms given rest same_given second_rest well well_other p q.
           (wrote_alike g.S.BlockStore.protected settings n store other (scene a.target first a.output.items) (scene b.target second b.output.items) pieces
           others ms (record { given = given; rest = rest }) (record { given = same_given; rest = second_rest })
-          c.in_ok-first.ensures.in_range c.requires.disk (c.in_ok-first.ensures.fed well) (fed_second well_other) p q).phase;
+          c.fed_nothing-first.ensures.in_range c.requires.disk (fed_first well) (fed_second well_other) p q).phase;
     }

@@ -1,7 +1,7 @@
-use Rattle.std.proofs.Common.{◌≡◌, ◌≤◌, [], map, take}
-use Rattle.iscsi_target.specs.Feed.{FeedsAllPieces, opening_target, scene}
+use Rattle.std.proofs.Common.{◌≡◌, ◌≤◌, map, take}
+use Rattle.iscsi_target.specs.Feed.{FeedsAllPieces, scene}
 use Rattle.iscsi_target.specs.Advances.{store_of}
-use Rattle.iscsi_target.proofs.alike.answer_pieces.Given as goal
+use Rattle.iscsi_target.proofs.alike.feed_pieces.Given as goal
 
 -- The pieces so far were fed, if no failure was counted.
 abbrev pub invariant-loop-piece : goal.invariant-loop-piece
@@ -11,7 +11,7 @@ invariant-loop-piece g l =
     record {
       rises : failures l.fn.store ≤ failures l.store;
       fed : failures l.store ≡ failures l.fn.store
-          → FeedsAllPieces g.S.BlockStore.protected (scene (opening_target l.fn.config l.first_statsn) (store_of (disk l.fn.store) (failures l.fn.store)) [])
+          → FeedsAllPieces g.S.BlockStore.protected (scene l.fn.answered.target (store_of (disk l.fn.store) (failures l.fn.store)) l.fn.answered.output.items)
           (map (λ piece. piece.items) (take l.piece-index l.pieces))
-          (scene l.target (store_of (disk l.store) (failures l.store)) l.output.items);
+          (scene l.answered.target (store_of (disk l.store) (failures l.store)) l.answered.output.items);
     }
