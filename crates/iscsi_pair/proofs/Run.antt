@@ -11,3 +11,4 @@ pub mod OneDiskLaw
 pub mod ProgressLemmas
 pub mod ServedRunsLaw
 pub mod GivingLemmas
+pub mod RestLemmas

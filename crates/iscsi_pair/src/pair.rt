@@ -1,9 +1,10 @@
 //! A target and an initiator, and the bytes between them. One file, more than half of which is the
 //! contracts of one type.
 
-ghost use Rattle.std.specs.Prelude.{◌≡◌, false, Some, None, [], ◌++◌, ◌↔◌, IsTrue, IsSome, OnOk, IfSome, length, map, IfOk, IfErr, MatchOption};
+ghost use Rattle.std.specs.Prelude.{◌≡◌, ◌⊎◌, false, Some, None, [], ◌++◌, ◌↔◌, IsTrue, IsSome, OnOk, IfSome, length, map, IfOk, IfErr, MatchOption};
 ghost use Rattle.iscsi_initiator.specs.declared.fault.InitiatorFault.TheVariants as faults;
-ghost use Rattle.iscsi_pair.specs.World.{IsOpening, SuitEachOther, new_pair, PairEventStep, PairRuns, RunsCalmly, event_of, keeps_no_memory};
+ghost use Rattle.iscsi_pair.specs.World.{IsOpening, SuitEachOther, new_pair, PairEventStep, PairRuns, RunsCalmly, World, event_of, keeps_no_memory};
+ghost use Rattle.iscsi_pair.specs.declared.step.RunFault.TheVariants as run_faults;
 ghost use Rattle.iscsi_initiator.specs.Calls.{InitiatorStartPost};
 ghost use Rattle.iscsi_initiator.specs.Calls as initiator_calls;
 ghost use Rattle.iscsi_target.specs.Feed as target_calls;
@@ -207,8 +208,9 @@ impl Pair {
 }
 
 /// A new pair takes these steps, one after another, and behind each the outcome is taken, if one is
-/// there. Returns the outcomes and what the target's store has then; `NotServed` where an end failed,
-/// a request was refused, or bytes are on their way still.
+/// there. Returns the outcomes and what the target's store has then. Returns `NoMemory` where memory
+/// ran out, in an end too, and else `NotServed` where an end failed, a request was refused, or bytes
+/// are on their way still.
 ///
 /// However the steps cut and mix what is on its way, the outcomes are those of one local disk.
 pub fn outcomes_over(
@@ -228,6 +230,10 @@ pub fn outcomes_over(
     ensures ran { IfOk result (λ served.
         HasRun (opening_of configs.0 configs.1 first_statsn store) (step_events steps.items)
         served.0.items served.1) }
+    // Steps that bring a pair to rest, where no growth is refused, are not refused here.
+    ensures rested { (w : World) → RunsCalmly (new_pair (opening_of configs.0 configs.1 first_statsn store))
+        (step_events steps.items) w
+        → IsIdle w → IfErr result (λ fault. fault ≡ run_faults.NoMemory) }
 {
     let Ok(mut pair) = Pair::new(alloc, configs.0, configs.1, first_statsn, store) else {
         return Err(RunFault::NoMemory);
@@ -248,6 +254,9 @@ fn outcomes_behind(pair: &mut Pair, alloc: Global, steps: Vec<Step>) -> Result<V
     ensures none_left { OnOk result (pair.old.initiator.machine.done ≡ None
         → pair.new.initiator.machine.done ≡ None) }
     ensures idle { OnOk result (IsIdle pair.new) }
+    ensures err { IfErr result (λ fault. (fault ≡ run_faults.NoMemory)
+        ⊎ (PairRuns pair.old (step_events steps.items) pair.new
+        × (keeps_no_memory pair.new ≡ false) × (IsIdle pair.new → ⊥))) }
 {
     let mut outcomes = Vec::new(alloc);
     for step in steps {
@@ -257,10 +266,25 @@ fn outcomes_behind(pair: &mut Pair, alloc: Global, steps: Vec<Step>) -> Result<V
             return Err(RunFault::NoMemory);
         };
     }
+    match at_rest(pair) {
+        Ok(()) => Ok(outcomes),
+        Err(fault) => Err(fault),
+    }
+}
+
+// Whether a pair has served all that it was asked.
+pub(crate) fn at_rest(pair: &Pair) -> Result<(), RunFault>
+    ensures ok { OnOk result (IsIdle pair.now) }
+    ensures err { IfErr result (λ fault. (fault ≡ run_faults.NoMemory)
+        ⊎ ((keeps_no_memory pair.now ≡ false) × (IsIdle pair.now → ⊥))) }
+{
+    if pair.ran_out() {
+        return Err(RunFault::NoMemory);
+    }
     if !pair.is_idle() {
         return Err(RunFault::NotServed);
     }
-    Ok(outcomes)
+    Ok(())
 }
 
 // Appends an outcome, if there is one.

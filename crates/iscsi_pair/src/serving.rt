@@ -12,7 +12,7 @@ ghost use Rattle.iscsi_pair.specs.Served.{IsNormal, IsServed, RunsServed, local_
 ghost use Rattle.iscsi_pair.specs.World.{PairEvent, PairEventStep, Opening, PairRuns, SuitEachOther, World, event_of, keeps_no_memory, new_pair};
 ghost use Rattle.iscsi_pair.specs.World as worlds;
 
-use crate::pair::{Pair, push_some};
+use crate::pair::{Pair, at_rest, push_some};
 use crate::step::{RunFault, Step};
 use iscsi_initiator::{Done, Request};
 use scsi_disk::MemoryStore;
@@ -116,19 +116,4 @@ fn turn(pair: &mut Pair)
     pair.step(Step::ToTarget(there));
     let (_, back) = pair.queued();
     pair.step(Step::ToInitiator(back));
-}
-
-// Whether a pair has served all that it was asked.
-fn at_rest(pair: &Pair) -> Result<(), RunFault>
-    ensures ok { OnOk result (IsIdle pair.now) }
-    ensures err { IfErr result (λ fault. (fault ≡ faults.NoMemory)
-        ⊎ ((keeps_no_memory pair.now ≡ false) × (IsIdle pair.now → ⊥))) }
-{
-    if pair.ran_out() {
-        return Err(RunFault::NoMemory);
-    }
-    if !pair.is_idle() {
-        return Err(RunFault::NotServed);
-    }
-    Ok(())
 }
