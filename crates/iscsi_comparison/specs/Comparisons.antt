@@ -1,5 +1,5 @@
 -- What a comparison of two inputs answers and writes.
-use Rattle.std.specs.Prelude.{◌≡◌, ◌⊎◌, ℕ, List, [], take, Option, Some, Result, Ok, Err}
+use Rattle.std.specs.Prelude.{◌≡◌, ◌⊎◌, ℕ, Bool, true, false, List, [], take, Option, Some, None, Result, Ok, Err}
 use Rattle.std.specs.Io.KnownBytes.{Consumes, IsAtEnd}
 use Rattle.iscsi_stream.specs.declared.fault.ToolFault.{ToolFault}
 use Rattle.iscsi_stream.specs.declared.fault.ToolFault.TheVariants as tool
@@ -14,6 +14,7 @@ use Rattle.iscsi_comparison.specs.declared.comparing.Sameness.{Sameness}
 use Rattle.iscsi_comparison.specs.declared.comparing.Sameness.TheVariants as same
 use Rattle.iscsi_comparison.specs.declared.comparing.ComparisonFault.{ComparisonFault}
 use Rattle.iscsi_comparison.specs.declared.comparing.ComparisonFault.TheVariants as fault
+use Rattle.iscsi_comparison.specs.declared.files.Comparison.{Comparison}
 use Rattle.iscsi_filters.specs.Filters.{filter_exit_status}
 use Rattle.iscsi_filters.specs.HexText.{BytesOf, HexTextFails, IsReadToFault}
 
@@ -109,3 +110,36 @@ ComparesHex sameness outcome first second written =
 -- A reader gave this text.
 abbrev pub GaveText : Option (List ℕ) → Option (List ℕ) → ReadInput → Type 0
 GaveText old new input = Consumes old new input.read × (input.left ≡ new)
+
+-- Two inputs were compared, of hex text or of bytes.
+abbrev pub ComparesInputs : (hex : Bool) → Sameness → ComparisonOutcome → ReadInput → ReadInput → List ℕ
+    → Type 0
+ComparesInputs true sameness outcome first second written =
+    ComparesHex sameness outcome first second written
+ComparesInputs false sameness outcome first second written =
+    ComparesBytes sameness outcome first second written
+
+-- What a reader gave is the second input if no file is named for it; else nothing was read.
+abbrev pub IsSecond : {Name : Type 0} → Option Name → ReadInput → List ℕ → Option (List ℕ) → Type 0
+IsSecond (Some name) second read left = read ≡ []
+IsSecond None second read left = (second.read ≡ read) × (second.left ≡ left)
+
+-- A file can't be opened, and nothing was read and written.
+pub record IsUnopened (outcome : ComparisonOutcome) (read written : List ℕ) : Type 0 where
+  pub which : Which
+  pub outcome_is : outcome ≡ Err (fault.Input which tool.Read)
+  pub unread : read ≡ []
+  pub none : written ≡ []
+
+-- Two inputs were compared: a file, and another one or what a reader gave.
+pub record ComparesFiles (comparison : Comparison) (outcome : ComparisonOutcome) (read : List ℕ)
+    (left : Option (List ℕ)) (written : List ℕ) : Type 0 where
+  pub first : ReadInput
+  pub second : ReadInput
+  pub given : IsSecond comparison.second second read left
+  pub compares : ComparesInputs comparison.hex comparison.sameness outcome first second written
+
+-- How a comparison of files runs.
+abbrev pub RunsFiles : Comparison → ComparisonOutcome → List ℕ → Option (List ℕ) → List ℕ → Type 0
+RunsFiles comparison outcome read left written =
+    IsUnopened outcome read written ⊎ ComparesFiles comparison outcome read left written

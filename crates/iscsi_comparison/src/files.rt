@@ -2,6 +2,8 @@
 
 ghost use Rattle.std.specs.Prelude.{ℕ, List};
 ghost use Rattle.std.specs.Io.KnownBytes.{Appends, Consumes};
+ghost use Rattle.iscsi_compare.specs.Comparing.{ReadInput};
+ghost use Rattle.iscsi_comparison.specs.Comparisons.{ComparesInputs, GaveText, RunsFiles};
 
 use crate::comparing::{ComparisonFault, Sameness, compare_bytes, compare_hex};
 use iscsi_compare::{Verdict, Which};
@@ -52,9 +54,10 @@ impl Comparison<'_> {
         r: &mut R,
         w: &mut W,
     ) -> Result<Verdict, ComparisonFault>
-        ensures moves { (read : List ℕ) × (written : List ℕ)
+        ensures compares { (read : List ℕ) × (written : List ℕ)
             × Consumes (R.remaining r.old) (R.remaining r.new) read
-            × Appends (W.contents w.old) (W.contents w.new) written }
+            × Appends (W.contents w.old) (W.contents w.new) written
+            × RunsFiles self.now result read (R.remaining r.new) written }
     {
         let alloc = rt.alloc();
         let Ok(mut first) = fs::open(rt, self.first) else {
@@ -77,9 +80,10 @@ impl Comparison<'_> {
         second: &mut Q,
         w: &mut W,
     ) -> Result<Verdict, ComparisonFault>
-        ensures moves { (read : List ℕ) × (written : List ℕ)
-            × Consumes (Q.remaining second.old) (Q.remaining second.new) read
-            × Appends (W.contents w.old) (W.contents w.new) written }
+        ensures compares { (mine : ReadInput) × (other : ReadInput) × (written : List ℕ)
+            × GaveText (Q.remaining second.old) (Q.remaining second.new) other
+            × Appends (W.contents w.old) (W.contents w.new) written
+            × ComparesInputs self.now.hex self.now.sameness result mine other written }
     {
         if self.hex {
             compare_hex(alloc, self.sameness, first, second, w)

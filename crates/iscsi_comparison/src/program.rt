@@ -63,7 +63,7 @@ pub fn run_comparison_words<S: AsStr, R: Read, W: Write, E: Write>(
     ensures runs { (asked : Option Comparison) × (read : List ℕ) × (written : List ℕ)
         × Consumes (R.remaining r.old) (R.remaining r.new) read
         × Appends (W.contents w.old) (W.contents w.new) written
-        × RunsComparison asked result read written }
+        × RunsComparison asked result read (R.remaining r.new) written }
 {
     let Some(comparison) = asked(words) else {
         let _ = errors.write_all(USAGE.as_bytes());

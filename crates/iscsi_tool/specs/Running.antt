@@ -1,5 +1,5 @@
 -- How a run of the program ends, and with which exit status.
-use Rattle.std.specs.Prelude.{◌≡◌, ℕ, true, List, [], Result, Ok, Err}
+use Rattle.std.specs.Prelude.{◌≡◌, ℕ, true, List, [], Option, Result, Ok, Err}
 use Rattle.iscsi_stream.specs.declared.fault.ToolFault.{ToolFault}
 use Rattle.iscsi_compare.specs.declared.verdict.Verdict.{Verdict}
 use Rattle.iscsi_compare.specs.declared.verdict.Verdict.TheVariants as verdict
@@ -28,7 +28,7 @@ use Rattle.iscsi_words.specs.declared.words.Job.TheVariants as job
 use Rattle.iscsi_tool.specs.Captures.{WritesCapture}
 use Rattle.iscsi_tool.specs.CaptureComparisons.{ComparesCaptures}
 use Rattle.iscsi_tool.specs.Telling.{TellingOutput}
-use Rattle.iscsi_comparison.specs.Comparisons.{comparison_exit_status}
+use Rattle.iscsi_comparison.specs.Comparisons.{RunsFiles, comparison_exit_status}
 use Rattle.iscsi_filters.specs.Filters.{filter_exit_status}
 use Rattle.iscsi_words.specs.Jobs.{IsJob}
 use Rattle.iscsi_tool.specs.Filtering.{Filters}
@@ -104,10 +104,10 @@ abbrev pub EndsCaptures : CaptureComparison → Outcome → List ℕ → Type 0
 EndsCaptures comparison ends written = (said : Result Verdict CaptureComparisonFault)
     × ComparesCaptures comparison.sameness said written × (ends ≡ of_captures comparison said)
 
--- A comparison ended so.
-abbrev pub EndsComparison : Comparison → Outcome → Type 0
-EndsComparison comparison ends =
-    (said : Result Verdict ComparisonFault) × (ends ≡ of_comparison comparison said)
+-- A comparison ran, and that is how it ended.
+abbrev pub EndsComparison : Comparison → Outcome → List ℕ → Option (List ℕ) → List ℕ → Type 0
+EndsComparison comparison ends read left written = (said : Result Verdict ComparisonFault)
+    × RunsFiles comparison said read left written × (ends ≡ of_comparison comparison said)
 
 -- A service ended so: as its sessions did, or since this very image, export or file of secrets could
 -- not be served.
@@ -115,18 +115,20 @@ abbrev pub EndsServiceJob : ServeJob → Outcome → Type 0
 EndsServiceJob job ends = (said : Result (Unit {0}) DiskFault) × EndsDisk job said
     × (ends ≡ of_service said)
 
--- A job ended so, with this read from the standard input and this written to the standard output.
+-- A job ended so, with this read from the standard input, this left there and this written to the
+-- standard output.
 -- A service touches neither by itself, and a job over a capture reads a file of the process.
-abbrev pub JobRuns : Job → Outcome → List ℕ → List ℕ → Type 0
-JobRuns (job.Filter filter) ends read written = EndsFilter filter ends read written
-JobRuns (job.Serve served) ends read written =
+abbrev pub JobRuns : Job → Outcome → List ℕ → Option (List ℕ) → List ℕ → Type 0
+JobRuns (job.Filter filter) ends read left written = EndsFilter filter ends read written
+JobRuns (job.Serve served) ends read left written =
     EndsServiceJob served ends × (read ≡ []) × (written ≡ [])
-JobRuns (job.Loop blocks piece) ends read written = EndsLoop ends read written
-JobRuns (job.Compare comparison) ends read written = EndsComparison comparison ends
-JobRuns (job.Tell telling) ends read written = EndsTelling telling ends read written
-JobRuns (job.CompareCaptures comparison) ends read written =
+JobRuns (job.Loop blocks piece) ends read left written = EndsLoop ends read written
+JobRuns (job.Compare comparison) ends read left written =
+    EndsComparison comparison ends read left written
+JobRuns (job.Tell telling) ends read left written = EndsTelling telling ends read written
+JobRuns (job.CompareCaptures comparison) ends read left written =
     EndsCaptures comparison ends written × (read ≡ [])
-JobRuns (job.Capture capture) ends read written = EndsCapture capture ends written × (read ≡ [])
+JobRuns (job.Capture capture) ends read left written = EndsCapture capture ends written × (read ≡ [])
 
 -- What the words ask for; with no words the hex text of a stream is normalised.
 abbrev pub AsksFor : {S : Type 0} → List S → Result Job LineFault → Type 0
@@ -134,12 +136,13 @@ AsksFor words asked =
     words ≡ [] → asked ≡ Ok (job.Filter (record { work = Normalise; hex = true }))
 
 -- What was asked for ended so: the job ran, or nothing was read and written.
-abbrev pub RunsAsked : Result Job LineFault → Outcome → List ℕ → List ℕ → Type 0
-RunsAsked (Ok asked) ends read written = IsJob asked × JobRuns asked ends read written
-RunsAsked (Err fault) ends read written =
+abbrev pub RunsAsked : Result Job LineFault → Outcome → List ℕ → Option (List ℕ) → List ℕ → Type 0
+RunsAsked (Ok asked) ends read left written =
+    IsJob asked × JobRuns asked ends read left written
+RunsAsked (Err fault) ends read left written =
     (ends ≡ outcome.Words fault) × (read ≡ []) × (written ≡ [])
 
 -- A command line ended so.
-abbrev pub RunsWords : {S : Type 0} → List S → Outcome → List ℕ → List ℕ → Type 0
-RunsWords words ends read written =
-    (asked : Result Job LineFault) × AsksFor words asked × RunsAsked asked ends read written
+abbrev pub RunsWords : {S : Type 0} → List S → Outcome → List ℕ → Option (List ℕ) → List ℕ → Type 0
+RunsWords words ends read left written = (asked : Result Job LineFault) × AsksFor words asked
+    × RunsAsked asked ends read left written

@@ -118,7 +118,8 @@ pub fn run_read<R: Read, W: Write, E: Write>(
     ensures runs { IfOk words.now (λ words. (outcome : Outcome) × (read : List ℕ) × (written : List ℕ)
         × Consumes (R.remaining r.old) (R.remaining r.new) read
         × Appends (W.contents w.old) (W.contents w.new) written
-        × RunsWords words.items outcome read written × (result ≡ outcome_status outcome)) }
+        × RunsWords words.items outcome read (R.remaining r.new) written
+        × (result ≡ outcome_status outcome)) }
     // Without words nothing is read or written.
     ensures unread { IfErr words.now (λ fault. (result ≡ words_status fault)
         × (R.remaining r.new ≡ R.remaining r.old) × (W.contents w.new ≡ W.contents w.old)) }
@@ -149,7 +150,7 @@ pub fn run_words<S: AsStr, R: Read, W: Write, E: Write>(
     ensures runs { (outcome : Outcome) × (read : List ℕ) × (written : List ℕ)
         × Consumes (R.remaining r.old) (R.remaining r.new) read
         × Appends (W.contents w.old) (W.contents w.new) written
-        × RunsWords words.now outcome read written
+        × RunsWords words.now outcome read (R.remaining r.new) written
         × (result ≡ outcome_status outcome) }
 {
     let outcome = run(rt, words, r, w);
@@ -175,7 +176,7 @@ fn run<'a, S: AsStr, R: Read, W: Write>(
     ensures runs { (read : List ℕ) × (written : List ℕ)
         × Consumes (R.remaining r.old) (R.remaining r.new) read
         × Appends (W.contents w.old) (W.contents w.new) written
-        × RunsWords words.now result read written }
+        × RunsWords words.now result read (R.remaining r.new) written }
 {
     match read_words(rt.alloc(), words) {
         Ok(job) => run_job(rt, words, job, r, w),
@@ -196,7 +197,7 @@ fn run_job<'a, S: AsStr, R: Read, W: Write>(
     ensures runs { (read : List ℕ) × (written : List ℕ)
         × Consumes (R.remaining r.old) (R.remaining r.new) read
         × Appends (W.contents w.old) (W.contents w.new) written
-        × JobRuns job.entry result read written }
+        × JobRuns job.entry result read (R.remaining r.new) written }
 {
     match job {
         Job::Filter(filter) => filtered(run_filter(rt.alloc(), filter, r, w)),
@@ -286,7 +287,7 @@ fn compare<'a, R: Read, W: Write>(
     ensures ends { (read : List ℕ) × (written : List ℕ)
         × Consumes (R.remaining r.old) (R.remaining r.new) read
         × Appends (W.contents w.old) (W.contents w.new) written
-        × EndsComparison comparison.entry result }
+        × EndsComparison comparison.entry result read (R.remaining r.new) written }
 {
     compared(comparison, comparison.run(rt, r, w))
 }
