@@ -52,6 +52,7 @@ WANTED = {
     ("docs/RECIPES.md", "A disk on an NBD server, A qcow2 image, with a snapshot taken while it is served"): ["qemu-storage-daemon", "socat"],
     ("docs/RECIPES.md", "A disk on an NBD server, A plugin and a filter of nbdkit"): ["nbdkit", "qemu-io"],
     ("docs/RECIPES.md", "A disk on an NBD server, Two services"): ["qemu-nbd"],
+    ("docs/RECIPES.md", "A disk that outgrows one machine"): ["ceph-mon", "ceph-osd", "rbd", "qemu-nbd"],
 }
 # The files that a section takes as given, each with its size in MiB, or with the file of the tree that it is a copy of.
 GIVEN = {
@@ -61,6 +62,7 @@ GIVEN = {
     ("docs/RECIPES.md", "A disk that nobody changes"): {"source.img": 4},
     ("docs/RECIPES.md", "A disk on an NBD server, A plugin and a filter of nbdkit"): {"base.img": 4},
     ("docs/RECIPES.md", "A disk on an NBD server, Two services"): {"disk.img": 4},
+    ("docs/RECIPES.md", "A disk that outgrows one machine"): {"source.img": 8},
     ("docs/RECIPES.md", "Two streams compared"): {
         "initiator.bin": "crates/capture_vectors/data/inq-lo.0.initiator",
         "stream.bin": "crates/capture_vectors/data/inq-lo.0.target",
@@ -76,6 +78,8 @@ BEFORE = {
     ("docs/RECIPES.md", "A disk that nobody changes"): "cp source.img disk.img",
     ("docs/RECIPES.md", "A disk on an NBD server, A plugin and a filter of nbdkit"):
     "disk=iscsi://127.0.0.1:3260/iqn.2026-01.example:disk/0",
+    ("docs/RECIPES.md", "A disk that outgrows one machine"):
+    "trap 'tools/ceph/cluster.py stop ceph' EXIT; tools/ceph/cluster.py start ceph; export CEPH_CONF=$PWD/ceph/ceph.conf",
 }
 ALL = "tools/all/run.py runs it"
 # Why the commands of the text are not run here, by what they begin with. The first form that fits is taken.
@@ -83,7 +87,7 @@ ELSEWHERE = {
     r"tools/(pages|all)/run\.py": "it would run itself",
     r"tools/gate_changed/": "it proves",
     r"tools/gate_times/": "it reads a run of the gate, or the work that proofs keep",
-    r"tools/(captures/mangle|refused_memory/(calls|sweep))\.py": "the run.py beside it runs it",
+    r"tools/(captures/mangle|ceph/cluster|refused_memory/(calls|sweep))\.py": "the run.py beside it runs it",
     r"tools/reach/": "tools/check_docs/check_docs.py runs it",
     r"tools/[a-z_]+/[a-z_]+(\.py)?( |$)": ALL,
     r"tools/[a-z_]+": "it is a folder",
