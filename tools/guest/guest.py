@@ -15,6 +15,7 @@ PROGRAMS = ["qemu-system-x86_64", "busybox", "cpio", "modprobe", "depmod", "iscs
 MODULES = ["e1000", "virtio_pci", "virtio_blk", "iscsi_tcp", "sd_mod", "ext4"]
 # Programs of this machine that the guest has, and those of busybox that it has not.
 COPIED = ["iscsid", "iscsiadm", "mkfs.ext4", "fsck.ext4", "fstrim", "blkdiscard", "lsblk", "sg_reset", "sg_inq", "sg_vpd"]
+INITIATOR = "iqn.2026-01.example:guest"
 INIT = """#!/bin/busybox sh
 /bin/busybox --install -s /bin
 export PATH=/bin:/sbin:/usr/bin:/usr/sbin
@@ -73,8 +74,8 @@ def modules(root, version):
     return files
 
 
-def make(room, job, initiator, program=None):
-    """Makes the archive of a guest that does this job, a shell script, as this initiator, and may have a program of this machine."""
+def make(room, job, initiator, *programs):
+    """Makes the archive of a guest that does this job, a shell script, as this initiator, and has these programs of this machine."""
     for name in PROGRAMS:
         if not shutil.which(name):
             raise Missing(f"{name} is not installed")
@@ -86,7 +87,7 @@ def make(room, job, initiator, program=None):
     for name in COPIED:
         if shutil.which(name):
             put(folder, shutil.which(name))
-    if program:
+    for program in programs:
         put(folder, program)
     listed = []
     for file in modules(root, version):
@@ -111,19 +112,18 @@ def make(room, job, initiator, program=None):
     return f"{room}/initrd"
 
 
-def words(initrd, disk=None):
-    """The words that start a guest, which may have a disk: an image file."""
+def words(initrd, disk=None, memory=512):
+    """The words that start a guest of so many MB, which may have a disk: an image file, or a URL that QEMU opens."""
     image, _, _ = kernel()
     found = [
-        "qemu-system-x86_64", "-cpu", "max", "-m", "512", "-nographic", "-no-reboot", "-kernel", image, "-initrd", initrd,
+        "qemu-system-x86_64", "-cpu", "max", "-m", str(memory), "-nographic", "-no-reboot", "-kernel", image, "-initrd", initrd,
         "-append", "console=ttyS0 quiet panic=-1 no_timer_check", "-netdev", "user,id=net", "-device", "e1000,netdev=net",
     ]
-    return found + (["-drive", f"file={disk},format=raw,if=virtio,cache=writeback"] if disk else [])
+    return found + (["-drive", f"file={disk},format=raw,if=virtio"] if disk else [])
 
 
-def run(room, job, initiator="iqn.2026-01.example:guest", seconds=300):
-    """What a guest that does this job prints. The host is 10.0.2.2 to it."""
-    run_words = words(make(room, job, initiator))
+def told(run_words, seconds):
+    """What a guest's job prints."""
     done = subprocess.run(run_words, stdin=subprocess.DEVNULL, stdout=subprocess.PIPE, stderr=subprocess.STDOUT, timeout=seconds)
     text = done.stdout.decode(errors="replace").replace("\r", "")
     if "GUEST BEGINS" not in text:
@@ -131,9 +131,21 @@ def run(room, job, initiator="iqn.2026-01.example:guest", seconds=300):
     return text.split("GUEST BEGINS\n", 1)[1].split("GUEST ENDS", 1)[0]
 
 
+def run(room, job, initiator=INITIATOR, seconds=300):
+    """What a guest that does this job prints. The host is 10.0.2.2 to it."""
+    return told(words(make(room, job, initiator)), seconds)
+
+
+def run_with_fio(room, job, disk, seconds=600):
+    """What a guest that does this job prints. It has fio, whose libraries are large, and a disk."""
+    if not shutil.which("fio"):
+        raise Missing("fio is not installed")
+    return told(words(make(room, job, INITIATOR, shutil.which("fio")), disk, 1024), seconds)
+
+
 def lines(room, job, program, disk, seconds=300):
     """The lines of a guest that has a program and a disk, as they come. It is killed where the caller stops to take them."""
-    guest_words = words(make(room, job, "iqn.2026-01.example:guest", program), disk)
+    guest_words = words(make(room, job, INITIATOR, program), disk)
     guest = subprocess.Popen(guest_words, stdin=subprocess.DEVNULL, stdout=subprocess.PIPE, stderr=subprocess.STDOUT)
     end = threading.Timer(seconds, guest.kill)
     end.start()

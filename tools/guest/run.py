@@ -1,14 +1,15 @@
 #!/usr/bin/env python3
-"""Tries `serve` with open-iscsi on Linux, in a guest.
+"""Tries `serve` with Linux in a guest: by open-iscsi there, and as a disk that QEMU has.
 
-    tools/guest/run.py [PROGRAM]
+    tools/guest/run.py [--only WORD] [--times N] [PROGRAM]
 
 PROGRAM is crates/lanthovur/out/lanthovur if none is named; `./lanthovur </dev/null` builds it. The guest is made of what this
-machine has (Debian: qemu-system-x86, busybox-static, cpio, kmod, open-iscsi) and of a kernel with its modules: that of this
-machine, or what the variables KERNEL and MODULES name, such as boot/vmlinuz-* and the folder above lib/modules of a kernel package that
-`dpkg -x` unpacked. Without one of them each case is skipped, with a word. The last line is 'N passed, M failed, K skipped'. It
-takes four minutes.
+machine has (Debian: qemu-system-x86, qemu-block-extra, busybox-static, cpio, kmod, open-iscsi, fio) and of a kernel with its
+modules: that of this machine, or what the variables KERNEL and MODULES name, such as boot/vmlinuz-* and the folder above
+lib/modules of a kernel package that `dpkg -x` unpacked. Without one of them each case is skipped, with a word. The last line is
+'N passed, M failed, K skipped'. It takes six minutes. Each case runs N times, and --only names one by a word of its name.
 """
+import argparse
 import os
 import random
 import re
@@ -41,6 +42,12 @@ lasts() {
     dd if=/tmp/written of=/dev/sda bs=64k oflag=direct 2> /dev/null
     dd if=/dev/sda of=/tmp/read bs=64k count=16 iflag=direct 2> /dev/null
     cmp /tmp/written /tmp/read
+}
+keeps_files() {
+    data=none
+    head -c 4194304 /dev/urandom > /tmp/file
+    mkfs.ext4 -q -F $1 && mount $1 /mnt && dd if=/tmp/file of=/mnt/file conv=fsync 2> /dev/null && umount /mnt \\
+        && fsck.ext4 -fn $1 > /tmp/said 2>&1 && mount $1 /mnt && cmp /tmp/file /mnt/file && umount /mnt && data=same
 }
 try() {
     name=$1; shift
@@ -88,10 +95,7 @@ DISK_JOB = """
 record
 node --login > /tmp/said 2>&1 && has_disk
 echo "RESULT serial $(tail -c +5 /sys/block/sda/device/vpd_pg80) $(cat /sys/class/scsi_disk/*/cache_type | tr ' ' _)"
-head -c 4194304 /dev/urandom > /tmp/file
-data=none
-mkfs.ext4 -q -F /dev/sda && mount /dev/sda /mnt && dd if=/tmp/file of=/mnt/file conv=fsync 2> /dev/null && umount /mnt \\
-    && fsck.ext4 -fn /dev/sda > /tmp/said 2>&1 && mount /dev/sda /mnt && cmp /tmp/file /mnt/file && umount /mnt && data=same
+keeps_files /dev/sda
 echo "RESULT files $? $data"
 anew() { dmesg | grep -q 'detected conn error' && echo anew || echo stays; }
 dmesg -c > /dev/null
@@ -113,10 +117,7 @@ CACHE_JOB = """
 record
 node --login > /tmp/said 2>&1 && has_disk
 echo "RESULT cache $(cat /sys/class/scsi_disk/*/FUA) $(cat /sys/class/scsi_disk/*/cache_type | tr ' ' _)"
-head -c 4194304 /dev/urandom > /tmp/file
-data=none
-mkfs.ext4 -q -F /dev/sda && mount /dev/sda /mnt && dd if=/tmp/file of=/mnt/file conv=fsync 2> /dev/null && umount /mnt \\
-    && fsck.ext4 -fn /dev/sda > /tmp/said 2>&1 && mount /dev/sda /mnt && cmp /tmp/file /mnt/file && umount /mnt && data=same
+keeps_files /dev/sda
 set -- $(cat /sys/block/sda/stat)
 [ ${16} -gt 0 ] && flushed=flushed
 echo "RESULT files $flushed $data"
@@ -156,6 +157,23 @@ while true; do
 done
 """
 RECORD = 4096
+# A guest whose disk QEMU has from `serve`: it is written in large pieces, many at a time, and holds a file system.
+LARGE_JOB = """
+data=none
+fio --name=large --filename=/dev/vda --size=64M --bs=1M --iodepth=32 --rw=write --ioengine=libaio --direct=1 --verify=crc32c > /tmp/said 2>&1
+status=$?
+grep -q 'err= 0' /tmp/said && data=same || cat /tmp/said
+echo "RESULT fio $status $data"
+data=none
+head -c 67108864 /dev/urandom > /tmp/big
+dd if=/tmp/big of=/dev/vda bs=16M oflag=direct 2> /tmp/said; status=$?
+dd if=/dev/vda of=/tmp/read bs=16M count=4 iflag=direct 2>> /tmp/said && cmp /tmp/big /tmp/read && data=same || cat /tmp/said
+echo "RESULT dd $status $data"
+rm /tmp/big /tmp/read
+keeps_files /dev/vda
+echo "RESULT files $? $data"
+echo "RESULT errors $(dmesg | grep -ci 'error.*vda\|vda.*error') none"
+"""
 
 
 class Service:
@@ -178,10 +196,15 @@ class Service:
         self.process.wait()
 
 
+def found(text):
+    """The results that a job tells, by their names."""
+    return {name: (status, data) for name, status, data in re.findall(r"RESULT (\S+) (\S+) (\S+)", text)}
+
+
 def results(room, port, job):
-    """The results that a job tells, by their names, and all that it printed."""
+    """The results that a job tells of the service at this port, and all that it printed."""
     text = guest.run(room, TOOLS % (TARGET, port) + job)
-    return {name: (status, data) for name, status, data in re.findall(r"RESULT (\S+) (\S+) (\S+)", text)}, text
+    return found(text), text
 
 
 def logs_in_by_secret(program, room):
@@ -245,21 +268,45 @@ def keeps_what_was_flushed(program, room):
     return told == due and not lost or (told, lost)
 
 
-CASES = [logs_in_by_secret, finds_the_portal, keeps_a_disk, flushes, trims, keeps_what_was_flushed]
+def keeps_what_qemu_writes(program, room):
+    """A guest writes a disk that QEMU has from `serve` by 1 MiB with 32 outstanding, by 16 MiB and as ext4, and reads the same."""
+    image = f"{room}/image"
+    with Service(program, "--file", image, "--create") as service:
+        text = guest.run_with_fio(room, TOOLS % (TARGET, 0) + LARGE_JOB, f"iscsi://127.0.0.1:{service.port}/{TARGET}/0")
+    seen = found(text)
+    due = {"fio": ("0", "same"), "dd": ("0", "same"), "files": ("0", "same"), "errors": ("0", "none")}
+    return seen == due or (seen, text[-4000:])
+
+
+CASES = [logs_in_by_secret, finds_the_portal, keeps_a_disk, flushes, trims, keeps_what_was_flushed, keeps_what_qemu_writes]
+
+
+def outcome_of(case, program):
+    """How one run of a case ended, and what is said of it."""
+    with tempfile.TemporaryDirectory() as room:
+        try:
+            seen = case(program, room)
+            return ("passed", "") if seen is True else ("failed", seen)
+        except guest.Missing as missing:
+            return "skipped", missing
+
+
+def read_words():
+    parser = argparse.ArgumentParser(description=__doc__, formatter_class=argparse.RawDescriptionHelpFormatter)
+    parser.add_argument("program", nargs="?", default=f"{TOP}/crates/lanthovur/out/lanthovur", help="the program that serves")
+    parser.add_argument("--only", default="", help="the cases whose name has this word")
+    parser.add_argument("--times", type=int, default=1, help="how often each case runs")
+    return parser.parse_args()
 
 
 def main():
-    program = os.path.abspath(sys.argv[1] if len(sys.argv) > 1 else f"{TOP}/crates/lanthovur/out/lanthovur")
+    words = read_words()
     counts = {"passed": 0, "failed": 0, "skipped": 0}
-    for case in CASES:
-        with tempfile.TemporaryDirectory() as room:
-            try:
-                seen = case(program, room)
-                outcome, more = ("passed", "") if seen is True else ("failed", seen)
-            except guest.Missing as missing:
-                outcome, more = "skipped", missing
+    for case in [case for case in CASES if words.only in case.__name__] * words.times:
+        began = time.monotonic()
+        outcome, more = outcome_of(case, os.path.abspath(words.program))
         counts[outcome] += 1
-        print(f"{outcome:8} {case.__doc__} {more}", flush=True)
+        print(f"{outcome:8} {time.monotonic() - began:4.0f} s  {case.__doc__} {more}", flush=True)
     print(", ".join(f"{count} {outcome}" for outcome, count in counts.items()))
     return 1 if counts["failed"] else 0
 

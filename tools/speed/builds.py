@@ -1,11 +1,12 @@
 #!/usr/bin/env python3
 """Compares the speed of two builds of `serve`, with the client of targets.py.
 
-    tools/speed/builds.py [--rounds N] [--slices N] [--seconds S] [--only WORDS] [--processors TARGET,CLIENT] OLD NEW
+    tools/speed/builds.py [--rounds N] [--slices N] [--seconds S] [--only WORDS] [--depths NUMBERS]
+        [--processors TARGET,CLIENT] OLD NEW
 
 It takes an idle machine, and half an hour if nothing else is said. OLD and NEW are built programs of two clones, such as
 crates/lanthovur_serve/out/lanthovur_serve. A cell is `serve` or `serve --at-once`, reads or writes of 4 KiB to 1 MiB, with 1
-or 8 outstanding. --only names one of the two: serve or at-once.
+or 8 outstanding. --only names one of the two: serve or at-once. --depths names other numbers of commands outstanding.
 
 A machine's speed can change by half within seconds. So OLD, NEW and OLD once more take turns by short slices, in each order
 equally often. They share one processor, and the client has another. A round's rate is the mean of its N slices (12) of S
@@ -16,8 +17,8 @@ old / old      OLD's second median over its first, which says what the machine d
 by slice       the median over all slices of NEW's rate over the mean of OLD's two beside it
 time           the processor time for a command that NEW took over that of OLD, by /proc
 
-A cell is lower if NEW has less than 0.95 of OLD's median and the difference is more than that between OLD's two. The last
-line is 'N cells hold, M are lower, K runs failed'. The client looks at each byte that it reads, and a run that finds a wrong
+A cell is lower if NEW has less than 0.95 of OLD's median and the difference is more than that between OLD's two. A line has the
+geometric mean of the ratios `new / old`, and the least. The last line is 'N cells hold, M are lower, K runs failed'. The client looks at each byte that it reads, and a run that finds a wrong
 one fails. The status is 1 if a cell is lower or a run failed.
 
 A shorter run says less. With two rounds of slices of 0.1 s, on a host that took part of the time, one program was called lower
@@ -25,6 +26,7 @@ than itself in 6 of 16 cells. So measure OLD beside OLD first on a machine that 
 """
 import argparse
 import itertools
+import math
 import os
 import shutil
 import signal
@@ -39,7 +41,7 @@ from targets import BLOCK, BLOCKS, SIZES, TARGETS, Measures, bytes_of, end_all, 
 # The programs that take turns, by the places of OLD and NEW.
 TURNS = {"old": 0, "new": 1, "again": 0}
 ORDERS = list(itertools.permutations(TURNS))
-DEPTHS = (1, 8)
+DEPTHS = [1, 8]
 # How much lower a cell's median may be.
 LOSS = 0.05
 
@@ -60,14 +62,17 @@ class Cell:
     def old(self):
         return (self.median("old") + self.median("again")) / 2
 
+    def ratio(self):
+        return self.median("new") / self.old()
+
     def is_lower(self):
         spread = abs(self.median("again") - self.median("old")) / self.old()
-        return self.median("new") / self.old() < 1 - max(LOSS, spread)
+        return self.ratio() < 1 - max(LOSS, spread)
 
     def line(self):
         by_slice = statistics.median(2 * of["new"][0] / (of["old"][0] + of["again"][0]) for of in self.slices())
         took = {turn: statistics.mean(of[turn][1] for of in self.slices()) for turn in TURNS}
-        ratios = (self.median("new") / self.old(), self.median("again") / self.median("old"), by_slice,
+        ratios = (self.ratio(), self.median("again") / self.median("old"), by_slice,
                   2 * took["new"] / (took["old"] + took["again"]))
         return [self.name, f"{self.old():,.0f}", *(f"{ratio:.3f}" for ratio in ratios), "lower" if self.is_lower() else ""]
 
@@ -90,7 +95,7 @@ def cells_of(measures):
     """All cells, by interleaved rounds. A slice of which a run failed is left out."""
     kinds, cells, began = [TARGETS[name] for name in measures.words.only], {}, time.monotonic()
     for number in range(measures.words.rounds):
-        for kind, depth, size in itertools.product(kinds, DEPTHS, SIZES):
+        for kind, depth, size in itertools.product(kinds, measures.words.depths, SIZES):
             found = one_round(measures, kind, number, "--size", size, "--depth", depth, "--places", measures.places(size, depth))
             for stage in ("read", "write"):
                 name = f"{kind.title}, {depth} outstanding, {size // 1024} KiB: {stage}s"
@@ -116,6 +121,7 @@ def read_words():
     parser.add_argument("--seconds", type=float, default=0.25, help="how long reads and writes last in a slice")
     parser.add_argument("--range", type=bytes_of, default=16 << 20, help="how much of the disk is used, at most 64M")
     parser.add_argument("--only", type=lambda word: word.split(","), default=["serve", "at-once"], help="serve or at-once")
+    parser.add_argument("--depths", type=lambda word: [int(depth) for depth in word.split(",")], default=DEPTHS, help="commands outstanding")
     parser.add_argument("--processors", type=pair_of_numbers, default=(own[-1], own[0]),
                         help="the numbers of the target's processor and of the client's; the last and the first if not said")
     words = parser.parse_args()
@@ -150,6 +156,9 @@ def main():
         shutil.rmtree(room, ignore_errors=True)
     head = ["Cell", "old, commands/s", "new / old", "old / old", "by slice", "time", ""]
     print("\n".join(table(head, [cell.line() for cell in cells])))
+    if cells:
+        ratios = [cell.ratio() for cell in cells]
+        print(f"new / old: geometric mean {math.exp(statistics.mean(map(math.log, ratios))):.3f}, least {min(ratios):.3f}")
     lower = sum(cell.is_lower() for cell in cells)
     print(f"{len(cells) - lower} cells hold, {lower} are lower, {measures.failed} runs failed")
     return 1 if lower or measures.failed else 0

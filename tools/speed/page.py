@@ -3,8 +3,8 @@
 
     tools/speed/page.py [--only WORD] [--list]
 
-It runs the tools of TOOLS one after another, with the program that `./lanthovur </dev/null` builds, and takes some 45
-minutes of an idle machine. A tool that writes its own section does so. Of another each table takes the place of one in the
+It runs the tools of TOOLS one after another, with the program that `./lanthovur </dev/null` builds, and takes an
+hour of an idle machine. A tool that writes its own section does so. Of another each table takes the place of one in the
 page: that of the section that is named beside the tool, with the same first line. The first paragraph of the page says what
 machine it was, and how busy it was before. The words of the sections stay: read them again. WORD is a part of a tool's
 command; --list says the commands. What a tool prints goes to standard error. The last line is 'N tables, M not placed'; a
@@ -26,6 +26,7 @@ TOOLS = [
     ("tools/speed/run.py --seconds 0.3", ""),
     ("tools/speed/targets.py --deep --seconds 0.2 --range 16M --write", None),
     ("tools/speed/profile.py --write", None),
+    ("tools/speed/lengths.py --write", None),
     ("tools/speed/targets.py --grow --seconds 0.2 --write", None),
     ("tools/replay/speed.py", ["Jobs done again"]),
     ("tools/many_sessions/run.py --figures", ["Several sessions at a time"]),
