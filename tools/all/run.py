@@ -10,8 +10,8 @@ longer than its limit fails; it and the processes that it started are ended. So 
 With --unproved the program is the one that `./lanthovur --unproved </dev/null` keeps. The scripts that measure memory or
 speed, and those that prove something, are left out then.
 
-If this machine lacks a program (QEMU, libiscsi, tgt, tshark), most scripts fail with their own words. Seven leave out what
-they can't do and go on: door, access, guest, many_sessions, lasting, nbd and targets. And pages leaves out the blocks that no script can run. Their parts that were left out are counted, and the last line is
+If this machine lacks a program (QEMU, libiscsi, tgt, tshark), most scripts fail with their own words. Eight leave out what
+they can't do and go on: door, access, guest, many_sessions, lasting, nbd, ceph and targets. And pages leaves out the blocks that no script can run. Their parts that were left out are counted, and the last line is
 then 'N passed, M failed, S parts skipped': those parts were not seen.
 """
 import argparse
@@ -59,7 +59,7 @@ SCRIPTS = [
     Script("strangers", "strangers/run.py", "three minutes", 20, unproved=UNPROVED),
     Script("door", "door/run.py", "a minute", 20, unproved=[]),
     Script("access", "access/run.py", "a minute", 20),
-    Script("guest", "guest/run.py", "two minutes", 20, unproved=UNPROVED),
+    Script("guest", "guest/run.py", "six minutes", 30, unproved=UNPROVED),
     Script("pages", "pages/run.py", "two minutes", 30, unproved=[]),
     Script("captures", "captures/run.py", "a minute", 40, unproved=[]),
     Script("captures, piped", "captures/piped.py", "a minute", 10, unproved=UNPROVED),
@@ -76,6 +76,7 @@ SCRIPTS = [
     Script("many_sessions", "many_sessions/run.py", "minutes", 30, unproved=UNPROVED),
     Script("lasting", "lasting/run.py", "minutes", 60, unproved=UNPROVED),
     Script("nbd", "nbd/run.py", "minutes", 60, unproved=UNPROVED),
+    Script("ceph", "ceph/run.py", "ten minutes", 60, unproved=UNPROVED),
     Script("refused_memory", "refused_memory/run.py", "15 minutes", 90, r"0 runs ended wrongly, [0-9]+ seconds", ["--unproved"]),
     Script("captures, speed", "captures/speed.py", "a minute", 30, MEASURED),
     # These want an idle machine.
