@@ -8,6 +8,7 @@ initiators are iscsi-inq and iscsi-ls (Debian: libiscsi-bin) and qemu-img (qemu-
 skipped, with a word. The other logins are made here, their responses by hashlib: each byte of an exchange is changed once, and
 10,000 logins have a wrong secret. The last line is 'N passed, M failed, K skipped'. It takes a minute.
 """
+import base64
 import hashlib
 import importlib.util
 import os
@@ -25,8 +26,13 @@ SECRETS = f"""# Who may log in.
 user alice {ALICE.replace(' ', '-')}
 user carol {CAROL.replace(' ', '-')} {HOST}
 target bob {BOB.replace(' ', '-')}
+user dora 0x{bytes(range(12)).hex()}  # in hex
+user emil 0b{base64.b64encode(bytes(range(16, 48))).decode()}\t# in base64
 """
 ALICE, CAROL, BOB = (secret.replace(" ", "-") for secret in (ALICE, CAROL, BOB))
+DORA, EMIL = bytes(range(12)), bytes(range(16, 48))
+# The algorithms of CHAP, by their numbers in IANA's registry (RFC 7143, section 12.1.3).
+DIGESTS = {"5": hashlib.md5, "7": hashlib.sha256}
 # How many logins have a wrong secret.
 WRONG = 10000
 # Flags of a login request: from stage 0 to 1 and from 1 to 3, and within stage 0 (RFC 7143, section 11.12.3).
@@ -101,8 +107,9 @@ def received(peer, count):
     return data
 
 
-def response(identifier, secret, challenge):
-    return "0x" + hashlib.md5(bytes([identifier]) + secret.encode() + challenge).hexdigest()
+def response(algorithm, identifier, secret, challenge):
+    secret = secret.encode() if isinstance(secret, str) else secret
+    return "0x" + DIGESTS[algorithm](bytes([identifier]) + secret + challenge).hexdigest()
 
 
 def binary(value):
@@ -110,10 +117,12 @@ def binary(value):
 
 
 class Client:
-    """An initiator that knows a name and a secret, and may ask the target for its own."""
+    """An initiator that knows a name and a secret, and may ask the target for its own. It offers some algorithms, the first of
+    which that is known is to be taken; it may answer by another one."""
 
-    def __init__(self, name="alice", secret=ALICE, initiator=HOST, mutual=None, changed=None, reflects=False):
+    def __init__(self, name="alice", secret=ALICE, initiator=HOST, mutual=None, changed=None, reflects=False, offer="5", due=None, by=None):
         self.name, self.secret, self.initiator = name, secret, initiator
+        self.offer, self.due, self.by = offer, due or offer[0], by
         # the target's secret, and which byte of which text is changed
         self.mutual, self.changed, self.reflects = mutual, changed, reflects
 
@@ -133,16 +142,19 @@ class Client:
         status, _ = self.sent(peer, 0, first, TO_OPERATIONAL)
         if status != 0:
             return status
-        status, keys = self.sent(peer, 1, b"CHAP_A=5\0", STAYS)
+        status, keys = self.sent(peer, 1, f"CHAP_A={self.offer}\0".encode(), STAYS)
         if status != 0:
             return status
+        if keys["CHAP_A"] != self.due:
+            return None
+        by = self.by or self.due
         identifier, challenge = int(keys["CHAP_I"], 0), binary(keys["CHAP_C"])
         own = challenge if self.reflects else b"sixteen bytes...", 7
-        third = f"CHAP_N={self.name}\0CHAP_R={response(identifier, self.secret, challenge)}\0"
+        third = f"CHAP_N={self.name}\0CHAP_R={response(by, identifier, self.secret, challenge)}\0"
         if self.mutual:
             third += f"CHAP_C=0x{own[0].hex()}\0CHAP_I={own[1]}\0"
         status, keys = self.sent(peer, 2, third.encode(), TO_OPERATIONAL)
-        if status == 0 and self.mutual and keys.get("CHAP_R") != response(own[1], self.mutual, own[0]):
+        if status == 0 and self.mutual and keys.get("CHAP_R") != response(by, own[1], self.mutual, own[0]):
             return None
         return status
 
@@ -175,6 +187,29 @@ def asks_for_secrets(service):
         (Client(secret=BOB), (0x0201, False)),
         (Client("mallory"), (0x0201, False)),
         (Client(mutual=BOB, reflects=True), (0x0201, False)),
+        (Client("dora", DORA), (0, True)),
+        (Client("emil", EMIL), (0, True)),
+        (Client("dora", DORA.hex()), (0x0201, False)),
+    ]
+    seen = [client.reads(service.port) for client, _ in rows]
+    return seen == [due for _, due in rows] or seen
+
+
+def takes_the_first_algorithm(service):
+    """The first of the list that is known is taken, and both responses are by it; a response by the other one is refused."""
+    rows = [
+        (Client(offer="7"), (0, True)),
+        (Client(offer="7,5"), (0, True)),
+        (Client(offer="5,7"), (0, True)),
+        (Client(offer="8,6,7,5", due="7"), (0, True)),
+        (Client(offer="7", mutual=BOB), (0, True)),
+        (Client("emil", EMIL, offer="7", mutual=BOB), (0, True)),
+        (Client("carol", CAROL, OTHER, offer="7"), (0x0201, False)),
+        (Client(secret=CAROL, offer="7"), (0x0201, False)),
+        (Client(offer="7", by="5"), (0x0201, False)),
+        (Client(offer="5", by="7"), (0x0201, False)),
+        (Client(offer="6,8"), (0x0201, False)),
+        (Client(offer="7", mutual=BOB, reflects=True), (0x0201, False)),
     ]
     seen = [client.reads(service.port) for client, _ in rows]
     return seen == [due for _, due in rows] or seen
@@ -280,7 +315,8 @@ def serves_qemu(service):
 
 
 CASES = [
-    asks_for_secrets, asks_whoever_skips, notes_each_byte, leaves_a_slot, serves_libiscsi, asks_who_discovers, serves_qemu, keeps_its_size,
+    asks_for_secrets, takes_the_first_algorithm, asks_whoever_skips, notes_each_byte, leaves_a_slot, serves_libiscsi,
+    asks_who_discovers, serves_qemu, keeps_its_size,
 ]
 
 
@@ -293,7 +329,7 @@ def tells_no_secret(service):
 
 
 def refuses_files(program, room):
-    """Files of secrets that are not taken, each by name, without their text."""
+    """Files of secrets that are not taken, and what is told of those that are, by their lines and without their text."""
     def said(text, mode=0o600):
         path = f"{room}/file"
         with open(path, "w") as file:
@@ -309,6 +345,14 @@ def refuses_files(program, room):
         said("\n# nobody\npassword alice secretsecret12\n"),
         said("user alice secretsecret12\ntarget bob secretsecret12\n"),
         said("user alice secretsecret12\nuser alice othersecret12\n"),
+        said("user alice secret#secret12\n"),
+        said("# one\nuser alice secretsecret12# two\n"),
+        said("user alice 0xsecretsecret12\n"),
+        said("user alice 0bc2VjcmV0c2VjcmV0MTI\n"),
+        said("user alice 0x0102030405060708090a0b\n"),
+        said("# target bob\ntarget bob othersecret34 # nobody else\n"),
+        said("user alice secretsecret12\nuser carol 0x7365637265747365637265743132\n"),
+        said("user alice secretsecret12 iqn.2026-01.example:Host\n"),
     ]
     due = [
         (0, ""),
@@ -317,6 +361,14 @@ def refuses_files(program, room):
         (4, "line 3: this is neither 'user NAME SECRET [IQN]' nor 'target NAME SECRET'\n"),
         (4, "line 2: the target and a user have the same secret\n"),
         (4, "line 2: an earlier line has this name\n"),
+        (4, "line 1: a '#' inside a word; a comment begins at the start or behind a blank\n"),
+        (4, "line 2: a '#' inside a word; a comment begins at the start or behind a blank\n"),
+        (4, "line 1: behind 0x a secret is hex digits, behind 0b base64\n"),
+        (4, "line 1: behind 0x a secret is hex digits, behind 0b base64\n"),
+        (4, "line 1: a secret has 12 to 255 bytes\n"),
+        (0, "there is no user, so nobody may log in\n"),
+        (0, "line 2: an earlier user has this secret, so each may log in as the other\n"),
+        (0, "line 1: a capital letter in IQN; most initiators send small letters alone\n"),
     ]
     return seen == due or seen
 

@@ -9,8 +9,8 @@ use Rattle.iscsi_access.specs.declared.spoken.Words.TheVariants.{Nothing, Method
 abbrev pub word_pairs : Words → Pairs
 word_pairs Nothing = []
 word_pairs Method = (codes "AuthMethod", values.Items (codes "CHAP")) ∷ []
-word_pairs (Challenge identifier challenge) =
-    (codes "CHAP_A", values.Plain (codes "5"))
+word_pairs (Challenge algorithm identifier challenge) =
+    (codes "CHAP_A", values.Plain algorithm.now)
     ∷ (codes "CHAP_C", values.Plain challenge.items)
     ∷ (codes "CHAP_I", values.Plain identifier.items) ∷ []
 word_pairs (Response name response) =

@@ -5,17 +5,19 @@ ghost use Rattle.std.specs.Option.{option_map};
 ghost use Rattle.std.specs.Str.{bytes_eq};
 ghost use Rattle.iscsi_text.specs.Reading.{number_in};
 ghost use Rattle.iscsi_chap.specs.Binary.{binary_of};
-ghost use Rattle.iscsi_chap.specs.Response.{chap_response as due_response};
+ghost use Rattle.iscsi_chap.specs.Response.{chap_response};
 ghost use Rattle.iscsi_access.specs.Exchange.{on_method, on_algorithm, on_response, on_rest, is_right, own_said, own_response, judge};
-ghost use Rattle.iscsi_access.specs.Laws.{AnswersChallenge};
+ghost use Rattle.iscsi_access.specs.Laws.{AnswersStep};
 ghost use Rattle.iscsi_access.specs.declared.verdict.Progress.TheVariants as steps;
 ghost use Rattle.iscsi_access.specs.declared.verdict.Said.{Said};
 ghost use Rattle.iscsi_access.specs.declared.verdict.Verdict.TheVariants.{Goes};
 
 use crate::chap::{Account, Chap};
-use crate::reading::{has_chap_key, has_more_than_algorithms, lists, number_of, plain_of, stands};
+use crate::reading::{
+    algorithm_in, has_chap_key, has_more_than_algorithms, lists, number_of, plain_of, stands,
+};
 use crate::verdict::{Progress, Said, Verdict};
-use iscsi_chap::{is_equal, read_binary, response};
+use iscsi_chap::{Algorithm, Response, is_equal, read_binary};
 use iscsi_text::Text;
 use std::alloc::{AllocError, Global};
 
@@ -29,7 +31,7 @@ impl Chap {
     /// | Progress | The text has | Said | Then |
     /// |---|---|---|---|
     /// | `Unasked` | AuthMethod, a list with `CHAP` | `Method` | `Chosen` |
-    /// | `Chosen` | CHAP_A, a list with `5` (MD5) | `Challenge` | `Challenged` |
+    /// | `Chosen` | CHAP_A, a list with `5` (MD5) or `7` (SHA-256) | `Challenge` | `Challenged` |
     /// | `Challenged` | CHAP_N, and CHAP_R, the response | `Nothing` | `Passed` |
     /// | `Challenged` | CHAP_I and CHAP_C besides | `Response` | `Passed` |
     /// | `Passed` | none of these keys | `Nothing` | `Passed` |
@@ -38,6 +40,9 @@ impl Chap {
     /// - one that has another key of the exchange, or lacks one;
     /// - a wrong name or response, or an account that is bound to another InitiatorName;
     /// - a challenge where the target has no account of its own, or the target's own challenge.
+    ///
+    /// Of the algorithms in the list the first that is known is taken: the initiator puts first what
+    /// it prefers. Both responses, the initiator's and the target's own, are by this algorithm.
     ///
     /// The only error is that memory ran out. The steps are those of RFC 7143, section 12.1.3. That
     /// CHAP is chosen whatever stands before it in a list is own rule.
@@ -53,12 +58,14 @@ impl Chap {
             judge self.now progress initiator.now text.now) }
         // Only a right response passes; behind it the login stays passed.
         ensures passed { IfOk result (λ verdict. (said : Said) → verdict ≡ Goes steps.Passed said
-            → (progress ≡ steps.Passed) ⊎ AnswersChallenge self.now initiator.now text.now) }
+            → (progress ≡ steps.Passed) ⊎ AnswersStep self.now progress initiator.now text.now) }
     {
         match progress {
             Progress::Unasked => Ok(on_method(text)),
             Progress::Chosen => Ok(on_algorithm(text)),
-            Progress::Challenged => self.on_response(alloc, initiator, text),
+            Progress::Challenged(algorithm) => {
+                self.on_response(alloc, algorithm, initiator, text)
+            }
             Progress::Passed => Ok(on_rest(text)),
         }
     }
@@ -67,18 +74,21 @@ impl Chap {
     fn on_response(
         &self,
         alloc: Global,
+        algorithm: Algorithm,
         initiator: &[u8],
         text: &Text<'_>,
     ) -> Result<Verdict, AllocError>
-        ensures { IfOk result (λ verdict. verdict ≡ on_response self.now initiator.now text.now) }
+        ensures { IfOk result (λ verdict. verdict ≡ on_response self.now algorithm initiator.now text.now) }
     {
         if stands(text, b"AuthMethod") || stands(text, b"CHAP_A") {
             return Ok(Verdict::Refused);
         }
-        if !self.is_right(alloc, initiator, text)? {
+        if !self.is_right(alloc, algorithm, initiator, text)? {
             return Ok(Verdict::Refused);
         }
-        match self.own_said(alloc, plain_of(text, b"CHAP_I"), plain_of(text, b"CHAP_C"))? {
+        let identifier = plain_of(text, b"CHAP_I");
+        let challenge = plain_of(text, b"CHAP_C");
+        match self.own_said(alloc, algorithm, identifier, challenge)? {
             Some(said) => Ok(Verdict::Goes {
                 progress: Progress::Passed,
                 said,
@@ -89,8 +99,14 @@ impl Chap {
 
     // Whether the text has the name of an account that the initiator may use, and the response that
     // its secret gives.
-    fn is_right(&self, alloc: Global, initiator: &[u8], text: &Text<'_>) -> Result<bool, AllocError>
-        ensures { IfOk result (λ right. right ≡ is_right self.now initiator.now text.now) }
+    fn is_right(
+        &self,
+        alloc: Global,
+        algorithm: Algorithm,
+        initiator: &[u8],
+        text: &Text<'_>,
+    ) -> Result<bool, AllocError>
+        ensures { IfOk result (λ right. right ≡ is_right self.now algorithm initiator.now text.now) }
     {
         let Some(value) = plain_of(text, b"CHAP_R") else {
             return Ok(false);
@@ -104,16 +120,21 @@ impl Chap {
         let Some(account) = self.account_named(name) else {
             return Ok(false);
         };
-        Ok(self.is_response(account, &given) && account.allows(initiator))
+        Ok(self.is_response(algorithm, account, &given) && account.allows(initiator))
     }
 
     // Whether these bytes are the response that the account's secret gives.
-    fn is_response(&self, account: &Account, given: &[u8]) -> bool
+    fn is_response(&self, algorithm: Algorithm, account: &Account, given: &[u8]) -> bool
         ensures { result ≡ bytes_eq given.now
-            (due_response self.now.identifier account.now.secret self.now.challenge) }
+            (chap_response algorithm self.now.identifier account.now.secret self.now.challenge) }
     {
-        let due = response(self.identifier, &account.secret, &self.challenge);
-        is_equal(given, &due)
+        let due = Response::to_challenge(
+            algorithm,
+            self.identifier,
+            &account.secret,
+            &self.challenge,
+        );
+        is_equal(given, due.as_bytes())
     }
 
     // The first account of this name, if there is one.
@@ -131,16 +152,17 @@ impl Chap {
     fn own_said(
         &self,
         alloc: Global,
+        algorithm: Algorithm,
         identifier: Option<&[u8]>,
         challenge: Option<&[u8]>,
     ) -> Result<Option<Said>, AllocError>
-        ensures { IfOk result (λ said. said ≡ own_said self.now
+        ensures { IfOk result (λ said. said ≡ own_said self.now algorithm
             (option_map (λ b. b.now) identifier.entry) (option_map (λ b. b.now) challenge.entry)) }
     {
         match (identifier, challenge) {
             (None, None) => Ok(Some(Said::Nothing)),
             (Some(identifier), Some(challenge)) => {
-                self.own_response(alloc, identifier, challenge)
+                self.own_response(alloc, algorithm, identifier, challenge)
             }
             _ => Ok(None),
         }
@@ -150,10 +172,11 @@ impl Chap {
     fn own_response(
         &self,
         alloc: Global,
+        algorithm: Algorithm,
         identifier: &[u8],
         challenge: &[u8],
     ) -> Result<Option<Said>, AllocError>
-        ensures { IfOk result (λ said. said ≡ own_response self.now self.now.own
+        ensures { IfOk result (λ said. said ≡ own_response self.now algorithm self.now.own
             (number_in identifier.now) (binary_of challenge.now)) }
     {
         let Some(own) = &self.own else {
@@ -165,12 +188,18 @@ impl Chap {
         let Some(challenge) = read_binary(alloc, challenge)? else {
             return Ok(None);
         };
-        Ok(self.answer(own, identifier, &challenge))
+        Ok(self.answer(algorithm, own, identifier, &challenge))
     }
 
     // What the target says to a challenge, by its own account; none where that isn't fair.
-    fn answer(&self, own: &Account, identifier: u64, challenge: &[u8]) -> Option<Said>
-        ensures { result ≡ own_response self.now (Some own.now) (Some identifier)
+    fn answer(
+        &self,
+        algorithm: Algorithm,
+        own: &Account,
+        identifier: u64,
+        challenge: &[u8],
+    ) -> Option<Said>
+        ensures { result ≡ own_response self.now algorithm (Some own.now) (Some identifier)
             (Some challenge.now) }
     {
         let Ok(byte) = u8::try_from(identifier) else {
@@ -183,7 +212,7 @@ impl Chap {
         {
             return None;
         }
-        Some(Said::Response(response(byte, &own.secret, challenge)))
+        Some(Said::Response(Response::to_challenge(algorithm, byte, &own.secret, challenge)))
     }
 }
 
@@ -201,17 +230,19 @@ fn on_method(text: &Text<'_>) -> Verdict
     }
 }
 
-// An algorithm is to be chosen: MD5 where it is offered.
+// An algorithm is to be chosen: the first in the list that is known.
 fn on_algorithm(text: &Text<'_>) -> Verdict
     ensures { result ≡ on_algorithm text.now }
 {
-    if !has_more_than_algorithms(text) && lists(text, b"CHAP_A", b"5") {
-        Verdict::Goes {
-            progress: Progress::Challenged,
-            said: Said::Challenge,
-        }
-    } else {
-        Verdict::Refused
+    if has_more_than_algorithms(text) {
+        return Verdict::Refused;
+    }
+    match algorithm_in(text) {
+        Some(algorithm) => Verdict::Goes {
+            progress: Progress::Challenged(algorithm),
+            said: Said::Challenge(algorithm),
+        },
+        None => Verdict::Refused,
     }
 }
 

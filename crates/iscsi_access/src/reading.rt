@@ -4,8 +4,12 @@ ghost use Rattle.std.specs.Prelude.{◌≡◌};
 ghost use Rattle.std.specs.Option.{option_map};
 ghost use Rattle.iscsi_text.specs.Value.{typed};
 ghost use Rattle.iscsi_text.specs.Reading.{number_in};
-ghost use Rattle.iscsi_access.specs.Exchange.{exchange_value, stands, plain_of, has_item, lists, has_chap_key, has_more_than_algorithms};
+ghost use Rattle.std.specs.Prelude.{◌==◌, find, is_some, codes};
+ghost use Rattle.std.specs.List.{slice_split};
+ghost use Rattle.iscsi_chap.specs.Response.{algorithm_named};
+ghost use Rattle.iscsi_access.specs.Exchange.{exchange_value, stands, plain_of, has_item, lists, first_known, known_in, has_chap_key, has_more_than_algorithms};
 
+use iscsi_chap::Algorithm;
 use iscsi_text::{Text, Value, read_number};
 
 // Whether a key of CHAP stands in the text.
@@ -56,6 +60,36 @@ pub fn lists(text: &Text<'_>, key: &[u8], item: &[u8]) -> bool
         Some(Value::Items(bytes) | Value::Plain(bytes)) => has_item(bytes, item),
         _ => false,
     }
+}
+
+// The first algorithm that the list of CHAP_A has of those that are known.
+pub fn algorithm_in(text: &Text<'_>) -> Option<Algorithm>
+    ensures { result ≡ known_in (exchange_value (codes "CHAP_A") text.now) }
+{
+    match value_for(text, b"CHAP_A") {
+        Some(Value::Items(bytes) | Value::Plain(bytes)) => first_known(bytes),
+        _ => None,
+    }
+}
+
+// The first algorithm between commas that is known.
+fn first_known(bytes: &[u8]) -> Option<Algorithm>
+    ensures { result ≡ first_known bytes.now }
+{
+    match first_known_item(bytes) {
+        Some(item) => Algorithm::named(item),
+        None => None,
+    }
+}
+
+// The first item between commas that names an algorithm which is known.
+fn first_known_item(bytes: &[u8]) -> Option<&[u8]>
+    ensures { option_map (λ i. i.now) result
+        ≡ find (λ i. is_some (algorithm_named i)) (slice_split (λ b. b == 44) bytes.now) }
+{
+    bytes
+        .split(|b| *b == b',')
+        .find(|item| Algorithm::named(item).is_some())
 }
 
 // The number that bytes spell.

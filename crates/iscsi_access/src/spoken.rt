@@ -27,8 +27,8 @@ pub(crate) enum Words<'a> {
     Nothing,
     /// That CHAP is chosen.
     Method,
-    /// The identifier and the challenge, written.
-    Challenge(Vec<u8>, Vec<u8>),
+    /// The number of the algorithm; the identifier and the challenge, written.
+    Challenge(&'a [u8], Vec<u8>, Vec<u8>),
     /// The target's own name, and its response, written.
     Response(&'a [u8], Vec<u8>),
 }
@@ -51,14 +51,15 @@ impl Chap {
         let words = match (said, &self.own) {
             (Said::Nothing, _) => Words::Nothing,
             (Said::Method, _) => Words::Method,
-            (Said::Challenge, _) => {
+            (Said::Challenge(algorithm), _) => {
                 Words::Challenge(
+                    algorithm.name(),
                     number(alloc, self.identifier)?,
                     binary(alloc, &self.challenge)?,
                 )
             }
             (Said::Response(response), Some(own)) => {
-                Words::Response(&own.name, binary(alloc, &response)?)
+                Words::Response(&own.name, binary(alloc, response.as_bytes())?)
             }
             (Said::Response(_), None) => Words::Nothing,
         };
@@ -78,8 +79,8 @@ impl Spoken<'_> {
                 key: b"AuthMethod",
                 value: Value::Items(b"CHAP"),
             })?,
-            Words::Challenge(identifier, challenge) => {
-                pairs.push(plain(b"CHAP_A", b"5"))?;
+            Words::Challenge(algorithm, identifier, challenge) => {
+                pairs.push(plain(b"CHAP_A", algorithm))?;
                 pairs.push(plain(b"CHAP_C", challenge))?;
                 pairs.push(plain(b"CHAP_I", identifier))?;
             }

@@ -1,5 +1,7 @@
 //! What a text of the exchange leads to.
 
+use iscsi_chap::{Algorithm, Response};
+
 /// How far the exchange of a login has come (RFC 7143, section 12.1.3).
 #[derive(Clone, Copy, Debug, PartialEq, Eq)]
 pub enum Progress {
@@ -7,8 +9,8 @@ pub enum Progress {
     Unasked,
     /// CHAP is chosen.
     Chosen,
-    /// The initiator has the challenge.
-    Challenged,
+    /// The initiator has the challenge, which it is to answer by this algorithm.
+    Challenged(Algorithm),
     /// Its response was right.
     Passed,
 }
@@ -20,10 +22,10 @@ pub enum Said {
     Nothing,
     /// That CHAP is chosen.
     Method,
-    /// The algorithm, the identifier and the challenge.
-    Challenge,
+    /// The algorithm that is chosen, the identifier and the challenge.
+    Challenge(Algorithm),
     /// Its own name, and its response to the initiator's challenge.
-    Response([u8; 16]),
+    Response(Response),
 }
 
 /// What a text leads to.

@@ -3,9 +3,11 @@
 //! differs. Nothing here draws a random number: a challenge and an identifier are handed in.
 #![tactic(auto)]
 
+mod algorithm;
 mod binary;
 pub mod laws;
 mod responding;
 
+pub use algorithm::Algorithm;
 pub use binary::{read_binary, write_binary};
-pub use responding::{is_equal, response};
+pub use responding::{Response, is_equal};

@@ -1,20 +1,59 @@
 //! Responses, and whether two are one.
 
 ghost use Rattle.std.specs.Prelude.{◌≡◌, ◌↔◌, IsTrue};
-ghost use Rattle.iscsi_chap.specs.Response.{chap_response};
+ghost use Rattle.iscsi_chap.specs.Response.{due_response, digest_in};
 
+use crate::algorithm::Algorithm;
 use md5::{Digest as _, Md5};
+use sha2::{Digest as _, Sha256};
 
-/// The response to a challenge: the MD5 digest of the identifier, the secret and the challenge (RFC
-/// 1994, section 4.1; algorithm 5 of RFC 7143, section 12.1.3).
-pub fn response(identifier: u8, secret: &[u8], challenge: &[u8]) -> [u8; 16]
-    ensures digest { result ≡ chap_response identifier secret.now challenge.now }
-{
-    let mut hasher = Md5::new();
-    hasher.update(&[identifier].as_slice());
-    hasher.update(secret);
-    hasher.update(challenge);
-    hasher.finalize()
+/// A response to a challenge: the digest of the algorithm that made it. No secret is in it.
+#[derive(Clone, Copy, Debug, PartialEq, Eq)]
+pub enum Response {
+    /// A digest of MD5.
+    Md5([u8; 16]),
+    /// A digest of SHA-256.
+    Sha256([u8; 32]),
+}
+
+impl Response {
+    /// The response to a challenge: the digest of the identifier, the secret and the challenge, in
+    /// this order (RFC 1994, section 4.1), by this algorithm (RFC 7143, section 12.1.3).
+    pub fn to_challenge(
+        algorithm: Algorithm,
+        identifier: u8,
+        secret: &[u8],
+        challenge: &[u8],
+    ) -> Response
+        ensures digest { result ≡ due_response algorithm identifier secret.now challenge.now }
+    {
+        match algorithm {
+            Algorithm::Md5 => {
+                let mut hasher = Md5::new();
+                hasher.update(&[identifier].as_slice());
+                hasher.update(secret);
+                hasher.update(challenge);
+                Response::Md5(hasher.finalize())
+            }
+            Algorithm::Sha256 => {
+                let mut hasher = Sha256::new();
+                hasher.update(&[identifier].as_slice());
+                hasher.update(secret);
+                hasher.update(challenge);
+                Response::Sha256(hasher.finalize())
+            }
+        }
+    }
+
+    /// The bytes of the digest: 16 of MD5, 32 of SHA-256.
+    pub fn as_bytes(&self) -> &[u8]
+        ensures bytes { result.now ≡ digest_in self.now }
+    {
+        match self {
+            Response::Md5(digest) => digest,
+            Response::Sha256(digest) => digest,
+        }
+    }
 }
 
 /// Whether both are the same bytes.

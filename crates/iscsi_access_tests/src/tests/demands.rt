@@ -3,6 +3,7 @@
 use super::{ALICE, BOB, account, accounts, demand};
 use crate::asserts::{same, same_bytes};
 use iscsi_access::{Account, Chap, ChapFault, Said};
+use iscsi_chap::{Algorithm, Response};
 use iscsi_text::write_pairs;
 use std::alloc::Global;
 use std::process::Abort;
@@ -58,12 +59,20 @@ const SAID: &[(Said, &[u8])] = &[
     (Said::Nothing, b""),
     (Said::Method, b"AuthMethod=CHAP\0"),
     (
-        Said::Challenge,
+        Said::Challenge(Algorithm::Md5),
         b"CHAP_A=5\0CHAP_C=0x000102030405060708090a0b0c0d0eff\0CHAP_I=125\0",
     ),
     (
-        Said::Response([0x4f; 16]),
+        Said::Challenge(Algorithm::Sha256),
+        b"CHAP_A=7\0CHAP_C=0x000102030405060708090a0b0c0d0eff\0CHAP_I=125\0",
+    ),
+    (
+        Said::Response(Response::Md5([0x4f; 16])),
         b"CHAP_N=bob\0CHAP_R=0x4f4f4f4f4f4f4f4f4f4f4f4f4f4f4f4f\0",
+    ),
+    (
+        Said::Response(Response::Sha256([0x4f; 32])),
+        b"CHAP_N=bob\0CHAP_R=0x4f4f4f4f4f4f4f4f4f4f4f4f4f4f4f4f4f4f4f4f4f4f4f4f4f4f4f4f4f4f4f4f\0",
     ),
 ];
 

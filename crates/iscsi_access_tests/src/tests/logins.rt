@@ -4,6 +4,7 @@
 use super::{HOST, demand};
 use crate::asserts::same;
 use iscsi_access::{Progress, Said, Verdict};
+use iscsi_chap::{Algorithm, Response};
 use iscsi_text::Text;
 use std::alloc::Global;
 use std::process::Abort;
@@ -37,9 +38,18 @@ const CHOSEN: Verdict = Verdict::Goes {
     said: Said::Method,
 };
 
-const CHALLENGED: Verdict = Verdict::Goes {
-    progress: Progress::Challenged,
-    said: Said::Challenge,
+const MD5_ASKED: Progress = Progress::Challenged(Algorithm::Md5);
+
+const SHA_256_ASKED: Progress = Progress::Challenged(Algorithm::Sha256);
+
+const MD5_CHOSEN: Verdict = Verdict::Goes {
+    progress: MD5_ASKED,
+    said: Said::Challenge(Algorithm::Md5),
+};
+
+const SHA_256_CHOSEN: Verdict = Verdict::Goes {
+    progress: SHA_256_ASKED,
+    said: Said::Challenge(Algorithm::Sha256),
 };
 
 const PASSED: Verdict = Verdict::Goes {
@@ -50,10 +60,20 @@ const PASSED: Verdict = Verdict::Goes {
 /// The target's response to open-iscsi's challenge.
 const PROVED: Verdict = Verdict::Goes {
     progress: Progress::Passed,
-    said: Said::Response([
+    said: Said::Response(Response::Md5([
         0x99, 0xe7, 0xe8, 0x7e, 0x19, 0x15, 0x69, 0x01, 0x0c, 0x25, 0xa0, 0xa9, 0xac, 0xfc, 0x08,
         0xad,
-    ]),
+    ])),
+};
+
+/// The same by SHA-256, of the `hashlib` of Python.
+const PROVED_BY_SHA_256: Verdict = Verdict::Goes {
+    progress: Progress::Passed,
+    said: Said::Response(Response::Sha256([
+        0xd9, 0x56, 0xba, 0x26, 0x01, 0x04, 0x9a, 0xe9, 0x76, 0x6d, 0x09, 0x7d, 0x83, 0x34, 0x70,
+        0xd1, 0xab, 0x2b, 0x6d, 0x7d, 0x1d, 0x7c, 0xd0, 0x70, 0xbe, 0x33, 0xc0, 0x1a, 0x7c, 0xd1,
+        0x85, 0x6b,
+    ])),
 };
 
 struct Row {
@@ -82,13 +102,13 @@ const GOOD: &[Row] = &[
         initiator: ANY,
         before: Progress::Chosen,
         text: b"CHAP_A=5\0",
-        verdict: CHALLENGED,
+        verdict: MD5_CHOSEN,
     },
     Row {
         name: "it gives a response",
         asked: LIBISCSI,
         initiator: ANY,
-        before: Progress::Challenged,
+        before: MD5_ASKED,
         text: b"CHAP_N=alice\0CHAP_R=0x2B31938B00C8C7F2B703B8745F81B468\0",
         verdict: PASSED,
     },
@@ -96,7 +116,7 @@ const GOOD: &[Row] = &[
         name: "in small letters",
         asked: LIBISCSI,
         initiator: ANY,
-        before: Progress::Challenged,
+        before: MD5_ASKED,
         text: b"CHAP_N=alice\0CHAP_R=0x2b31938b00c8c7f2b703b8745f81b468\0",
         verdict: PASSED,
     },
@@ -104,7 +124,7 @@ const GOOD: &[Row] = &[
         name: "in base64",
         asked: LIBISCSI,
         initiator: ANY,
-        before: Progress::Challenged,
+        before: MD5_ASKED,
         text: b"CHAP_N=alice\0CHAP_R=0bKzGTiwDIx/K3A7h0X4G0aA==\0",
         verdict: PASSED,
     },
@@ -112,7 +132,7 @@ const GOOD: &[Row] = &[
         name: "in the other order",
         asked: LIBISCSI,
         initiator: ANY,
-        before: Progress::Challenged,
+        before: MD5_ASKED,
         text: b"CHAP_R=0x2B31938B00C8C7F2B703B8745F81B468\0CHAP_N=alice\0",
         verdict: PASSED,
     },
@@ -120,7 +140,7 @@ const GOOD: &[Row] = &[
         name: "open-iscsi challenges the target",
         asked: LINUX,
         initiator: ANY,
-        before: Progress::Challenged,
+        before: MD5_ASKED,
         text: b"CHAP_N=alice\0CHAP_R=0xa935ed68b259367dd34a508d363b48f4\0CHAP_I=36\0CHAP_C=0x65560cc\
             a6fa39d685bc47d70e606ce7a\0",
         verdict: PROVED,
@@ -134,18 +154,60 @@ const GOOD: &[Row] = &[
         verdict: CHOSEN,
     },
     Row {
-        name: "MD5 behind others",
+        name: "SHA-256 before MD5",
         asked: LIBISCSI,
         initiator: ANY,
         before: Progress::Chosen,
         text: b"CHAP_A=7,6,5\0",
-        verdict: CHALLENGED,
+        verdict: SHA_256_CHOSEN,
+    },
+    Row {
+        name: "MD5 before SHA-256",
+        asked: LIBISCSI,
+        initiator: ANY,
+        before: Progress::Chosen,
+        text: b"CHAP_A=5,7\0",
+        verdict: MD5_CHOSEN,
+    },
+    Row {
+        name: "SHA-256 behind two that are unknown",
+        asked: LIBISCSI,
+        initiator: ANY,
+        before: Progress::Chosen,
+        text: b"CHAP_A=8,6,7,5\0",
+        verdict: SHA_256_CHOSEN,
+    },
+    Row {
+        name: "a response by SHA-256",
+        asked: LIBISCSI,
+        initiator: ANY,
+        before: SHA_256_ASKED,
+        text: b"CHAP_N=alice\0CHAP_R=0xe6dd66f08597b906db2641de30febc39997bd1195f23c20cd2d75b050b\
+            77552c\0",
+        verdict: PASSED,
+    },
+    Row {
+        name: "the same in base64",
+        asked: LIBISCSI,
+        initiator: ANY,
+        before: SHA_256_ASKED,
+        text: b"CHAP_N=alice\0CHAP_R=0b5t1m8IWXuQbbJkHeMP68OZl70RlfI8IM0tdbBQt3VSw=\0",
+        verdict: PASSED,
+    },
+    Row {
+        name: "the target is challenged by SHA-256",
+        asked: LINUX,
+        initiator: ANY,
+        before: SHA_256_ASKED,
+        text: b"CHAP_N=alice\0CHAP_R=0x74fc75882db27afa738c95b34a4b14729903a10adcd88d4285a67e7dd2\
+            a1311e\0CHAP_I=36\0CHAP_C=0x65560cca6fa39d685bc47d70e606ce7a\0",
+        verdict: PROVED_BY_SHA_256,
     },
     Row {
         name: "a name of its own",
         asked: LIBISCSI,
         initiator: HOST,
-        before: Progress::Challenged,
+        before: MD5_ASKED,
         text: b"CHAP_N=carol\0CHAP_R=0x3fc2387d763a88ddea99191a17261f6e\0",
         verdict: PASSED,
     },
@@ -194,11 +256,28 @@ const BAD: &[Row] = &[
         verdict: Verdict::Refused,
     },
     Row {
-        name: "no MD5",
+        name: "neither MD5 nor SHA-256",
         asked: LIBISCSI,
         initiator: ANY,
         before: Progress::Chosen,
-        text: b"CHAP_A=6,7\0",
+        text: b"CHAP_A=6,8,57\0",
+        verdict: Verdict::Refused,
+    },
+    Row {
+        name: "a response by MD5 where SHA-256 was chosen",
+        asked: LIBISCSI,
+        initiator: ANY,
+        before: SHA_256_ASKED,
+        text: b"CHAP_N=alice\0CHAP_R=0x2B31938B00C8C7F2B703B8745F81B468\0",
+        verdict: Verdict::Refused,
+    },
+    Row {
+        name: "a response by SHA-256 where MD5 was chosen",
+        asked: LIBISCSI,
+        initiator: ANY,
+        before: MD5_ASKED,
+        text: b"CHAP_N=alice\0CHAP_R=0xe6dd66f08597b906db2641de30febc39997bd1195f23c20cd2d75b050b\
+            77552c\0",
         verdict: Verdict::Refused,
     },
     Row {
@@ -221,7 +300,7 @@ const BAD: &[Row] = &[
         name: "another name",
         asked: LIBISCSI,
         initiator: ANY,
-        before: Progress::Challenged,
+        before: MD5_ASKED,
         text: b"CHAP_N=alicf\0CHAP_R=0x2B31938B00C8C7F2B703B8745F81B468\0",
         verdict: Verdict::Refused,
     },
@@ -229,7 +308,7 @@ const BAD: &[Row] = &[
         name: "no name",
         asked: LIBISCSI,
         initiator: ANY,
-        before: Progress::Challenged,
+        before: MD5_ASKED,
         text: b"CHAP_R=0x2B31938B00C8C7F2B703B8745F81B468\0",
         verdict: Verdict::Refused,
     },
@@ -237,7 +316,7 @@ const BAD: &[Row] = &[
         name: "no response",
         asked: LIBISCSI,
         initiator: ANY,
-        before: Progress::Challenged,
+        before: MD5_ASKED,
         text: b"CHAP_N=alice\0",
         verdict: Verdict::Refused,
     },
@@ -245,7 +324,7 @@ const BAD: &[Row] = &[
         name: "the last digit",
         asked: LIBISCSI,
         initiator: ANY,
-        before: Progress::Challenged,
+        before: MD5_ASKED,
         text: b"CHAP_N=alice\0CHAP_R=0x2B31938B00C8C7F2B703B8745F81B469\0",
         verdict: Verdict::Refused,
     },
@@ -253,7 +332,7 @@ const BAD: &[Row] = &[
         name: "a byte too few",
         asked: LIBISCSI,
         initiator: ANY,
-        before: Progress::Challenged,
+        before: MD5_ASKED,
         text: b"CHAP_N=alice\0CHAP_R=0x2B31938B00C8C7F2B703B8745F81B4\0",
         verdict: Verdict::Refused,
     },
@@ -261,7 +340,7 @@ const BAD: &[Row] = &[
         name: "a byte too many",
         asked: LIBISCSI,
         initiator: ANY,
-        before: Progress::Challenged,
+        before: MD5_ASKED,
         text: b"CHAP_N=alice\0CHAP_R=0x2B31938B00C8C7F2B703B8745F81B46800\0",
         verdict: Verdict::Refused,
     },
@@ -269,7 +348,7 @@ const BAD: &[Row] = &[
         name: "another login of the same account",
         asked: LINUX,
         initiator: ANY,
-        before: Progress::Challenged,
+        before: MD5_ASKED,
         text: b"CHAP_N=alice\0CHAP_R=0x2B31938B00C8C7F2B703B8745F81B468\0",
         verdict: Verdict::Refused,
     },
@@ -277,7 +356,7 @@ const BAD: &[Row] = &[
         name: "an algorithm once more",
         asked: LIBISCSI,
         initiator: ANY,
-        before: Progress::Challenged,
+        before: MD5_ASKED,
         text: b"CHAP_N=alice\0CHAP_R=0x2B31938B00C8C7F2B703B8745F81B468\0CHAP_A=5\0",
         verdict: Verdict::Refused,
     },
@@ -285,7 +364,7 @@ const BAD: &[Row] = &[
         name: "a name of another",
         asked: LIBISCSI,
         initiator: ANY,
-        before: Progress::Challenged,
+        before: MD5_ASKED,
         text: b"CHAP_N=carol\0CHAP_R=0x3fc2387d763a88ddea99191a17261f6e\0",
         verdict: Verdict::Refused,
     },
@@ -293,7 +372,7 @@ const BAD: &[Row] = &[
         name: "the target's own account",
         asked: LIBISCSI,
         initiator: ANY,
-        before: Progress::Challenged,
+        before: MD5_ASKED,
         text: b"CHAP_N=bob\0CHAP_R=0xa50d6985c2ebce20830a7272224847b8\0",
         verdict: Verdict::Refused,
     },
@@ -301,7 +380,7 @@ const BAD: &[Row] = &[
         name: "a reflected challenge",
         asked: LINUX,
         initiator: ANY,
-        before: Progress::Challenged,
+        before: MD5_ASKED,
         text: b"CHAP_N=alice\0CHAP_R=0xa935ed68b259367dd34a508d363b48f4\0CHAP_I=36\0CHAP_C=0x7c0b774\
             c99927576ac72c36179a6aec4\0",
         verdict: Verdict::Refused,
@@ -310,7 +389,7 @@ const BAD: &[Row] = &[
         name: "the same in base64",
         asked: LINUX,
         initiator: ANY,
-        before: Progress::Challenged,
+        before: MD5_ASKED,
         text: b"CHAP_N=alice\0CHAP_R=0xa935ed68b259367dd34a508d363b48f4\0CHAP_I=36\0CHAP_C=0bfAt3TJm\
             SdXascsNheaauxA==\0",
         verdict: Verdict::Refused,
@@ -319,7 +398,7 @@ const BAD: &[Row] = &[
         name: "a challenge without identifier",
         asked: LINUX,
         initiator: ANY,
-        before: Progress::Challenged,
+        before: MD5_ASKED,
         text: b"CHAP_N=alice\0CHAP_R=0xa935ed68b259367dd34a508d363b48f4\0CHAP_C=0x65560cca6fa39d685b\
             c47d70e606ce7a\0",
         verdict: Verdict::Refused,
@@ -328,7 +407,7 @@ const BAD: &[Row] = &[
         name: "an identifier without challenge",
         asked: LINUX,
         initiator: ANY,
-        before: Progress::Challenged,
+        before: MD5_ASKED,
         text: b"CHAP_N=alice\0CHAP_R=0xa935ed68b259367dd34a508d363b48f4\0CHAP_I=36\0",
         verdict: Verdict::Refused,
     },
@@ -336,7 +415,7 @@ const BAD: &[Row] = &[
         name: "an identifier of two bytes",
         asked: LINUX,
         initiator: ANY,
-        before: Progress::Challenged,
+        before: MD5_ASKED,
         text: b"CHAP_N=alice\0CHAP_R=0xa935ed68b259367dd34a508d363b48f4\0CHAP_I=256\0CHAP_C=0x65560c\
             ca6fa39d685bc47d70e606ce7a\0",
         verdict: Verdict::Refused,

@@ -4,6 +4,7 @@
 use super::{ALICE, HOST, account, demand};
 use crate::asserts::{same, same_bytes};
 use iscsi_access::{Account, Chap, Progress, Said, Verdict};
+use iscsi_chap::{Algorithm, Response};
 use iscsi_text::{Text, write_pairs};
 use std::alloc::{AllocError, Global};
 use std::process::Abort;
@@ -20,10 +21,10 @@ const RESPONSE: [u8; 16] = [
 
 // A verdict, once more where memory ran out.
 fn judged_at_last(rt: &impl Abort, alloc: Global, chap: &Chap, text: &Text<'_>) -> Verdict {
-    match chap.judge(alloc, Progress::Challenged, HOST, text) {
+    match chap.judge(alloc, Progress::Challenged(Algorithm::Md5), HOST, text) {
         Ok(verdict) => verdict,
         Err(_) => chap
-            .judge(alloc, Progress::Challenged, HOST, text)
+            .judge(alloc, Progress::Challenged(Algorithm::Md5), HOST, text)
             .expect(rt, "once more"),
     }
 }
@@ -34,7 +35,7 @@ fn refused_memory_changes_no_verdict(rt: HostRuntime) {
     let text = Text::read(rt.alloc(), TEXT).expect(&rt, "a text");
     let due = Verdict::Goes {
         progress: Progress::Passed,
-        said: Said::Response(RESPONSE),
+        said: Said::Response(Response::Md5(RESPONSE)),
     };
     same(
         &rt,
@@ -63,7 +64,7 @@ fn written(alloc: Global, chap: &Chap, said: Said) -> Result<Vec<u8>, AllocError
 #[test]
 fn refused_memory_changes_no_pair(rt: HostRuntime) {
     let chap = demand(&rt, rt.alloc(), 1, &[0; 16]);
-    let text = written_at_last(&rt, rt.alloc(), &chap, Said::Challenge);
+    let text = written_at_last(&rt, rt.alloc(), &chap, Said::Challenge(Algorithm::Md5));
     let due = b"CHAP_A=5\0CHAP_C=0x00000000000000000000000000000000\0CHAP_I=1\0";
     same_bytes(&rt, &text, due, &"challenge");
 }

@@ -43,7 +43,7 @@ judged_first : (c : Chap) (before p : Progress) (name : List ℕ) (pairs : Pairs
 judged_first c Unasked p name pairs said is e =
     chosen_by (not (has_chap_key pairs) && lists (codes "CHAP") (exchange_value (codes "AuthMethod") pairs)) p said e
 judged_first c Chosen p name pairs said is e = absurd (cc is)
-judged_first c Challenged p name pairs said is e = absurd (cc is)
+judged_first c (Challenged algorithm) p name pairs said is e = absurd (cc is)
 judged_first c Passed p name pairs said is e = absurd (cc is)
 
 pub chooses : (c : Chap) (b : Bool) (before p : Progress) (name : List ℕ) (pairs : Pairs) (said : Said) → before ≡ Unasked

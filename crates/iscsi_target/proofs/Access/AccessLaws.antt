@@ -97,7 +97,7 @@ moves : (s : Session) (r : Request) (p : Progress) → (s.progress ≡ Passed �
 moves s r Passed stays h e = refl
 moves s r Unasked stays h e = stays (h e)
 moves s r Chosen stays h e = stays (h e)
-moves s r Challenged stays h e = stays (h e)
+moves s r (Challenged algorithm) stays h e = stays (h e)
 
 settled : (taken : Bool) (before name : List ℕ) → taken ≡ true → (if taken then before else name) ≡ before
 settled true before name e = refl

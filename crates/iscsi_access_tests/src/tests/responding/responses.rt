@@ -1,7 +1,7 @@
 //! Responses by example, their bytes in hex.
 
 use crate::asserts::{same, same_bytes};
-use iscsi_chap::{is_equal, response};
+use iscsi_chap::{Algorithm, Response, is_equal};
 use std::alloc::Global;
 use std::process::Abort;
 
@@ -59,7 +59,7 @@ const RECORDED: &[Row] = &[
     },
 ];
 
-/// Responses by another program, the `hashlib` of Python, at lengths where MD5 begins a block.
+/// Responses by MD5 of another program, the `hashlib` of Python, at lengths where a block begins.
 const COMPUTED: &[Row] = &[
     Row {
         name: "an identifier alone",
@@ -101,24 +101,69 @@ const COMPUTED: &[Row] = &[
     },
 ];
 
-fn check_row(rt: &impl Abort, alloc: Global, row: &Row) {
+/// The same by SHA-256.
+const COMPUTED_SHA_256: &[Row] = &[
+    Row {
+        name: "an identifier alone",
+        identifier: 0,
+        secret: b"",
+        challenge: b"",
+        response: b"6e340b9cffb37a989ca544e6bb780a2c78901d3fb33738768511a30617afa01d",
+    },
+    Row {
+        name: "55 bytes, the most in one block",
+        identifier: 255,
+        secret: ALICE,
+        challenge: b"000102030405060708090a0b0c0d0e0f101112131415161718191a1b1c1d1e1f\
+            2021222324252627",
+        response: b"4a78bd779e88a97d9b60ed3a06720eedf60eff5df1a03af86428c4d8e59ee3e2",
+    },
+    Row {
+        name: "56 bytes",
+        identifier: 1,
+        secret: ALICE,
+        challenge: b"000102030405060708090a0b0c0d0e0f101112131415161718191a1b1c1d1e1f\
+            202122232425262728",
+        response: b"3094ab0c3ca7d7733cc5a4bd2e7a5d0a3955ca8bc22deda422b07d3e69d8cc4e",
+    },
+    Row {
+        name: "64 bytes",
+        identifier: 7,
+        secret: BOB,
+        challenge: b"000102030405060708090a0b0c0d0e0f101112131415161718191a1b1c1d1e1f\
+            202122232425262728292a2b2c2d2e2f3031",
+        response: b"dcbe71e2f0a4c8221ad90c020e912a86e6dbc2626f4afe8b84265adc34f20b95",
+    },
+    Row {
+        name: "a secret of 255 bytes",
+        identifier: 128,
+        secret: &[b's'; 255],
+        challenge: b"00000000000000000000000000000000",
+        response: b"6d447d76e7ec91b436d2e1170bdf07f792fc83844ab48b3b80f1beab95e79006",
+    },
+];
+
+fn check_row(rt: &impl Abort, alloc: Global, algorithm: Algorithm, row: &Row) {
     let challenge = hex::decode(alloc, row.challenge).expect(rt, "a challenge");
     let due = hex::decode(alloc, row.response).expect(rt, "a response");
-    let given = response(row.identifier, row.secret, &challenge);
-    same_bytes(rt, &given, &due, &row.name);
+    let given = Response::to_challenge(algorithm, row.identifier, row.secret, &challenge);
+    same_bytes(rt, given.as_bytes(), &due, &row.name);
 }
 
 #[test]
 fn real_responses_are_given(rt: HostRuntime) {
     for row in RECORDED {
-        check_row(&rt, rt.alloc(), row);
+        check_row(&rt, rt.alloc(), Algorithm::Md5, row);
     }
 }
 
 #[test]
 fn responses_of_each_length_are_given(rt: HostRuntime) {
     for row in COMPUTED {
-        check_row(&rt, rt.alloc(), row);
+        check_row(&rt, rt.alloc(), Algorithm::Md5, row);
+    }
+    for row in COMPUTED_SHA_256 {
+        check_row(&rt, rt.alloc(), Algorithm::Sha256, row);
     }
 }
 
@@ -128,8 +173,8 @@ fn a_long_challenge_is_answered(rt: HostRuntime) {
         &rt,
         "a response",
     );
-    let given = response(200, b"0123456789ab", &[0xff; 1024]);
-    same_bytes(&rt, &given, &due, &"1,024 bytes");
+    let given = Response::to_challenge(Algorithm::Md5, 200, b"0123456789ab", &[0xff; 1024]);
+    same_bytes(&rt, given.as_bytes(), &due, &"1,024 bytes");
 }
 
 /// Two texts, and whether they are the same.

@@ -7,7 +7,8 @@ use iscsi_secrets::{Secrets, SecretsFault};
 use std::alloc::Global;
 use std::process::Abort;
 
-const TEXT: &[u8] = b"user alice secretsecret12 iqn.a\ntarget bob othersecret34 # bob\n";
+const TEXT: &[u8] =
+    b"user alice secretsecret12 iqn.A\ntarget bob 0b/////////////////////w== # bob\n";
 
 // The fault of a text, once more where memory ran out.
 fn fault_at_last(alloc: Global, text: &[u8]) -> Option<SecretsFault> {

@@ -3,7 +3,8 @@
 
 use crate::asserts::same;
 use iscsi_access::{Progress, Said, Verdict};
-use iscsi_secrets::{Secrets, SecretsFault};
+use iscsi_chap::{Algorithm, Response};
+use iscsi_secrets::{Secrets, SecretsFault, SecretsRemark};
 use iscsi_text::Text;
 use std::alloc::Global;
 use std::process::Abort;
@@ -14,8 +15,10 @@ const TEXT: &[u8] = b"# who may log in\n\
     user alice secretsecret12\n\
     \n\
     \tuser  carol\tthirdsecret56   iqn.2026-01.example:host # at home\r\n\
-    target bob othersecret34#and who answers\n\
-    user user target567890";
+    target bob othersecret34 #and who answers\n\
+    user user target567890\n\
+    user dora 0x000102030405060708090a0b0c0d0e0f\n\
+    user emil 0b/////////////////////w==";
 
 struct Row {
     name: &'static str,
@@ -57,6 +60,18 @@ const RESPONSES: &[Row] = &[
         passes: true,
     },
     Row {
+        name: "a secret in hex",
+        initiator: b"iqn.2026-01.example:other",
+        text: b"CHAP_N=dora\0CHAP_R=0xd46c3a23f0339f879bb0761781740ff2\0",
+        passes: true,
+    },
+    Row {
+        name: "a secret in base64",
+        initiator: b"iqn.2026-01.example:other",
+        text: b"CHAP_N=emil\0CHAP_R=0x5c5ba4920ba97ed57bbbb63a423b1d4a\0",
+        passes: true,
+    },
+    Row {
         name: "the target",
         initiator: b"iqn.2026-01.example:other",
         text: b"CHAP_N=bob\0CHAP_R=0x21c48e0daba39c6dfcabaea9df8ac8cb\0",
@@ -74,7 +89,12 @@ fn check_response(rt: &impl Abort, alloc: Global, secrets: &Secrets, row: &Row) 
     let chap = secrets.demand(alloc, 7, CHALLENGE).expect(rt, "memory");
     let text = Text::read(alloc, row.text).expect(rt, "a text");
     let verdict = chap
-        .judge(alloc, Progress::Challenged, row.initiator, &text)
+        .judge(
+            alloc,
+            Progress::Challenged(Algorithm::Md5),
+            row.initiator,
+            &text,
+        )
         .expect(rt, "memory");
     let passes = verdict != Verdict::Refused;
     same(rt, &passes, &row.passes, &row.name);
@@ -108,11 +128,11 @@ fn the_target_answers_as_its_line_says(rt: HostRuntime) {
         .expect(&rt, "memory");
     let text = Text::read(rt.alloc(), MUTUAL).expect(&rt, "a text");
     let verdict = chap
-        .judge(rt.alloc(), Progress::Challenged, b"", &text)
+        .judge(rt.alloc(), Progress::Challenged(Algorithm::Md5), b"", &text)
         .expect(&rt, "memory");
     let due = Verdict::Goes {
         progress: Progress::Passed,
-        said: Said::Response(PROOF),
+        said: Said::Response(Response::Md5(PROOF)),
     };
     same(&rt, &verdict, &due, &"mutual");
 }
@@ -153,9 +173,59 @@ const FAULTS: &[(&str, &[u8], Option<SecretsFault>)] = &[
         Some(SecretsFault::BadSecret(1)),
     ),
     (
-        "a comment in a secret",
+        "a comment behind a blank",
+        b"user alice secretsecret12 #35",
+        None,
+    ),
+    (
+        "a comment behind a tab",
+        b"\t# user\nuser alice secretsecret12\t#",
+        None,
+    ),
+    (
+        "a number sign in a secret",
         b"user alice secret#secret12",
+        Some(SecretsFault::NumberSign(1)),
+    ),
+    (
+        "a number sign behind a secret",
+        b"user alice secretsecret12\ntarget bob othersecret34# bob",
+        Some(SecretsFault::NumberSign(2)),
+    ),
+    (
+        "a number sign in a line of no form",
+        b"us#er",
+        Some(SecretsFault::NumberSign(1)),
+    ),
+    (
+        "a secret of 12 bytes in hex",
+        b"user alice 0x000102030405060708090a0B",
+        None,
+    ),
+    (
+        "a secret of 11 bytes in hex",
+        b"user alice 0x000102030405060708090a",
         Some(SecretsFault::BadSecret(1)),
+    ),
+    (
+        "a secret of 11 bytes in 14 letters",
+        b"user alice 0bAAECAwQFBgcICQo=",
+        Some(SecretsFault::BadSecret(1)),
+    ),
+    (
+        "a secret that is no hex",
+        b"\nuser alice 0xsecretsecret12",
+        Some(SecretsFault::BadBinary(2)),
+    ),
+    (
+        "a secret in base64 without its padding",
+        b"user alice 0BAAECAwQFBgcICQoLDA",
+        Some(SecretsFault::BadBinary(1)),
+    ),
+    (
+        "a target's secret that is a user's, in hex",
+        b"user alice secretsecret12\ntarget bob 0x7365637265747365637265743132",
+        Some(SecretsFault::SameSecret(2)),
     ),
     (
         "a short secret of the target",
@@ -227,6 +297,60 @@ fn the_first_wrong_line_is_told(rt: HostRuntime) {
     }
 }
 
+/// A text that is taken, and what is told of it.
+const REMARKS: &[(&str, &[u8], &[SecretsRemark])] = &[
+    ("nothing", b"", &[]),
+    (
+        "two secrets",
+        b"user alice secretsecret12\nuser carol thirdsecret56",
+        &[],
+    ),
+    (
+        "one secret of two users",
+        b"user alice secretsecret12\n\nuser carol secretsecret12",
+        &[SecretsRemark::SharedSecret(3)],
+    ),
+    (
+        "the same in hex",
+        b"user alice secretsecret12\nuser carol 0X7365637265747365637265743132",
+        &[SecretsRemark::SharedSecret(2)],
+    ),
+    (
+        "capital letters",
+        b"user Alice secretsecret12 iqn.2026-01.example:host\n\
+            user carol thirdsecret56 iqn.2026-01.Example:host",
+        &[SecretsRemark::Capital(2)],
+    ),
+    (
+        "both in one line",
+        b"user alice secretsecret12\nuser carol secretsecret12 iqn.2026-01.example:Host",
+        &[SecretsRemark::Capital(2), SecretsRemark::SharedSecret(2)],
+    ),
+];
+
+#[test]
+fn what_may_be_a_mistake_is_told(rt: HostRuntime) {
+    for (name, text, due) in REMARKS {
+        let Ok(secrets) = Secrets::read(rt.alloc(), text) else {
+            panic!(rt; "refused");
+        };
+        same(&rt, &secrets.remarks(), due, name);
+    }
+}
+
+#[test]
+fn a_text_of_a_target_alone_has_no_users(rt: HostRuntime) {
+    let alone = Secrets::read(rt.alloc(), b"target bob othersecret34").ok();
+    same(
+        &rt,
+        &alone.map(|s| s.has_users()),
+        &Some(false),
+        &"bob alone",
+    );
+    let user = Secrets::read(rt.alloc(), b"user alice secretsecret12").ok();
+    same(&rt, &user.map(|s| s.has_users()), &Some(true), &"alice");
+}
+
 // The lines of so many users, whose names are all `a`s.
 fn users(rt: &impl Abort, alloc: Global, count: usize) -> Vec<u8> {
     let mut text = Vec::new(alloc);
@@ -295,6 +419,14 @@ const PRINTED: &[(SecretsFault, &str)] = &[
     (
         SecretsFault::BadSecret(3),
         "line 3: a secret has 12 to 255 bytes",
+    ),
+    (
+        SecretsFault::BadBinary(4),
+        "line 4: behind 0x a secret is hex digits, behind 0b base64",
+    ),
+    (
+        SecretsFault::NumberSign(5),
+        "line 5: a '#' inside a word; a comment begins at the start or behind a blank",
     ),
     (
         SecretsFault::BadLine(10),
