@@ -27,12 +27,18 @@ pub enum SecretsFault {
     /// The text has more than 65,536 bytes.
     #[error("has more than 65536 bytes")]
     TooLong,
+    /// A word has a `#` in it, but not at its head, where it would begin a comment.
+    #[error("line {0}: a '#' inside a word; a comment begins at the start or behind a blank")]
+    NumberSign(u64),
     /// The line is of neither form.
     #[error("line {0}: this is neither 'user NAME SECRET [IQN]' nor 'target NAME SECRET'")]
     BadLine(u64),
     /// The name has more than 255 bytes, or a control character.
     #[error("line {0}: a name has at most 255 bytes, and no control character")]
     BadName(u64),
+    /// The secret begins as a large binary value, and is none.
+    #[error("line {0}: behind 0x a secret is hex digits, behind 0b base64")]
+    BadBinary(u64),
     /// The secret has fewer than 12 bytes, or more than 255.
     #[error("line {0}: a secret has 12 to 255 bytes")]
     BadSecret(u64),

@@ -5,7 +5,9 @@
 mod fault;
 mod line;
 mod opening;
+mod remark;
 mod secrets;
 
 pub use fault::SecretsFault;
+pub use remark::SecretsRemark;
 pub use secrets::Secrets;

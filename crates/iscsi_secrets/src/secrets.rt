@@ -1,15 +1,18 @@
 //! Secrets, and the lines of a text that give them. One file, since it reads one format.
 
-ghost use Rattle.std.specs.Prelude.{◌≡◌, ◌≢◌, ◌||◌, true, false, IfOk, IfErr, OnOk, Ok, Err, Some, None, map};
+ghost use Rattle.std.specs.Prelude.{◌≡◌, ◌≢◌, ◌||◌, true, false, IfOk, IfErr, OnOk, IsTrue, ◌↔◌, Ok, Err, Some, None, [], map};
 ghost use Rattle.std.specs.Char.{is_ascii_control};
 ghost use Rattle.std.specs.List.{list_any};
+ghost use Rattle.std.specs.Option.{option_map};
 ghost use Rattle.iscsi_access.specs.Chap.{has_secret};
 ghost use Rattle.iscsi_secrets.specs.declared.fault.SecretsFault.TheVariants as faults;
-ghost use Rattle.iscsi_secrets.specs.Secrets.{account_of, demand_of, has_name, is_account_name, is_own_name, is_own_secret, secrets_in, with_four, with_three, with_user, with_target, with_words, words_of, wrong_account};
+ghost use Rattle.iscsi_secrets.specs.Secrets.{account_in, demand_of, has_capital, has_name, is_account_name, is_binary_word, is_own_name, is_own_secret, noted_if, secret_of, secrets_in, with_bound, with_four, with_line, with_three, with_user, with_target, with_words, words_of};
 
 use crate::fault::SecretsFault;
-use crate::line::{lines_of, words_of};
+use crate::line::{has_number_sign, lines_of, words_of};
+use crate::remark::SecretsRemark;
 use iscsi_access::{Account, Chap};
+use iscsi_chap::read_binary;
 use std::alloc::{AllocError, Global};
 use std::marker::Model;
 
@@ -33,6 +36,7 @@ const TARGET: &[u8] = b"target";
 pub struct Secrets {
     accounts: Vec<Account>,
     own: Option<Account>,
+    remarks: Vec<SecretsRemark>,
 }
 
 impl Model for Secrets {
@@ -41,7 +45,11 @@ impl Model for Secrets {
 
     ghost Value = { Secrets };
 
-    ghost view = { λ s. record { accounts = s.accounts.items; own = s.own } };
+    ghost view = { λ s. record {
+      accounts = s.accounts.items;
+      own = s.own;
+      remarks = s.remarks.items;
+    } };
 
     ghost invariant = { λ s. AreApart s.accounts.items s.own };
 }
@@ -52,10 +60,11 @@ impl Secrets {
     /// A line is `user NAME SECRET`, `user NAME SECRET IQN` or `target NAME SECRET`, or has no word.
     /// A user may log in; with the last word it may do so only under this InitiatorName. A target
     /// answers by the name and secret of its line.
-    /// - Words are parted by blanks, tabs or carriage returns. A `#` begins a comment, also inside a
-    ///   word, so that no word has one.
+    /// - Words are parted by blanks, tabs or carriage returns. A `#` at the head of a word begins a
+    ///   comment, and inside a word it is wrong.
     /// - A name has at most 255 bytes, and no control character (RFC 7143, section 6.1).
-    /// - A secret has 12 to 255 bytes.
+    /// - A secret has 12 to 255 bytes. It is the bytes of its word; behind `0x` or `0b` those that the
+    ///   word writes in hex or in base64, as a large binary value (RFC 7143, section 6.1).
     /// - No name stands twice, and the target's secret is none of a user's.
     /// - There is at most one target, and there are at most 64 users and 65,536 bytes.
     ///
@@ -74,6 +83,7 @@ impl Secrets {
         let mut secrets = Secrets {
             accounts: Vec::new(alloc),
             own: None,
+            remarks: Vec::new(alloc),
         };
         for n in 0..lines.len() {
             secrets.take(alloc, n as u64 + 1, lines[n])?;
@@ -103,17 +113,44 @@ impl Secrets {
         Ok(chap)
     }
 
-    // Takes the line of this number.
-    fn take(&mut self, alloc: Global, line: u64, text: &[u8]) -> Result<(), SecretsFault>
-        ensures ok { OnOk result (with_words line self.old (words_of text.now) ≡ Ok self.new) }
-        ensures err { IfErr result (λ fault. fault ≢ faults.NoMemory →
-            with_words line self.old (words_of text.now) ≡ Err fault) }
+    /// Whether somebody may log in.
+    pub fn has_users(&self) -> bool
+        ensures some { IsTrue result ↔ (self.now.accounts ≢ []) }
     {
-        let words = words_of(alloc, text)?;
-        self.take_words(alloc, line, &words)
+        !self.accounts.is_empty()
     }
 
-    // Takes the words of the line of this number.
+    /// What is told of the lines, in their order.
+    pub fn remarks(&self) -> &[SecretsRemark]
+        ensures told { result.now ≡ self.now.remarks }
+    {
+        &self.remarks
+    }
+
+    // Takes the line of this number.
+    fn take(&mut self, alloc: Global, line: u64, text: &[u8]) -> Result<(), SecretsFault>
+        ensures ok { OnOk result (with_line line self.old (words_of text.now) ≡ Ok self.new) }
+        ensures err { IfErr result (λ fault. fault ≢ faults.NoMemory →
+            with_line line self.old (words_of text.now) ≡ Err fault) }
+    {
+        let words = words_of(alloc, text)?;
+        self.take_line(alloc, line, &words)
+    }
+
+    // Takes the words of the line of this number, unless one has a `#`.
+    fn take_line(&mut self, alloc: Global, line: u64, words: &[&[u8]]) -> Result<(), SecretsFault>
+        ensures ok { OnOk result (with_line line self.old (map (λ word. word.now) words.now)
+            ≡ Ok self.new) }
+        ensures err { IfErr result (λ fault. fault ≢ faults.NoMemory →
+            with_line line self.old (map (λ word. word.now) words.now) ≡ Err fault) }
+    {
+        if has_number_sign(words) {
+            return Err(SecretsFault::NumberSign(line));
+        }
+        self.take_words(alloc, line, words)
+    }
+
+    // Takes the words of the line of this number, none of which has a `#`.
     fn take_words(&mut self, alloc: Global, line: u64, words: &[&[u8]]) -> Result<(), SecretsFault>
         ensures ok { OnOk result (with_words line self.old (map (λ word. word.now) words.now)
             ≡ Ok self.new) }
@@ -141,9 +178,9 @@ impl Secrets {
         secret: &[u8],
     ) -> Result<(), SecretsFault>
         ensures ok { OnOk result (with_three line self.old kind.now
-            (account_of name.now secret.now None) ≡ Ok self.new) }
+            (account_in line name.now secret.now) ≡ Ok self.new) }
         ensures err { IfErr result (λ fault. fault ≢ faults.NoMemory → with_three line self.old
-            kind.now (account_of name.now secret.now None) ≡ Err fault) }
+            kind.now (account_in line name.now secret.now) ≡ Err fault) }
     {
         if kind == USER {
             let account = account_of(alloc, line, name, secret)?;
@@ -168,21 +205,37 @@ impl Secrets {
         initiator: &[u8],
     ) -> Result<(), SecretsFault>
         ensures ok { OnOk result (with_four line self.old kind.now
-            (account_of name.now secret.now (Some initiator.now)) ≡ Ok self.new) }
+            (account_in line name.now secret.now) initiator.now ≡ Ok self.new) }
         ensures err { IfErr result (λ fault. fault ≢ faults.NoMemory → with_four line self.old
-            kind.now (account_of name.now secret.now (Some initiator.now)) ≡ Err fault) }
+            kind.now (account_in line name.now secret.now) initiator.now ≡ Err fault) }
     {
         if kind != USER {
             return Err(SecretsFault::BadLine(line));
         }
         let account = account_of(alloc, line, name, secret)?;
-        self.take_user(line, account.bound_to(initiator.to_vec(alloc)?))
+        self.take_bound(alloc, line, account, initiator)
+    }
+
+    // Takes a user who is bound to this InitiatorName.
+    fn take_bound(
+        &mut self,
+        alloc: Global,
+        line: u64,
+        account: Account,
+        initiator: &[u8],
+    ) -> Result<(), SecretsFault>
+        ensures ok { OnOk result (with_bound line self.old account initiator.now ≡ Ok self.new) }
+        ensures err { IfErr result (λ fault. fault ≢ faults.NoMemory →
+            with_bound line self.old account initiator.now ≡ Err fault) }
+    {
+        let account = account.bound_to(initiator.to_vec(alloc)?);
+        self.note_if(has_capital(initiator), SecretsRemark::Capital(line))?;
+        self.take_user(line, account)
     }
 
     // Takes a user.
-    #[tactic(auto, using(crate::proofs::ApartLemmas::apart_longer))]
+    #[tactic(auto, using(crate::proofs::ApartLemmas::apart_longer), unfolding(crate::specs::Secrets::with_user))]
     fn take_user(&mut self, line: u64, account: Account) -> Result<(), SecretsFault>
-        requires { wrong_account line account.name account.secret ≡ None }
         ensures ok { OnOk result (with_user line self.old account ≡ Ok self.new) }
         ensures err { IfErr result (λ fault. fault ≢ faults.NoMemory →
             with_user line self.old account ≡ Err fault) }
@@ -196,13 +249,24 @@ impl Secrets {
         if self.accounts.len() >= MOST_USERS {
             return Err(SecretsFault::TooManyUsers(line));
         }
+        let is_shared = shares_secret(&self.accounts, &account);
         self.accounts.push(account)?;
+        self.note_if(is_shared, SecretsRemark::SharedSecret(line))?;
+        Ok(())
+    }
+
+    // Adds a remark where it is to be told.
+    fn note_if(&mut self, told: bool, remark: SecretsRemark) -> Result<(), AllocError>
+        ensures { OnOk result (self.new ≡ noted_if told remark self.old) }
+    {
+        if told {
+            self.remarks.push(remark)?;
+        }
         Ok(())
     }
 
     // Takes the target.
     fn take_target(&mut self, line: u64, account: Account) -> Result<(), SecretsFault>
-        requires { wrong_account line account.name account.secret ≡ None }
         ensures ok { OnOk result (with_target line self.old account ≡ Ok self.new) }
         ensures err { IfErr result (λ fault. with_target line self.old account ≡ Err fault) }
     {
@@ -220,23 +284,57 @@ impl Secrets {
     }
 }
 
-// The account of a name and a secret, which any initiator may use. The name's fault comes first.
-#[tactic(auto, unfolding(crate::specs::Secrets::wrong_account))]
-fn account_of(alloc: Global, line: u64, name: &[u8], secret: &[u8]) -> Result<Account, SecretsFault>
-    ensures ok { IfOk result (λ account. (account ≡ account_of name.now secret.now None)
-        × (wrong_account line name.now secret.now ≡ None)) }
+// The account of a name and of the word of a secret, which any initiator may use. The name's fault
+// comes first.
+#[tactic(auto, unfolding(crate::specs::Secrets::account_in))]
+fn account_of(alloc: Global, line: u64, name: &[u8], word: &[u8]) -> Result<Account, SecretsFault>
+    ensures ok { IfOk result (λ account. account_in line name.now word.now ≡ Ok account) }
     ensures err { IfErr result (λ fault. fault ≢ faults.NoMemory →
-        wrong_account line name.now secret.now ≡ Some fault) }
+        account_in line name.now word.now ≡ Err fault) }
 {
     if !is_name(name) {
         return Err(SecretsFault::BadName(line));
     }
     let name = name.to_vec(alloc)?;
-    let secret = secret.to_vec(alloc)?;
+    let Some(secret) = secret_of(alloc, word)? else {
+        return Err(SecretsFault::BadBinary(line));
+    };
     match Account::new(name, secret) {
         Ok(account) => Ok(account),
         Err(_) => Err(SecretsFault::BadSecret(line)),
     }
+}
+
+// The secret that a word gives, if it gives one.
+fn secret_of(alloc: Global, word: &[u8]) -> Result<Option<Vec<u8>>, AllocError>
+    ensures { IfOk result (λ secret. option_map (λ v. v.items) secret ≡ secret_of word.now) }
+{
+    if is_binary_word(word) {
+        return read_binary(alloc, word);
+    }
+    Ok(Some(word.to_vec(alloc)?))
+}
+
+// Whether a word begins as a large binary value.
+fn is_binary_word(word: &[u8]) -> bool
+    ensures { result ≡ is_binary_word word.now }
+{
+    match word {
+        [b'0', b'x' | b'X' | b'b' | b'B', ..] => true,
+        _ => false,
+    }
+}
+
+// Whether a name has a capital letter.
+fn has_capital(name: &[u8]) -> bool
+    ensures { result ≡ has_capital name.now }
+{
+    for b in name {
+        if b.is_ascii_uppercase() {
+            return true;
+        }
+    }
+    false
 }
 
 // Whether a name is none too long, and has no control character.
