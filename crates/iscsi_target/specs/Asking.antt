@@ -2,8 +2,9 @@
 -- cache (RFC 7143, section 11.3; SBC-3, section 4.15).
 --
 -- `protected` says of the store that it refuses each write.
-use Rattle.std.specs.Prelude.{◌≡◌, ℕ, Bool, true, false, ◌||◌, List, Result, Ok, Err}
+use Rattle.std.specs.Prelude.{◌≡◌, ℕ, Bool, true, false, ◌||◌, List, Option, Result, Ok, Err}
 use Rattle.std.specs.List.{AllByRecursion, list_any}
+use Rattle.scsi_unit.specs.LogicalUnit.{LogicalUnit}
 use Rattle.scsi_unit.specs.WriteCache.{asks_to_last, writes_back}
 use Rattle.iscsi_pdu.specs.declared.head.Head.{Head}
 use Rattle.iscsi_pdu.specs.declared.head.Head.TheVariants as heads
@@ -13,7 +14,8 @@ use Rattle.iscsi_login.specs.declared.phase.Phase.{Phase}
 use Rattle.iscsi_target.specs.declared.fault.TargetFault.{TargetFault}
 use Rattle.iscsi_target.specs.declared.tasks.Task.{Task}
 use Rattle.iscsi_target.specs.declared.tasks.Task.TheVariants.{Command, Data, Request}
-use Rattle.iscsi_target.specs.State.{Machine, Execution}
+use Rattle.iscsi_target.specs.State.{Machine, Execution, unit_of}
+use Rattle.iscsi_target.specs.Command.{order_of}
 use Rattle.iscsi_target.specs.Feed.{Scene, FeedsOnePdu}
 
 -- The disk of a target has a write cache.
@@ -37,10 +39,11 @@ NotesAsking protected old piece (Err fault) new noted notes = Unit {0}
 
 -- ---- which commands may be executed next
 
--- The command of a request asks so.
-abbrev pub asks_head : Head → Bool
-asks_head (heads.ScsiCommand h) = asks_to_last h.cdb
-asks_head _ = false
+-- The command of a request asks so, by what it orders of a disk that may tell more of itself. So a
+-- command is judged by what it means, and not by how it is spelled.
+abbrev pub asks_head : Option LogicalUnit → Head → Bool
+asks_head unit (heads.ScsiCommand h) = asks_to_last (order_of unit h).cdb
+asks_head unit _ = false
 
 -- The command of a task asks so.
 abbrev pub asks_task : Task → Bool
@@ -50,7 +53,7 @@ asks_task (Request kept) = false
 
 -- A command that may be executed for a PDU of this head asks so: that of the PDU, or of a task.
 abbrev pub machine_asks : Machine → Head → Bool
-machine_asks s head = list_any asks_task s.tasks || asks_head head
+machine_asks s head = list_any asks_task s.tasks || asks_head (unit_of s.session) head
 
 -- A command asks so that may be executed for the PDU that is ready.
 pub record SomeReadyAsks (s : Machine) (framing : Framing) : Type 0 where

@@ -2,13 +2,13 @@
 
 ghost use Rattle.std.specs.Prelude.{◌≡◌, ◌<◌, ◌^◌, ◌≤◌, None, Some};
 ghost use Rattle.scsi_disk.specs.Disk.{Disk};
-ghost use Rattle.iscsi_target.specs.State.{opening_machine, max_cmd_sn, closed_machine, left, on, waiting_tasks};
+ghost use Rattle.iscsi_target.specs.State.{opening_machine, max_cmd_sn, closed_machine, left, on, unit_of, waiting_tasks};
 ghost use Rattle.iscsi_target_session.specs.Session.{stat_sn_advanced};
 ghost use Rattle.iscsi_target.specs.State.{writes_joined};
 ghost use Rattle.iscsi_target_session.specs.Rejecting.{message_rejected};
 ghost use Rattle.iscsi_target.specs.inner.State.{breaks};
 ghost use Rattle.iscsi_target.specs.Machine.{is_machine_closed};
-ghost use Rattle.iscsi_target.specs.Asking.{machine_asks, has_cache};
+ghost use Rattle.iscsi_target.specs.Asking.{asks_head, machine_asks, has_cache};
 ghost use Rattle.iscsi_target.specs.inner.Inside.{DisklessPost};
 
 mod arriving;
@@ -21,10 +21,11 @@ mod scsi_command;
 mod source;
 mod writes;
 
-use crate::tasks::{Tasks, asks_head};
+use crate::tasks::Tasks;
 use iscsi_login::Phase;
 use iscsi_pdu::Head;
 use iscsi_target_session::{Config, Numbers, Received, Session};
+use scsi_unit::asks_to_last;
 use std::alloc::{AllocError, Global};
 use std::marker::Model;
 
@@ -95,7 +96,17 @@ impl Machine {
     pub fn asks(&self, head: &Head) -> bool
         ensures { result ≡ machine_asks self.now head.now }
     {
-        self.tasks.asks() || asks_head(head)
+        self.tasks.asks() || self.asks_head(head)
+    }
+
+    // Whether the command of a request asks so, by what it orders of the disk.
+    fn asks_head(&self, head: &Head) -> bool
+        ensures { result ≡ asks_head (unit_of self.now.session) head.now }
+    {
+        match head {
+            Head::ScsiCommand(command) => asks_to_last(&self.order_of(command).cdb),
+            _ => false,
+        }
     }
 
     // How many tasks take a place of the window.

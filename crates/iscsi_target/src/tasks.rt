@@ -2,7 +2,7 @@
 
 ghost use Rattle.std.specs.Prelude.{◌≡◌, ◌⊎◌, ◌<◌, ◌≤◌, ◌++◌, ◌∷◌, None, Some, [], true, length, insert, IfNone, IfSome, OnSome};
 ghost use Rattle.std.specs.List.{list_any};
-ghost use Rattle.iscsi_target.specs.Asking.{asks_head, asks_task};
+ghost use Rattle.iscsi_target.specs.Asking.{asks_task};
 ghost use Rattle.iscsi_target.specs.Write.{Write};
 ghost use Rattle.iscsi_target.specs.State.{takes_place, waiting_tasks};
 ghost use Rattle.iscsi_target.specs.Transfer.{joined_write};
@@ -16,7 +16,6 @@ ghost use Rattle.iscsi_target.specs.Queue.{TakePlaces};
 use crate::open_write::OpenWrite;
 use crate::queued_request::QueuedRequest;
 use arrayvec::ArrayVec;
-use iscsi_pdu::Head;
 use scsi_disk::Order;
 use scsi_unit::asks_to_last;
 use std::alloc::Global;
@@ -89,16 +88,6 @@ impl Task {
 impl MadeWith<Global> for Task {
     fn made_with(alloc: Global) -> Task {
         Task::Request(QueuedRequest::blank(alloc))
-    }
-}
-
-/// Whether the command of a request asks that what was written lasts before it is answered.
-pub fn asks_head(head: &Head) -> bool
-    ensures { result ≡ asks_head head.now }
-{
-    match head {
-        Head::ScsiCommand(command) => asks_to_last(&command.cdb),
-        _ => false,
     }
 }
 

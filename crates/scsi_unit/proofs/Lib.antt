@@ -1,1 +1,3 @@
 pub mod TellingLemmas
+pub mod SupportedLemmas
+pub mod LengthLemmas

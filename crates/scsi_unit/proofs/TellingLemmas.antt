@@ -11,7 +11,7 @@ use Rattle.scsi_unit.specs.LogicalUnit.{LogicalUnit}
 use Rattle.scsi_unit.specs.Telling.{outcome_with_unit, told_outcome, data_told}
 
 by_command : (unit : LogicalUnit) (blocks : ℕ) (order : Order) (cdb : Cdb) (outcome : Outcome) → (is_read cdb || is_write cdb) ≡ true
-    → unwrap_or (option_map (told_outcome order) (data_told unit (order.lun == 0) blocks cdb)) outcome ≡ outcome
+    → unwrap_or (option_map (told_outcome blocks order) (data_told unit (order.lun == 0) blocks cdb)) outcome ≡ outcome
 by_command unit blocks order (Inquiry a b c d) outcome e = absurd (false≢true e)
 by_command unit blocks order (Capacity16 a b) outcome e = absurd (false≢true e)
 by_command unit blocks order (Unknown a) outcome e = absurd (false≢true e)

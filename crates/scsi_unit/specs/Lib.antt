@@ -2,6 +2,9 @@ pub mod LogicalUnit
 pub mod Designators
 pub mod Pages
 pub mod Modes
+pub mod Spellings
 pub mod WriteSame
+pub mod Supported
 pub mod Telling
 pub mod WriteCache
+pub mod Laws

@@ -7,16 +7,7 @@ use Rattle.scsi_cdb.specs.declared.cdb.Cdb.TheVariants.{Unknown, Write16}
 use Rattle.scsi_cdb.specs.declared.cdb.Transfer16.{Transfer16}
 use Rattle.scsi_disk.specs.declared.order.Order.{Order}
 use Rattle.scsi_unit.specs.LogicalUnit.{LogicalUnit}
-
--- The blocks that a WRITE SAME names, and byte 1 of its block.
-abbrev pub naming : ℕ → ℕ → ℕ → Transfer16
-naming options first count = record {
-  options = options;
-  logical_block_address = first;
-  blocks = count;
-  group_number = 0;
-  control = 0;
-}
+use Rattle.scsi_unit.specs.Spellings.{naming, spelled}
 
 -- The blocks that a WRITE SAME(10) or (16) names, by its block; none of another command.
 abbrev pub same_blocks : List ℕ → Option Transfer16
@@ -28,9 +19,10 @@ same_blocks block =
     else None
 
 -- A WRITE SAME that a thin unit takes. It names a block (WSNZ), and asks neither for protection
--- (WRPROTECT) nor for an anchor, and sends data (NDOB).
+-- (WRPROTECT) nor for an anchor, nor for block numbers in the data (PBDATA and LBDATA), and sends data
+-- (NDOB).
 abbrev pub is_plain : Transfer16 → Bool
-is_plain named = (bit_and named.options 0xf1 == 0) && nat_lt 0 named.blocks
+is_plain named = (bit_and named.options 0xf7 == 0) && nat_lt 0 named.blocks
 
 -- Those blocks, of a WRITE SAME that is plain.
 abbrev pub if_plain : Option Transfer16 → Option Transfer16
@@ -53,10 +45,15 @@ abbrev pub as_write : Option Transfer16 → Cdb → Cdb
 as_write None cdb = cdb
 as_write (Some named) cdb = Write16 (naming 0 named.logical_block_address named.blocks)
 
+-- What a command means to such a disk: a command of the table in another spelling, or a WRITE SAME, or
+-- itself.
+abbrev pub meant_cdb : Option LogicalUnit → Cdb → Cdb
+meant_cdb unit cdb = as_write (same_taken unit cdb) (spelled unit cdb)
+
 -- What an order means to such a disk. A WRITE SAME that it takes is a WRITE whose data go to each block.
 -- With the bit UNMAP it is the same: blocks that are given back read as zeros.
 abbrev pub meant : Option LogicalUnit → Order → Order
 meant unit order = record order {
-  cdb = as_write (same_taken unit order.cdb) order.cdb;
+  cdb = meant_cdb unit order.cdb;
   same = is_some (same_taken unit order.cdb) || order.same;
 }

@@ -1,11 +1,14 @@
-//! What a logical unit tells of itself beyond the profile: its names, its limits, its modes
-//! (SPC-4 and SBC-3).
+//! What a logical unit does beyond the profile: its names, its limits, its modes, and the commands that
+//! it takes (SPC-4 and SBC-3).
 #![tactic(auto)]
 
 mod data;
 mod designators;
+pub mod laws;
 mod modes;
 mod pages;
+mod spellings;
+mod supported;
 mod telling;
 mod unit;
 mod write_cache;

@@ -1,8 +1,10 @@
-//! WRITE SAME(10) and WRITE SAME(16), as the orders that a thin unit takes (SBC-3).
+//! What orders mean to a unit: other spellings, and the WRITE SAME(10) and (16) of a thin one (SBC-3).
 
 ghost use Rattle.std.specs.Prelude.{◌≡◌, Some};
-ghost use Rattle.scsi_unit.specs.WriteSame.{is_plain, meant, naming, plain_same, same_blocks, same_taken};
+ghost use Rattle.scsi_unit.specs.Spellings.{spelled};
+ghost use Rattle.scsi_unit.specs.WriteSame.{is_plain, meant, plain_same, same_blocks, same_taken};
 
+use crate::spellings::{naming, spelled_block};
 use crate::unit::LogicalUnit;
 use scsi_cdb::layout::{u8_at, u16_at, u32_at, u64_at};
 use scsi_cdb::{Cdb, Transfer16};
@@ -13,27 +15,43 @@ const WRITE_SAME10: u8 = 0x41;
 
 const WRITE_SAME16: u8 = 0x93;
 
-/// What a thin unit does not do: protection (WRPROTECT), an anchor (ANCHOR), and blocks with no data
-/// (NDOB).
-const NOT_TAKEN: u8 = 0xf1;
+/// What a thin unit does not do: protection (WRPROTECT), an anchor (ANCHOR), block numbers in the data
+/// (PBDATA and LBDATA), and blocks with no data (NDOB).
+const NOT_TAKEN: u8 = 0xf7;
 
 impl LogicalUnit {
-    /// What an order means to the unit. To a thin one a WRITE SAME(10) or (16) is a WRITE of its blocks,
-    /// whose data go to each. With the bit UNMAP it is the same, since blocks that are given back read as
-    /// zeros.
+    /// What an order means to the unit (SBC-3). READ(6), WRITE(6), READ(12) and WRITE(12) mean a READ(16) or
+    /// a WRITE(16). WRITE AND VERIFY(10), (12) and (16) mean a WRITE(16) with the bit FUA: it lasts before it
+    /// is answered, and isn't read again. SYNCHRONIZE CACHE(16), and a START STOP UNIT after which the power
+    /// may be cut, mean a SYNCHRONIZE CACHE(10) of all blocks.
     ///
-    /// A WRITE SAME that names no block, or asks for protection, for an anchor or to send no data, stays
-    /// as it is, and `outcome` refuses it. Any other order stays as it is, too.
+    /// To a thin unit a WRITE SAME(10) or (16) is a WRITE of its blocks, whose data go to each. With the bit
+    /// UNMAP it is the same, since blocks that are given back read as zeros. A WRITE SAME that names no block,
+    /// or asks for protection, for an anchor, for block numbers in the data or to send no data, stays as it
+    /// is, and `outcome` refuses it. Any other order stays as it is, too.
     pub fn meant(&self, order: Order) -> Order
         ensures { result ≡ meant (Some self.now) order }
     {
         let Some(named) = self.same_taken(&order.cdb) else {
-            return order;
+            return Order {
+                cdb: self.spelled(order.cdb),
+                ..order
+            };
         };
         Order {
             cdb: Cdb::Write16(naming(0, named.logical_block_address, named.blocks)),
             same: true,
             ..order
+        }
+    }
+
+    // What a command means to the unit, but for WRITE SAME.
+    fn spelled(&self, cdb: Cdb) -> Cdb
+        ensures { result ≡ spelled (Some self.now) cdb }
+    {
+        match cdb {
+            Cdb::Unknown(block) => spelled_block(&block),
+            _ => cdb,
         }
     }
 
@@ -75,19 +93,6 @@ fn plain_same(cdb: &Cdb) -> Option<Transfer16>
     match same_blocks(block) {
         Some(named) if is_plain(&named) => Some(named),
         _ => None,
-    }
-}
-
-// The blocks that a WRITE SAME names, and byte 1 of its block.
-fn naming(options: u8, first: u64, count: u32) -> Transfer16
-    ensures { result ≡ naming options first count }
-{
-    Transfer16 {
-        options,
-        logical_block_address: first,
-        blocks: count,
-        group_number: 0,
-        control: 0,
     }
 }
 

@@ -1,5 +1,5 @@
 -- The numbers of an outcome have room in its response.
-use Rattle.std.specs.Prelude.{◌≡◌, ◌-◌, ◌*◌, ◌^◌, ◌<◌, ◌≤◌, nat_lt, ◌==◌, ◌||◌, ◌&&◌, IfSome, is_some, unwrap_or}
+use Rattle.std.specs.Prelude.{◌≡◌, ◌-◌, ◌*◌, ◌^◌, ◌<◌, ◌≤◌, nat_lt, ◌==◌, ◌||◌, ◌&&◌, if◌then◌else◌, IfSome, is_some, unwrap_or}
 use Rattle.std.specs.Option.{option_map}
 use Rattle.std.proofs.Common.{ℕ, Bool, true, false, List, [], ◌++◌, length, take, Option, Some, None, refl, subst, arith}
 use Rattle.std.proofs.lemmas.Bool.{cond_both}
@@ -25,9 +25,12 @@ use Rattle.scsi_disk.proofs.PlanLemmas.{given, taken}
 use Rattle.scsi_disk.proofs.RepeatLemmas.{takes_few}
 use Rattle.scsi_unit.specs.LogicalUnit.{LogicalUnit}
 use Rattle.scsi_unit.specs.Modes.{ModePage, asked_page, behind_long_header, behind_short_header, caching_page, control_page, is_enabled, mode_pages}
+use Rattle.scsi_unit.proofs.LengthLemmas.{AreShort, commands_short}
 use Rattle.scsi_unit.specs.Pages.{thin_capacity}
-use Rattle.scsi_unit.specs.Telling.{data_told, inquiry_data, no_sense, outcome_or_refused, told_outcome, told_refusals, unit_block_data}
-use Rattle.scsi_unit.specs.WriteSame.{as_write, same_blocks, same_taken}
+use Rattle.scsi_unit.specs.Spellings.{loads, spelled, spelled_block, stops}
+use Rattle.scsi_unit.specs.Supported.{commands_told}
+use Rattle.scsi_unit.specs.Telling.{asks_commands, data_told, inquiry_data, outcome_or_refused, requested_sense, told_outcome, told_refusals, unit_block_data}
+use Rattle.scsi_unit.specs.WriteSame.{as_write, meant_cdb, same_blocks, same_taken}
 use Rattle.iscsi_pdu.specs.Meaning.{AreBytes}
 use Rattle.iscsi_target.specs.Execution.{residual_count}
 use Rattle.iscsi_pair.proofs.Wire.ToldOutcomes.{by_unit, told}
@@ -129,12 +132,33 @@ short_write : (named : Option Transfer16) (cdb : Cdb) → IsShort cdb → IsShor
 short_write None cdb short = short
 short_write (Some named) cdb short = tt
 
+-- what a block spells in another way is no INQUIRY
+short_spelled : (code : ℕ) (block : List ℕ) → IsShort (spelled_block code block)
+unfolding spelled_block
+short_spelled code block =
+    cond_both (code == 0x08) _ _ IsShort (λ e. tt) (λ e.
+    cond_both (code == 0x0a) _ _ IsShort (λ e. tt) (λ e.
+    cond_both (code == 0xa8) _ _ IsShort (λ e. tt) (λ e.
+    cond_both (code == 0xaa) _ _ IsShort (λ e. tt) (λ e.
+    cond_both (code == 0x2e) _ _ IsShort (λ e. tt) (λ e.
+    cond_both (code == 0xae) _ _ IsShort (λ e. tt) (λ e.
+    cond_both (code == 0x8e) _ _ IsShort (λ e. tt) (λ e.
+    cond_both (code == 0x91) _ _ IsShort (λ e. tt) (λ e.
+    cond_both (code == 0x1b && stops block) _ _ IsShort (λ e. tt) (λ e. tt)))))))))
+
+spelled_short : (unit : Option LogicalUnit) (cdb : Cdb) → IsShort cdb → IsShort (spelled unit cdb)
+spelled_short None cdb short = short
+spelled_short (Some unit) (Inquiry evpd page n control) short = short
+spelled_short (Some unit) (Unknown block) short = short_spelled (number_at 0 0 block) block
+spelled_short (Some unit) _ short = tt
+
 -- so a block of bytes has, whatever it means to a unit
 pub short_block : (unit : Option LogicalUnit) (block : List ℕ) → length block ≡ 16 → AreBytes block
-    → IsShort (as_write (same_taken unit (record_of block)) (record_of block))
+    → IsShort (meant_cdb unit (record_of block))
 short_block unit block size are =
-    short_write (same_taken unit (record_of block)) (record_of block)
-    (short_rows (record_of block) (IsRecord-room block (record_of block) are (record_is block size)))
+    short_write (same_taken unit (record_of block)) (spelled unit (record_of block))
+    (spelled_short unit (record_of block)
+    (short_rows (record_of block) (IsRecord-room block (record_of block) are (record_is block size))))
 
 -- data that are told, if there are any, have fewer than 65,536 bytes
 abbrev AreBelow : Option (List ℕ) → Type 0
@@ -176,26 +200,43 @@ long_pages : (n : ℕ) (unit : LogicalUnit) (found : Option (List ℕ)) → AreF
 long_pages n unit None few = tt
 long_pages n unit (Some pages) few = omega (arith, few, length-take n (behind_long_header unit pages))
 
-few_sense : (descriptor : Bool) → length (no_sense descriptor) ≤ 18
-few_sense true = omega arith
-few_sense false = omega arith
+few_sense : (present descriptor : Bool) → length (requested_sense present descriptor) ≤ 18
+few_sense true true = omega arith
+few_sense true false = omega arith
+few_sense false true = omega arith
+few_sense false false = omega arith
 
-few_block : (unit : LogicalUnit) (block : List ℕ) → AreTold (unit_block_data unit block)
-few_block unit block =
-    cond_both (number_at 0 0 block == 0x03) _ _ AreTold
-    (λ e. omega (arith, few_sense (is_set 1 0x01 block), length-take (number_at 4 4 block) (no_sense (is_set 1 0x01 block)))) (λ e.
-    cond_both (number_at 0 0 block == 0x1a) _ _ AreTold
+-- a START STOP UNIT gives nothing
+few_stop : (loaded : Bool) → AreBelow (if loaded then None else Some [])
+few_stop true = tt
+few_stop false = omega arith
+
+few_commands : (n : ℕ) (told : Option (List ℕ)) → AreShort told → AreBelow (option_map (take n) told)
+few_commands n None short = tt
+few_commands n (Some bytes) short = omega (arith, short, length-take n bytes)
+
+few_block : (unit : LogicalUnit) (present : Bool) (code : ℕ) (block : List ℕ) → AreTold (unit_block_data unit present code block)
+unfolding unit_block_data
+few_block unit present code block =
+    cond_both (code == 0x03) _ _ AreTold
+    (λ e. omega (arith, few_sense present (is_set 1 0x01 block), length-take (number_at 4 4 block) (requested_sense present (is_set 1 0x01 block)))) (λ e.
+    cond_both (code == 0x1a) _ _ AreTold
     (λ e. short_pages (number_at 4 4 block) unit (mode_pages unit (asked_page block)) (few_pages unit (asked_page block))) (λ e.
-    cond_both (number_at 0 0 block == 0x5a) _ _ AreTold
+    cond_both (code == 0x5a) _ _ AreTold
     (λ e. long_pages (number_at 7 8 block) unit (mode_pages unit (asked_page block)) (few_pages unit (asked_page block))) (λ e.
-    cond_both (unit.thin && is_some (same_blocks block)) _ _ AreTold (λ e. tt) (λ e. tt))))
+    cond_both (code == 0x1b) _ _ AreTold (λ e. few_stop (loads block)) (λ e.
+    cond_both (code == 0x34) _ _ AreTold (λ e. omega arith) (λ e.
+    cond_both (code == 0x90) _ _ AreTold (λ e. omega arith) (λ e.
+    cond_both (asks_commands block) _ _ AreTold
+    (λ e. few_commands (number_at 6 9 block) (commands_told unit.thin block) (commands_short unit.thin block)) (λ e.
+    cond_both (unit.thin && is_some (same_blocks block)) _ _ AreTold (λ e. tt) (λ e. tt))))))))
 
 few_told : (unit : LogicalUnit) (present : Bool) (blocks : ℕ) (cdb : Cdb) → IsShort cdb → AreTold (data_told unit present blocks cdb)
 few_told unit present blocks (Inquiry evpd page n control) short = below_of n (inquiry_data unit present evpd page) short
 few_told unit present blocks (Capacity16 n control) short =
     (let all : length (thin_capacity (blocks - 1)) ≡ 32 = refl in
     cond_both unit.thin _ _ AreTold (λ e. omega (arith, all, length-take n (thin_capacity (blocks - 1)))) (λ e. tt))
-few_told unit present blocks (Unknown block) short = few_block unit block
+few_told unit present blocks (Unknown block) short = few_block unit present (number_at 0 0 block) block
 few_told unit present blocks _ short = tt
 
 refused_fits : (order : Order) (sense : Sense) → order.expected ≤ 4194304 → HasRoom (outcome_or_refused (Some sense) order [])
@@ -212,16 +253,16 @@ answer_fits None order bytes few size = record {
   residual = residual_fits (length bytes) (expected_length order) (omega (arith, size)) (expected_most order few);
 }
 
-told_fits : (order : Order) (f : Option (List ℕ)) → order.expected ≤ 4194304 → AreBelow f → HasRoom (told_outcome order f)
-told_fits order None few size = record {
+told_fits : (blocks : ℕ) (order : Order) (f : Option (List ℕ)) → order.expected ≤ 4194304 → AreBelow f → HasRoom (told_outcome blocks order f)
+told_fits blocks order None few size = record {
   status = omega arith;
   residual = residual_fits 0 (expected_length order) (omega arith) (expected_most order few);
 }
-told_fits order (Some bytes) few size = answer_fits (first_reason (told_refusals order)) order bytes few size
+told_fits blocks order (Some bytes) few size = answer_fits (first_reason (told_refusals blocks order)) order bytes few size
 
 -- what an order that expects so few bytes answers has room
 pub outcome_fits : (unit : Option LogicalUnit) (disk : Disk) (order : Order) (bytes : List ℕ) → order.expected ≤ 4194304 → IsShort order.cdb
     → HasRoom (told unit disk order bytes).outcome
 outcome_fits unit disk order bytes few short =
     by_unit HasRoom unit disk.count order (effect false disk order bytes).outcome (fits_by (plan_of order disk.count) disk order refl few)
-    (λ u f e. told_fits order f few (subst AreTold e (few_told u (order.lun == 0) disk.count order.cdb short)))
+    (λ u f e. told_fits disk.count order f few (subst AreTold e (few_told u (order.lun == 0) disk.count order.cdb short)))

@@ -198,7 +198,7 @@ staged_at order found total bytes due w f t fits asked = record { is_write = w; 
 
 -- an order that the unit answers leaves store and disk as they are
 pub told_leads : (protected : Bool) (unit : LogicalUnit) (order : Order) (disk : Disk) (failures : ℕ) (outcome : Outcome)
-    → ((n : ℕ) → plan_of order disk.count ≡ Take n → ⊥) → Some outcome ≡ unit_outcome unit disk.count order → length outcome.bytes ≤ 296
+    → ((n : ℕ) → plan_of order disk.count ≡ Take n → ⊥) → Some outcome ≡ unit_outcome unit disk.count order → length outcome.bytes ≤ 544
     → OrderLedTo protected (Some unit) order (store_of disk failures) (store_of disk failures) outcome
 told_leads protected unit order disk failures outcome no_take is few = record {
   given = (effect protected disk order []).outcome;

@@ -7,11 +7,8 @@ use Rattle.scsi_disk.specs.Plan.{plan_of}
 use Rattle.scsi_disk.specs.declared.order.Order.{Order}
 use Rattle.scsi_disk.specs.declared.order.Plan.{Plan}
 use Rattle.scsi_disk.specs.declared.order.Plan.TheVariants.{Refuse, Take, Give}
-use Rattle.scsi_cdb.specs.declared.cdb.Cdb.{Cdb}
-use Rattle.scsi_cdb.specs.declared.cdb.Transfer16.{Transfer16}
 use Rattle.scsi_unit.specs.LogicalUnit.{LogicalUnit}
 use Rattle.scsi_unit.specs.WriteCache.{asks_to_last}
-use Rattle.scsi_unit.specs.WriteSame.{as_write, same_taken}
 use Rattle.iscsi_pdu.specs.declared.head.Head.{Head}
 use Rattle.iscsi_pdu.specs.declared.head.Head.TheVariants.{DataOut, LogoutRequest, NopOut, ScsiCommand, TaskRequest, TextRequest}
 use Rattle.iscsi_pdu.specs.declared.head.data_out.DataOut.{DataOut as DataPdu}
@@ -52,17 +49,9 @@ both_none (e ∷ a) b x y = (x.0, both_none a b x.1 y)
 
 -- ---- the first task
 
-command_none : (head : Head) (h : Command) → head ≡ ScsiCommand h → asks_head head ≡ false → asks_to_last h.cdb ≡ false
-command_none head h k e = sym (ap asks_head k) ∙ e
-
--- a WRITE in place of a WRITE SAME doesn't ask
-as_write_none : (named : Option Transfer16) (cdb : Cdb) → asks_to_last cdb ≡ false → asks_to_last (as_write named cdb) ≡ false
-as_write_none None cdb e = e
-as_write_none (Some named) cdb e = refl
-
-order_none : (unit : Option LogicalUnit) (head : Head) (h : Command) → head ≡ ScsiCommand h → asks_head head ≡ false
+order_none : (unit : Option LogicalUnit) (head : Head) (h : Command) → head ≡ ScsiCommand h → asks_head unit head ≡ false
     → asks_to_last (order_of unit h).cdb ≡ false
-order_none unit head h k e = as_write_none (same_taken unit h.cdb) h.cdb (command_none head h k e)
+order_none unit head h k e = sym (ap (asks_head unit) k) ∙ e
 
 begins_none : Begins (λ device s disk task r. asks_task task ≡ false → NoneAsks r.executed)
 begins_none = record {
@@ -131,7 +120,7 @@ command_is (LogoutRequest h) g e = absurd cc
 command_is (DataOut h) g e = absurd cc
 command_is _ g e = absurd cc
 
-task_none : (unit : Option LogicalUnit) (count : ℕ) (m : Message) (tag : Option ℕ) (asked : Asks) → asked_by m.head ≡ Some asked → asks_head m.head ≡ false
+task_none : (unit : Option LogicalUnit) (count : ℕ) (m : Message) (tag : Option ℕ) (asked : Asks) → asked_by m.head ≡ Some asked → asks_head unit m.head ≡ false
     → asks_task (task_by unit count m tag asked) ≡ false
 task_none unit count m tag (asks.Command h) k e =
     planned_none h (order_of unit h) (segment_bytes m.segment) (plan_of (order_of unit h) count) (order_none unit m.head h (command_is m.head h k) e)
@@ -145,6 +134,11 @@ same_none : (s t : Machine) (m : Message) → Accepts s m t → NoneOf s.tasks �
 same_none s _ m (Immediately c none) o = o
 same_none s _ m (InTurn n c w is) o = o
 
+-- the session of the task has the same unit
+unit_same : (s t : Machine) (m : Message) → Accepts s m t → unit_of t.session ≡ unit_of s.session
+unit_same s _ m (Immediately c none) = refl
+unit_same s _ m (InTurn n c w is) = refl
+
 -- ---- all parts
 
 parts_none : (device : Device) (disk : Disk) → Parts device disk (λ s m r. machine_asks s m.head ≡ false → NoneAsks r.executed)
@@ -155,18 +149,19 @@ parts_none device disk = record {
   reject_and_close_ = λ s rule m e. tt;
   login_ = λ s m k e. tt;
   taken_ = λ s m h w v k is takes e.
-      (let none : NoneOf s.tasks = none_of s.tasks (neither (list_any asks_task s.tasks) (asks_head m.head) e).0 in
+      (let none : NoneOf s.tasks = none_of s.tasks (neither (list_any asks_task s.tasks) (asks_head (unit_of s.session) m.head) e).0 in
       turns (λ device s disk tasks r. NoneOf tasks → NoneAsks r.executed) turns_none device s.session disk (with_write v s.tasks)
       (written_none v s.tasks
       (taken_none (first_burst s.session.held) w v h (segment_bytes m.segment) (found_none s.tasks h.initiator_task_tag w is none) takes) none));
   refused_ = λ s t m rule a x e. tt;
   admitted_ = λ s t m a x r is f e.
-      (let both = neither (list_any asks_task s.tasks) (asks_head m.head) e in
+      (let both = neither (list_any asks_task s.tasks) (asks_head (unit_of s.session) m.head) e in
       let unit : Option LogicalUnit = unit_of t.session in
       turns (λ device s disk tasks r. NoneOf tasks → NoneAsks r.executed) turns_none device t.session disk
       (t.tasks ++ task_of unit (presented disk.count m r) ∷ [])
       (with_none t.tasks (task_of unit (presented disk.count m r)) (same_none s t m x (none_of s.tasks both.0))
-      (task_none unit disk.count m r.initiator_task_tag r.asks (asks_is m.head r is) both.1)));
+      (task_none unit disk.count m r.initiator_task_tag r.asks (asks_is m.head r is)
+      (ap (λ (u : Option LogicalUnit). asks_head u m.head) (unit_same s t m x) ∙ both.1))));
 }
 
 -- one step

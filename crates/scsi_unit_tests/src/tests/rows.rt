@@ -182,7 +182,6 @@ fn other_pages_are_refused(rt: HostRuntime) {
 /// Commands that the unit answers of itself.
 const TOLD: &[&[u8]] = &[
     b"\x12\x01\x80\0\xff\0",
-    b"\x03\0\0\0\xff\0",
     b"\x1a\0\x3f\0\xff\0",
     b"\x5a\0\x3f\0\0\0\0\0\xff\0",
 ];
@@ -347,7 +346,7 @@ fn flushes_and_fua_ask(rt: HostRuntime) {
 }
 
 /// Commands that the unit leaves to its disk: TEST UNIT READY, READ CAPACITY, READ, WRITE, REPORT LUNS,
-/// START STOP UNIT, one of no code that is known.
+/// VERIFY, one of no code that is known.
 const OTHERS: &[&[u8]] = &[
     b"\0",
     b"\x25",
@@ -358,7 +357,7 @@ const OTHERS: &[&[u8]] = &[
     b"\x8a",
     b"\x9e\x10",
     b"\xa0",
-    b"\x1b",
+    b"\x2f",
     b"\xc1",
 ];
 
