@@ -5,7 +5,7 @@
 //! is that the store asks the right things in the right order, and nothing more after a sync that
 //! failed. What is left to read is that each call below asks the system for what its name says.
 
-ghost use Rattle.std.specs.Prelude.{◌≡◌, true, ◌<◌, ◌≤◌, ◌*◌, IfErr, IfOk, OnErr, OnOk};
+ghost use Rattle.std.specs.Prelude.{◌≡◌, true, ◌<◌, ◌≤◌, ◌+◌, ◌*◌, length, IfErr, IfOk, OnErr, OnOk};
 ghost use Rattle.scsi_disk.specs.Disk.{most_blocks};
 
 use crate::medium::Medium;
@@ -19,6 +19,12 @@ use thiserror::Error;
 
 /// The permissions of an image that is made: its owner may read and write it, nobody else.
 const OWNER_ALONE: u32 = 0o600;
+
+/// How many bytes of zeros are written, or passed over, at a time.
+const PIECE: usize = 65_536;
+
+/// Asks `lseek` where the next data of a file are (Linux; POSIX.1-2024).
+const SEEK_DATA: i32 = 3;
 
 /// Why an image is not served.
 #[derive(Clone, Copy, Debug, PartialEq, Eq, Error)]
@@ -245,6 +251,40 @@ fn settle(file: &File) -> Result<(), OpenFault> {
     Ok(())
 }
 
+// Whether bytes are all 00. None behind the first that isn't is looked at.
+fn are_zeros(bytes: &[u8]) -> bool {
+    bytes.iter().all(|byte| *byte == 0)
+}
+
+// Writes zeros from a byte of a file on, but passes over each piece that is blank. So a hole stays one.
+fn write_zeros(file: &File, start: u64, zeros: &[u8]) -> io::Result<()>
+    requires inside { start + length zeros.now ≤ 512 * most_blocks }
+{
+    for n in 0..zeros.len().div_ceil(PIECE) {
+        let from = PIECE * n;
+        let piece = &zeros[from..zeros.len().min(from + PIECE)];
+        if !is_blank(file, start + from as u64, piece) {
+            file.write_all_at(piece, start + from as u64)?;
+        }
+    }
+    Ok(())
+}
+
+// Whether a file has these zeros from a byte on. That the system knows of data there is a hint, which saves
+// the reading: then they are written. What says yes is what is read.
+fn is_blank(file: &File, at: u64, zeros: &[u8]) -> bool
+    requires inside { at + length zeros.now ≤ 512 * most_blocks }
+    requires short { length zeros.now ≤ 65536 }
+{
+    let data = libc::lseek(file.as_raw_fd(), at as i64, SEEK_DATA);
+    if at as i64 <= data && data < (at + zeros.len() as u64) as i64 {
+        return false;
+    }
+    let mut room = [0; PIECE];
+    let there = &mut room[..zeros.len()];
+    file.read_exact_at(there, at).is_ok() && *there == *zeros
+}
+
 // The folder that a file is in.
 fn folder_of(path: &str) -> &str {
     match path.rsplit_once('/') {
@@ -299,6 +339,9 @@ impl Medium for HostFile {
         self.count()?;
         if self.is_cut() {
             return Err(StoreFault::Device);
+        }
+        if are_zeros(bytes) {
+            return told(write_zeros(&self.file, 512 * lba, bytes));
         }
         told(self.file.write_all_at(bytes, 512 * lba))
     }
