@@ -44,8 +44,8 @@ def module_of(tool):
 
 # its initiators, its writers that are killed, and what it makes of them
 lasting = module_of("lasting")
-from_lasting = ("Skipped", "want", "free_port", "qemu", "ran", "noise", "bytes_of", "outcome_of")
-Skipped, want, free_port, qemu, ran, noise, bytes_of, outcome_of = (getattr(lasting, name) for name in from_lasting)
+from_lasting = ("Skipped", "want", "free_port", "qemu", "ends_under", "ran", "noise", "bytes_of", "outcome_of")
+Skipped, want, free_port, qemu, ends_under, ran, noise, bytes_of, outcome_of = (getattr(lasting, name) for name in from_lasting)
 BLOCK, BLOCKS, MIB, SECONDS, FAILED = lasting.BLOCK, lasting.BLOCKS, lasting.MIB, lasting.SECONDS, lasting.FAILED
 # How long `serve` waits for a server, in seconds.
 WAIT = 30
@@ -54,11 +54,11 @@ WAIT = 30
 class Service(lasting.Service):
     """`serve --nbd`, with further words, over an export; the word that names the export stands in for the image."""
 
-    def __init__(self, program, word, *words, sessions=1000):
+    def __init__(self, program, word, *words, before=(), sessions=1000):
         self.port, self.word = free_port(), word
         words = ["--port", str(self.port), "--sessions", str(sessions), "--quiet", "--nbd", word, *words]
         pipe = subprocess.PIPE
-        self.process = subprocess.Popen([program, "serve", *words], stdin=subprocess.DEVNULL, stdout=pipe, stderr=pipe)
+        self.process = subprocess.Popen([*before, program, "serve", *words], stdin=subprocess.DEVNULL, stdout=pipe, stderr=pipe)
         self.told = self.process.stdout.readline()
         self.url = f"iscsi://127.0.0.1:{self.port}/{lasting.NAME}/0"
 
@@ -112,6 +112,20 @@ class Server:
 
     def kill(self):
         self.end(signal.SIGKILL)
+
+
+class SocketServer(Server):
+    """An NBD server at a Unix socket, with the export `disk`."""
+
+    def __init__(self, path, *words):
+        want(words[0])
+        self.path, self.word = path, f"nbd+unix:///disk?socket={path}"
+        quiet = {"stdin": subprocess.DEVNULL, "stdout": subprocess.DEVNULL, "stderr": subprocess.DEVNULL}
+        self.process = subprocess.Popen(words, **quiet)
+        self.wait_until_it_listens()
+
+    def listens(self):
+        return os.path.exists(self.path)
 
 
 def qemu_nbd(image, form="raw", *words):
@@ -242,7 +256,7 @@ def other_name(program, room):
 
 
 def read_only(program, room):
-    """An export that may be read alone is refused."""
+    """An export that may be read alone is refused, unless it is to be read alone."""
     return is_refused(program, nbdkit("-r", "memory", "1M"), "may not be written")
 
 
@@ -252,6 +266,103 @@ def without_flush(program, room):
     return is_refused(program, server, "has no flush")
 
 
+def read_alone_by_qemu(url, command):
+    """Whether qemu-io, which opens the disk to read alone, reads what it should."""
+    return [re.search(r"(?m)^read \d+/\d+ bytes", ran("qemu-io", "-r", "-f", "raw", "-c", command, url)[1]) is not None]
+
+
+def read_alone(program, room):
+    """Exports that can't be written, or have no FLUSH, are served with --read-only, with READ ONLY and FLUSH said or not."""
+    image, seen = f"{room}/image", []
+    with open(image, "wb") as file:
+        file.write(b"\7" * MIB)
+    servers = [
+        lambda: nbdkit("-r", "file", image),
+        lambda: qemu_nbd(image, "raw", "-r"),
+        lambda: nbd_server(room, image, "readonly = true"),
+        lambda: nbd_server(room, image),
+    ]
+    for server in servers:
+        with server() as one, Service(program, f"{one.word}/disk", "--read-only") as service:
+            seen.append(read_alone_by_qemu(service.url, "read -P 7 0 1M"))
+            seen.append("LUN is write protected" in ran("qemu-io", "-f", "raw", "-c", "write -P 8 0 4k", service.url)[1])
+            seen.append(service.lines())
+    return (seen == [[True], True, []] * 4 and bytes_of(image) == b"\7" * MIB) or seen
+
+
+def sockets(program, room):
+    """A Unix socket of qemu-nbd and one of nbdkit, and an URL over TCP."""
+    image, raw, kit = noise(f"{room}/image", MIB), f"{room}/raw", f"{room}/kit"
+    servers = [
+        lambda: SocketServer(raw, "qemu-nbd", "-t", "-k", raw, "-f", "raw", "-x", "disk", image),
+        lambda: SocketServer(kit, "nbdkit", "-f", "--exit-with-parent", "-U", kit, "memory", "1M"),
+        lambda: nbdkit("memory", "1M"),
+    ]
+    seen = []
+    for server in servers:
+        with server() as one:
+            word = one.word if "://" in one.word else f"nbd://{one.word}/disk"
+            with Service(program, word) as service:
+                seen.append(qemu(service.url, "write -P 1 0 64k", "read -P 1 0 64k"))
+                seen.append(service.lines())
+    return seen == [[True, True], []] * 3 or seen
+
+
+def gives_back(program, room):
+    """With --thin a qcow2 image of qemu-nbd --discard=unmap gives room back where zeros are written. Without it keeps its room."""
+    image, seen = f"{room}/image.qcow2", []
+    for words in (("--thin",), ()):
+        ran("qemu-img", "create", "-f", "qcow2", image, str(BLOCK * BLOCKS))
+        with qemu_nbd(image, "qcow2", "--discard=unmap") as server, Service(program, f"{server.word}/disk", *words) as service:
+            seen.append(qemu(service.url, "write -P 5 0 2M"))
+            full = lasting.taken(image)
+            seen.append(qemu(service.url, "write -z 0 1M", "read -P 0 0 1M", "read -P 5 1M 1M"))
+            seen.append(full - lasting.taken(image) >= 1000)
+            seen.append(service.lines())
+    return seen == [[True], [True] * 3, True, [], [True], [True] * 3, False, []] or seen
+
+
+def interrupted(program, room):
+    """A send that a signal interrupts goes on."""
+    want("strace")
+    with nbdkit("memory", "1M") as server:
+        for call, when in (("sendmsg", "1+2"), ("sendto", "3+5"), ("recvfrom", "3+5")):
+            before = ("strace", "-f", "-qq", "-o", f"{room}/log", "-e", f"trace={call}", "-e", f"inject={call}:error=EINTR:when={when}")
+            with Service(program, server.word, before=before) as service:
+                if service.told == b"":
+                    raise Skipped("strace may not trace")
+                seen = qemu(service.url, "write -P 1 0 64k", "read -P 1 0 64k", "write -P 2 0 64k", "read -P 2 0 64k")
+                lines = service.lines()
+            with open(f"{room}/log") as file:
+                count = file.read().count("(INJECTED)")
+            if seen != [True] * 4 or lines != [] or count == 0:
+                return call, seen, lines, count
+    return True
+
+
+def says_goodbye(program, room):
+    """Where the service ends by itself the last request is DISC, whoever wrote."""
+    seen = []
+    for words in ((), ("--read-only",)):
+        with Liar() as liar, Service(program, liar.word, *words, sessions=1) as service:
+            seen.append(read_alone_by_qemu(service.url, "read -P 0 0 4k"))
+            seen.append(service.process.wait(timeout=SECONDS))
+            time.sleep(0.2)
+            seen.append([kind for _, kind, _, _ in liar.asked].index(2) == len(liar.asked) - 1)
+    return seen == [[True], 0, True] * 2 or seen
+
+
+def trickles(program, room):
+    """A server that sends a byte every two seconds is given up after 30 seconds in all."""
+    with Liar() as liar, Service(program, liar.word) as service:
+        seen, began = qemu(service.url, "read 0 4k"), time.monotonic()
+        liar.step, liar.pause = 1, 2
+        seen += qemu(service.url, "read 64k 4k")
+        seen.append(25 < time.monotonic() - began < 40)
+        lines = [line for line in service.lines() if line.startswith(service.word)]
+    return (seen == [True, FAILED, True] and lines == [f"{service.word}: connection lost: the server does not answer"]) or (seen, lines)
+
+
 def sizes(program, room):
     """An export of no block, of no whole blocks, of another number, or of requests too long or too short, is refused."""
     rows = [
@@ -259,7 +370,7 @@ def sizes(program, room):
         (("memory", "1000"), (), "is not whole blocks"),
         (("memory", "1M"), ("--blocks", "7"), "has 2048 blocks, not 7"),
         (("memory", "1M"), ("--size", "2M"), "has 2048 blocks, not 4096"),
-        (("--filter=blocksize-policy", "memory", "1M", "blocksize-minimum=4096"), (), "takes no requests of 512 bytes"),
+        (("--filter=blocksize-policy", "memory", "1M", "blocksize-minimum=4096"), (), "has blocks of more than 512 bytes, so that a write would have to read first"),
         (("--filter=blocksize-policy", "memory", "64M", "blocksize-maximum=1M"), (), "takes no requests of 33554432 bytes"),
     ]
     seen = [is_refused(program, nbdkit(*words), due, "disk", *more) for words, more, due in rows]
@@ -296,18 +407,17 @@ def first_flush_fails(program, room):
 
 
 def flush_fails(program, room, *words):
-    """A FLUSH that fails later ends the session, is told once, and each command behind it fails."""
+    """A FLUSH that fails later ends the session and the service, and is told once."""
     with failing(room) as server, Service(program, server.word, *words) as service:
         seen = [qemu(service.url, "write -P 1 0 4k", "read -P 1 0 4k")]
         open(f"{room}/broken", "w").close()
-        seen.append(qemu(service.url, "write -P 2 0 4k"))
+        seen.append(ends_under(service, "write -P 2 0 4k"))
         os.unlink(f"{room}/broken")
-        seen += [qemu(service.url, "read -P 1 64k 4k"), qemu(service.url, "write -P 3 0 4k"), service.is_there()]
         lines = service.lines()
     told = [line.replace(service.word, "X") for line in lines]
     ends = [line for line in told if line.endswith("sync failed")]
-    is_well = seen[0] == [True, True] and seen[1] != [True] and seen[2] == [FAILED] and seen[3] == [FAILED] and seen[4]
-    return (is_well and told.count("X: sync failed: error 5") == 1 and len(ends) == 1 and len(told) == 2) or (seen, told)
+    is_well = seen == [[True, True], 4]
+    return (is_well and told.count("X: sync failed: error 5") == 1 and len(ends) == 2 and len(told) == 3) or (seen, told)
 
 
 def error_filter(program, room):
@@ -414,10 +524,10 @@ def killed_server(program, room, kills):
         with qemu_nbd(image) as server, Service(program, f"{server.word}/disk") as service:
             yield Killed(service.url, server)
             # it tells its end by then, and once
-            after = qemu(service.url, "read 0 4k")
+            status = ends_under(service, "write -P 9 0 4k")
             lines = [line.replace(service.word, "X") for line in service.lines() if line.startswith(service.word)]
-            if after != [FAILED] or len(lines) != 1 or not lines[0].startswith("X: connection lost"):
-                wrongs.append((after, lines))
+            if status != 4 or len(lines) != 1 or not lines[0].startswith("X: connection lost"):
+                wrongs.append((status, lines))
 
     wrong = killed_in_writes(room, max(1, kills // 2), began)
     return (wrong is None and wrongs == []) or (wrong, wrongs)
@@ -441,14 +551,14 @@ def killed_service(program, room, kills):
 
 
 def killed_at_once(program, room):
-    """A killed server ends each session that writes; the service goes on, and later commands fail."""
+    """Behind a killed server reads fail. The next write ends each session and the service, and no answer to it leaves."""
     with qemu_nbd(noise(f"{room}/image", MIB)) as server, Service(program, f"{server.word}/disk") as service:
         seen = [qemu(service.url, "write -P 1 0 4k", "read -P 1 0 4k")]
         server.kill()
-        seen += [qemu(service.url, "read 64k 4k"), qemu(service.url, "write -P 2 0 4k"), service.is_there()]
+        seen += [qemu(service.url, "read 64k 4k"), ends_under(service, "write -P 2 0 4k")]
         lines = [line.replace(service.word, "X") for line in service.lines()]
     lost = [line for line in lines if line.startswith("X: ")]
-    is_well = seen == [[True, True], [FAILED], [FAILED], True]
+    is_well = seen == [[True, True], [FAILED], 4]
     return (is_well and len(lost) == 1 and lost[0].startswith("X: connection lost")) or (seen, lines)
 
 
@@ -475,7 +585,7 @@ class Liar:
     def __init__(self, greeting=GREETING, answers=HONEST, lie=None, step=None):
         self.listener = socket.create_server(("127.0.0.1", 0))
         self.word = f"127.0.0.1:{self.listener.getsockname()[1]}"
-        self.greeting, self.answers, self.lie, self.step = greeting, answers, lie, step
+        self.greeting, self.answers, self.lie, self.step, self.pause = greeting, answers, lie, step, 0
         self.disk, self.asked = bytearray(MIB), []
         self.thread = threading.Thread(target=self.run, daemon=True)
         self.thread.start()
@@ -497,6 +607,7 @@ class Liar:
     def send(self, peer, data):
         for at in range(0, len(data), self.step or max(1, len(data))):
             peer.sendall(data[at : at + (self.step or len(data))])
+            time.sleep(self.pause)
 
     def serve(self, peer):
         def read(count):
@@ -582,13 +693,14 @@ def lies_in_replies(program, room):
             armed = False
             with Liar(lie=said) as liar, Service(program, liar.word) as service:
                 armed = True
-                answers = qemu(service.url, command)
-                asked = len(liar.asked)
-                answers += qemu(service.url, "read 64k 4k")
-                is_left = len(liar.asked) == asked or kind == 0
+                if kind == 0:
+                    seen = qemu(service.url, command) + qemu(service.url, "read 64k 4k")
+                else:
+                    seen = ends_under(service, command)
                 lines = [line for line in service.lines() if line.startswith(service.word)]
-            if True in answers or not done or lines != [f"{service.word}: {due}"] or not is_left:
-                wrong.append((due, kind, answers, lines, is_left))
+            is_left = seen == 4 if kind else True not in seen
+            if not is_left or not done or lines != [f"{service.word}: {due}"]:
+                wrong.append((due, kind, seen, lines))
     return wrong == [] or wrong
 
 
@@ -623,6 +735,11 @@ CASES = [
     other_name,
     read_only,
     without_flush,
+    read_alone,
+    sockets,
+    gives_back,
+    interrupted,
+    says_goodbye,
     sizes,
     long_name,
     first_flush_fails,
@@ -637,6 +754,7 @@ CASES = [
     killed_at_once,
     silent,
     stopped_for_long,
+    trickles,
     two_services,
     killed_server,
     killed_service,

@@ -6,7 +6,7 @@ use Rattle.scsi_disk.proofs.PlanLemmas.{length-joined}
 use Rattle.scsi_disk.specs.Disk.{Disk, IsDisk, blocks_from, joined_blocks, disk_written}
 use Rattle.scsi_disk.specs.Lasting.{Within}
 use Rattle.nbd_wire.specs.declared.request.Command.{Command}
-use Rattle.nbd_wire.specs.declared.request.Command.TheVariants.{Read, Write, Flush}
+use Rattle.nbd_wire.specs.declared.request.Command.TheVariants.{Read, Write, Flush, WriteZeroes}
 use Rattle.nbd_wire.specs.declared.request.Request.{Request}
 use Rattle.nbd_wire.specs.declared.reply.SimpleReply.{SimpleReply}
 use Rattle.nbd_wire.specs.declared.reply.ReplyMagic.{ReplyMagic}
@@ -21,6 +21,7 @@ pub may_tells : (c : Command) (lba : ℕ) (bytes : List ℕ) (old : Disk) (kept 
 may_tells Read lba bytes old kept new left m = ap (λ (d : Disk). d.tells) m.disk
 may_tells Write lba bytes old kept new left m = m.each.tells
 may_tells Flush lba bytes old kept new left m = ap (λ (d : Disk). d.tells) m.disk
+may_tells WriteZeroes lba bytes old kept new left m = m.each.tells
 
 pub rises_then : (tells then : Bool) (a b c : ℕ) → then ≡ tells → UntoldRises tells a b → UntoldRises then b c → UntoldRises tells a c
 rises_then tells then a b c same p q =
@@ -42,6 +43,7 @@ done_later Read lba size bytes old mid new left later rest d same w = d
 done_later Write lba size bytes old mid new left later rest d same w = same ∙ d
 done_later Flush lba size bytes old mid new left later rest d same w =
     λ n b l. d n b (w n b l) ∙ ap (λ (disk : Disk). disk.block n) (sym same)
+done_later WriteZeroes lba size bytes old mid new left later rest d same w = same ∙ d
 
 -- 16 bytes are a reply, and what is behind it is the rest.
 reply_front : (r : SimpleReply) (rest : List ℕ) → take 16 (reply_bytes r ++ rest) ≡ reply_bytes r

@@ -1,6 +1,6 @@
 -- What a server says in a handshake, up to the last answer to GO, and what is judged by it ("Fixed
 -- newstyle negotiation", "Option reply types").
-use Rattle.std.specs.Prelude.{◌≡◌, ℕ, List, [], ◌∷◌, ◌++◌, length, Option, Some, None, Result, Ok, Err}
+use Rattle.std.specs.Prelude.{◌≡◌, ℕ, Bool, List, [], ◌∷◌, ◌++◌, length, Option, Some, None, Result, Ok, Err}
 use Rattle.std.specs.Io.KnownBytes.{Consumes}
 use Rattle.nbd_wire.specs.Handshake.{greeting_at, option_head_at, info_at}
 use Rattle.nbd_wire.specs.declared.greeting.Greeting.{Greeting}
@@ -9,6 +9,7 @@ use Rattle.nbd_wire.specs.declared.information.Export.{Export}
 use Rattle.nbd_wire.specs.declared.information.Info.{Info}
 use Rattle.nbd_wire.specs.declared.information.Info.TheVariants as info
 use Rattle.nbd_wire.specs.declared.option.OptionHead.{OptionHead}
+use Rattle.nbd_client.specs.declared.export.Opened.{Opened}
 use Rattle.nbd_client.specs.declared.export.ExportFault.{ExportFault}
 use Rattle.nbd_client.specs.declared.handshake.HandshakeFault.{HandshakeFault}
 use Rattle.nbd_client.specs.declared.handshake.HandshakeFault.TheVariants as fault
@@ -70,8 +71,8 @@ pub record AreAnswers (bytes : List ℕ) (export : Export) (sizes : BlockSizes) 
   pub export_is : export_of infos ≡ Some export
   pub sizes_is : sizes_of infos ≡ sizes
 
--- A greeting was read, and the answers to GO. The export that they say is judged so.
-pub record HandshakeJudges (old new : Option (List ℕ)) (judgement : Result ℕ ExportFault) : Type
+-- A greeting was read, and the answers to GO. The export that they say is judged so, to be written or not.
+pub record HandshakeJudges (written : Bool) (old new : Option (List ℕ)) (judgement : Result Opened ExportFault) : Type
     0 where
   pub greeting : List ℕ
   pub answers : List ℕ
@@ -82,12 +83,12 @@ pub record HandshakeJudges (old new : Option (List ℕ)) (judgement : Result ℕ
   pub export : Export
   pub sizes : BlockSizes
   pub are : AreAnswers answers export sizes
-  pub judgement_is : judgement ≡ export_judged export sizes
+  pub judgement_is : judgement ≡ export_judged written export sizes
 
 -- Why a handshake opens no export: a fault of the export is that of what was read.
-abbrev pub HandshakeRefuses : Option (List ℕ) → Option (List ℕ) → HandshakeFault → Type 0
-HandshakeRefuses old new (fault.Export why) = HandshakeJudges old new (Err why)
-HandshakeRefuses old new _ = Unit {0}
+abbrev pub HandshakeRefuses : Bool → Option (List ℕ) → Option (List ℕ) → HandshakeFault → Type 0
+HandshakeRefuses written old new (fault.Export why) = HandshakeJudges written old new (Err why)
+HandshakeRefuses written old new _ = Unit {0}
 
 -- The fault is none of an export.
 abbrev pub IsUnjudged : HandshakeFault → Type 0

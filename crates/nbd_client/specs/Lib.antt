@@ -4,5 +4,5 @@ pub mod Heard
 pub mod Judging
 pub mod Served
 pub mod Serving
-pub mod Tcp
+pub mod SocketLine
 pub mod inner

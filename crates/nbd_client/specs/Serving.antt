@@ -2,19 +2,22 @@
 use Rattle.std.specs.Prelude.{◌≡◌, ◌≤◌, ◌<◌, ℕ, ◌+◌, ◌*◌, ◌/◌, ◌%◌, ◌^◌, Bool, true, List, ◌++◌, length}
 use Rattle.scsi_disk.specs.Disk.{Disk, blocks_from, disk_written, IsOldOrNew}
 use Rattle.scsi_disk.specs.Lasting.{CrashAddsDisk, SettledDisk, Within}
+use Rattle.scsi_disk.specs.Sparse.{AreZeros}
 use Rattle.nbd_wire.specs.declared.request.Command.{Command}
-use Rattle.nbd_wire.specs.declared.request.Command.TheVariants.{Read, Write, Flush}
+use Rattle.nbd_wire.specs.declared.request.Command.TheVariants.{Read, Write, Flush, WriteZeroes}
 use Rattle.nbd_wire.specs.declared.request.Request.{Request}
 use Rattle.nbd_wire.specs.Transmission.{request_bytes, reply_bytes}
 
--- A request is about whole blocks of an export, from block lba on, with the bytes of a write.
+-- A request is about whole blocks of an export, from block lba on, with the bytes that it writes. Those of
+-- WRITE_ZEROES are 00, and none of them is sent.
 pub record IsPlaced (r : Request) (lba count : ℕ) (bytes : List ℕ) : Type 0 where
   pub place : r.offset ≡ 512 * lba
   pub whole : r.length % 512 ≡ 0
   pub inside : 512 * lba + r.length ≤ 512 * count
   pub content : r.command ≡ Write → length bytes ≡ r.length
+  pub zeros : r.command ≡ WriteZeroes → (length bytes ≡ r.length) × AreZeros bytes
 
--- These are the bytes of such a request, and those of a write behind them.
+-- These are the bytes of such a request, and those that it writes.
 pub record AreRequestBytes (r : Request) (lba count : ℕ) (head bytes : List ℕ) : Type 0 where
   pub spelled : head ≡ request_bytes r
   pub cookie : r.cookie < 2 ^ 64
@@ -39,6 +42,7 @@ abbrev pub MayDo : Command → ℕ → List ℕ → Disk → (ℕ → List ℕ �
 MayDo Read lba bytes old kept new left = KeepsBlocks old kept new left
 MayDo Write lba bytes old kept new left = MayWrite lba bytes old kept new left
 MayDo Flush lba bytes old kept new left = KeepsBlocks old kept new left
+MayDo WriteZeroes lba bytes old kept new left = MayWrite lba bytes old kept new left
 
 -- What has been done where the error of a reply is 0, and what follows the reply.
 abbrev pub IsCommandDone : Command → ℕ → ℕ → List ℕ → Disk → Disk → (ℕ → List ℕ → Type 0) → List ℕ
@@ -46,6 +50,7 @@ abbrev pub IsCommandDone : Command → ℕ → ℕ → List ℕ → Disk → Dis
 IsCommandDone Read lba size bytes old new left rest = rest ≡ blocks_from old lba (size / 512)
 IsCommandDone Write lba size bytes old new left rest = new ≡ disk_written lba bytes old
 IsCommandDone Flush lba size bytes old new left rest = SettledDisk new left
+IsCommandDone WriteZeroes lba size bytes old new left rest = new ≡ disk_written lba bytes old
 
 -- What a server sends at a request: a simple reply with its cookie, and the blocks of a read.
 pub record ServerReply (r : Request) (lba : ℕ) (bytes : List ℕ) (old new : Disk)

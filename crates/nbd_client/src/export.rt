@@ -2,7 +2,7 @@
 
 ghost use Rattle.std.specs.Prelude.{◌≡◌, ◌<◌, ◌≤◌, IfOk};
 ghost use Rattle.scsi_disk.specs.Disk.{most_blocks};
-ghost use Rattle.nbd_client.specs.Judging.{export_judged};
+ghost use Rattle.nbd_client.specs.Judging.{export_judged, has_flag};
 
 use nbd_wire::{BlockSizes, Export};
 use scsi_disk::MOST_BLOCKS;
@@ -26,12 +26,24 @@ pub enum ExportFault {
     /// It has more than 2^40 blocks.
     #[error("is too large")]
     TooLarge,
-    /// The least request has more than 512 bytes.
-    #[error("takes no requests of 512 bytes")]
+    /// The least request has more than 512 bytes. To write a block, one would have to read what is around it
+    /// first.
+    #[error("has blocks of more than 512 bytes, so that a write would have to read first")]
     NoBlock,
     /// The greatest request has fewer than 33,554,432 bytes, which a command may have.
     #[error("takes no requests of 33554432 bytes")]
     Small,
+}
+
+/// What is known of an export on which blocks are kept.
+#[derive(Clone, Copy, Debug, PartialEq, Eq)]
+pub struct Opened {
+    /// How many blocks it has, 1 to 2^40.
+    pub blocks: u64,
+    /// It has FLUSH.
+    pub flushes: bool,
+    /// It has WRITE_ZEROES.
+    pub write_zeroes: bool,
 }
 
 /// The flags of an export mean something ("Transmission flags").
@@ -43,18 +55,22 @@ const READ_ONLY: u16 = 2;
 /// It has FLUSH.
 const SEND_FLUSH: u16 = 4;
 
-/// How many blocks are kept on an export, 1 to 2^40.
+/// It has WRITE_ZEROES.
+const SEND_WRITE_ZEROES: u16 = 64;
+
+/// What is known of an export on which blocks are kept. Of one that is to be written they last, so that it
+/// needs FLUSH.
 #[tactic(auto, unfolding(crate::specs::Judging::export_judged))]
-pub fn judge(export: Export, sizes: BlockSizes) -> Result<u64, ExportFault>
-    ensures exact { result ≡ export_judged export sizes }
-    ensures some { IfOk result (λ blocks. 0 < blocks) }
-    ensures few { IfOk result (λ blocks. blocks ≤ most_blocks) }
+pub fn judge(written: bool, export: Export, sizes: BlockSizes) -> Result<Opened, ExportFault>
+    ensures exact { result ≡ export_judged written export sizes }
+    ensures some { IfOk result (λ opened. 0 < opened.blocks) }
+    ensures few { IfOk result (λ opened. opened.blocks ≤ most_blocks) }
 {
-    let has_flags = export.flags & HAS_FLAGS != 0;
-    if has_flags && export.flags & READ_ONLY != 0 {
+    if written && has_flag(READ_ONLY, export) {
         return Err(ExportFault::ReadOnly);
     }
-    if !has_flags || export.flags & SEND_FLUSH == 0 {
+    let flushes = has_flag(SEND_FLUSH, export);
+    if written && !flushes {
         return Err(ExportFault::NoFlush);
     }
     if export.size == 0 {
@@ -73,5 +89,17 @@ pub fn judge(export: Export, sizes: BlockSizes) -> Result<u64, ExportFault>
     if sizes.maximum < 33_554_432 {
         return Err(ExportFault::Small);
     }
-    Ok(blocks)
+    Ok(Opened {
+        blocks,
+        flushes,
+        write_zeroes: has_flag(SEND_WRITE_ZEROES, export),
+    })
+}
+
+// Whether an export has this flag.
+#[tactic(auto, unfolding(crate::specs::Judging::has_flag))]
+fn has_flag(flag: u16, export: Export) -> bool
+    ensures { result ≡ has_flag flag export }
+{
+    export.flags & HAS_FLAGS != 0 && export.flags & flag != 0
 }

@@ -7,7 +7,7 @@ ghost use Rattle.nbd_client.specs.Handshaking.{asked_first};
 ghost use Rattle.nbd_client.specs.Heard.{IsUnjudged, HandshakeJudges, HandshakeRefuses, export_after, sizes_after};
 ghost use Rattle.nbd_client.specs.inner.Heard.{GoAnswersSay, GoAnswerSays};
 
-use crate::export::{ExportFault, judge};
+use crate::export::{ExportFault, Opened, judge};
 use crate::fault::Lost;
 use crate::medium::LONGEST_REQUEST;
 use nbd_wire::{
@@ -92,24 +92,25 @@ const MOST_ANSWERS: u32 = 64;
 
 const LONGEST_ANSWER: u32 = 8192;
 
-/// Opens the export of this name: reads the greeting, asks for GO, and reads its answers. Returns how
-/// many blocks of 512 bytes the export has, 1 to 2^40. After an error the connection is of no use.
+/// Opens the export of this name, to be written or to be read alone: reads the greeting, asks for GO, and reads
+/// its answers. Returns what is known of the export. After an error the connection is of no use.
 pub fn negotiate<R: Read, W: Write>(
     alloc: Global,
     reader: &mut R,
     writer: &mut W,
     name: &[u8],
-) -> Result<u64, HandshakeFault>
+    written: bool,
+) -> Result<Opened, HandshakeFault>
     requires short { length name.now ≤ 4096 }
     ensures asks { OnOk result
         (Appends (W.contents writer.old) (W.contents writer.new) (asked_first name.now)) }
-    ensures some { IfOk result (λ blocks. 0 < blocks) }
-    ensures few { IfOk result (λ blocks. blocks ≤ most_blocks) }
+    ensures some { IfOk result (λ opened. 0 < opened.blocks) }
+    ensures few { IfOk result (λ opened. opened.blocks ≤ most_blocks) }
     // The export is the one that the server's answers say, with the sizes that they say.
-    ensures opened { IfOk result (λ blocks.
-        HandshakeJudges (R.remaining reader.old) (R.remaining reader.new) (Ok blocks)) }
+    ensures opened { IfOk result (λ opened.
+        HandshakeJudges written (R.remaining reader.old) (R.remaining reader.new) (Ok opened)) }
     ensures refused { IfErr result
-        (HandshakeRefuses (R.remaining reader.old) (R.remaining reader.new)) }
+        (HandshakeRefuses written (R.remaining reader.old) (R.remaining reader.new)) }
 {
     let mut greeting = [0; 18];
     reader.read_exact(&mut greeting)?;
@@ -120,8 +121,8 @@ pub fn negotiate<R: Read, W: Write>(
     write_go(name, &mut asked)?;
     writer.write_all(&asked)?;
     let (export, sizes) = answers(alloc, reader)?;
-    match judge(export, sizes) {
-        Ok(blocks) => Ok(blocks),
+    match judge(written, export, sizes) {
+        Ok(opened) => Ok(opened),
         Err(fault) => Err(HandshakeFault::Export(fault)),
     }
 }

@@ -8,12 +8,14 @@ mod handshake;
 mod line;
 mod medium;
 mod served;
-mod tcp;
+mod socket_line;
+mod timed;
 
-pub use export::{ExportFault, judge};
+pub use export::{ExportFault, Opened, judge};
 pub use fault::{Lost, MediumFault, Report, Silent};
 pub use handshake::{HandshakeFault, negotiate};
 pub use line::Line;
 pub use medium::NbdMedium;
 pub use served::Served;
-pub use tcp::TcpLine;
+pub use socket_line::SocketLine;
+pub use timed::Place;

@@ -29,7 +29,8 @@ pub trait Line {
     fn blocks(&self) -> u64
         ensures { result ≡ (disk self.now).count };
 
-    /// Sends the 28 bytes of a request, and those of a write behind them.
+    /// Sends the 28 bytes of a request, and those of a write behind them. The bytes that WRITE_ZEROES writes
+    /// are given, too, and none of them is sent.
     fn send(&mut self, head: &[u8], bytes: &[u8]) -> Result<(), Lost>
         ensures may { (r : AnyRequest) (lba : ℕ)
             → AreRequestBytes r lba (disk self.old).count head.now bytes.now

@@ -1,7 +1,8 @@
 //! The blocks of an NBD server as a medium.
 
-ghost use Rattle.std.specs.Prelude.{◌≡◌, true, ◌+◌, ◌*◌, ◌%◌, ◌≤◌, length, OnOk, IfSome, IsSome, Some, Err};
-ghost use Rattle.nbd_wire.specs.declared.request.Command.TheVariants.{Write as IsWrite};
+ghost use Rattle.std.specs.Prelude.{◌≡◌, ◌↔◌, true, IsTrue, ◌+◌, ◌*◌, ◌%◌, ◌≤◌, length, OnOk, IfSome, IsSome, Some, Err};
+ghost use Rattle.scsi_disk.specs.Sparse.{AreZeros};
+ghost use Rattle.nbd_wire.specs.declared.request.Command.TheVariants.{Write as IsWrite, WriteZeroes as IsWriteZeroes};
 ghost use Rattle.nbd_client.specs.Serving.{IsCommandDone, MayDo, UntoldRises};
 
 use crate::exchange::exchange;
@@ -28,6 +29,8 @@ pub struct NbdMedium<L: Line, R: Report> {
     report: R,
     cookie: u64,
     fault: Option<MediumFault>,
+    // zeros are asked for by WRITE_ZEROES
+    write_zeroes: bool,
 }
 
 /// Why a request was not done.
@@ -62,6 +65,7 @@ impl<L: Line, R: Report> NbdMedium<L, R> {
             report,
             cookie: 0,
             fault: None,
+            write_zeroes: false,
         }
     }
 
@@ -77,6 +81,7 @@ impl<L: Line, R: Report> NbdMedium<L, R> {
         requires whole { size % 512 ≡ 0 }
         requires inside { 512 * lba + size ≤ 512 * (L.Line.disk self.old.line).count }
         requires bytes { command ≡ IsWrite → length bytes.now ≡ size }
+        requires zeros { command ≡ IsWriteZeroes → (length bytes.now ≡ size) × AreZeros bytes.now }
         ensures may { MayDo command lba bytes.now
             (L.Line.disk self.old.line) (L.Line.kept self.old.line)
             (L.Line.disk self.new.line) (L.Line.kept self.new.line) }
@@ -134,6 +139,20 @@ impl<L: Line, R: Report> NbdMedium<L, R> {
 impl<L: Line, R: Report + Drop> NbdMedium<L, R> {
     ghost use Rattle.nbd_client.specs.Ended.{medium_line};
 
+    /// The same medium, whose server has WRITE_ZEROES: where all bytes of a write are 00 it is asked for that, so
+    /// that it can give room back.
+    pub fn with_write_zeroes(self) -> NbdMedium<L, R>
+        ensures line { medium_line result ≡ medium_line self }
+    {
+        NbdMedium {
+            line: self.line,
+            report: self.report,
+            cookie: self.cookie,
+            fault: self.fault,
+            write_zeroes: true,
+        }
+    }
+
     /// The connection, as the medium leaves it.
     pub fn into_line(self) -> L
         ensures { result ≡ medium_line self }
@@ -183,6 +202,10 @@ impl<L: Line, R: Report> Medium for NbdMedium<L, R> {
         let Some(size) = size_of(bytes) else {
             return Err(StoreFault::Device);
         };
+        if self.write_zeroes && are_zeros(bytes) {
+            self.ask(Command::WriteZeroes, lba, size, bytes)?;
+            return Ok(());
+        }
         self.ask(Command::Write, lba, size, bytes)?;
         Ok(())
     }
@@ -197,6 +220,13 @@ impl<L: Line, R: Report> Medium for NbdMedium<L, R> {
             }
         }
     }
+}
+
+/// Whether bytes are all 00. None behind the first that isn't is looked at.
+pub(crate) fn are_zeros(bytes: &[u8]) -> bool
+    ensures { IsTrue result ↔ AreZeros bytes.now }
+{
+    bytes.iter().all(|byte| *byte == 0)
 }
 
 // The length of a request, if one has room for so many bytes.

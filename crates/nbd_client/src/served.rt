@@ -2,12 +2,13 @@
 
 ghost use Rattle.std.specs.Prelude.{◌≡◌, true, false, Ok, ◌+◌, ◌*◌, ◌%◌, ◌≤◌, ◌++◌, length, OnOk, IfOk, IfSome, IsTrue};
 ghost use Rattle.scsi_disk.specs.Disk.{IsDisk, most_blocks};
-ghost use Rattle.nbd_wire.specs.declared.request.Command.TheVariants.{Write as IsWrite};
+ghost use Rattle.nbd_wire.specs.declared.request.Command.TheVariants.{Write as IsWrite, WriteZeroes as IsWriteZeroes};
 ghost use Rattle.nbd_wire.specs.Transmission.{reply_bytes, request_at};
 ghost use Rattle.nbd_client.specs.Serving.{IsCommandDone, IsPlaced, MayDo, UntoldRises};
 
 use crate::fault::Lost;
 use crate::line::Line;
+use crate::medium::are_zeros;
 use nbd_wire::{Command, Request, SimpleReply, read_request, reply_bytes};
 use scsi_file::Medium;
 use std::alloc::{AllocError, Global};
@@ -82,6 +83,11 @@ fn asked_in(head: &[u8], count: u64, bytes: &[u8]) -> Option<Asked>
     if request.command == Command::Write && bytes.len() != request.length as usize {
         return None;
     }
+    if request.command == Command::WriteZeroes
+        && !(bytes.len() == request.length as usize && are_zeros(bytes))
+    {
+        return None;
+    }
     Some(Asked {
         request,
         lba: request.offset / 512,
@@ -89,7 +95,7 @@ fn asked_in(head: &[u8], count: u64, bytes: &[u8]) -> Option<Asked>
 }
 
 // The request that 28 bytes are.
-fn request_in(head: &[u8]) -> Option<Request>
+pub(crate) fn request_in(head: &[u8]) -> Option<Request>
     ensures { IfSome result (λ request. request_at head.now ≡ Ok request) }
 {
     if head.len() != 28 {
@@ -120,6 +126,7 @@ fn perform<M: Medium>(
     requires whole { size % 512 ≡ 0 }
     requires inside { 512 * lba + size ≤ 512 * (M.Medium.seen medium.old).count }
     requires content { command ≡ IsWrite → length bytes.now ≡ size }
+    requires zeros { command ≡ IsWriteZeroes → length bytes.now ≡ size }
     ensures may { MayDo command lba bytes.now (M.Medium.seen medium.old) (M.Medium.kept medium.old)
         (M.Medium.seen medium.new) (M.Medium.kept medium.new) }
     ensures done { IfOk result (λ d. M.Medium.untold medium.new ≡ M.Medium.untold medium.old
@@ -139,7 +146,7 @@ fn perform<M: Medium>(
             }
             Ok(Outcome { error: 0, blocks })
         }
-        Command::Write => {
+        Command::Write | Command::WriteZeroes => {
             if medium.write_at(lba, bytes).is_err() {
                 return Ok(refused(alloc));
             }

@@ -1,9 +1,9 @@
 -- Messages of the transmission phase ("Request message", "Simple reply message").
-use Rattle.std.specs.Prelude.{ℕ, if◌then◌else◌, ◌==◌, ◌||◌, not, nat_lt, List, ◌++◌, Result, Ok, Err}
+use Rattle.std.specs.Prelude.{ℕ, Bool, if◌then◌else◌, ◌==◌, ◌||◌, not, List, ◌++◌, Result, Ok, Err}
 use Rattle.std.specs.Int.{to_be_bytes, w16, w32, w64}
 use Rattle.nbd_wire.specs.Numbers.{u16_of, u32_of, u64_of}
 use Rattle.nbd_wire.specs.declared.request.Command.{Command}
-use Rattle.nbd_wire.specs.declared.request.Command.TheVariants.{Read, Write, Flush}
+use Rattle.nbd_wire.specs.declared.request.Command.TheVariants.{Read, Write, Flush, WriteZeroes}
 use Rattle.nbd_wire.specs.declared.request.Request.{Request}
 use Rattle.nbd_wire.specs.declared.request.RequestFault.{RequestFault}
 use Rattle.nbd_wire.specs.declared.request.RequestFault.TheVariants as fault
@@ -17,6 +17,7 @@ abbrev pub command_code : Command → ℕ
 command_code Read = 0
 command_code Write = 1
 command_code Flush = 3
+command_code WriteZeroes = 6
 
 -- a request: magic, flags, type, cookie, offset, length
 unfoldable pub request_bytes : Request → List ℕ
@@ -28,19 +29,24 @@ request_bytes r =
     ++ to_be_bytes w64 r.offset
     ++ to_be_bytes w32 r.length
 
--- the command of a number that is 0, 1 or 3
+-- whether a number is that of a command
+unfoldable pub is_command : ℕ → Bool
+is_command n = n == 0 || n == 1 || n == 3 || n == 6
+
+-- the command of such a number
 unfoldable pub nbd_command : ℕ → Command
 nbd_command n =
     if n == 0 then Read
     else if n == 1 then Write
-    else Flush
+    else if n == 3 then Flush
+    else WriteZeroes
 
 -- what 28 bytes are, read as a request
 unfoldable pub request_at : List ℕ → Result Request RequestFault
 request_at bytes =
     if not (u32_of 0 bytes == 0x25609513) then Err (fault.Magic (u32_of 0 bytes))
     else if not (u16_of 4 bytes == 0) then Err (fault.Flags (u16_of 4 bytes))
-    else if u16_of 6 bytes == 2 || nat_lt 3 (u16_of 6 bytes)
+    else if not (is_command (u16_of 6 bytes))
     then Err (fault.Command (u16_of 6 bytes))
     else Ok (record {
       command = nbd_command (u16_of 6 bytes);

@@ -12,7 +12,7 @@ pub struct Export {
     /// Its size in bytes.
     pub size: u64,
     /// Its transmission flags: bit 0 says that the others mean something, bit 1 that it may be read
-    /// alone, bit 2 that it has FLUSH ("Transmission flags").
+    /// alone, bit 2 that it has FLUSH, bit 6 that it has WRITE_ZEROES ("Transmission flags").
     pub flags: u16,
 }
 

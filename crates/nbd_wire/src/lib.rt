@@ -14,7 +14,7 @@ pub use greeting::{Greeting, GreetingFault, read_greeting};
 pub use information::{BlockSizes, Export, Info, InfoFault, read_info};
 pub use option::{OptionHead, OptionMagic, read_option_head, write_go};
 pub use reply::{ReplyMagic, SimpleReply, read_simple_reply, reply_bytes};
-pub use request::{Command, Request, RequestFault, read_request, request_bytes};
+pub use request::{Command, DISCONNECT, Request, RequestFault, read_request, request_bytes};
 
 /// The longest name of an export, in bytes ("String values").
 pub const LONGEST_NAME: usize = 4096;

@@ -1,7 +1,7 @@
 //! Requests ("Request message").
 
 ghost use Rattle.std.specs.Prelude.{◌≡◌};
-ghost use Rattle.nbd_wire.specs.Transmission.{command_code, nbd_command, request_at, request_bytes};
+ghost use Rattle.nbd_wire.specs.Transmission.{command_code, is_command, nbd_command, request_at, request_bytes};
 
 use crate::numbers::{u16_in, u32_in, u64_in};
 use thiserror::Error;
@@ -15,6 +15,8 @@ pub enum Command {
     Write,
     /// That all writes that were answered last (NBD_CMD_FLUSH).
     Flush,
+    /// That bytes of it become 00, which takes no room if the server can do that (NBD_CMD_WRITE_ZEROES).
+    WriteZeroes,
 }
 
 impl Command {
@@ -26,6 +28,7 @@ impl Command {
             Command::Read => 0,
             Command::Write => 1,
             Command::Flush => 3,
+            Command::WriteZeroes => 6,
         }
     }
 }
@@ -42,6 +45,12 @@ pub struct Request {
     /// How many bytes it is about; 0 for a flush.
     pub length: u32,
 }
+
+/// The request that ends a connection, and has no answer: its command is 2 (NBD_CMD_DISC), and all else
+/// behind the magic is 00.
+pub const DISCONNECT: [u8; 28] = [
+    0x25, 0x60, 0x95, 0x13, 0, 0, 0, 2, 0, 0, 0, 0, 0, 0, 0, 0, 0, 0, 0, 0, 0, 0, 0, 0, 0, 0, 0, 0,
+];
 
 /// The 28 bytes of a request.
 #[tactic(auto, unfolding(crate::specs::Transmission::request_bytes))]
@@ -88,7 +97,7 @@ pub fn read_request(bytes: &[u8; 28]) -> Result<Request, RequestFault>
         return Err(RequestFault::Flags(flags));
     }
     let code = u16_in(bytes, 6);
-    if code == 2 || code > 3 {
+    if !is_command(code) {
         return Err(RequestFault::Command(code));
     }
     Ok(Request {
@@ -99,7 +108,15 @@ pub fn read_request(bytes: &[u8; 28]) -> Result<Request, RequestFault>
     })
 }
 
-// The command of a number.
+// Whether a number is that of a command.
+#[tactic(auto, unfolding(crate::specs::Transmission::is_command))]
+fn is_command(code: u16) -> bool
+    ensures { result ≡ is_command code }
+{
+    code == 0 || code == 1 || code == 3 || code == 6
+}
+
+// The command of such a number.
 #[tactic(auto, unfolding(crate::specs::Transmission::nbd_command))]
 fn command_of(code: u16) -> Command
     ensures { result ≡ nbd_command code }
@@ -107,6 +124,7 @@ fn command_of(code: u16) -> Command
     match code {
         0 => Command::Read,
         1 => Command::Write,
-        _ => Command::Flush,
+        3 => Command::Flush,
+        _ => Command::WriteZeroes,
     }
 }

@@ -3,7 +3,7 @@
 use super::bytes_of;
 use crate::asserts::same;
 use iscsi_test_support::{SURE, Sink, Source, Steps};
-use nbd_client::{ExportFault, HandshakeFault, Lost, negotiate};
+use nbd_client::{ExportFault, HandshakeFault, Lost, Opened, negotiate};
 use nbd_wire::{GreetingFault, InfoFault, OptionMagic};
 use std::alloc::Global;
 use std::process::Abort;
@@ -32,8 +32,16 @@ fn answered(
 ) -> (Result<u64, HandshakeFault>, Vec<u8>) {
     let mut reader = Source::new(said, reads);
     let mut writer = Sink::new(alloc, writes);
-    let answer = negotiate(alloc, &mut reader, &mut writer, b"disk");
-    (answer, writer.taken)
+    let answer = negotiate(alloc, &mut reader, &mut writer, b"disk", true);
+    (blocks_of(answer), writer.taken)
+}
+
+// How many blocks an export has that is opened.
+fn blocks_of(answer: Result<Opened, HandshakeFault>) -> Result<u64, HandshakeFault> {
+    match answer {
+        Ok(opened) => Ok(opened.blocks),
+        Err(fault) => Err(fault),
+    }
 }
 
 // All that a server says.
@@ -69,7 +77,7 @@ fn refused_memory_is_told(rt: HostRuntime) {
     let alloc = rt.alloc();
     let mut taken = Vec::with_capacity(alloc, 64).expect(&rt, "memory");
     let mut reader = Source::new(SAID, SURE);
-    let answer = negotiate(alloc, &mut reader, &mut taken, b"disk");
+    let answer = blocks_of(negotiate(alloc, &mut reader, &mut taken, b"disk", true));
     let is_told = matches!(answer, Ok(32_768) | Err(HandshakeFault::NoMemory));
     assert!(&rt; is_told);
 }
@@ -193,49 +201,76 @@ fn answers_without_an_end_are_given_up(rt: HostRuntime) {
     same(&rt, &answer, &Err(HandshakeFault::NoSize), &"65 answers");
 }
 
+/// How many blocks an export has, whether it has FLUSH, and whether it has WRITE_ZEROES; or why it isn't opened.
+type Due = Result<(u64, bool, bool), ExportFault>;
+
 /// What an export is said to be, size and flags, and the least and the greatest request; and what is
-/// made of it.
-const EXPORTS: &[(&str, &str, Result<u64, ExportFault>)] = &[
-    ("0000000000000200 0005", "00000200 02000000", Ok(1)),
-    ("0002000000000000 0005", "00000001 ffffffff", Ok(1 << 40)),
+/// made of it, if it is to be written, and if it is to be read alone.
+const EXPORTS: &[(&str, &str, Due, Due)] = &[
+    (
+        "0000000000000200 0005",
+        "00000200 02000000",
+        Ok((1, true, false)),
+        Ok((1, true, false)),
+    ),
+    (
+        "0002000000000000 0045",
+        "00000001 ffffffff",
+        Ok((1 << 40, true, true)),
+        Ok((1 << 40, true, true)),
+    ),
     (
         "0000000001000000 0007",
         "00000001 02000000",
         Err(ExportFault::ReadOnly),
+        Ok((32_768, true, false)),
+    ),
+    (
+        "0000000001000000 0043",
+        "00000001 02000000",
+        Err(ExportFault::ReadOnly),
+        Ok((32_768, false, true)),
     ),
     (
         "0000000001000000 0001",
         "00000001 02000000",
         Err(ExportFault::NoFlush),
+        Ok((32_768, false, false)),
     ),
     (
-        "0000000001000000 0006",
+        "0000000001000000 0046",
         "00000001 02000000",
         Err(ExportFault::NoFlush),
+        Ok((32_768, false, false)),
     ),
     (
         "0000000000000000 0005",
         "00000001 02000000",
+        Err(ExportFault::Empty),
         Err(ExportFault::Empty),
     ),
     (
         "00000000000003e8 0005",
         "00000001 02000000",
         Err(ExportFault::NotWhole),
+        Err(ExportFault::NotWhole),
     ),
     (
         "0002000000000200 0005",
         "00000001 02000000",
+        Err(ExportFault::TooLarge),
         Err(ExportFault::TooLarge),
     ),
     (
         "0000000001000000 0005",
         "00001000 02000000",
         Err(ExportFault::NoBlock),
+        Err(ExportFault::NoBlock),
     ),
     (
         "0000000001000000 0005",
         "00000001 01ffffff",
+        Err(ExportFault::Small),
         Err(ExportFault::Small),
     ),
 ];
@@ -243,18 +278,19 @@ const EXPORTS: &[(&str, &str, Result<u64, ExportFault>)] = &[
 #[test]
 fn an_export_is_judged(rt: HostRuntime) {
     let alloc = rt.alloc();
-    for (export, sizes, due) in EXPORTS {
-        check_judged(&rt, alloc, export, sizes, *due);
+    for (export, sizes, written, alone) in EXPORTS {
+        check_judged(&rt, alloc, (export, sizes), true, *written);
+        check_judged(&rt, alloc, (export, sizes), false, *alone);
     }
 }
 
-// Opens an export that is said to be so.
+// Opens an export that is said to be so, to be written or not.
 fn check_judged(
     rt: &impl Abort,
     alloc: Global,
-    export: &str,
-    sizes: &str,
-    due: Result<u64, ExportFault>,
+    (export, sizes): (&str, &str),
+    written: bool,
+    due: Due,
 ) {
     let mut said = said(
         rt,
@@ -274,10 +310,15 @@ fn check_judged(
         said.extend_from_slice(&bytes_of(rt, alloc, part))
             .expect(rt, part);
     }
-    let (answer, _) = answered(alloc, &said, SURE, SURE);
+    let (mut reader, mut writer) = (Source::new(&said, SURE), Sink::new(alloc, SURE));
+    let answer = negotiate(alloc, &mut reader, &mut writer, b"disk", written);
     let due = match due {
-        Ok(blocks) => Ok(blocks),
+        Ok((blocks, flushes, write_zeroes)) => Ok(Opened {
+            blocks,
+            flushes,
+            write_zeroes,
+        }),
         Err(fault) => Err(HandshakeFault::Export(fault)),
     };
-    same(rt, &answer, &due, &(export, sizes));
+    same(rt, &answer, &due, &(export, sizes, written));
 }

@@ -190,6 +190,15 @@ const REQUESTS: &[(&str, Request)] = &[
             length: 0,
         },
     ),
+    (
+        "25609513 0000 0006 0000000000000002 0000000000000200 00400000",
+        Request {
+            command: Command::WriteZeroes,
+            cookie: 2,
+            offset: 512,
+            length: 4_194_304,
+        },
+    ),
 ];
 
 #[test]
@@ -219,6 +228,10 @@ const OTHERS: &[(&str, RequestFault)] = &[
     (
         "25609513 0000 0004 0000000000000001 0000000000000400 00000200",
         RequestFault::Command(4),
+    ),
+    (
+        "25609513 0000 0007 0000000000000001 0000000000000400 00000200",
+        RequestFault::Command(7),
     ),
 ];
 

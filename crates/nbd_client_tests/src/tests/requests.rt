@@ -340,6 +340,29 @@ fn requests_are_those_of_the_protocol(rt: HostRuntime) {
 }
 
 #[test]
+fn zeros_are_asked_for_by_their_length(rt: HostRuntime) {
+    let alloc = rt.alloc();
+    let said = said(&rt, alloc, WELL);
+    let line = Scripted::new(alloc, &said);
+    let mut told = Told {
+        first: None,
+        count: 0,
+    };
+    let mut medium = NbdMedium::new(line, &mut told).with_write_zeroes();
+    let mut block = [0; 512];
+    if medium.blocks() < 4 {
+        panic!(&rt; "a short line");
+    }
+    same(&rt, &medium.write_at(3, &block), &DONE, &"zeros");
+    block[511] = 1;
+    same(&rt, &medium.write_at(3, &block), &DONE, &"another byte");
+    let due = "25609513 0000 0006 0000000000000001 0000000000000600 00000200
+        25609513 0000 0001 0000000000000002 0000000000000600 00000200";
+    let line = medium.into_line();
+    same(&rt, &line.heads, &bytes_of(&rt, alloc, due), &"heads");
+}
+
+#[test]
 fn nothing_is_asked_for_no_block_or_too_many(rt: HostRuntime) {
     let alloc = rt.alloc();
     let mut told = Told {

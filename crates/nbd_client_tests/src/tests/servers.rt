@@ -39,6 +39,16 @@ fn keep<S: BlockStore>(store: &mut S, lba: u64, letter: u8) -> Result<(), StoreF
     store.sync()
 }
 
+#[test]
+fn zeros_are_written_by_their_length(rt: HostRuntime) -> Result<(), Fail> {
+    let line = Served::new(rt.alloc(), letters(rt.alloc())?);
+    let mut store = FileStore::new(NbdMedium::new(line, Silent).with_write_zeroes())?;
+    same(&rt, &keep(&mut store, 2, 0), &DONE, &"zeros");
+    same(&rt, &keep(&mut store, 3, b'X'), &DONE, &"a letter");
+    same(&rt, &read(&mut store), &Ok(*b"ab\0Xefgh"), &"all blocks");
+    Ok(())
+}
+
 // The letters of the blocks, by a read.
 fn read<S: BlockStore>(store: &mut S) -> Result<[u8; 8], StoreFault> {
     let mut bytes = [0; 4096];
@@ -57,6 +67,8 @@ type Row = (
     Result<[u8; 8], StoreFault>,
     &'static [u8; 8],
 );
+
+const DONE: Result<(), StoreFault> = Ok(());
 
 const FAILED: Result<(), StoreFault> = Err(StoreFault::Device);
 
