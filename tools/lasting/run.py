@@ -134,6 +134,16 @@ def qemu(url, *commands):
     return [failed or wrong or True for failed, wrong in answers]
 
 
+def ends_under(service, command):
+    """The status with which a service ends by itself under a command of qemu-io, which would ask again for ever."""
+    asking = subprocess.Popen(["qemu-io", "-f", "raw", "-c", command, service.url], stdin=subprocess.DEVNULL, stdout=subprocess.DEVNULL, stderr=subprocess.DEVNULL)
+    try:
+        return service.process.wait(timeout=SECONDS)
+    finally:
+        asking.kill()
+        asking.wait()
+
+
 def bytes_of(image):
     with open(image, "rb") as file:
         return file.read()
@@ -251,6 +261,38 @@ def large(program, room):
         seen = qemu(service.url, f"write -P 5 {last} 4k", f"read -P 5 {last} 4k", f"read -P 0 {last - MIB} 1M")
         seen.append(os.stat(image).st_blocks * BLOCK < MIB)
     return seen == [True] * 4 or seen
+
+
+def taken(image):
+    """How many KiB of the disk an image takes."""
+    return os.stat(image).st_blocks // 2
+
+
+def holes(program, room):
+    """Zeros over a hole leave it a hole, by WRITE and by WRITE SAME. Where there are data, zeros take their place and the room stays."""
+    seen = []
+    for words in ((), ("--thin",)):
+        image = f"{room}/image{len(words)}"
+        with Service(program, image, *create(), *words) as service:
+            made = taken(image)
+            seen += [*qemu(service.url, "write -z 0 1M"), taken(image) == made]
+            seen += [*qemu(service.url, "write -P 5 256k 64k", "write -z 0 1M", "read -P 0 0 1M"), taken(image) - made <= 64]
+    return seen == [True] * 12 or seen
+
+
+def sparse_file_system(program, room):
+    """A file system that is made through `serve --thin`, on a sparse image, takes a small part of it; e2fsck likes it."""
+    want("mkfs.ext4", "e2fsck")
+    image, source, size = f"{room}/image", f"{room}/source", BLOCK * BLOCKS
+    with open(source, "wb") as file:
+        file.truncate(size)
+    seen = [ran("mkfs.ext4", "-q", "-E", "lazy_itable_init=0", source)]
+    with Service(program, image, *create(size // BLOCK), "--thin") as service:
+        seen.append(ran("qemu-img", "convert", "-n", "-f", "raw", "-O", "raw", source, service.url))
+        seen.append(ran("qemu-img", "compare", "-f", "raw", "-F", "raw", source, service.url))
+        room_taken = taken(image)
+    seen.append(ran("e2fsck", "-fn", image))
+    return (all(status == 0 for status, _ in seen) and room_taken < size // 4096) or (seen, room_taken)
 
 
 def block_device(program, room):
@@ -479,22 +521,37 @@ def synced_together(program, room):
     return (well and re.search("w[^s]*a", body) is None and body.count("s") < body.count("w")) or body
 
 
+def not_synced_at_first(program, room):
+    """An image that is made, and whose sync fails, is taken away again."""
+    want("strace")
+    image, log = f"{room}/image", f"{room}/log"
+    for call in ("fsync", "fdatasync"):
+        before = ["strace", "-f", "-qq", "-o", log, "-e", f"trace={call}", "-e", f"inject={call}:error=EIO"]
+        words = ["serve", "--port", "0", "--sessions", "0", "--file", image, *create(8)]
+        done = subprocess.run([*before, program, *words], stdin=subprocess.DEVNULL, capture_output=True, timeout=SECONDS)
+        if not os.path.exists(log) or os.path.getsize(log) == 0:
+            raise Skipped("strace may not trace")
+        seen = (done.stdout, done.stderr, done.returncode)
+        if seen != line(image, "cannot be synced") or os.path.exists(image):
+            return call, seen, os.path.exists(image)
+    return True
+
+
 def sync_that_fails(program, room):
-    """A sync fails: its write isn't answered, and where it is asked for again it fails, as all that comes behind it does; served anew,
-    what was answered before is there."""
+    """A sync fails: its write isn't answered, and the service ends with status 4, so that nothing behind it is; served anew, what was
+    answered before is there."""
     want("strace")
     image = f"{room}/image"
     # the first sync is that of opening, the second that of the first write
     before = ("strace", "-f", "-qq", "-o", f"{room}/log", "-e", "trace=fdatasync", "-e", "inject=fdatasync:error=EIO:when=3")
-    commands = ["write -P 1 0 4k", "read -P 1 0 4k", "write -P 2 4k 4k", "read -P 1 0 4k", "write -P 3 0 4k"]
     with Service(program, image, *create(), before=before) as service:
         if service.told == b"":
             raise Skipped("strace may not trace")
-        seen = [answer for command in commands for answer in qemu(service.url, command)]
-        seen.append(service.is_there())
+        seen = qemu(service.url, "write -P 1 0 4k") + qemu(service.url, "read -P 1 0 4k")
+        seen.append(ends_under(service, "write -P 2 4k 4k"))
     with Service(program, image) as service:
         seen += qemu(service.url, "read -P 1 0 4k", "write -P 4 8k 4k", "read -P 4 8k 4k")
-    return seen == [True, True, FAILED, FAILED, FAILED, True, True, True, True] or seen
+    return seen == [True, True, 4, True, True, True] or seen
 
 
 def module_of(tool):
@@ -508,7 +565,7 @@ def module_of(tool):
 
 def at_a_failed_sync(program, room, write):
     """What is seen where one session rests and another writes, as `write` does, and its sync fails: the login's answer, what came of the
-    write, what the session that rests receives, whether the service goes on, and its lines."""
+    write, what the session that rests receives, the status with which the service ends, and its lines."""
     want("strace")
     many = module_of("many_sessions")
     # the first sync is that of opening, the second that of the first write
@@ -518,15 +575,15 @@ def at_a_failed_sync(program, room, write):
             raise Skipped("strace may not trace")
         with socket.create_connection(("127.0.0.1", service.port), timeout=SECONDS) as beside:
             answer = many.log_in(beside, 1)
-            seen = [len(answer), write(many, service), beside.recv(1), service.is_there()]
-        service.kill()
-        return [*seen, many.reasons(service.process.communicate()[1])]
+            seen = [len(answer), write(many, service), beside.recv(1)]
+        told, lines, status = service.ended()
+        return [*seen, status, many.reasons(lines)]
 
 
 def sync_that_fails_for_all(program, room):
-    """A sync that fails ends the session that met it and the one beside it, and the service goes on."""
-    seen = at_a_failed_sync(program, room, lambda many, service: qemu(service.url, "write -P 1 0 4k"))
-    return seen == [48 + 56, [FAILED], b"", True, b"sync failed\n" * 2] or seen
+    """A sync that fails ends the session that met it and the one beside it, and the service."""
+    seen = at_a_failed_sync(program, room, lambda many, service: ends_under(service, "write -P 1 0 4k"))
+    return seen == [48 + 56, 4, b"", 4, b"sync failed\n" * 3] or seen
 
 
 # WRITE(10) of block 0 behind a login, and a header of no kind.
@@ -544,7 +601,7 @@ def sync_that_fails_at_the_end(program, room):
             return peer.recv(1)
 
     seen = at_a_failed_sync(program, room, write)
-    return seen == [48 + 56, b"", b"", True, b"sync failed\n" * 2] or seen
+    return seen == [48 + 56, b"", b"", 4, b"sync failed\n" * 3] or seen
 
 
 CASES = [
@@ -555,12 +612,15 @@ CASES = [
     read_alone,
     at_once,
     large,
+    holes,
+    sparse_file_system,
     block_device,
     full,
     taken_away,
     cut,
     synced_first,
     synced_together,
+    not_synced_at_first,
     sync_that_fails,
     sync_that_fails_for_all,
     sync_that_fails_at_the_end,

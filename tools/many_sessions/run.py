@@ -269,7 +269,7 @@ def broken_rule(program, room):
     # TSIH 2, since it is the second session
     due = ROWS.LOGGED_IN.replace(bytes.fromhex("400000010000 0001"), bytes.fromhex("4000000100000002"), 1)
     is_well = len(rest) == 48 and answers[:14] == due[:14] and answers[104:] == ROWS.REJECTED
-    return (is_well and seen == (b"listening\n", b"protocol: rule 9\n", 0)) or (answers.hex(), rest.hex(), seen)
+    return (is_well and seen == (b"listening\n", b"protocol: a command out of its turn\n", 0)) or (answers.hex(), rest.hex(), seen)
 
 
 def unread_answers(program, room):

@@ -336,7 +336,7 @@ def names_sessions(program):
         address = peer.getsockname()[1]
         peer.sendall(pdu(0x3F))
         peer.recv(48)
-        line = f"session 1 127.0.0.1:{address} iqn.2026-01.example:a: protocol: rule 1\n"
+        line = f"session 1 127.0.0.1:{address} iqn.2026-01.example:a: protocol: a PDU or a tag that is not due\n"
         time.sleep(0.2)
         return service.lines() == line.encode()
 
@@ -348,7 +348,7 @@ def escapes_names(program):
         peer.sendall(pdu(0x3F))
         peer.recv(48)
         time.sleep(0.2)
-        line = f"session 3 127.0.0.1:{address} iqn.2026-01.example:a\\x5cb~: protocol: rule 1\n"
+        line = f"session 3 127.0.0.1:{address} iqn.2026-01.example:a\\x5cb~: protocol: a PDU or a tag that is not due\n"
         return goes_on(service) and service.lines() == line.encode()
 
 
@@ -375,7 +375,7 @@ def logs_sessions(program):
     wanted = {
         f"session 1 127.0.0.1:{one} {a}: logged in": None, f"session 2 127.0.0.1:{two} {b}: logged in": None,
         f"session 1 127.0.0.1:{one} {a}: logged out": "2", f"session 2 127.0.0.1:{two} {b}: disconnected": "0",
-        f"session 3 127.0.0.1:{third}: login refused: 0203": "0", f"two initiators may write this disk: {a} and {b}": None,
+        f"session 3 127.0.0.1:{third}: login refused: 0203, no such target": "0", f"two initiators may write this disk: {a} and {b}": None,
     }
     ends = [re.fullmatch(f"(.*?)(?:{counts})?", line) for line in lines]
     return {end.group(1): end.group(2) for end in ends} == wanted and len(lines) == len(wanted)

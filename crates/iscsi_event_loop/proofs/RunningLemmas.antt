@@ -5,7 +5,7 @@ use Rattle.std.proofs.lemmas.Bool.{ltb-true, ltb-false}
 use Rattle.std.proofs.lemmas.List.{get_or_past, length-set, set-get_or}
 use Rattle.std.proofs.lemmas.List.Quantifiers.{position-Some}
 use mathlib.Core.Path.{fun_ext}
-use Rattle.std.specs.Prelude.{Result, IfNone, IfSome, is_none, is_some, nat_lt}
+use Rattle.std.specs.Prelude.{Result, IfNone, IfSome, is_none, is_some, nat_lt, not}
 use Rattle.std.specs.List.{AllByRecursion, position}
 use Rattle.scsi_disk.specs.Disk.{Disk}
 use Rattle.iscsi_target_session.specs.Configured.{TargetSettings}
@@ -14,13 +14,13 @@ use Rattle.iscsi_target.specs.State.{Machine, opening_machine}
 use Rattle.iscsi_target.specs.Feed.{Store}
 use Rattle.iscsi_target.specs.Advances.{store_of}
 use Rattle.iscsi_serving.specs.Executed.{HasExecuted}
-use Rattle.iscsi_sessions.specs.Slots.{SlotFinishes, SessionTable, Slot, opening_slot, may_take_at, slot_with_read, slot_at, slot_waiting, with_slot, with_sent, SlotChanges}
+use Rattle.iscsi_sessions.specs.Slots.{SlotFinishes, SessionTable, Slot, free_slots, opening_slot, may_take_at, slot_with_read, slot_at, slot_waiting, table_may_take, with_slot, with_sent, SlotChanges}
 use Rattle.iscsi_sessions.specs.Slots.{SlotTakesPdu as TakesAtSlot}
 use Rattle.iscsi_sessions.specs.Turns.{SlotEvent, Comes, Ends, Goes, Syncs, Takes, SlotEventStep, HappensIn, SlotEventsRun, Slots, SameMachines, TakesTurn}
 use Rattle.iscsi_sessions.specs.Turns.{SessionEvents, KeepsSession, KeepsSlot, slot_events, Turn, executed_in, executed_of, machine_in, machines}
 use Rattle.iscsi_sessions.specs.Access.{IsLetIn}
 use Rattle.iscsi_sessions.proofs.AccessLemmas.{let_in}
-use Rattle.iscsi_sessions.proofs.SlotLemmas.{changed_other, some_within, taken_within}
+use Rattle.iscsi_sessions.proofs.SlotLemmas.{changed_other, may_there, some_within, taken_within}
 use Rattle.iscsi_sessions.proofs.RunLemmas.{own_session, runs_append, runs_lead, runs_none, runs_one}
 pub use Rattle.iscsi_serving.proofs.ExecutedLemmas.{none_executed}
 use Rattle.iscsi_event_loop.specs.declared.budget.Budget.{Budget}
@@ -331,7 +331,7 @@ changed_at protected slot had left old new before after P e c is h few gives = (
 
 -- a PDU
 pub turn_at : (protected : Bool) (slot : ℕ) (had left : Budget) (old new : SessionTable) (before after : Store) (result : Result ℕ TargetFault) → 0 < had.pdus
-    → left.pdus ≡ had.pdus - 1 → left.given ≡ had.given → may_take_at (slot_at old slot) ≡ true
+    → left.pdus ≡ had.pdus - 1 → left.given ≡ had.given → table_may_take old slot ≡ true
     → TakesAtSlot protected slot old before result new after → TakesTurn protected slot old before result new after
     → SlotRuns protected slot had left old before new after
 turn_at protected slot had left old new before after result some one same may c h =
@@ -342,31 +342,50 @@ turn_at protected slot had left old new before after result some one same may c 
     (subst (λ (s : ℕ). only_at_slot s 1 k + only_at_slot slot (had.pdus - 1) k ≤ only_at_slot slot had.pdus k) (sym h.slot_is)
     (only_less (nat_lt k slot) (nat_lt slot k) had.pdus some)))
     (subst (λ (n : ℕ). GivesWithin slot had.given n old (Takes h.turn ∷ []) new) (sym same)
-    (turn_gives protected slot had.given old new before after result h may))
+    (turn_gives protected slot had.given old new before after result h (may_there (not old.lost) (may_take_at (slot_at old slot)) may)))
 
 -- a sync, where something waits at the slot
 waits_taken : (o : Option Slot) → 0 < length (slot_waiting o) → is_some o ≡ true
 waits_taken None lt = absurd (omega (arith, lt))
 waits_taken (Some s) lt = refl
 
-pub sync_at : (protected : Bool) (slot : ℕ) (had : Budget) (table : SessionTable) (before after : Store) → 0 < length (slot_waiting (slot_at table slot))
-    → SlotEventStep protected (machines table) before (Syncs slot) (machines table) after → SlotRuns protected slot had had table before table after
+pub sync_at : (protected : Bool) (slot : ℕ) (had : Budget) (old new : SessionTable) (before after : Store) → 0 < length (slot_waiting (slot_at old slot))
+    → new.slots ≡ old.slots
+    → SlotEventStep protected (machines old) before (Syncs slot) (machines new) after → SlotRuns protected slot had had old before new after
 unfolding SlotRuns
-sync_at protected slot had table before after waits h = (
-  λ k ne. refl,
-  refl,
+sync_at protected slot had old new before after waits same h = (
+  λ k ne. ap (λ (x : List (Option Slot)). get_or x k None) same,
+  ap (λ (x : List (Option Slot)). length x) same,
   Syncs slot ∷ [],
-  ((refl, taken_within table.slots slot (waits_taken (slot_at table slot) waits), tt), tt),
-  runs_one protected (machines table) (machines table) before after (Syncs slot) h,
-  ((λ k. omega arith), silent_gives slot had.given table table (Syncs slot) refl refl),
+  ((refl, taken_within old.slots slot (waits_taken (slot_at old slot) waits), tt), tt),
+  runs_one protected (machines old) (machines new) before after (Syncs slot) h,
+  (
+    (λ k. omega arith),
+    silent_gives slot had.given old new (Syncs slot) refl (ap (λ (x : List (Option Slot)). length (slot_waiting (get_or x slot None))) same),
+  ),
 )
 
+-- what changes behind a sync changes a slot of the table before it
+before_sync : (slot : ℕ) (old new : SessionTable) (P : Slot → Slot → Type 0) → SlotChanges slot (record old { settled = Some slot }) new P
+    → SlotChanges slot old new P
+before_sync slot old new P c = record {
+  before = c.before;
+  after = c.after;
+  was = c.was;
+  now = c.now;
+  lost = c.lost;
+  does = c.does;
+}
+
 -- a write behind it
-pub write_at : (protected : Bool) (slot count : ℕ) (had left : Budget) (old new : SessionTable) (before after : Store) → left.pdus ≡ had.pdus
-    → left.given ≡ had.given - count
-    → SlotChanges slot old new (λ was now. now ≡ with_sent count was) → SameMachines old new
-    → SlotEventStep protected (machines old) before (Syncs slot) (machines old) after → SlotRuns protected slot had left old before new after
-write_at protected slot count had left old new before after pdus given c same h =
+pub write_at : (protected : Bool) (slot count : ℕ) (had left : Budget) (old mid new : SessionTable) (before after : Store) → left.pdus ≡ had.pdus
+    → left.given ≡ had.given - count → mid ≡ record old { settled = Some slot }
+    → SlotChanges slot mid new (λ was now. now ≡ with_sent count was) → SameMachines mid new
+    → SlotEventStep protected (machines old) before (Syncs slot) (machines mid) after → SlotRuns protected slot had left old before new after
+write_at protected slot count had left old mid new before after pdus given is sent left_same h =
+    let c : SlotChanges slot old new (λ was now. now ≡ with_sent count was) =
+    before_sync slot old new _ (subst (λ (x : SessionTable). SlotChanges slot x new (λ was now. now ≡ with_sent count was)) is sent) in
+    let same : SameMachines old new = subst (λ (x : SessionTable). SameMachines x new) is left_same in
     changed_at protected slot had left old new before after _ (Syncs slot) c (refl, changed_within slot old new _ c, tt) (same, h.1, h.2)
     (λ k. subst (λ (n : ℕ). 0 + only_at_slot slot n k ≤ only_at_slot slot had.pdus k) (sym pdus) (omega arith))
     (sent_gives slot count had.given left.given old new (Syncs slot) refl (waits_less slot count old new c) given)
@@ -503,7 +522,7 @@ none_served protected count door store =
     record { events = []; few = tt; admitted = tt; slots = no_sessions; runs = runs_none protected no_sessions no_sessions store (λ k. refl) }
 
 pub all_served : (protected : Bool) (count : ℕ) (door : Door) (old new : Room) (before after : Store) → length old.table.slots ≡ count
-    → old.table ≡ record { slots = replicate count no_slot } → old.door ≡ door
+    → old.table ≡ free_slots count → old.door ≡ door
     → RunsWithin protected old before new after → Served protected count door before after
 unfolding RunsWithin
 all_served protected count door old new before after many free same r = record {

@@ -1,7 +1,7 @@
 //! The connection of a slot: what the system told of it, and when a byte went over it.
 
 ghost use Rattle.std.specs.Prelude.{◌≡◌, length, true};
-ghost use Rattle.iscsi_sessions.specs.Slots.{may_read_at, slot_at};
+ghost use Rattle.iscsi_sessions.specs.Slots.{table_may_read};
 ghost use Rattle.iscsi_event_loop.specs.declared.connection.Moved.TheVariants as moved;
 ghost use Rattle.iscsi_event_loop.specs.inner.Running.{RunsIdleAt};
 ghost use Rattle.iscsi_event_loop.specs.inner.Moving.{MovesAtMost};
@@ -87,7 +87,7 @@ impl Connection {
     /// Reads for a slot what came, at this time.
     #[tactic(auto, using(crate::proofs::RunningLemmas::none_idle_at))]
     pub fn read(&mut self, table: &mut SessionTable, slot: usize, now: Instant) -> Moved
-        requires may { may_read_at (slot_at table.old slot) ≡ true }
+        requires may { table_may_read table.old slot ≡ true }
         ensures runs { RunsIdleAt slot table.old table.new }
         ensures slots { length table.new.slots ≡ length table.old.slots }
         ensures end { result ≡ moved.End → table.new ≡ table.old }

@@ -19,6 +19,7 @@ mod service;
 mod session_line;
 mod system;
 mod tally;
+mod wording;
 
 pub use iscsi_options::{
     LEAST_MEMORY, LOGIN_WITHIN, LONGEST_ASKED, Limits, MOST_AT_ONCE, MOST_MEMORY, Options,

@@ -1,9 +1,9 @@
 //! The peer of a slot: its connection is read, its PDUs are taken, its answers are written. One file,
 //! since these are the steps of one turn.
 
-ghost use Rattle.std.specs.Prelude.{◌≡◌, ◌<◌, length, is_some, true};
+ghost use Rattle.std.specs.Prelude.{◌≡◌, ◌<◌, false, length, is_some, true};
 ghost use Rattle.iscsi_target.specs.Advances.{store_of};
-ghost use Rattle.iscsi_sessions.specs.Slots.{may_read_at, may_take_at, slot_at, slot_waiting};
+ghost use Rattle.iscsi_sessions.specs.Slots.{slot_at, slot_waiting, table_may_read, table_may_take};
 ghost use Rattle.iscsi_event_loop.specs.declared.peer.Due.TheVariants as dues;
 ghost use Rattle.iscsi_event_loop.specs.Running.{SlotTurns};
 ghost use Rattle.iscsi_event_loop.specs.inner.Running.{SlotRuns, RunsIdleAt};
@@ -49,12 +49,16 @@ enum Due {
 
 // A PDU is taken, if one is there and its answers may be gathered; else what waits is written; if nothing
 // does, more is read. A session in which none of these may be done is closed, and its answers are written.
+// Once a sync failed, all sessions are over.
 fn due_at(table: &SessionTable, slot: usize) -> Due
-    ensures take { result ≡ dues.Take → may_take_at (slot_at table.now slot) ≡ true }
+    ensures take { result ≡ dues.Take → table_may_take table.now slot ≡ true }
     ensures write { result ≡ dues.Write → 0 < length (slot_waiting (slot_at table.now slot)) }
-    ensures read { result ≡ dues.Read → may_read_at (slot_at table.now slot) ≡ true }
+    ensures live { result ≡ dues.Write → table.now.lost ≡ false }
+    ensures read { result ≡ dues.Read → table_may_read table.now slot ≡ true }
 {
-    if table.may_take(slot) {
+    if table.is_lost() {
+        Due::End
+    } else if table.may_take(slot) {
         Due::Take
     } else if !table.waiting(slot).is_empty() {
         Due::Write
@@ -180,7 +184,7 @@ impl Peer {
         }
     }
 
-    // Writes what the connection takes, once the store is synced, if the slot has to wait for that.
+    // Writes what the connection takes, once the store is settled for that.
     fn write<S: BlockStore>(
         &mut self,
         table: &mut SessionTable,
@@ -190,6 +194,7 @@ impl Peer {
         left: &mut Budget,
     ) -> Step
         requires some { 0 < length (slot_waiting (slot_at table.old slot)) }
+        requires live { table.old.lost ≡ false }
         ensures runs { SlotRuns S.protected slot left.old left.new
             table.old (store_of (S.disk store.old) (S.failures store.old))
             table.new (store_of (S.disk store.new) (S.failures store.new)) }
@@ -199,11 +204,11 @@ impl Peer {
             table.sent(slot, 0);
             return Step::Rests;
         }
-        let moved = match table.offered(slot, store) {
-            Ok(offered) => self.connection.write(&offered, now),
+        match table.settle(slot, store) {
+            Ok(()) => {}
             Err(_) => return self.lost(),
-        };
-        match moved {
+        }
+        match self.connection.write(&table.offered(slot), now) {
             Moved::Bytes(count) => {
                 table.sent(slot, count);
                 left.give(count);
@@ -226,7 +231,7 @@ impl Peer {
         slot: usize,
         left: &mut Budget,
     ) -> Step
-        requires may { may_take_at (slot_at table.old slot) ≡ true }
+        requires may { table_may_take table.old slot ≡ true }
         requires some { 0 < left.old.pdus }
         ensures runs { SlotRuns S.protected slot left.old left.new
             table.old (store_of (S.disk store.old) (S.failures store.old))
@@ -246,7 +251,12 @@ impl Peer {
     // Notes what a PDU led to, behind which the session was in this phase.
     fn note(&mut self, table: &SessionTable, slot: usize, was: Option<Phase>) {
         match (was, table.phase(slot)) {
-            (_, Some(Phase::Full)) => self.tally.expect(table.expected_command(slot)),
+            (_, Some(Phase::Full)) => {
+                self.tally.expect(table.expected_command(slot));
+                if !table.is_served(slot) {
+                    self.tally.discovers();
+                }
+            }
             (Some(Phase::Login), Some(Phase::Closed)) => self.tally.refuse(table.waiting(slot)),
             _ => {}
         }
@@ -260,7 +270,7 @@ impl Peer {
         slot: usize,
         left: &mut Budget,
     )
-        requires may { may_take_at (slot_at table.old slot) ≡ true }
+        requires may { table_may_take table.old slot ≡ true }
         requires some { 0 < left.old.pdus }
         ensures runs { SlotRuns S.protected slot left.old left.new
             table.old (store_of (S.disk store.old) (S.failures store.old))
@@ -279,7 +289,7 @@ impl Peer {
     // Reads what came.
     #[tactic(auto, using(crate::proofs::RunningLemmas::none_idle_at))]
     fn read(&mut self, table: &mut SessionTable, slot: usize, now: Instant) -> Step
-        requires may { may_read_at (slot_at table.old slot) ≡ true }
+        requires may { table_may_read table.old slot ≡ true }
         ensures runs { RunsIdleAt slot table.old table.new }
         ensures slots { length table.new.slots ≡ length table.old.slots }
     {

@@ -1,7 +1,8 @@
 //! A listening socket, and the sessions of those who came there.
 
-ghost use Rattle.std.specs.Prelude.{◌≡◌, ◌≤◌, ◌↔◌, length, replicate, None, IsTrue, IfSome, IfOk, IfErr};
+ghost use Rattle.std.specs.Prelude.{◌≡◌, ◌≤◌, ◌↔◌, false, length, IsTrue, IfSome, IfOk, IfErr, OnOk};
 ghost use Rattle.iscsi_target.specs.Advances.{store_of};
+ghost use Rattle.iscsi_sessions.specs.Slots.{free_slots};
 ghost use Rattle.iscsi_serving.specs.Executed.{HasExecuted};
 ghost use Rattle.iscsi_serving.specs.Faults.{EndsService};
 ghost use Rattle.iscsi_serving.specs.declared.fault.ServeFault.TheVariants as serve;
@@ -90,7 +91,7 @@ impl<'a> Server<'a> {
     ) -> Result<Server<'a>, ServeFault>
         ensures slots { IfOk result (λ server. length server.room.table.slots ≡ options.entry.at_once) }
         ensures free { IfOk result (λ server.
-            server.room.table ≡ record { slots = replicate options.entry.at_once None }) }
+            server.room.table ≡ free_slots options.entry.at_once) }
         ensures door { IfOk result (λ server. server.room.door ≡ door_of access.entry) }
         ensures counted { IfOk result (λ server. server.counted ≡ 0) }
         ensures most { IfOk result (λ server.
@@ -110,7 +111,7 @@ impl<'a> Server<'a> {
     ) -> Result<Server<'a>, ServeFault>
         ensures slots { IfOk result (λ server. length server.room.table.slots ≡ 1) }
         ensures free { IfOk result (λ server.
-            server.room.table ≡ record { slots = replicate 1 None }) }
+            server.room.table ≡ free_slots 1) }
         ensures door { IfOk result (λ server. server.room.door ≡ door_of access.entry) }
         ensures counted { IfOk result (λ server. server.counted ≡ 0) }
         ensures most { IfOk result (λ server.
@@ -130,7 +131,7 @@ impl<'a> Server<'a> {
     ) -> Result<Server<'a>, ServeFault>
         ensures slots { IfOk result (λ server. length server.room.table.slots ≡ options.entry.at_once) }
         ensures free { IfOk result (λ server.
-            server.room.table ≡ record { slots = replicate options.entry.at_once None }) }
+            server.room.table ≡ free_slots options.entry.at_once) }
         ensures door { IfOk result (λ server. server.room.door ≡ door_of access.entry) }
         ensures counted { IfOk result (λ server. server.counted ≡ 0) }
         ensures most { IfOk result (λ server.
@@ -222,7 +223,10 @@ impl<'a> Server<'a> {
     /// The line of a session that ends with a fault goes to the standard error, and the others go
     /// on. A connection that the system does not watch, or for which there is no memory, is closed.
     /// If the system has no room for connections, nobody is accepted until a slot gets free or a
-    /// second is over. Only the system's refusing to wait or to tell the time (`Network`) is returned.
+    /// second is over. The system's refusing to wait or to tell the time (`Network`) is returned.
+    ///
+    /// Where a sync fails, no answer leaves any more, all sessions end, and `Sync` is returned: what commands
+    /// wrote may be lost.
     ///
     /// One that takes connections in turn accepts the next one behind the end of the last, and ends none
     /// for its time. It returns `NoMemory` where memory runs out, in a session too, and `Network` where the
@@ -247,6 +251,8 @@ impl<'a> Server<'a> {
         ensures slots { length self.new.room.table.slots ≡ length self.old.room.table.slots }
         ensures most { self.new.most ≡ self.old.most }
         ensures counted { self.old.counted ≤ self.new.counted }
+        // It goes on only over a disk that lost nothing.
+        ensures live { OnOk result (self.new.room.table.lost ≡ false) }
         ensures ends { IfErr result EndsService }
     {
         self.wait(now(rt)?)?;
@@ -254,6 +260,17 @@ impl<'a> Server<'a> {
         self.admit(rt, now);
         self.serve_peers(rt, store, now);
         self.lines.tell_more(rt, now);
+        self.goes_on()
+    }
+
+    // Whether the service goes on: no sync failed, and nothing ends connections that are taken in turn.
+    fn goes_on(&self) -> Result<(), ServeFault>
+        ensures live { OnOk result (self.now.room.table.lost ≡ false) }
+        ensures ends { IfErr result EndsService }
+    {
+        if self.table.is_lost() {
+            return Err(ServeFault::Sync);
+        }
         self.manner.goes_on()
     }
 }

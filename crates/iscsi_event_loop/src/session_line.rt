@@ -46,14 +46,17 @@ impl Display for TwoWriters<'_> {
     }
 }
 
+/// How many bytes of a name stand in a line: the longest name has as many (RFC 7143, section 4.2.7.1).
+const LONGEST_NAME: usize = 223;
+
 /// The name of an initiator in a line. A byte that is none of `!` to `~`, and the backslash, is `\x` and two hex
-/// digits.
+/// digits. A name that is longer than one may be is cut.
 #[derive(Clone, Copy)]
 pub struct Name<'a>(pub &'a [u8]);
 
 impl Display for Name<'_> {
     fn fmt<W: Write>(&self, f: &mut fmt::Formatter<W>) -> fmt::Result {
-        for byte in self.0 {
+        for byte in self.0.iter().take(LONGEST_NAME) {
             match *byte {
                 b'\\' => f.write_str("\\x5c")?,
                 plain @ b'!'..=b'~' => f.write_char(char::from(plain))?,

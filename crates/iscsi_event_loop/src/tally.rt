@@ -1,8 +1,10 @@
 //! What the log tells of a session when it ends.
 
+use crate::wording::{rule_text, status_text};
 use iscsi_login::Phase;
 use iscsi_pdu::HEADER_LEN;
 use iscsi_serving::SessionEnd;
+use iscsi_target::TargetFault;
 use std::fmt::{self, Display, Write};
 
 /// Where a Login Response has its status (RFC 7143, section 11.13.5).
@@ -17,6 +19,8 @@ pub struct Tally {
     commands: u64,
     // class and detail of the status with which the login was refused
     refused: Option<(u8, u8)>,
+    // whether the login was one for discovery
+    is_discovery: bool,
 }
 
 impl Tally {
@@ -26,6 +30,7 @@ impl Tally {
             next: None,
             commands: 0,
             refused: None,
+            is_discovery: false,
         }
     }
 
@@ -36,6 +41,11 @@ impl Tally {
             self.commands = self.commands.saturating_add(came);
         }
         self.next = Some(cmd_sn);
+    }
+
+    /// The login was one for discovery.
+    pub fn discovers(&mut self) {
+        self.is_discovery = true;
     }
 
     /// The login is refused: the last of these answers says so. A Login Response that refuses has no
@@ -66,6 +76,7 @@ impl Tally {
         match (fault, self.refused, self.next, phase) {
             (Some(fault), _, _, _) => LoggedEnd::Fault(fault),
             (None, Some((class, detail)), _, _) => LoggedEnd::Refused(class, detail),
+            (None, None, Some(_), _) if self.is_discovery => LoggedEnd::Discovered,
             (None, None, Some(_), Some(Phase::Closed)) => LoggedEnd::LoggedOut,
             (None, None, _, _) => LoggedEnd::Disconnected,
         }
@@ -79,6 +90,8 @@ pub enum LoggedEnd {
     Fault(SessionEnd),
     /// The login was refused with a status of this class and detail.
     Refused(u8, u8),
+    /// The session was one of discovery, however its initiator left.
+    Discovered,
     /// The initiator logged out.
     LoggedOut,
     /// The initiator closed the connection between two PDUs.
@@ -88,10 +101,15 @@ pub enum LoggedEnd {
 impl Display for LoggedEnd {
     fn fmt<W: Write>(&self, f: &mut fmt::Formatter<W>) -> fmt::Result {
         match self {
+            LoggedEnd::Fault(SessionEnd::Target(TargetFault::Protocol(rule))) => {
+                write!(f, "protocol: {}", rule_text(*rule))
+            }
             LoggedEnd::Fault(fault) => write!(f, "{fault}"),
             LoggedEnd::Refused(class, detail) => {
-                write!(f, "login refused: {class:02x}{detail:02x}")
+                let reason = status_text(*class, *detail);
+                write!(f, "login refused: {class:02x}{detail:02x}, {reason}")
             }
+            LoggedEnd::Discovered => f.write_str("discovery is over"),
             LoggedEnd::LoggedOut => f.write_str("logged out"),
             LoggedEnd::Disconnected => f.write_str("disconnected"),
         }

@@ -5,9 +5,10 @@
 use crate::asserts::same;
 use iscsi_event_loop::{LimitedStore, Limits, Options, PortalOption, Server, Stop, UnitOptions};
 use iscsi_login::Preferences;
-use iscsi_serving::{Access, EVERYBODY};
+use iscsi_serving::{Access, EVERYBODY, ServeFault};
 use iscsi_test_support::{PING, pdus_of};
 use scsi_disk::{BlockStore, SparseStore, StoreFault};
+use scsi_file::{CrashMemory, FileStore, StopsAt};
 use std::alloc::Global;
 use std::io::{ErrorKind, Read, Write};
 use std::net::{IpAddr, Ipv4Addr, Net, TcpStream};
@@ -128,32 +129,50 @@ fn options(logins: u16, at_once: u16, idle: u16) -> Options<'static> {
 
 /// A server, and the disk of all its sessions.
 #[derive(Drop)]
-struct Service<'a> {
+struct Service<'a, S: BlockStore + Drop> {
     server: Server<'a>,
-    store: SparseStore,
+    store: S,
 }
 
-impl Service<'_> {
+impl<S: BlockStore + Drop> Service<'_, S> {
+    fn try_turn(&mut self, rt: &HostRuntime) -> Result<(), ServeFault> {
+        self.server.turn(rt, &mut self.store)
+    }
+
     fn turn(&mut self, rt: &HostRuntime, abort: &impl Abort) {
-        let turned = self.server.turn(rt, &mut self.store);
-        turned.expect(abort, "a turn");
+        self.try_turn(rt).expect(abort, "a turn");
     }
 }
 
-// A service for those who may log in; it stands in a box, so that functions which own it are proved sooner.
+// A service for those who may log in, with a disk in memory.
 fn open<'a>(
     rt: &HostRuntime,
     abort: &impl Abort,
     options: Options<'a>,
     access: Access<'a>,
-) -> Box<Service<'a>> {
+) -> Box<Service<'a, SparseStore>> {
     let store = SparseStore::new(rt.alloc(), BLOCKS);
+    open_over(rt, abort, options, access, store)
+}
+
+// A service for those who may log in; it stands in a box, so that functions which own it are proved sooner.
+fn open_over<'a, S: BlockStore + Drop>(
+    rt: &HostRuntime,
+    abort: &impl Abort,
+    options: Options<'a>,
+    access: Access<'a>,
+    store: S,
+) -> Box<Service<'a, S>> {
     let server = Server::open(rt, options, b"DISK0001", access).expect(abort, "a server");
     Box::new(rt.alloc(), Service { server, store }).expect(abort, "a service")
 }
 
 // A service of so many connections, one after another. A limit of time would end each of them at once.
-fn open_in_turn(rt: &HostRuntime, abort: &impl Abort, connections: u16) -> Box<Service<'static>> {
+fn open_in_turn(
+    rt: &HostRuntime,
+    abort: &impl Abort,
+    connections: u16,
+) -> Box<Service<'static, SparseStore>> {
     let asked = Options {
         stop: Some(Stop::Connections(connections)),
         ..options(0, 1, 0)
@@ -205,10 +224,10 @@ fn receive(abort: &impl Abort, client: &TcpStream, out: &mut Vec<u8>) -> bool {
 }
 
 // Appends what comes to a client while the server has turns, up to so many bytes.
-fn answers(
+fn answers<S: BlockStore + Drop>(
     rt: &HostRuntime,
     abort: &impl Abort,
-    service: &mut Service<'_>,
+    service: &mut Service<'_, S>,
     client: &TcpStream,
     count: usize,
     out: &mut Vec<u8>,
@@ -224,10 +243,10 @@ fn answers(
 }
 
 // A client writes requests, and has the answers that are due.
-fn check_answers(
+fn check_answers<S: BlockStore + Drop>(
     rt: &HostRuntime,
     abort: &impl Abort,
-    service: &mut Service<'_>,
+    service: &mut Service<'_, S>,
     client: &TcpStream,
     requests: &str,
     due: &str,
@@ -243,7 +262,12 @@ fn check_answers(
 }
 
 // Has turns until all sessions were served.
-fn finish(rt: &HostRuntime, abort: &impl Abort, service: &mut Service<'_>, name: &str) {
+fn finish<S: BlockStore + Drop>(
+    rt: &HostRuntime,
+    abort: &impl Abort,
+    service: &mut Service<'_, S>,
+    name: &str,
+) {
     for _ in 0..MOST_TURNS {
         if service.server.is_done() {
             return;
@@ -254,10 +278,10 @@ fn finish(rt: &HostRuntime, abort: &impl Abort, service: &mut Service<'_>, name:
 }
 
 // Does what the rows say: all answers are those that are due, and all sessions are served then.
-fn check_rows(
+fn check_rows<S: BlockStore + Drop>(
     rt: &HostRuntime,
     abort: &impl Abort,
-    service: &mut Service<'_>,
+    service: &mut Service<'_, S>,
     clients: &[TcpStream],
     rows: Rows<'_>,
     name: &str,
@@ -435,10 +459,10 @@ fn a_silent_peer_leaves(rt: HostRuntime) {
 }
 
 // Whether the server ends a client's connection before it has had many turns.
-fn is_ended(
+fn is_ended<S: BlockStore + Drop>(
     rt: &HostRuntime,
     abort: &impl Abort,
-    service: &mut Service<'_>,
+    service: &mut Service<'_, S>,
     client: &TcpStream,
 ) -> bool {
     let mut client = client;
@@ -572,6 +596,77 @@ fn the_next_connection_waits(rt: HostRuntime) {
 fn no_connection_is_served(rt: HostRuntime) {
     let service = open_in_turn(&rt, &rt, 0);
     same(&rt, &service.server.is_done(), &true, &"no connection");
+}
+
+/// The bytes of the disk.
+const BYTES: usize = 4096;
+
+/// Where block 3 begins.
+const WRITTEN_AT: usize = 1536;
+
+// A medium that keeps for good what is synced, and hides no failure.
+fn medium(abort: &impl Abort, alloc: Global) -> CrashMemory {
+    CrashMemory::new(alloc, vec![in alloc; 0u8; BYTES].expect(abort, "bytes"))
+}
+
+/// Over a medium that hides no failure none is counted, and the medium has what was written.
+#[test]
+fn over_a_medium_that_hides_nothing(rt: HostRuntime) {
+    let store = FileStore::new(medium(&rt, rt.alloc())).expect(&rt, "a store");
+    let mut service = open_over(&rt, &rt, options(2, 2, 5), EVERYBODY, store);
+    let clients = clients(&rt, &rt, &service.server, 2);
+    check_rows(&rt, &rt, &mut service, &clients, TWO, "over a medium");
+    same(&rt, &service.store.failures(), &0, &"failures");
+    let Service { store, .. } = Box::into_inner(service);
+    let medium = store.into_medium();
+    let block = medium.bytes().get(WRITTEN_AT..WRITTEN_AT + 512);
+    let is_kept = block
+        .expect(&rt, "block 3")
+        .iter()
+        .all(|byte| *byte == 0x5a);
+    same(&rt, &is_kept, &true, &"block 3");
+}
+
+// How a service ends over a medium of which so many calls work, where a session logs in and writes; nothing if
+// it goes on. No answer leaves that the medium didn't keep.
+fn ended_over(rt: &HostRuntime, abort: &impl Abort, calls: u64) -> Option<ServeFault> {
+    let Ok(store) = FileStore::new(StopsAt::new(medium(abort, rt.alloc()), calls)) else {
+        return None;
+    };
+    let mut service = open_over(rt, abort, options(1, 2, 5), EVERYBODY, store);
+    let clients = clients(rt, abort, &service.server, 1);
+    let client = clients.get(0).expect(abort, "a client");
+    let row = ("a login", 0);
+    check_answers(rt, abort, &mut service, client, LOGIN, LOGIN_1, row);
+    let stream = pdus_of(rt.alloc(), WRITE).expect(abort, WRITE);
+    let mut writer = client;
+    writer.write_all(&stream).expect(abort, WRITE);
+    let mut out = Vec::new(rt.alloc());
+    for _ in 0..MOST_TURNS {
+        if receive(abort, client, &mut out) {
+            return None;
+        }
+        if let Err(fault) = service.try_turn(rt) {
+            receive(abort, client, &mut out);
+            same(abort, &out.len(), &0, &"an answer");
+            return Some(fault);
+        }
+    }
+    None
+}
+
+/// The write is refused where the medium stops before it. Where it stops at the sync behind it, the service ends.
+#[test]
+fn a_sync_that_fails_ends_the_service(rt: HostRuntime) {
+    let mut has_ended = false;
+    for calls in 0..8 {
+        if let Some(fault) = ended_over(&rt, &rt, calls) {
+            same(&rt, &fault.status(), &4, &calls);
+            same(&rt, &matches!(fault, ServeFault::Sync), &true, &calls);
+            has_ended = true;
+        }
+    }
+    same(&rt, &has_ended, &true, &"syncs that fail");
 }
 
 /// The first block of a write, how many it has, their byte, and the answer.

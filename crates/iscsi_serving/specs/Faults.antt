@@ -41,4 +41,5 @@ initiator_serve_fault initiator.Closed = serve.Initiator initiator.Closed
 abbrev pub EndsService : ServeFault → Type 0
 EndsService serve.NoMemory = Unit {0}
 EndsService serve.Network = Unit {0}
+EndsService serve.Sync = Unit {0}
 EndsService _ = ⊥

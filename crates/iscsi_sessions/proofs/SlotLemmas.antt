@@ -1,5 +1,5 @@
 -- The slots of a table.
-use Rattle.std.proofs.Common.{inl, inr, ◌≡◌, ◌<◌, ℕ, zero, suc, true, false, ◌==◌, List, [], ◌∷◌, length, Option, None, Some, refl, sym, ap, ◌∙◌, arith}
+use Rattle.std.proofs.Common.{inl, inr, ◌≡◌, ◌<◌, ℕ, zero, suc, true, false, ◌==◌, ◌&&◌, Bool, List, [], ◌∷◌, length, Option, None, Some, refl, sym, ap, ◌∙◌, arith}
 use Rattle.std.proofs.Common.{get_or, set, is_some}
 use Rattle.std.proofs.lemmas.Option.{none-some}
 use Rattle.std.proofs.lemmas.Bool.{eqb-false}
@@ -24,6 +24,11 @@ pub taken_within : (xs : List (Option Slot)) (k : ℕ) → is_some (get_or xs k 
 taken_within [] k e = absurd cc
 taken_within (x ∷ xs) zero e = omega arith
 taken_within (x ∷ xs) (suc k) e = let h : k < length xs = taken_within xs k e in omega arith
+
+-- what may be done at a slot of a table that lost nothing
+pub may_there : (live may : Bool) → (live && may) ≡ true → may ≡ true
+may_there true may e = e
+may_there false may e = absurd cc
 
 -- the slot that changed
 pub changed_same : (place : ℕ) (old new : SessionTable) (o : Option Slot) → place < length old.slots → new.slots ≡ set old.slots place o → slot_at new place ≡ o

@@ -2,7 +2,7 @@
 -- a time, over one store (RFC 7143, section 4.2; which slot may be read and fed is own rule).
 --
 -- `protected` says of the store that it refuses each write.
-use Rattle.std.specs.Prelude.{◌≡◌, ℕ, Bool, true, false, not, ◌==◌, ◌&&◌, ◌||◌, nat_lt, List, [], length, drop, get_or, set, Option, None, Some, Result, Ok, Err}
+use Rattle.std.specs.Prelude.{◌≡◌, ℕ, Bool, true, false, not, ◌==◌, ◌&&◌, ◌||◌, nat_lt, List, [], length, drop, get_or, set, replicate, Option, None, Some, Result, Ok, Err}
 use Rattle.iscsi_login.specs.declared.phase.Phase.{Phase}
 use Rattle.iscsi_target_session.specs.Configured.{TargetSettings}
 use Rattle.iscsi_target.specs.declared.fault.TargetFault.{TargetFault}
@@ -111,6 +111,14 @@ pub record SlotFinishes (old : Slot) (result : Result (Unit {0}) TargetFault)
 -- Slots, each free or with a session.
 pub record SessionTable : Type 0 where
   pub slots : List (Option Slot)
+  -- the slot whose answers may be written: the store is synced, as far as they have to wait for that
+  pub settled : Option ℕ
+  -- a sync failed, so what commands wrote may be lost
+  pub lost : Bool
+
+-- So many slots, all free.
+abbrev pub free_slots : ℕ → SessionTable
+free_slots n = record { slots = replicate n None; settled = None; lost = false }
 
 -- What is in a slot; none where it is free, or there is no such slot.
 abbrev pub slot_at : SessionTable → ℕ → Option Slot
@@ -118,7 +126,7 @@ slot_at table place = get_or table.slots place None
 
 -- The table with this in a slot.
 abbrev pub with_slot : SessionTable → ℕ → Option Slot → SessionTable
-with_slot table place slot = record { slots = set table.slots place slot }
+with_slot table place slot = record table { slots = set table.slots place slot }
 
 -- Of a slot that may be free: more may be read there.
 abbrev pub may_read_at : Option Slot → Bool
@@ -129,6 +137,14 @@ may_read_at (Some s) = may_read s
 abbrev pub may_take_at : Option Slot → Bool
 may_take_at None = false
 may_take_at (Some s) = may_take s
+
+-- More may be read at a slot. Nothing is, once a sync failed.
+abbrev pub table_may_read : SessionTable → ℕ → Bool
+table_may_read table place = not table.lost && may_read_at (slot_at table place)
+
+-- The next PDU may be taken at a slot. None is, once a sync failed.
+abbrev pub table_may_take : SessionTable → ℕ → Bool
+table_may_take table place = not table.lost && may_take_at (slot_at table place)
 
 -- The name of the initiator there, as its login gave it; no byte before that.
 abbrev pub initiator_at : Option Slot → List ℕ
@@ -174,6 +190,7 @@ pub record SlotChanges (place : ℕ) (old new : SessionTable) (P : Slot → Slot
   pub after : Slot
   pub was : slot_at old place ≡ Some before
   pub now : new.slots ≡ set old.slots place (Some after)
+  pub lost : new.lost ≡ old.lost
   pub does : P before after
 
 -- One turn: the session of a slot took a PDU, over the store of all.

@@ -70,7 +70,7 @@ pub fn last_write_is_read()
 {}
 
 /// What lasts over a disk with a write cache. A flush that was answered left a store of which a crash
-/// leaves the blocks, and nothing else (`SessionTable::offered`, clause `lasts`). Whatever comes behind it, a
+/// leaves the blocks, and nothing else (`SessionTable::settle`, clause `lasts`). Whatever comes behind it, a
 /// crash then leaves of each block what it had at the flush, or what a later command leaves of it.
 pub fn flushed_lasts<S: BlockStore>()
     ensures since { (first last : S) (cs : List (Change S)) (n : ℕ) (bytes : List ℕ)
@@ -94,7 +94,7 @@ pub fn flushed_lasts<S: BlockStore>()
         → (orders : List Supplied) × AreNextCommands old piece (S.disk a).count orders
         × CrashLeavesCommands S.protected (λ s. S.disk s) (λ s. S.kept s) (change a orders b) }
     // Over a disk with a write cache a turn notes at its slot whether a command asks whose answer waits
-    // there. Where one does, `SessionTable::offered` syncs the store first (`must_sync`).
+    // there. Where one does, `SessionTable::settle` syncs the store first (`must_sync`).
     ensures noted { (protected : Bool) (slot : ℕ) (old new : SessionTable) (before after : Store)
         (result : Result ℕ TargetFault) (owed : List Execution)
         (t : TakesTurn protected slot old before result new after)

@@ -1,14 +1,14 @@
 //! The slots of several sessions over one store. One file, more than half of which is the contracts
 //! of one type.
 
-ghost use Rattle.std.specs.Prelude.{◌≡◌, ◌<◌, ◌≤◌, ℕ, List, false, length, option_map, is_none, is_some, replicate, true, None, Ok, Some, IfOk, IfSome, IfNone, OnOk, OnErr};
+ghost use Rattle.std.specs.Prelude.{◌≡◌, ◌<◌, ◌≤◌, ℕ, List, false, length, option_map, is_none, is_some, true, None, Ok, Some, IfOk, IfSome, IfNone, OnOk, OnErr};
 ghost use Rattle.std.specs.List.{position};
 ghost use Rattle.std.specs.Io.KnownBytes.{Consumes};
 ghost use Rattle.scsi_disk.specs.Disk.{StoreTellsFailures};
 ghost use Rattle.scsi_disk.specs.Lasting.{LastsOnceSynced, SettledDisk, Within};
 ghost use Rattle.iscsi_target.specs.Crash.{CrashesNext};
 ghost use Rattle.iscsi_target.specs.Advances.{store_of};
-ghost use Rattle.iscsi_sessions.specs.Slots.{expected_command_at, initiator_at, opening_slot, phase_of, may_read_at, may_take_at, most_read, must_sync, slot_with_read, with_sent, slot_waiting, slot_at, with_slot, SlotChanges, SlotTakesPdu, SlotFinishes};
+ghost use Rattle.iscsi_sessions.specs.Slots.{expected_command_at, free_slots, initiator_at, opening_slot, phase_of, table_may_read, table_may_take, most_read, must_sync, slot_with_read, with_sent, slot_waiting, slot_at, with_slot, SlotChanges, SlotTakesPdu, SlotFinishes};
 ghost use Rattle.iscsi_sessions.specs.Reinstatement.{is_served_at, takes_place_of};
 ghost use Rattle.iscsi_sessions.specs.Turns.{Comes, Ends, Goes, SlotEventStep, HappensIn, SameMachines, Syncs, TakesTurn, machines};
 
@@ -33,6 +33,8 @@ use std::mem;
 /// beyond those bytes a slot keeps the answers to one PDU. Slots are numbered from 0; a place behind
 /// the last one counts as free.
 ///
+/// Nothing is written before the store is settled for it, and nothing happens any more once that failed.
+///
 /// All slots are read into one buffer, and take PDUs from there. What a slot has not taken when another one is
 /// read goes to memory of its own.
 #[derive(Drop)]
@@ -43,6 +45,10 @@ pub struct SessionTable {
     buffer: ReadBuffer,
     // the slot that is lent the buffer, if one is
     holder: Option<usize>,
+    // the slot for which the store was synced last, if no session has done anything since
+    settled: Option<usize>,
+    // whether a sync failed
+    is_lost: bool,
 }
 
 impl Model for SessionTable {
@@ -50,13 +56,13 @@ impl Model for SessionTable {
 
     ghost Value = { SessionTable };
 
-    ghost view = { λ h. record { slots = h.slots.items } };
+    ghost view = { λ h. record { slots = h.slots.items; settled = h.settled; lost = h.is_lost } };
 }
 
 impl SessionTable {
     /// `n` slots, all free. The error is that memory ran out.
     pub fn new(alloc: Global, slots: usize) -> Result<SessionTable, AllocError>
-        ensures new { IfOk result (λ table. table ≡ record { slots = replicate slots None }) }
+        ensures new { IfOk result (λ table. table ≡ free_slots slots) }
     {
         let mut free = Vec::new(alloc);
         for _ in 0..slots {
@@ -67,6 +73,8 @@ impl SessionTable {
             slots: free,
             buffer: ReadBuffer::new(alloc)?,
             holder: None,
+            settled: None,
+            is_lost: false,
         })
     }
 
@@ -161,26 +169,35 @@ impl SessionTable {
         }
     }
 
-    /// Whether `read` may be called: the slot's session goes on, has taken all that was read,
-    /// and nothing of it waits to be written.
+    /// Whether a sync failed. What commands wrote may be lost then, and any answer that waits may tell
+    /// of it. So nothing more is read, taken or written, at any slot.
+    pub fn is_lost(&self) -> bool
+        ensures { result ≡ self.now.lost }
+    {
+        self.is_lost
+    }
+
+    /// Whether `read` may be called: no sync failed, the slot's session goes on and has taken all that
+    /// was read, and nothing of it waits to be written.
     pub fn may_read(&self, slot: usize) -> bool
-        ensures { result ≡ may_read_at (slot_at self.now slot) }
+        ensures { result ≡ table_may_read self.now slot }
     {
         match self.at(slot) {
-            Some(taken) => taken.may_read(),
+            Some(taken) => !self.is_lost && taken.may_read(),
             None => false,
         }
     }
 
-    /// Whether `take` may be called, which needs three things:
+    /// Whether `take` may be called, which needs four things:
+    /// - No sync failed.
     /// - The slot's session goes on.
     /// - The session has not taken all that was read.
     /// - Nothing waits to be written, or less than 65,536 bytes that were not offered to the peer.
     pub fn may_take(&self, slot: usize) -> bool
-        ensures { result ≡ may_take_at (slot_at self.now slot) }
+        ensures { result ≡ table_may_take self.now slot }
     {
         match self.at(slot) {
-            Some(taken) => taken.may_take(),
+            Some(taken) => !self.is_lost && taken.may_take(),
             None => false,
         }
     }
@@ -214,7 +231,7 @@ impl SessionTable {
     /// Reads for a slot, once, at most 262,144 bytes. Says how many came, which the slot keeps. The error is the
     /// reader's, or that memory ran out; then nothing changed.
     pub fn read<R: Read>(&mut self, slot: usize, reader: &mut R) -> io::Result<usize>
-        requires may { may_read_at (slot_at self.old slot) ≡ true }
+        requires may { table_may_read self.old slot ≡ true }
         ensures some { IfOk result (λ count. 0 < count → (piece : List ℕ) × (length piece ≡ count)
             × Consumes (R.remaining reader.old) (R.remaining reader.new) piece
             × SlotChanges slot self.old self.new
@@ -263,9 +280,10 @@ impl SessionTable {
     /// One turn, over the store of all sessions. The session of a slot takes what was read up to
     /// the end of one PDU. Its answers wait to be written, behind the answers that wait already.
     /// Says how many bytes the session took. A fault closes this session alone: what was read is
-    /// dropped, and what the fault leaves is as `Target::feed_next` says.
+    /// dropped, and what the fault leaves is as `Target::feed_next` says. No answer may be written
+    /// before the store is settled once more.
     pub fn take<S: BlockStore>(&mut self, slot: usize, store: &mut S) -> Result<usize, TargetFault>
-        requires may { may_take_at (slot_at self.old slot) ≡ true }
+        requires may { table_may_take self.old slot ≡ true }
         ensures takes { SlotTakesPdu S.protected slot self.old
             (store_of (S.disk store.old) (S.failures store.old))
             result self.new (store_of (S.disk store.new) (S.failures store.new)) }
@@ -280,7 +298,9 @@ impl SessionTable {
         ensures crash { IfSome (slot_at self.old slot)
             (λ taken. CrashesNext S.protected taken.connection
             taken.unfed (S.disk store.old) (S.disk store.new) (S.kept store.old) (S.kept store.new)) }
+        ensures unsettled { self.new.settled ≡ None }
     {
+        self.settled = None;
         let Some(fed) = &mut self.slots[slot] else {
             unreachable!()
         };
@@ -297,26 +317,23 @@ impl SessionTable {
         }
     }
 
-    /// What the slot's session has still to write, once the store is synced: so no peer is told of a
-    /// write that a crash could take back. The fault is that of the sync; then what waits at any
-    /// slot may tell of a write that is lost, so that all of them are to be left.
+    /// Syncs the store for what waits at a slot: so no peer is told of a write that a crash could take
+    /// back. The fault is that of the sync. Then what waits at any slot may tell of a write that is lost,
+    /// and no slot reads, takes or offers anything again.
     ///
     /// Over a disk with a write cache the store is synced only where the slot asks for it: a command
     /// asks whose answer waits, a SYNCHRONIZE CACHE or one with the bit FUA, or the session is over.
     /// So a peer may be told of writes that a crash takes back, as its disk has told it, and is never
     /// told so of a SYNCHRONIZE CACHE (SBC-3, section 4.15).
-    pub fn offered<S: BlockStore>(
-        &self,
-        slot: usize,
-        store: &mut S,
-    ) -> Result<Offered<'_>, StoreFault>
-        ensures waiting { IfOk result
-            (λ offered. offered ≡ slot_waiting (slot_at self.now slot)) }
+    pub fn settle<S: BlockStore>(&mut self, slot: usize, store: &mut S) -> Result<(), StoreFault>
+        requires live { self.old.lost ≡ false }
+        ensures settled { OnOk result (self.new ≡ record self.old { settled = Some slot }) }
+        ensures lost { OnErr result (self.new ≡ record self.old { settled = None; lost = true }) }
         // A crash leaves the blocks that the answered commands led to, and no others. Over a disk with
         // a write cache this is so where the slot asks for it.
-        ensures lasts { must_sync (slot_at self.now slot) ≡ true → OnOk result
+        ensures lasts { must_sync (slot_at self.old slot) ≡ true → OnOk result
             (S.failures store.new ≡ 0 → SettledDisk (S.disk store.new) (S.kept store.new)) }
-        ensures synced { must_sync (slot_at self.now slot) ≡ true
+        ensures synced { must_sync (slot_at self.old slot) ≡ true
             → OnOk result (S.synced store.new ≡ true) }
         ensures disk { S.disk store.new ≡ S.disk store.old }
         ensures crash { Within (S.kept store.old) (S.kept store.new) }
@@ -324,14 +341,27 @@ impl SessionTable {
             (S.failures store.new)
             (S.untold store.old) (S.untold store.new) result }
         // Whatever comes of it, it is the event of a sync.
-        ensures syncs { SlotEventStep S.protected (machines self.now)
+        ensures syncs { SlotEventStep S.protected (machines self.old)
             (store_of (S.disk store.old) (S.failures store.old)) (Syncs slot)
-            (machines self.now) (store_of (S.disk store.new) (S.failures store.new)) }
+            (machines self.new) (store_of (S.disk store.new) (S.failures store.new)) }
     {
+        self.settled = None;
         if self.must_sync(slot) {
-            store.sync()?;
+            if let Err(fault) = store.sync() {
+                self.is_lost = true;
+                return Err(fault);
+            }
         }
-        Ok(Offered::new(self.waiting(slot)))
+        self.settled = Some(slot);
+        Ok(())
+    }
+
+    /// What the slot's session has still to write, once the store was settled for it.
+    pub fn offered(&self, slot: usize) -> Offered<'_>
+        requires settled { self.now.settled ≡ Some slot }
+        ensures { result ≡ slot_waiting (slot_at self.now slot) }
+    {
+        Offered::new(self.waiting(slot))
     }
 
     // Whether what waits at a slot is offered only once the store is synced.
@@ -359,13 +389,15 @@ impl SessionTable {
     }
 
     /// The stream of a slot ended. The fault is that of `Target::finish`; what waits to be written
-    /// stays.
+    /// stays, and may be written once the store is settled for it.
     pub fn finish(&mut self, slot: usize) -> Result<(), TargetFault>
         requires taken { is_some (slot_at self.old slot) ≡ true }
         ensures finishes { SlotChanges slot self.old self.new
             (λ before after. SlotFinishes before result after) }
         ensures ends { HappensIn (Ends slot) self.old self.new }
+        ensures unsettled { self.new.settled ≡ None }
     {
+        self.settled = None;
         let Some(taken) = &mut self.slots[slot] else {
             unreachable!()
         };

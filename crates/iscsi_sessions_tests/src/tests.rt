@@ -92,9 +92,10 @@ fn full_room(alloc: Global, slots: usize) -> Result<Box<Room>, Trouble> {
 
 // Writes what waits at a slot.
 fn write_out(room: &mut Room, slot: usize, out: &mut Vec<u8>) -> Result<(), Trouble> {
-    let Ok(waiting) = room.table.offered(slot, &mut room.store) else {
+    if room.table.is_lost() || room.table.settle(slot, &mut room.store).is_err() {
         return Err(Trouble::Step("no sync"));
-    };
+    }
+    let waiting = room.table.offered(slot);
     let count = waiting.as_bytes().len();
     out.extend_from_slice(waiting.as_bytes())?;
     drop(waiting);

@@ -75,8 +75,13 @@ impl<'a> Server<'a> {
     pub(super) fn tell_login(&mut self, rt: &HostRuntime, slot: usize)
         ensures same { self.new ≡ self.old }
     {
-        if !self.options.quiet && !self.manner.is_in_turn() {
+        if self.options.quiet || self.manner.is_in_turn() {
+            return;
+        }
+        if self.table.is_served(slot) {
             self.tell(rt, slot, "logged in");
+        } else {
+            self.tell(rt, slot, "logged in for discovery");
         }
     }
 
@@ -150,7 +155,7 @@ impl<'a> Server<'a> {
                 self.tell(rt, slot, ended);
             }
         } else if let Some(end) = end {
-            self.tell(rt, slot, end);
+            self.tell(rt, slot, LoggedEnd::Fault(end));
         } else if let Some(refused) = self.refused(slot) {
             self.tell(rt, slot, refused);
         }

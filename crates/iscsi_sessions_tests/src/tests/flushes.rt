@@ -4,7 +4,7 @@ use super::{LOGIN, NAME, PING, Trouble, WRITE, config, pdus_at, pdus_in, read_fo
 use crate::asserts::same;
 use iscsi_sessions::SessionTable;
 use scsi_disk::BlockStore;
-use scsi_file::{CrashMemory, FileStore};
+use scsi_file::{CrashMemory, FileStore, StopsAt};
 use scsi_unit::LogicalUnit;
 use std::alloc::Global;
 use std::process::Abort;
@@ -81,11 +81,10 @@ fn read(room: &mut Room, stream: &[u8]) -> Result<(), Trouble> {
                 return Err(Trouble::Step("a fault"));
             }
         }
-        let Ok(waiting) = room.table.offered(0, &mut room.store) else {
+        if room.table.is_lost() || room.table.settle(0, &mut room.store).is_err() {
             return Err(Trouble::Step("no sync"));
-        };
-        let count = waiting.as_bytes().len();
-        drop(waiting);
+        }
+        let count = room.table.offered(0).as_bytes().len();
         if room.table.is_taken(0) {
             room.table.sent(0, count);
         }
@@ -119,4 +118,55 @@ fn what_a_crash_leaves(rt: HostRuntime) {
     for row in ROWS {
         check(&rt, rt.alloc(), row);
     }
+}
+
+// Has all that waits at slot 0 written, and says whether the store was settled for it.
+fn answers<S: BlockStore>(table: &mut SessionTable, store: &mut S) -> bool {
+    if table.is_lost() || table.settle(0, store).is_err() {
+        return false;
+    }
+    let count = table.offered(0).as_bytes().len();
+    if table.is_taken(0) {
+        table.sent(0, count);
+    }
+    true
+}
+
+// Whether a sync fails while a session logs in and writes, over a medium of which so many calls work. Once it
+// does, neither its slot nor another one is read or takes anything.
+fn loses(rt: &impl Abort, alloc: Global, calls: u64) -> Result<bool, Trouble> {
+    let bytes = vec![in alloc; 0u8; BYTES]?;
+    let Ok(mut store) = FileStore::new(StopsAt::new(CrashMemory::new(alloc, bytes), calls)) else {
+        return Ok(false);
+    };
+    let mut table = SessionTable::new(alloc, 2)?;
+    table.slot(config(alloc)?).ok_or(Trouble::Step("no slot"))?;
+    table.slot(config(alloc)?).ok_or(Trouble::Step("no slot"))?;
+    for lines in [LOGIN, PING, WRITE] {
+        for piece in pdus_in(rt, alloc, "I> ", lines).chunks(4096) {
+            same(rt, &table.may_read(1), &true, &calls);
+            read_for(&mut table, 0, piece)?;
+            for _ in 0..64 {
+                if table.may_take(0) {
+                    let _ = table.take(0, &mut store);
+                }
+            }
+            if !answers(&mut table, &mut store) {
+                let may = (table.may_read(0), table.may_take(0), table.may_read(1));
+                same(rt, &may, &(false, false, false), &calls);
+                return Ok(table.is_lost());
+            }
+        }
+    }
+    Ok(false)
+}
+
+/// The write of the worked session is the only one, so a medium that stops before it has no sync that fails
+/// behind a login, and one that stops at the sync behind it has one.
+#[test]
+fn nothing_behind_a_failed_sync(rt: HostRuntime) {
+    let lost = (0..64)
+        .filter(|calls| loses(&rt, rt.alloc(), *calls).expect(&rt, "a session"))
+        .count();
+    assert!(rt; 0 < lost);
 }
