@@ -1,3 +1,4 @@
 pub mod Disks
+pub mod Doors
 pub mod Serials
 pub mod inner

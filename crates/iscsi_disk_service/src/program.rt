@@ -1,8 +1,9 @@
 //! A program of the service alone: the words of `serve`, and their run.
 
-ghost use Rattle.std.specs.Prelude.{◌≡◌, Result};
+ghost use Rattle.std.specs.Prelude.{◌≡◌, IfOk, Result, map};
 ghost use Rattle.iscsi_serve_words.specs.declared.command_line.LineFault.{LineFault};
 ghost use Rattle.iscsi_serve_words.specs.declared.serve_words.ServeJob.{ServeJob};
+ghost use Rattle.iscsi_serve_words.specs.Said.{SaysJob};
 ghost use Rattle.iscsi_serve_words.specs.Words.{words_status};
 ghost use Rattle.iscsi_disk_service.specs.Disks.{RunsService};
 
@@ -19,7 +20,9 @@ use std::process::ExitCode;
 /// The lines of faults, usage and help go to the stream that is given; a write there that fails changes
 /// nothing. `listening`, and the lines of sessions, go to the standard streams of the process.
 pub fn run_serve_words<S: AsStr, E: Write>(rt: &HostRuntime, words: &[S], errors: &mut E) -> u8
-    ensures runs { (asked : Result ServeJob LineFault) × RunsService asked result }
+    // What was asked for is what the words say.
+    ensures runs { (asked : Result ServeJob LineFault) × IfOk asked (SaysJob (map S.text words.now))
+        × RunsService asked result }
 {
     let job = match read_serve_words(rt.alloc(), words) {
         Ok(job) => job,

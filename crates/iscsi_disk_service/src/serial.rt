@@ -7,6 +7,7 @@ ghost use Rattle.iscsi_disk_service.specs.Serials.{serial_digits};
 use iscsi_serve_words::{NbdExport, Storage};
 use iscsi_serving::ServeFault;
 use md5::{Digest as _, Md5};
+use nbd_client::Place;
 use std::alloc::Global;
 use std::env;
 use std::random::RandomSource;
@@ -53,8 +54,11 @@ fn absolute(rt: &HostRuntime, path: &str) -> Result<String, ServeFault> {
 
 // Where an export is, however a word spells it.
 fn place(alloc: Global, export: &NbdExport<'_>) -> Result<String, ServeFault> {
-    let (host, port, name) = (export.host, export.port, export.name);
-    Ok(format!(in alloc; "{host} {port} {name}")?)
+    let name = export.name;
+    match export.place {
+        Place::Port { host, port } => Ok(format!(in alloc; "{host} {port} {name}")?),
+        Place::Socket(path) => Ok(format!(in alloc; "{path} {name}")?),
+    }
 }
 
 // The digits of what names a disk: those of the first bytes of an MD5 digest. It only has to differ from disk to

@@ -1,16 +1,19 @@
 //! A disk, served over what it is kept in.
 
-ghost use Rattle.std.specs.Prelude.{◌≡◌, ◌<◌, ◌≤◌, false, true};
+ghost use Rattle.std.specs.Prelude.{◌≡◌, ◌<◌, ◌≤◌, false, map, option_map, true};
 ghost use Rattle.scsi_disk.specs.Disk.{most_blocks};
+ghost use Rattle.iscsi_serve_words.specs.Said.{SaysJob};
 ghost use Rattle.iscsi_serve_words.specs.Services.{IsServeJob};
 ghost use Rattle.iscsi_disk_service.specs.Disks.{EndsDisk, EndsStorage, disk_status};
+ghost use Rattle.iscsi_target.specs.Advances.{store_of};
+ghost use Rattle.iscsi_disk_service.specs.Doors.{ServesAsked, some_names};
 ghost use Rattle.iscsi_disk_service.specs.inner.Asked.{IsAsked};
 
 use crate::serial::own_serial;
 use iscsi_event_loop::{memory_store, serve_at_once, serve_in_turn};
 use iscsi_secrets::{Secrets, SecretsFault};
 use iscsi_serve_words::{
-    Image, ImageFault, NbdExport, NbdFault, ServeJob, Service, Storage, read_initiators,
+    Image, ImageFault, NbdExport, NbdFault, NbdUse, ServeJob, Service, Storage, read_initiators,
 };
 use iscsi_serving::{Access, ServeFault};
 use scsi_disk::{BlockStore, ReadOnly, SparseStore};
@@ -72,12 +75,14 @@ impl DiskFault<'_> {
 /// has to show one. Without a serial number the disk has one of its own. `Secrets`, `Image` and `Nbd` come if
 /// the file, the image or the export is not opened, `Session` as the service gives it, if there is no
 /// memory for the list, and if the system gives no random bytes for a serial number.
+#[tactic(auto, using(crate::proofs::OpenLemmas::lists_them))]
 pub fn serve_storage<'a, S: AsStr>(
     rt: &HostRuntime,
     words: &[S],
     job: ServeJob<'a>,
 ) -> Result<(), DiskFault<'a>>
     requires job { IsServeJob job }
+    requires says { SaysJob (map S.text words.now) job }
     // What is blamed is what was asked for.
     ensures ends { EndsDisk job.entry result }
 {
@@ -87,7 +92,10 @@ pub fn serve_storage<'a, S: AsStr>(
     };
     let secrets = match job.secrets {
         Some(path) => match Secrets::open(rt, path) {
-            Ok(secrets) => Some(secrets),
+            Ok(secrets) => {
+                tell_of_secrets(rt, path, &secrets);
+                Some(secrets)
+            }
             Err(fault) => return Err(DiskFault::Secrets(path, fault)),
         },
         None => None,
@@ -105,9 +113,9 @@ pub fn serve_storage<'a, S: AsStr>(
         access,
     };
     if job.read_only {
-        serve_read_only(rt, job, served)
+        serve_read_only(rt, words, job, served)
     } else {
-        serve_written(rt, job, served)
+        serve_written(rt, words, job, served)
     }
 }
 
@@ -116,6 +124,17 @@ pub fn serve_storage<'a, S: AsStr>(
 struct Serving<'a> {
     serial: &'a [u8],
     access: Access<'a>,
+}
+
+// Tells what may be a mistake in a file of secrets that is taken. A line that standard error doesn't take
+// is lost.
+fn tell_of_secrets(rt: &HostRuntime, path: &str, secrets: &Secrets) {
+    if !secrets.has_users() {
+        let _ = eprintln!(rt; "{path}: there is no user, so nobody may log in");
+    }
+    for remark in secrets.remarks() {
+        let _ = eprintln!(rt; "{path}: {remark}");
+    }
 }
 
 // A serial number of the disk's own, if it tells one and none is said.
@@ -129,7 +148,10 @@ fn serial_of(rt: &HostRuntime, job: &ServeJob<'_>) -> Result<[u8; 16], ServeFaul
 }
 
 // The names that are listed, if there is one.
-fn listed<'a>(initiators: &'a [&'a [u8]]) -> Option<&'a [&'a [u8]]> {
+fn listed<'a>(initiators: &'a [&'a [u8]]) -> Option<&'a [&'a [u8]]>
+    ensures names { option_map (λ names. map (λ name. name.now) names.now) result
+        ≡ some_names (map (λ name. name.now) initiators.now) }
+{
     if initiators.is_empty() {
         None
     } else {
@@ -139,51 +161,56 @@ fn listed<'a>(initiators: &'a [&'a [u8]]) -> Option<&'a [&'a [u8]]> {
 
 // Serves a disk that may be written.
 #[tactic(auto, using(crate::proofs::OpenLemmas::can_be_opened))]
-fn serve_written<'a>(
+fn serve_written<'a, S: AsStr>(
     rt: &HostRuntime,
+    words: &[S],
     job: ServeJob<'a>,
     served: Serving<'_>,
 ) -> Result<(), DiskFault<'a>>
     requires job { IsServeJob job }
-    requires asked { IsAsked job served.access false }
+    requires asked { IsAsked (map S.text words.now) job served.access false }
     ensures ends { EndsStorage job.entry.storage result }
 {
     match job.storage {
-        Storage::Memory { blocks } => ended(job.storage, serve_memory(rt, job, served, blocks)),
+        Storage::Memory { blocks } => ended(
+            job.storage,
+            serve_memory(rt, words, job, served, blocks),
+        ),
         Storage::Image(image) => match image.open(rt) {
-            Ok(store) => ended(job.storage, serve_medium(rt, job, served, store)),
+            Ok(store) => ended(job.storage, serve_medium(rt, words, job, served, store)),
             Err(fault) => Err(DiskFault::Image(image, fault)),
         },
-        Storage::Nbd(export) => match export.open(rt) {
-            Ok(store) => ended(job.storage, serve_medium(rt, job, served, store)),
+        Storage::Nbd(export) => match export.open(rt, use_of(&job.service)) {
+            Ok(store) => ended(job.storage, serve_medium(rt, words, job, served, store)),
             Err(fault) => Err(DiskFault::Nbd(export, fault)),
         },
     }
 }
 
 // Serves a disk in the same way, of which no block changes.
-fn serve_read_only<'a>(
+fn serve_read_only<'a, S: AsStr>(
     rt: &HostRuntime,
+    words: &[S],
     job: ServeJob<'a>,
     served: Serving<'_>,
 ) -> Result<(), DiskFault<'a>>
     requires job { IsServeJob job }
-    requires asked { IsAsked job served.access true }
+    requires asked { IsAsked (map S.text words.now) job served.access true }
     ensures ends { EndsStorage job.entry.storage result }
 {
     match job.storage {
         Storage::Memory { blocks } => {
             let mut store = ReadOnly::new(SparseStore::new(rt.alloc(), blocks));
-            ended(job.storage, serve_store(rt, job, served, &mut store))
+            ended(job.storage, serve_store(rt, words, job, served, &mut store))
         }
         Storage::Image(image) => match image.open_read_only(rt) {
-            Ok(mut store) => ended(job.storage, serve_store(rt, job, served, &mut store)),
+            Ok(mut store) => ended(job.storage, serve_store(rt, words, job, served, &mut store)),
             Err(fault) => Err(DiskFault::Image(image, fault)),
         },
-        Storage::Nbd(export) => match export.open(rt) {
+        Storage::Nbd(export) => match export.open(rt, NbdUse::ReadAlone) {
             Ok(store) => {
                 let mut store = ReadOnly::new(store);
-                ended(job.storage, serve_store(rt, job, served, &mut store))
+                ended(job.storage, serve_store(rt, words, job, served, &mut store))
             }
             Err(fault) => Err(DiskFault::Nbd(export, fault)),
         },
@@ -201,45 +228,58 @@ fn ended<'a>(storage: Storage<'a>, said: Result<(), ServeFault>) -> Result<(), D
 }
 
 // Serves a disk in memory.
-fn serve_memory(
+fn serve_memory<S: AsStr>(
     rt: &HostRuntime,
+    words: &[S],
     job: ServeJob<'_>,
     served: Serving<'_>,
     blocks: u64,
 ) -> Result<(), ServeFault>
     requires job { IsServeJob job }
-    requires asked { IsAsked job served.access false }
+    requires asked { IsAsked (map S.text words.now) job served.access false }
     requires some { 0 < blocks }
     requires few { blocks ≤ most_blocks }
 {
     match job.service {
         Service::InTurn(_) => {
             let mut store = SparseStore::new(rt.alloc(), blocks);
-            serve_store(rt, job, served, &mut store)
+            serve_store(rt, words, job, served, &mut store)
         }
         Service::AtOnce(_) => {
             let mut store = memory_store(rt, blocks, job.memory);
-            serve_store(rt, job, served, &mut store)
+            serve_store(rt, words, job, served, &mut store)
         }
     }
 }
 
 // Serves a store on a medium, with a write cache if one is asked for.
-fn serve_medium<M: Medium + Drop>(
+fn serve_medium<S: AsStr, M: Medium + Drop>(
     rt: &HostRuntime,
+    words: &[S],
     job: ServeJob<'_>,
     served: Serving<'_>,
     store: FileStore<M>,
 ) -> Result<(), ServeFault>
     requires job { IsServeJob job }
-    requires asked { IsAsked job served.access false }
+    requires asked { IsAsked (map S.text words.now) job served.access false }
 {
     let mut store = if has_cache(&job.service) {
         store.with_write_back()
     } else {
         store
     };
-    serve_store(rt, job, served, &mut store)
+    serve_store(rt, words, job, served, &mut store)
+}
+
+// How an export is used that is written: a thin disk has it give room back.
+fn use_of(service: &Service<'_>) -> NbdUse {
+    match service {
+        Service::AtOnce(options) => match &options.unit {
+            Some(unit) if unit.thin => NbdUse::Thin,
+            _ => NbdUse::Written,
+        },
+        Service::InTurn(_) => NbdUse::Written,
+    }
 }
 
 // Whether a disk with a write cache is asked for.
@@ -253,15 +293,22 @@ fn has_cache(service: &Service<'_>) -> bool {
     }
 }
 
-// Serves a store, as the job asks: who calls this has to have the access and the store that it asks for.
-fn serve_store<S: BlockStore>(
+// Serves a store, as the words and their job ask: who calls this has to have the access and the store that
+// they ask for.
+#[tactic(auto, using(crate::proofs::OpenLemmas::serves_asked))]
+fn serve_store<S: AsStr, B: BlockStore>(
     rt: &HostRuntime,
+    words: &[S],
     job: ServeJob<'_>,
     served: Serving<'_>,
-    store: &mut S,
+    store: &mut B,
 ) -> Result<(), ServeFault>
     requires job { IsServeJob job }
-    requires asked { IsAsked job served.access S.protected }
+    requires asked { IsAsked (map S.text words.now) job served.access B.protected }
+    // Whatever comes of it, it was a run of such a service.
+    ensures serves { ServesAsked (map S.text words.now) job.entry B.protected
+        (store_of (B.disk store.old) (B.failures store.old))
+        (store_of (B.disk store.new) (B.failures store.new)) }
 {
     match job.service {
         Service::InTurn(options) => serve_in_turn(rt, options, served.access, store),

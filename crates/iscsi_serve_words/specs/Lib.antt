@@ -1,3 +1,5 @@
+pub mod Rows
+pub mod Said
 pub mod Services
 pub mod Storage
 pub mod Words

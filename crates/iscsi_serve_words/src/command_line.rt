@@ -1,6 +1,7 @@
 //! What the words of all commands share: the bare command, and why words are refused.
 
-ghost use Rattle.std.specs.Prelude.{◌≡◌};
+ghost use Rattle.std.specs.Prelude.{◌≡◌, IfOk};
+ghost use Rattle.iscsi_serve_words.specs.Rows.{IsCommand, bare_program};
 ghost use Rattle.iscsi_serve_words.specs.Words.{words_status};
 
 use crate::examples;
@@ -93,15 +94,18 @@ pub fn usage(alloc: Global, error: Error) -> LineFault {
 }
 
 /// The program, without the words of its jobs. The error is want of memory.
-pub fn bare_command<'a>(alloc: Global) -> Result<Command<'a>, AllocError> {
-    Command::new(alloc, "lanthovur")
+pub fn bare_command<'a>(alloc: Global) -> Result<Command<'a>, AllocError>
+    ensures program { IfOk result (IsCommand bare_program) }
+{
+    let command = Command::new(alloc, "lanthovur")
         .about("Serve iSCSI disks, and show, normalise, compare and answer iSCSI streams")
         .after_help(examples::PROGRAM)
         .no_binary_name(true)
         .disable_version_flag(true)
         .disable_help_subcommand(true)
         .subcommand_required(true)
-        .bin_name("lanthovur")
+        .bin_name("lanthovur")?;
+    Ok(command)
 }
 
 /// The usage error for words that name no command.

@@ -1,5 +1,8 @@
 //! Commands, as rows of a table.
 
+ghost use Rattle.std.specs.Prelude.{[], IfOk};
+ghost use Rattle.iscsi_serve_words.specs.Rows.{IsCommand, IsReadAs, bare_row, shape_of_row};
+
 use crate::command_line::{LineFault, refusal_by};
 use crate::disk_size::{BAD_BLOCKS, BAD_SIZE, NO_SIZE, SizeFault, TWO_SIZES};
 use crate::word::{Word, with_words};
@@ -24,23 +27,27 @@ pub struct CommandRow {
 
 impl CommandRow {
     /// The command as clap declares it. The error is want of memory.
-    pub fn declared<'a>(&self, alloc: Global) -> Result<Command<'a>, AllocError> {
-        let command = Command::new(alloc, self.name)
-            .about(self.about)
-            .disable_version_flag(true)
-            .bin_name(self.bin_name)?;
-        let command = match self.usage {
-            Some(usage) => command.override_usage(usage),
-            None => command,
-        };
-        let mut command = match self.examples {
-            Some(text) => command.after_help(text),
-            None => command,
-        };
+    #[tactic(auto, using(crate::proofs::RowLemmas::no_words, crate::proofs::RowLemmas::all_lists))]
+    pub fn declared<'a>(&self, alloc: Global) -> Result<Command<'a>, AllocError>
+        ensures words { IfOk result (IsCommand (record { top = shape_of_row self.now; subs = [] })) }
+    {
+        let mut command = self.without_words(alloc)?;
         for words in self.words {
             command = with_words(alloc, command, words)?;
         }
         Ok(command)
+    }
+
+    // The command, without its words.
+    fn without_words<'a>(&self, alloc: Global) -> Result<Command<'a>, AllocError>
+        ensures bare { IfOk result (IsCommand (record { top = bare_row self.now; subs = [] })) }
+    {
+        let command = Command::new(alloc, self.name)
+            .about(self.about)
+            .disable_version_flag(true)
+            .bin_name(self.bin_name)?;
+        let command = with_usage(command, self.usage);
+        Ok(with_examples(command, self.examples))
     }
 
     /// The usage error for words of the command that do not go together.
@@ -68,5 +75,25 @@ impl CommandRow {
             SizeFault::Both => self.refusal(alloc, TWO_SIZES),
             SizeFault::Neither => self.refusal(alloc, NO_SIZE),
         }
+    }
+}
+
+// A command that is used so, where clap would not say it so.
+fn with_usage<'a>(command: Command<'a>, usage: Option<&'static str>) -> Command<'a>
+    ensures read { IsReadAs command.entry result }
+{
+    match usage {
+        Some(usage) => command.override_usage(usage),
+        None => command,
+    }
+}
+
+// A command with a text below its words, if there is one.
+fn with_examples<'a>(command: Command<'a>, examples: Option<&'static str>) -> Command<'a>
+    ensures read { IsReadAs command.entry result }
+{
+    match examples {
+        Some(text) => command.after_help(text),
+        None => command,
     }
 }

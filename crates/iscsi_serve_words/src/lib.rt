@@ -7,6 +7,7 @@ mod disk_size;
 mod examples;
 mod nbd_storage;
 mod portal_address;
+mod said;
 mod serve_disk;
 mod serve_lengths;
 mod serve_options;
@@ -17,7 +18,7 @@ mod word;
 pub use command_line::{LineFault, bare_command, no_command, read_command_line, usage};
 pub use command_row::CommandRow;
 pub use disk_size::{SIZE, SizeFault, needed_blocks};
-pub use nbd_storage::{FaultLine, NbdExport, NbdFault};
+pub use nbd_storage::{FaultLine, NbdExport, NbdFault, NbdUse};
 pub use serve_options::serve_row;
 pub use serve_words::{
     MOST_INITIATORS, ServeJob, Service, read_initiators, read_serve_words, service_of,

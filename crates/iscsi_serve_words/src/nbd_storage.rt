@@ -3,13 +3,13 @@
 ghost use Rattle.std.specs.Prelude.{◌≡◌, IfErr, IfOk, IfSome};
 ghost use Rattle.scsi_file.specs.FileStore.{store_medium};
 ghost use Rattle.nbd_client.specs.Ended.{medium_line};
-ghost use Rattle.nbd_client.specs.Tcp.{line_blocks};
+ghost use Rattle.nbd_client.specs.SocketLine.{line_blocks};
 ghost use Rattle.iscsi_serve_words.specs.Storage.{HasAskedBlocks, IsOtherExport};
 
 use crate::serve_words::short_number_of;
 use libc::net::{POLLOUT, poll};
 use libc::types::pollfd;
-use nbd_client::{HandshakeFault, Line, MediumFault, NbdMedium, Report, TcpLine};
+use nbd_client::{HandshakeFault, Line, MediumFault, NbdMedium, Place, Report, SocketLine};
 use nbd_wire::LONGEST_NAME;
 use scsi_file::FileStore;
 use std::alloc::Global;
@@ -20,7 +20,7 @@ use thiserror::Error;
 /// The port of a server, if none is said: that of NBD.
 const PORT: u16 = 10809;
 
-/// How many seconds one waits for a byte of a server (own rule).
+/// How many seconds a connection and its handshake may take, and a request with its answer (own rule).
 const SECONDS: u32 = 30;
 
 /// An export of an NBD server.
@@ -28,14 +28,24 @@ const SECONDS: u32 = 30;
 pub struct NbdExport<'a> {
     /// The word that names it, with which its fault lines begin.
     pub word: &'a str,
-    /// The host of the server: a name or an IP address.
-    pub host: &'a str,
-    /// The TCP port of the server.
-    pub port: u16,
+    /// Where the server is.
+    pub place: Place<'a>,
     /// The name of the export, at most 4,096 bytes; the empty one is that of the default export.
     pub name: &'a str,
     /// How many blocks it has, if that is said.
     pub blocks: Option<u64>,
+}
+
+/// How an export is used.
+#[derive(Clone, Copy, Debug, PartialEq, Eq)]
+pub enum NbdUse {
+    /// It is read alone, so that it may be one that can't be written, or has no FLUSH.
+    ReadAlone,
+    /// It is written.
+    Written,
+    /// It is written, and zeros are asked for by WRITE_ZEROES where the server has that, so that it can give room
+    /// back.
+    Thin,
 }
 
 /// Why an export is not served.
@@ -66,23 +76,46 @@ impl NbdFault {
     }
 }
 
-/// The export that a word names, `HOST:PORT/NAME`: without a port it is that of NBD, without a name
-/// the default export; an IPv6 address stands in brackets.
+/// The export that a word names: `HOST:PORT/NAME`, or an URL, `nbd://HOST:PORT/NAME` or
+/// `nbd+unix:///NAME?socket=PATH`. Without a port it is that of NBD, without a name the default export; an IPv6
+/// address stands in brackets. In an URL nothing is escaped by `%`, and there is no other query.
 pub(crate) fn export_of<'a>(word: &'a str, blocks: Option<u64>) -> Option<NbdExport<'a>>
     ensures blocks { IfSome result (λ export. export.blocks ≡ blocks) }
 {
-    let (server, name) = word.split_once('/').unwrap_or((word, ""));
-    let (host, port) = server_of(server)?;
-    if host.is_empty() || name.len() > LONGEST_NAME {
+    let (place, name) = match word.split_once("://") {
+        Some(("nbd+unix", rest)) => socket_of(rest)?,
+        Some(("nbd", rest)) if !rest.contains(['%', '?', '#']) => port_and_name(rest)?,
+        Some(("nbd", _)) => return None,
+        _ => port_and_name(word)?,
+    };
+    if name.len() > LONGEST_NAME {
         return None;
     }
     Some(NbdExport {
         word,
-        host,
-        port,
+        place,
         name,
         blocks,
     })
+}
+
+// The place of a server over TCP, and the name of the export.
+fn port_and_name(word: &str) -> Option<(Place<'_>, &str)> {
+    let (server, name) = word.split_once('/').unwrap_or((word, ""));
+    let (host, port) = server_of(server)?;
+    if host.is_empty() {
+        return None;
+    }
+    Some((Place::Port { host, port }, name))
+}
+
+// The name of the export and the socket of a server, behind `nbd+unix://`.
+fn socket_of(rest: &str) -> Option<(Place<'_>, &str)> {
+    let (name, path) = rest.strip_prefix('/')?.split_once("?socket=")?;
+    if path.is_empty() || name.contains(['%', '?', '#']) || path.contains(['%', '&', '#']) {
+        return None;
+    }
+    Some((Place::Socket(path), name))
 }
 
 // The host and the port of a server.
@@ -109,18 +142,20 @@ fn port_of(digits: &str) -> Option<u16> {
 }
 
 impl<'a> NbdExport<'a> {
-    /// The export as a store: all that was written to it lasts then, and it has as many blocks as were
-    /// asked for. Why it ends later is told on standard error, once.
+    /// The export as a store, to be used so: all that was written to it lasts then, and it has as many blocks as
+    /// were asked for. Why it ends later is told on standard error, once.
     pub fn open(
         &self,
         rt: &HostRuntime,
-    ) -> Result<FileStore<NbdMedium<TcpLine, FaultLine<'a>>>, NbdFault>
+        used: NbdUse,
+    ) -> Result<FileStore<NbdMedium<SocketLine, FaultLine<'a>>>, NbdFault>
         ensures blocks { IfOk result (λ store.
             HasAskedBlocks self.now.blocks (line_blocks (medium_line (store_medium store)))) }
         ensures other { IfErr result (IsOtherExport self.now.blocks) }
     {
         let name = self.name.as_bytes();
-        let line = match TcpLine::open(rt, self.host, self.port, name, SECONDS) {
+        let written = used != NbdUse::ReadAlone;
+        let line = match SocketLine::open(rt, self.place, name, written, SECONDS) {
             Ok(line) => line,
             Err(fault) => return Err(NbdFault::Open(fault)),
         };
@@ -135,10 +170,27 @@ impl<'a> NbdExport<'a> {
             errors: rt.stderr(),
             word: self.word,
         };
-        match FileStore::new(NbdMedium::new(line, report)) {
+        let gives_back = used == NbdUse::Thin && line.has_write_zeroes();
+        match FileStore::new(medium_of(line, report, gives_back)) {
             Ok(store) => Ok(store),
             Err(_) => Err(NbdFault::NotSynced),
         }
+    }
+}
+
+// A medium on a connection, whose zeros are asked for by WRITE_ZEROES or written.
+fn medium_of(
+    line: SocketLine,
+    report: FaultLine<'_>,
+    write_zeroes: bool,
+) -> NbdMedium<SocketLine, FaultLine<'_>>
+    ensures line { medium_line result ≡ line }
+{
+    let medium = NbdMedium::new(line, report);
+    if write_zeroes {
+        medium.with_write_zeroes()
+    } else {
+        medium
     }
 }
 

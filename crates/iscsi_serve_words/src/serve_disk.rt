@@ -1,14 +1,17 @@
 //! What the words of `serve` say of the disk.
 
-ghost use Rattle.std.specs.Prelude.{◌<◌, ◌≤◌, IfOk, IfSome};
+ghost use Rattle.std.specs.Prelude.{◌≡◌, ◌<◌, ◌≤◌, IfOk, IfSome, None, codes};
+ghost use Rattle.clap.specs.Words.{first_of, one_of};
 ghost use Rattle.scsi_disk.specs.Disk.{most_blocks};
 ghost use Rattle.scsi_unit.specs.LogicalUnit.{IsSerial};
 ghost use Rattle.iscsi_options.specs.Options.{IsMemory};
+ghost use Rattle.iscsi_serve_words.specs.Said.{IsFlag, SaysStorage, TellsOf, rows_in};
 ghost use Rattle.iscsi_serve_words.specs.Storage.{IsStorage};
 
 use crate::command_line::LineFault;
 use crate::disk_size::{SizeFault, said_blocks};
 use crate::nbd_storage::export_of;
+use crate::said::{flag_of, value_of};
 use crate::serve_options::serve_row;
 use crate::storage::{Image, Origin, Storage};
 use clap::ArgMatches;
@@ -34,16 +37,18 @@ const CREATED_READ_ONLY: &str =
 const MEMORY_OF_IMAGE: &str = "'--memory <BYTES>' cannot be used with '--file <F>'";
 
 const BAD_EXPORT: &str =
-    "is no export: '--nbd <SERVER>' takes HOST:PORT/EXPORT, such as 127.0.0.1:10809/disk; without \
-    :PORT it is port 10809, without /EXPORT the server's default export";
+    "is no export: '--nbd <SERVER>' takes HOST:PORT/EXPORT, such as 127.0.0.1:10809/disk, or an NBD URL; \
+    without :PORT it is port 10809, without /EXPORT the server's default export";
 
 const EXPORT_OF_IMAGE: &str = "'--nbd <SERVER>' cannot be used with '--file <F>'";
 
 const MEMORY_OF_EXPORT: &str = "'--memory <BYTES>' cannot be used with '--nbd <SERVER>'";
 
 // Whether each write is refused. An image is not made to be read alone.
-pub(crate) fn read_only_of(alloc: Global, asked: &ArgMatches<'_>) -> Result<bool, LineFault> {
-    let read_only = asked.get_flag("read-only");
+pub(crate) fn read_only_of(alloc: Global, asked: &ArgMatches<'_>) -> Result<bool, LineFault>
+    ensures says { IfOk result (IsFlag (one_of (codes "read-only") (rows_in asked.now))) }
+{
+    let read_only = flag_of(asked, "read-only");
     if read_only && asked.get_flag("create") {
         return Err(serve_row().refusal(alloc, CREATED_READ_ONLY));
     }
@@ -56,6 +61,7 @@ pub(crate) fn storage_of<'a>(
     asked: &ArgMatches<'a>,
 ) -> Result<Storage<'a>, LineFault>
     ensures disk { IfOk result IsStorage }
+    ensures says { IfOk result (SaysStorage (rows_in asked.now)) }
 {
     let said = match said_blocks(asked) {
         Ok(said) => said,
@@ -64,7 +70,7 @@ pub(crate) fn storage_of<'a>(
     if let Some(word) = asked.get_str("nbd") {
         return exported(alloc, asked, word, said);
     }
-    match (asked.get_str("file"), asked.get_flag("create"), said) {
+    match (value_of(asked, "file"), flag_of(asked, "create"), said) {
         (None, _, Some(blocks)) => Ok(Storage::Memory { blocks }),
         (Some(path), true, Some(blocks)) => Ok(Storage::Image(Image {
             path,
@@ -87,8 +93,9 @@ fn exported<'a>(
 ) -> Result<Storage<'a>, LineFault>
     requires range { IfSome blocks (λ n. (0 < n) × (n ≤ most_blocks)) }
     ensures disk { IfOk result IsStorage }
+    ensures says { IfOk result (SaysStorage (rows_in asked.now)) }
 {
-    if asked.get_str("file").is_some() {
+    if value_of(asked, "file").is_some() {
         return Err(serve_row().refusal(alloc, EXPORT_OF_IMAGE));
     }
     match export_of(word, blocks) {
@@ -117,12 +124,14 @@ pub(crate) fn serial_of<'a>(
 pub(crate) fn unit_of(
     alloc: Global,
     asked: &ArgMatches<'_>,
-) -> Result<Option<UnitOptions>, LineFault> {
+) -> Result<Option<UnitOptions>, LineFault>
+    ensures says { IfOk result (TellsOf (one_of (codes "read-only") (rows_in asked.now))) }
+{
     if asked.get_flag("plain") {
         return Ok(None);
     }
     Ok(Some(UnitOptions {
-        write_protected: asked.get_flag("read-only"),
+        write_protected: flag_of(asked, "read-only"),
         thin: asked.get_flag("thin") || !is_kept_elsewhere(asked),
         write_back: write_back_of(alloc, asked)?,
     }))

@@ -1,5 +1,8 @@
 //! The command `serve` with its options, and how its words are refused.
 
+ghost use Rattle.std.specs.Prelude.{◌≡◌};
+ghost use Rattle.iscsi_serve_words.specs.Rows.{serve_shape, shape_of_row};
+
 use crate::command_row::CommandRow;
 use crate::disk_size::SIZE;
 use crate::examples;
@@ -190,6 +193,9 @@ const SERVE: &CommandRow = &CommandRow {
 
 /// The words of `serve`, with their help. It is a call, since a function that names this table is dear to
 /// prove.
-pub fn serve_row() -> &'static CommandRow {
+#[tactic(auto, unfolding(crate::specs::Rows::serve_words))]
+pub fn serve_row() -> &'static CommandRow
+    ensures words { shape_of_row result.now ≡ serve_shape }
+{
     SERVE
 }

@@ -1,14 +1,18 @@
 //! The words of `serve`. One file, since it has a reader for each word.
 
-ghost use Rattle.std.specs.Prelude.{◌<◌, ◌≤◌, IfOk, IfSome};
+ghost use Rattle.std.specs.Prelude.{◌≡◌, ◌<◌, ◌≤◌, IfOk, IfSome, codes, map, option_map};
+ghost use Rattle.clap.specs.Words.{first_of, subcommand_of, subcommand_rows_of};
 ghost use Rattle.iscsi_login.specs.Name.{IsName};
 ghost use Rattle.scsi_unit.specs.LogicalUnit.{IsSerial};
 ghost use Rattle.iscsi_options.specs.Options.{AreLimits, IsMemory, IsPortalOption};
+ghost use Rattle.iscsi_serve_words.specs.Rows.{IsCommand, serve_program, serve_rows};
+ghost use Rattle.iscsi_serve_words.specs.Said.{IsListen, Listens, SaysJob, SaysServe, rows_in, said_names};
 ghost use Rattle.iscsi_serve_words.specs.Services.{CanServe, IsServeJob};
 ghost use Rattle.iscsi_serve_words.specs.declared.serve_words.Service.TheVariants as service;
 
 use crate::command_line::{LineFault, bare_command, no_command, usage};
 use crate::portal_address::is_address;
+use crate::said::{value_of, values_of};
 use crate::serve_disk::{memory_of, read_only_of, serial_of, storage_of, unit_of};
 use crate::serve_lengths::{data_in_of, preferences_of};
 use crate::serve_options::{DISK, LENGTHS, SERVICE, UNIT, serve_row};
@@ -104,45 +108,70 @@ const NOT_PLAIN: &[&str] = &[
 
 /// The service that a command line asks for whose first word is `serve`. Words that are none, and those
 /// that ask for help, return `Usage` with the text to print; `NoMemory` comes if memory ran out.
+#[tactic(auto, using(crate::proofs::RowLemmas::says_words))]
 pub fn read_serve_words<'a, S: AsStr>(
     alloc: Global,
     words: &'a [S],
 ) -> Result<ServeJob<'a>, LineFault>
     // Each number is in its range.
     ensures range { IfOk result IsServeJob }
+    // Who may come, where, and what may change is as the words say.
+    ensures says { IfOk result (SaysJob (map S.text words.entry.now)) }
 {
     let matches = matches_of(alloc, words)?;
-    match matches.subcommand() {
-        Some((_, asked)) => service_of(alloc, asked),
+    match entered(&matches) {
+        Some(asked) => service_of(alloc, asked),
         None => Err(no_command(alloc)),
     }
 }
 
 /// The names of the initiators that may log in, of a command line whose first word is `serve`; an empty
 /// list lets in everybody. Words that `read_serve_words` refuses are refused in the same way.
+#[tactic(auto, using(crate::proofs::RowLemmas::lists_words))]
 pub fn read_initiators<'a, S: AsStr>(
     alloc: Global,
     words: &'a [S],
-) -> Result<Vec<&'a [u8]>, LineFault> {
+) -> Result<Vec<&'a [u8]>, LineFault>
+    ensures names { IfOk result (λ names. map (λ name. name.now) names.items
+        ≡ said_names (serve_rows (map S.text words.entry.now))) }
+{
     let matches = matches_of(alloc, words)?;
-    match matches.subcommand() {
-        Some((_, asked)) => initiators_of(alloc, asked),
+    match entered(&matches) {
+        Some(asked) => initiators_of(alloc, asked),
         None => Err(no_command(alloc)),
     }
 }
 
+// What clap read behind the word of a command.
+fn entered<'b, 'a>(matches: &'b ArgMatches<'a>) -> Option<&'b ArgMatches<'a>>
+    ensures rows { option_map (λ asked. rows_in asked.now) result
+        ≡ option_map (λ entered. entered.1) (subcommand_rows_of matches.now) }
+{
+    match matches.subcommand() {
+        Some((_, asked)) => Some(asked),
+        None => None,
+    }
+}
+
 // What clap makes of the words of a command line whose first word is `serve`.
-fn matches_of<'a, S: AsStr>(alloc: Global, words: &'a [S]) -> Result<ArgMatches<'a>, LineFault> {
-    match with_serve(alloc)?.try_get_matches_from(words) {
+fn matches_of<'a, S: AsStr>(alloc: Global, words: &'a [S]) -> Result<ArgMatches<'a>, LineFault>
+    ensures rows { IfOk result (λ matches. subcommand_rows_of matches
+        ≡ subcommand_of serve_program (map S.text words.entry.now)) }
+{
+    let command = with_serve(alloc)?;
+    match command.try_get_matches_from(words) {
         Ok(matches) => Ok(matches),
         Err(error) => Err(usage(alloc, error)),
     }
 }
 
 // The names of the initiators that may log in. Each is a name, and there are 64 of them at most.
-fn initiators_of<'a>(alloc: Global, asked: &ArgMatches<'a>) -> Result<Vec<&'a [u8]>, LineFault> {
+fn initiators_of<'a>(alloc: Global, asked: &ArgMatches<'a>) -> Result<Vec<&'a [u8]>, LineFault>
+    ensures names { IfOk result (λ names. map (λ name. name.now) names.items
+        ≡ said_names (rows_in asked.now)) }
+{
     let mut initiators = Vec::new(alloc);
-    let Some(names) = asked.get_strs("initiator") else {
+    let Some(names) = values_of(asked, "initiator") else {
         return Ok(initiators);
     };
     for name in names {
@@ -158,8 +187,13 @@ fn initiators_of<'a>(alloc: Global, asked: &ArgMatches<'a>) -> Result<Vec<&'a [u
 }
 
 // The program whose only command is `serve`.
-fn with_serve<'a>(alloc: Global) -> Result<Command<'a>, AllocError> {
-    bare_command(alloc)?.subcommand(serve_row().declared(alloc)?)
+#[tactic(auto, using(crate::proofs::RowLemmas::adds_command))]
+fn with_serve<'a>(alloc: Global) -> Result<Command<'a>, AllocError>
+    ensures words { IfOk result (IsCommand serve_program) }
+{
+    let serve = serve_row().declared(alloc)?;
+    let command = bare_command(alloc)?.subcommand(serve)?;
+    Ok(command)
 }
 
 /// The service that the words of `serve` ask for, without the names of initiators, which
@@ -167,6 +201,7 @@ fn with_serve<'a>(alloc: Global) -> Result<Command<'a>, AllocError> {
 /// together; `NoMemory` if memory ran out.
 pub fn service_of<'a>(alloc: Global, asked: &ArgMatches<'a>) -> Result<ServeJob<'a>, LineFault>
     ensures range { IfOk result IsServeJob }
+    ensures says { IfOk result (SaysServe (rows_in asked.now)) }
 {
     let storage = storage_of(alloc, asked)?;
     let read_only = read_only_of(alloc, asked)?;
@@ -184,7 +219,7 @@ pub fn service_of<'a>(alloc: Global, asked: &ArgMatches<'a>) -> Result<ServeJob<
         serial,
         memory,
         read_only,
-        secrets: asked.get_str("chap"),
+        secrets: value_of(asked, "chap"),
     })
 }
 
@@ -215,6 +250,7 @@ fn is_there(asked: &ArgMatches<'_>, word: &Word) -> bool {
 // The options of a service of one connection after another: those of the bare profile on 127.0.0.1.
 fn in_turn<'a>(alloc: Global, asked: &ArgMatches<'a>) -> Result<Options<'a>, LineFault>
     ensures range { IfOk result (λ options. CanServe (service.InTurn options)) }
+    ensures says { IfOk result (λ options. Listens (rows_in asked.now) (service.InTurn options)) }
 {
     let name = name_of(alloc, asked)?;
     Ok(Options {
@@ -239,6 +275,7 @@ fn in_turn<'a>(alloc: Global, asked: &ArgMatches<'a>) -> Result<Options<'a>, Lin
 // The options of a service of several sessions at a time.
 fn options_of<'a>(alloc: Global, asked: &ArgMatches<'a>) -> Result<Options<'a>, LineFault>
     ensures range { IfOk result (λ options. CanServe (service.AtOnce options)) }
+    ensures says { IfOk result (λ options. Listens (rows_in asked.now) (service.AtOnce options)) }
 {
     allow_plain(alloc, asked)?;
     let listen = listen_of(alloc, asked)?;
@@ -322,8 +359,11 @@ fn stop_of(alloc: Global, asked: &ArgMatches<'_>) -> Result<Option<Stop>, LineFa
 
 // The address to listen at. A disk that lasts, and that other machines can reach, has a name or a serial
 // number of its own.
-fn listen_of(alloc: Global, asked: &ArgMatches<'_>) -> Result<IpAddr, LineFault> {
-    let Some(text) = asked.get_str("listen") else {
+#[tactic(auto, using(crate::proofs::RowLemmas::listens))]
+fn listen_of(alloc: Global, asked: &ArgMatches<'_>) -> Result<IpAddr, LineFault>
+    ensures says { IfOk result (IsListen (first_of (codes "listen") (rows_in asked.now))) }
+{
+    let Some(text) = value_of(asked, "listen") else {
         return Ok(IpAddr::V4(Ipv4Addr::LOCALHOST));
     };
     let Ok(address) = text.parse::<IpAddr>() else {

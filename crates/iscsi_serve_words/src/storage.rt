@@ -9,6 +9,7 @@ ghost use Rattle.iscsi_serve_words.specs.Storage.{CanBeOpened, HasAsked, HasAske
 use crate::nbd_storage::NbdExport;
 use scsi_disk::{BlockStore, ReadOnly};
 use scsi_file::{FileStore, HostFile, OpenFault};
+use std::fs;
 use std::rt::Files;
 use thiserror::Error;
 
@@ -88,7 +89,8 @@ impl From<OpenFault> for ImageFault {
 
 impl Image<'_> {
     /// The image as a store, for this process alone. All that was written to it lasts then. It has
-    /// as many blocks as were asked for.
+    /// as many blocks as were asked for. After an error there is no image that was to be made, unless it was there
+    /// already.
     pub fn open(&self, rt: &HostRuntime) -> Result<FileStore<HostFile>, ImageFault>
         requires origin { CanBeOpened self.now.origin }
         ensures blocks { IfOk result (λ store.
@@ -96,7 +98,14 @@ impl Image<'_> {
         ensures other { IfErr result (IsOther self.now.origin) }
     {
         match self.origin {
-            Origin::New { blocks } => settled(HostFile::create(rt, self.path, blocks)?),
+            Origin::New { blocks } => {
+                let store = settled(HostFile::create(rt, self.path, blocks)?);
+                if store.is_err() {
+                    // What was begun would be in the way of the next try.
+                    let _ = fs::remove_file(rt, self.path);
+                }
+                store
+            }
             Origin::Found { blocks } => sized(settled(HostFile::open(rt, self.path)?)?, blocks),
         }
     }

@@ -1,5 +1,5 @@
 -- How a run of the program ends, and with which exit status.
-use Rattle.std.specs.Prelude.{◌≡◌, ℕ, true, List, [], Option, Result, Ok, Err}
+use Rattle.std.specs.Prelude.{◌≡◌, ℕ, true, List, [], Option, Result, Ok, Err, IfOk}
 use Rattle.iscsi_stream.specs.declared.fault.ToolFault.{ToolFault}
 use Rattle.iscsi_compare.specs.declared.verdict.Verdict.{Verdict}
 use Rattle.iscsi_compare.specs.declared.verdict.Verdict.TheVariants as verdict
@@ -30,7 +30,7 @@ use Rattle.iscsi_tool.specs.CaptureComparisons.{ComparesCaptures}
 use Rattle.iscsi_tool.specs.Telling.{TellingOutput}
 use Rattle.iscsi_comparison.specs.Comparisons.{RunsFiles, comparison_exit_status}
 use Rattle.iscsi_filters.specs.Filters.{filter_exit_status}
-use Rattle.iscsi_words.specs.Jobs.{IsJob}
+use Rattle.iscsi_words.specs.Jobs.{IsJob, SaysWords}
 use Rattle.iscsi_tool.specs.Filtering.{Filters}
 
 -- The exit status of an outcome: 0 if the job is done, 1 if two streams differ, else that of the
@@ -142,7 +142,8 @@ RunsAsked (Ok asked) ends read left written =
 RunsAsked (Err fault) ends read left written =
     (ends ≡ outcome.Words fault) × (read ≡ []) × (written ≡ [])
 
--- A command line ended so.
-abbrev pub RunsWords : {S : Type 0} → List S → Outcome → List ℕ → Option (List ℕ) → List ℕ → Type 0
-RunsWords words ends read left written = (asked : Result Job LineFault) × AsksFor words asked
-    × RunsAsked asked ends read left written
+-- A command line, of words with these texts, ended so. A service that it asks for is what the words say.
+abbrev pub RunsWords : {S : Type 0} → List S → List (List ℕ) → Outcome → List ℕ → Option (List ℕ)
+    → List ℕ → Type 0
+RunsWords words texts ends read left written = (asked : Result Job LineFault) × AsksFor words asked
+    × IfOk asked (SaysWords texts) × RunsAsked asked ends read left written

@@ -1,11 +1,11 @@
 //! The body of the program: it runs the job that words ask for. One file, since each job ends in
 //! one of the same outcomes.
 
-ghost use Rattle.std.specs.Prelude.{◌≡◌, ℕ, List, IfOk, IfErr};
+ghost use Rattle.std.specs.Prelude.{◌≡◌, ℕ, List, IfOk, IfErr, map, string_bytes};
 ghost use Rattle.std.specs.Io.KnownBytes.{Appends, Consumes};
 ghost use Rattle.iscsi_tool.specs.declared.running.Outcome.{Outcome};
 ghost use Rattle.iscsi_serve_words.specs.Words.{words_status};
-ghost use Rattle.iscsi_words.specs.Jobs.{IsJob};
+ghost use Rattle.iscsi_words.specs.Jobs.{IsJob, SaysWords};
 ghost use Rattle.iscsi_tool.specs.Running.{EndsComparison, JobRuns, RunsWords, of_capture, of_captures, of_comparison, of_filter, of_service, of_session, outcome_status};
 
 use crate::capture_comparing::run_comparison;
@@ -118,7 +118,7 @@ pub fn run_read<R: Read, W: Write, E: Write>(
     ensures runs { IfOk words.now (λ words. (outcome : Outcome) × (read : List ℕ) × (written : List ℕ)
         × Consumes (R.remaining r.old) (R.remaining r.new) read
         × Appends (W.contents w.old) (W.contents w.new) written
-        × RunsWords words.items outcome read (R.remaining r.new) written
+        × RunsWords words.items (map string_bytes words.items) outcome read (R.remaining r.new) written
         × (result ≡ outcome_status outcome)) }
     // Without words nothing is read or written.
     ensures unread { IfErr words.now (λ fault. (result ≡ words_status fault)
@@ -150,7 +150,7 @@ pub fn run_words<S: AsStr, R: Read, W: Write, E: Write>(
     ensures runs { (outcome : Outcome) × (read : List ℕ) × (written : List ℕ)
         × Consumes (R.remaining r.old) (R.remaining r.new) read
         × Appends (W.contents w.old) (W.contents w.new) written
-        × RunsWords words.now outcome read (R.remaining r.new) written
+        × RunsWords words.now (map S.text words.now) outcome read (R.remaining r.new) written
         × (result ≡ outcome_status outcome) }
 {
     let outcome = run(rt, words, r, w);
@@ -176,7 +176,7 @@ fn run<'a, S: AsStr, R: Read, W: Write>(
     ensures runs { (read : List ℕ) × (written : List ℕ)
         × Consumes (R.remaining r.old) (R.remaining r.new) read
         × Appends (W.contents w.old) (W.contents w.new) written
-        × RunsWords words.now result read (R.remaining r.new) written }
+        × RunsWords words.now (map S.text words.now) result read (R.remaining r.new) written }
 {
     match read_words(rt.alloc(), words) {
         Ok(job) => run_job(rt, words, job, r, w),
@@ -194,6 +194,7 @@ fn run_job<'a, S: AsStr, R: Read, W: Write>(
     w: &mut W,
 ) -> Outcome<'a>
     requires job { IsJob job }
+    requires says { SaysWords (map S.text words.now) job }
     ensures runs { (read : List ℕ) × (written : List ℕ)
         × Consumes (R.remaining r.old) (R.remaining r.new) read
         × Appends (W.contents w.old) (W.contents w.new) written

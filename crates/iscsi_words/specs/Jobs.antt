@@ -1,6 +1,7 @@
 -- Which jobs can be run: the numbers of each are in their ranges.
-use Rattle.std.specs.Prelude.{◌≤◌, ◌<◌}
+use Rattle.std.specs.Prelude.{◌≤◌, ◌<◌, ℕ, List}
 use Rattle.scsi_disk.specs.Disk.{most_blocks}
+use Rattle.iscsi_serve_words.specs.Said.{SaysJob}
 use Rattle.iscsi_serve_words.specs.Services.{IsServeJob}
 use Rattle.iscsi_words.specs.declared.capture_words.CaptureWork.{CaptureWork}
 use Rattle.iscsi_words.specs.declared.capture_words.CaptureWork.TheVariants as capture
@@ -30,3 +31,13 @@ IsJob (job.Compare comparison) = Unit {0}
 IsJob (job.Tell telling) = Unit {0}
 IsJob (job.CompareCaptures comparison) = Unit {0}
 IsJob (job.Capture capture) = CanWork capture.work
+
+-- The job can be run, and is no service.
+abbrev pub IsOtherJob : Job → Type 0
+IsOtherJob (job.Serve served) = ⊥
+IsOtherJob other = IsJob other
+
+-- A service is what the words of a command line say.
+abbrev pub SaysWords : List (List ℕ) → Job → Type 0
+SaysWords words (job.Serve served) = SaysJob words served
+SaysWords words _ = Unit {0}

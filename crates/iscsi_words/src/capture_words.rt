@@ -1,7 +1,7 @@
 //! The jobs over capture files, and their words. One file, since the jobs share most words.
 
 ghost use Rattle.std.specs.Prelude.{◌<◌, IfOk, IfSome};
-ghost use Rattle.iscsi_words.specs.Jobs.{CanWork, IsJob};
+ghost use Rattle.iscsi_words.specs.Jobs.{CanWork, IsOtherJob};
 
 use crate::capture_comparing::{CaptureComparison, STDIN, named};
 use crate::commands::{answer_row, compare_row, normalise_row, show_row};
@@ -109,7 +109,7 @@ pub(crate) const TWO_CAPTURES: &[Word] = &[
 
 /// The job of listing a capture's connections.
 pub(crate) fn connections_of<'a>(asked: &ArgMatches<'a>) -> Job<'a>
-    ensures job { IsJob result }
+    ensures job { IsOtherJob result }
 {
     Job::Capture(CaptureJob {
         file: asked.get_str("FILE").unwrap_or(""),
@@ -126,7 +126,7 @@ pub(crate) fn asks_for_capture(asked: &ArgMatches<'_>) -> bool {
 
 /// The job of showing a capture: all of it, one connection, or one direction.
 pub(crate) fn shown_job<'a>(alloc: Global, asked: &ArgMatches<'a>) -> Result<Job<'a>, LineFault>
-    ensures job { IfOk result IsJob }
+    ensures job { IfOk result IsOtherJob }
 {
     match (asked.get_str("capture"), shown_work(asked)) {
         (Some(file), Some(work)) if !asked.get_flag("hex") => capture_job(file, work),
@@ -162,7 +162,7 @@ pub(crate) fn normalised_job<'a>(
     alloc: Global,
     asked: &ArgMatches<'a>,
 ) -> Result<Job<'a>, LineFault>
-    ensures job { IfOk result IsJob }
+    ensures job { IfOk result IsOtherJob }
 {
     let bytes_alone = !asked.get_flag("hex") && !asked.get_flag("text");
     match (asked.get_str("capture"), wanted_of(asked)) {
@@ -178,7 +178,7 @@ const BAD_CAPTURE: &str = "a capture is read with '--capture <FILE> --connection
 
 /// The job of answering the initiator's side of a connection of a capture.
 pub(crate) fn answered_job<'a>(alloc: Global, asked: &ArgMatches<'a>) -> Result<Job<'a>, LineFault>
-    ensures job { IfOk result IsJob }
+    ensures job { IfOk result IsOtherJob }
 {
     let number = match asked.get_str("connection") {
         Some(digits) => connection_number(digits),
@@ -202,7 +202,7 @@ pub(crate) fn compared_job<'a>(
     sameness: Sameness,
     asked: &ArgMatches<'a>,
 ) -> Result<Job<'a>, LineFault>
-    ensures job { IfOk result IsJob }
+    ensures job { IfOk result IsOtherJob }
 {
     let ends = (end_of(asked), both_numbers(asked));
     let (a, b) = (asked.get_str("A").unwrap_or(""), asked.get_str("B"));
@@ -239,7 +239,7 @@ const BAD_COMPARED: &str = "captures are compared with '--capture <A> [B] --conn
 // A job over a capture.
 fn capture_job<'a>(file: &'a str, work: CaptureWork) -> Result<Job<'a>, LineFault>
     requires work { CanWork work }
-    ensures job { IfOk result IsJob }
+    ensures job { IfOk result IsOtherJob }
 {
     Ok(Job::Capture(CaptureJob { file, work }))
 }

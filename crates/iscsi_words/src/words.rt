@@ -1,7 +1,7 @@
 //! What the words of a command line ask for. One file, since it has a reader for each command.
 
-ghost use Rattle.std.specs.Prelude.{◌≡◌, ◌<◌, ◌≤◌, [], true, Ok, IfOk, IfSome};
-ghost use Rattle.iscsi_words.specs.Jobs.{HasDisk, IsJob};
+ghost use Rattle.std.specs.Prelude.{◌≡◌, ◌<◌, ◌≤◌, [], true, Ok, IfOk, IfSome, map};
+ghost use Rattle.iscsi_words.specs.Jobs.{HasDisk, IsJob, IsOtherJob, SaysWords};
 ghost use Rattle.iscsi_words.specs.declared.filter.Work.TheVariants.{Normalise};
 ghost use Rattle.iscsi_words.specs.declared.words.Job.TheVariants as job;
 
@@ -20,8 +20,8 @@ use iscsi_comparison::{Comparison, Sameness};
 use iscsi_explain::Form;
 use iscsi_options::{LONGEST_PIECE, number_of};
 use iscsi_serve_words::{
-    CommandRow, LineFault, ServeJob, bare_command, needed_blocks, no_command, serve_row,
-    service_of, usage,
+    CommandRow, LineFault, ServeJob, bare_command, needed_blocks, no_command, read_serve_words,
+    serve_row, usage,
 };
 use std::alloc::{AllocError, Global};
 use std::convert::AsStr;
@@ -127,20 +127,34 @@ fn command<'a>(alloc: Global) -> Result<Command<'a>, AllocError> {
 
 /// The job that the words of a command line ask for, without the program's name. Words that are no
 /// job, and those that ask for help, return `Usage` with the text to print.
+#[tactic(auto, using(crate::proofs::JobLemmas::other_job, crate::proofs::JobLemmas::says_nothing))]
 pub fn read_words<'a, S: AsStr>(alloc: Global, words: &'a [S]) -> Result<Job<'a>, LineFault>
     ensures unasked { words.now ≡ [] →
         result ≡ Ok (job.Filter (record { work = Normalise; hex = true })) }
     // A disk has 1 to 2^40 blocks, and a piece 1 to 4096 bytes.
     ensures disk { IfOk result IsJob }
+    // What a service is asked for is what the words say.
+    ensures says { IfOk result (SaysWords (map S.text words.entry.now)) }
 {
     if words.is_empty() {
         return Ok(UNASKED);
+    }
+    if is_service(words) {
+        return Ok(Job::Serve(read_serve_words(alloc, words)?));
     }
     let matches = match command(alloc)?.try_get_matches_from(words) {
         Ok(matches) => matches,
         Err(error) => return Err(unread(alloc, words, error)),
     };
     job_of(alloc, &matches)
+}
+
+// Whether the words are those of a service.
+fn is_service<S: AsStr>(words: &[S]) -> bool {
+    match words.first() {
+        Some(word) => matches!(JobWord::of(word.as_str()), Some(JobWord::Serve)),
+        None => false,
+    }
 }
 
 // The usage error for words that are not read, with a hint if a file is named to a command that
@@ -177,10 +191,10 @@ fn stray_file<'a>(word: &str, text: &'a str) -> Option<&'a str> {
     }
 }
 
-// The job that words which were read ask for. Words that name none are refused, though the reader
-// of the words lets none of those through.
+// The job that words which were read ask for, which is no service: those of `serve` are read before. Words
+// that name none are refused, though the reader of the words lets none of those through.
 fn job_of<'a>(alloc: Global, matches: &ArgMatches<'a>) -> Result<Job<'a>, LineFault>
-    ensures disk { IfOk result IsJob }
+    ensures disk { IfOk result IsOtherJob }
 {
     let Some((word, asked)) = matches.subcommand() else {
         return Err(no_command(alloc));
@@ -191,15 +205,14 @@ fn job_of<'a>(alloc: Global, matches: &ArgMatches<'a>) -> Result<Job<'a>, LineFa
         Some(JobWord::Compare) => comparison_of(alloc, asked),
         Some(JobWord::Connections) => Ok(connections_of(asked)),
         Some(JobWord::Answer) => answer_of(alloc, asked),
-        Some(JobWord::Serve) => Ok(Job::Serve(service_of(alloc, asked)?)),
         Some(JobWord::Loop) => loop_of(alloc, asked),
-        None => Err(no_command(alloc)),
+        Some(JobWord::Serve) | None => Err(no_command(alloc)),
     }
 }
 
 // The lines of a stream, or of a direction of a capture.
 fn show_of<'a>(alloc: Global, asked: &ArgMatches<'a>) -> Result<Job<'a>, LineFault>
-    ensures disk { IfOk result IsJob }
+    ensures disk { IfOk result IsOtherJob }
 {
     if asks_for_capture(asked) {
         return shown_job(alloc, asked);
@@ -215,7 +228,7 @@ fn show_of<'a>(alloc: Global, asked: &ArgMatches<'a>) -> Result<Job<'a>, LineFau
 
 // The canonical form of a stream or of a text, or of a direction of a capture.
 fn normalise_of<'a>(alloc: Global, asked: &ArgMatches<'a>) -> Result<Job<'a>, LineFault>
-    ensures disk { IfOk result IsJob }
+    ensures disk { IfOk result IsOtherJob }
 {
     if asks_for_capture(asked) {
         return normalised_job(alloc, asked);
@@ -226,7 +239,7 @@ fn normalise_of<'a>(alloc: Global, asked: &ArgMatches<'a>) -> Result<Job<'a>, Li
 // A filter, of hex text if that is asked.
 fn filter_of<'a>(work: Work, asked: &ArgMatches<'_>) -> Job<'a>
     requires disk { HasDisk work }
-    ensures disk { IsJob result }
+    ensures disk { IsOtherJob result }
 {
     let hex = asked.get_flag("hex");
     Job::Filter(Filter { work, hex })
@@ -244,7 +257,7 @@ fn normal_work(asked: &ArgMatches<'_>) -> Work
 }
 
 fn answer_of<'a>(alloc: Global, asked: &ArgMatches<'a>) -> Result<Job<'a>, LineFault>
-    ensures disk { IfOk result IsJob }
+    ensures disk { IfOk result IsOtherJob }
 {
     if asked.get_str("capture").is_some() || asked.get_str("connection").is_some() {
         return answered_job(alloc, asked);
@@ -256,7 +269,7 @@ fn answer_of<'a>(alloc: Global, asked: &ArgMatches<'a>) -> Result<Job<'a>, LineF
 }
 
 fn comparison_of<'a>(alloc: Global, asked: &ArgMatches<'a>) -> Result<Job<'a>, LineFault>
-    ensures disk { IfOk result IsJob }
+    ensures disk { IfOk result IsOtherJob }
 {
     let sameness = if asked.get_flag("same-job") {
         Sameness::Job
@@ -278,7 +291,7 @@ fn comparison_of<'a>(alloc: Global, asked: &ArgMatches<'a>) -> Result<Job<'a>, L
 }
 
 fn loop_of(alloc: Global, asked: &ArgMatches<'_>) -> Result<Job<'static>, LineFault>
-    ensures disk { IfOk result IsJob }
+    ensures disk { IfOk result IsOtherJob }
 {
     let piece = asked.get_str("piece").unwrap_or("");
     match (needed_blocks(asked), piece_of(piece)) {
