@@ -106,6 +106,8 @@ def traced(words, **how):
 # The words of each recorder, up to its file, and the end of the file's name.
 RECORDERS = {
     "tcpdump": (["tcpdump", "--immediate-mode", "-i", "lo", "-s", "0", "-B", "65536", "-U", "-w"], "pcap"),
+    # Without --immediate-mode a packet takes only the room that it needs, so that the buffer holds hundreds of times as many.
+    "tcpdump-deep": (["tcpdump", "-i", "lo", "-s", "0", "-B", "524288", "-w"], "pcap"),
     "tcpdump-nano": (["tcpdump", "--immediate-mode", "-i", "any", "--time-stamp-precision=nano", "-s", "0", "-B", "65536", "-w"], "pcap"),
     "dumpcap": (["dumpcap", "-i", "lo", "-B", "64", "-w"], "pcapng"),
     "dumpcap-classic": (["dumpcap", "-P", "-i", "lo", "-B", "64", "-w"], "pcap"),
@@ -114,14 +116,15 @@ RECORDERS = {
 
 
 class Recorder:
-    """A program that records all TCP of this machine's loopback device into a file."""
+    """A program that records all TCP of this machine's loopback device into a file, or that of one port."""
 
-    def __init__(self, name, room):
+    def __init__(self, name, room, port=None):
         words, ending = RECORDERS[name]
         self.name, self.path = name, Path(room) / f"{name}.{ending}"
         # dumpcap gives up its rights, and then wants to write where all may.
         Path(room).chmod(0o777)
-        filtered = ["tcp"] if words[0] == "tcpdump" else ["-f", "tcp"]
+        what = f"tcp port {port}" if port else "tcp"
+        filtered = [what] if words[0] == "tcpdump" else ["-f", what]
         self.process = subprocess.Popen([*words, self.path, *filtered], stdout=subprocess.DEVNULL, stderr=subprocess.PIPE, text=True)
         begins = "listening on" if words[0] == "tcpdump" else "File:"
         while begins not in (line := self.process.stderr.readline()):

@@ -144,6 +144,7 @@ cut_then (faults.Long a) P Q g h = tt
 cut_then (faults.Stream a b) P Q g h = tt
 cut_then (faults.Protocol a b) P Q g h = tt
 cut_then (faults.Begun a) P Q g h = tt
+cut_then (faults.Assumed a b c d) P Q g h = tt
 cut_then (faults.NoConnection a) P Q g h = tt
 
 pub one_cut : {T : Type 0} (list : List Connection) (number : ℕ) (heard : Heard) (wanted : Wanted)

@@ -109,4 +109,5 @@ lists_all left (Err (faults.Long a)) old new h w = w
 lists_all left (Err (faults.Stream a b)) old new h w = w
 lists_all left (Err (faults.Protocol a b)) old new h w = w
 lists_all left (Err (faults.Begun a)) old new h w = w
+lists_all left (Err (faults.Assumed a b c d)) old new h w = w
 lists_all left (Err (faults.NoConnection a)) old new h w = w

@@ -81,6 +81,7 @@ IsFaultOf number left faults.Write = ⊥
 IsFaultOf number left (faults.Stream connection fault) = ⊥
 IsFaultOf number left (faults.Protocol connection rule) = ⊥
 IsFaultOf number left faults.NoSession = ⊥
+IsFaultOf number left (faults.Assumed connection end offset packet) = ⊥
 IsFaultOf number left (faults.Truncated at) = IsAtEnd left
 IsFaultOf number left faults.Empty = IsAtEnd left
 IsFaultOf number left (faults.NoConnection connection) = (connection ≡ number) × IsAtEnd left

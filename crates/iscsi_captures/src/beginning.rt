@@ -36,7 +36,7 @@ pub(crate) fn answers_before(half: &Half) -> bool {
     starts_late(half) && half.first_byte.is_some_and(|byte| byte != LOGIN_RESPONSE)
 }
 
-// Whether the SYN of a direction is missing, which begins with its first segment with bytes.
-fn starts_late(half: &Half) -> bool {
+/// Whether the SYN of a direction is missing, which begins with its first segment with bytes.
+pub(crate) fn starts_late(half: &Half) -> bool {
     matches!(half.start, Start::Bytes(_))
 }

@@ -4,7 +4,9 @@ ghost use Rattle.std.specs.Prelude.{◌≡◌};
 ghost use Rattle.iscsi_captures.specs.declared.fault.CapturesFault.TheVariants.{NoMemory};
 ghost use Rattle.iscsi_captures.specs.Faults.{captures_exit_status};
 
+use crate::captured::End;
 use capture_connections::ConnectionsFault;
+use iscsi_explain::{Origin, Remark};
 use iscsi_stream::StreamFault;
 use std::alloc::{AllocError, AllocFailed};
 use std::error::Error;
@@ -90,9 +92,17 @@ pub enum CapturesFault {
         connection: usize,
         rule: u8,
     },
-    /// The SYN of the wanted direction is missing, so where a PDU begins is not known.
+    /// The SYN of the direction is missing, so where a PDU begins is not known.
     Begun {
         connection: usize,
+    },
+    /// The beginning of this end's stream, or what follows missing bytes of it, is read from this byte
+    /// on, where a PDU is assumed to begin. The packet is the one with which that was found.
+    Assumed {
+        connection: usize,
+        end: End,
+        offset: u64,
+        packet: u64,
     },
     /// The capture has no connection that begins with a login request.
     NoSession,
@@ -143,6 +153,14 @@ impl CapturesFault {
             CapturesFault::Conflict { .. } => "conflict at ",
             CapturesFault::Long { .. } => "stream over 9223372036854775808 bytes",
             CapturesFault::Protocol { .. } => "protocol: rule ",
+            CapturesFault::Assumed {
+                end: End::Initiator,
+                ..
+            } => "initiator assumed from byte ",
+            CapturesFault::Assumed {
+                end: End::Target,
+                ..
+            } => "target assumed from byte ",
             CapturesFault::NoConnection { .. } => "no connection ",
             CapturesFault::Link { .. }
             | CapturesFault::Stream { .. }
@@ -157,6 +175,7 @@ impl CapturesFault {
             | CapturesFault::Conflict { connection, .. }
             | CapturesFault::Long { connection }
             | CapturesFault::Reads { connection }
+            | CapturesFault::Assumed { connection, .. }
             | CapturesFault::Protocol { connection, .. } => Some(*connection),
             _ => None,
         }
@@ -171,9 +190,9 @@ impl CapturesFault {
             | CapturesFault::Interface { at }
             | CapturesFault::Fragment { at, .. }
             | CapturesFault::Cut { at, .. } => Some(*at),
-            CapturesFault::Gap { offset, .. } | CapturesFault::Conflict { offset, .. } => {
-                Some(*offset)
-            }
+            CapturesFault::Gap { offset, .. }
+            | CapturesFault::Conflict { offset, .. }
+            | CapturesFault::Assumed { offset, .. } => Some(*offset),
             CapturesFault::Protocol { rule, .. } => Some(*rule as u64),
             CapturesFault::NoConnection { connection } => Some(*connection as u64),
             _ => None,
@@ -186,8 +205,44 @@ impl CapturesFault {
             CapturesFault::Fragment { packet, .. }
             | CapturesFault::Cut { packet, .. }
             | CapturesFault::Gap { packet, .. }
-            | CapturesFault::Conflict { packet, .. } => Some(*packet),
+            | CapturesFault::Conflict { packet, .. }
+            | CapturesFault::Assumed { packet, .. } => Some(*packet),
             _ => None,
+        }
+    }
+
+    // What kind of remark it is, in one word.
+    fn kind(&self) -> &'static str {
+        match self {
+            CapturesFault::Gap { .. } => "gap",
+            CapturesFault::Conflict { .. } => "conflict",
+            CapturesFault::Cut { .. } => "cut",
+            CapturesFault::Begun { .. } => "begun",
+            CapturesFault::Assumed { .. } => "assumed",
+            CapturesFault::Stream { .. } => "stream",
+            _ => "end",
+        }
+    }
+
+    // The byte of a direction that it is about.
+    fn offset(&self) -> Option<u64> {
+        match self {
+            CapturesFault::Gap { offset, .. }
+            | CapturesFault::Conflict { offset, .. }
+            | CapturesFault::Assumed { offset, .. } => Some(*offset),
+            _ => None,
+        }
+    }
+
+    /// What is told of it among PDUs: it is about this connection, and the direction of an end if one
+    /// is said.
+    pub(crate) fn remark(&self, connection: usize, origin: Option<Origin>) -> Remark {
+        Remark {
+            kind: self.kind(),
+            connection: Some(connection as u64),
+            origin,
+            place: self.offset(),
+            packet: self.packet(),
         }
     }
 

@@ -3,14 +3,16 @@
 ghost use Rattle.std.specs.Prelude.{◌≡◌, [], OnOk};
 ghost use Rattle.std.specs.Io.KnownBytes.{Appends};
 ghost use Rattle.iscsi_captures.specs.Written.{WroteBytes};
-ghost use Rattle.iscsi_explain.specs.Showing.{AppendsSome};
 
 use crate::fault::CapturesFault;
 use crate::file::{CaptureFile, Numbered, Stood};
 use crate::moment::nanoseconds_of;
 use crate::passed::PassedOver;
-use crate::talk::{Scene, Standing, Talk, first_of, has_port};
-use capture_connections::{Connection, Connections, heard_of};
+use crate::scene::Scene;
+use crate::talk::{Standing, Talk, has_port};
+use crate::told::Told;
+use capture_connections::{Connections, heard_of};
+use capture_file::Segment;
 use iscsi_explain::Form;
 use iscsi_stream::write_fully;
 use std::alloc::{AllocError, Global};
@@ -19,76 +21,95 @@ use std::io::{Read, Write};
 /// How many bytes are gathered before they are written.
 const GATHERED: usize = 65_536;
 
+/// What of a capture is shown, and how.
+#[derive(Clone, Copy)]
+pub struct Showing<'a> {
+    /// The form of each PDU.
+    pub form: Form,
+    /// The number of the only connection that is shown.
+    pub only: Option<usize>,
+    /// The name of the capture, as remarks have it.
+    pub name: &'a str,
+}
+
 /// Reads a capture to its end and writes each PDU of both directions in a form, in the order in which
-/// they became whole. Without a number these are all connections that begin with a login request.
+/// they became whole. Without a number these are all connections that begin with a login request, and
+/// those with port 3260 that begin before the capture.
 ///
-/// A fault of a direction ends that direction, and the others go on; the first such fault is returned
-/// at the end. A connection whose beginning is missing has the fault `Begun`, if it is the one asked
-/// for or one of its ends has port 3260. One with that port whose initiator's first byte is missing
-/// has the fault of the initiator's direction: `Cut`, `Gap` or `Conflict`. A fault of the file comes
-/// after what is due for all packets before it.
+/// Each fault of a direction is a remark, and the reading goes on: past missing bytes within a data
+/// segment with the next PDU. Past others, and where the beginning is missing, it goes on where three
+/// headers in a row agree, which is a remark, too (`Assumed`). What leaves the profile, and `Conflict`,
+/// ends a direction where nothing was assumed. In the forms of JSON each remark is an object in its
+/// place. Each is a line of `errors`, but the last one, which is returned at the end.
+///
+/// A connection whose beginning is missing has the remark `Begun`, if it is the one asked for or one
+/// of its ends has port 3260. One with that port whose initiator's first byte is missing has the
+/// remark of the initiator's direction: `Cut`, `Gap` or `Conflict`. A fault of the file comes after
+/// what is due for all packets before it.
 ///
 /// Packets that are fragments, lack headers or are of a link that is not read are passed over. If
-/// there is no other fault, why the first of them was is returned at the end: `Fragment`, `Cut` or
-/// `Link`. Else `NoSession` comes if the capture has no connection that begins with a login request,
-/// and `NoConnection` if it has none with the number.
-pub fn show_capture<R: Read, W: Write>(
+/// there is no remark, why the first of them was is returned at the end: `Fragment`, `Cut` or `Link`.
+/// Else `NoSession` comes if the capture has no connection to show, and `NoConnection` if it has none
+/// with the number.
+pub fn show_capture<R: Read, W: Write, E: Write>(
     alloc: Global,
-    form: Form,
-    only: Option<usize>,
+    showing: Showing<'_>,
     source: &mut R,
     w: &mut W,
+    errors: &mut E,
 ) -> Result<(), CapturesFault>
     ensures moves { WroteBytes (W.contents w.old) (W.contents w.new) }
 {
     let mut file = CaptureFile::new(alloc)?;
-    let mut stage = Stage::new(alloc, form, only);
-    let read = stage.read_all(&mut file, source, w);
-    let written = write_gathered(&mut stage.out, w);
-    first_of(first_of(written, read), stage.end())
+    let mut stage = Stage::new(alloc, showing);
+    let read = stage.read_all(&mut file, source, w, errors);
+    let ended = stage.end();
+    let written = write_gathered(&mut stage.told.out, w);
+    stage.tell(errors);
+    stage.concluded(first_of(written, read), ended, errors)
 }
 
 /// The connections of a capture, as far as they are shown.
 #[derive(Drop)]
-struct Stage {
+struct Stage<'a> {
     alloc: Global,
-    form: Form,
-    only: Option<usize>,
+    showing: Showing<'a>,
     connections: Connections,
     talks: Vec<Talk>,
     passed: PassedOver,
+    // the last remark, which was not written yet
     fault: Option<CapturesFault>,
     fresh: Vec<u8>,
-    out: Vec<u8>,
+    told: Told,
 }
 
-impl Stage {
-    fn new(alloc: Global, form: Form, only: Option<usize>) -> Stage {
+impl<'a> Stage<'a> {
+    fn new(alloc: Global, showing: Showing<'a>) -> Stage<'a> {
         Stage {
             alloc,
-            form,
-            only,
+            showing,
             connections: Connections::new(alloc),
             talks: Vec::new(alloc),
             passed: PassedOver::new(),
             fault: None,
             fresh: Vec::new(alloc),
-            out: Vec::new(alloc),
+            told: Told::new(alloc),
         }
     }
 
     // Reads to the end of the file.
     #[tactic(auto, using(crate::proofs::Shown::wrote_none, crate::proofs::Shown::wrote_more))]
-    fn read_all<R: Read, W: Write>(
+    fn read_all<R: Read, W: Write, E: Write>(
         &mut self,
         file: &mut CaptureFile,
         source: &mut R,
         w: &mut W,
+        errors: &mut E,
     ) -> Result<(), CapturesFault>
         ensures moves { WroteBytes (W.contents w.old) (W.contents w.new) }
     {
         for turn in 0..u64::MAX {
-            let more = self.step(file, source, w)?;
+            let more = self.step(file, source, w, errors)?;
             if !more {
                 return Ok(());
             }
@@ -98,16 +119,18 @@ impl Stage {
 
     // One step of the file; says whether it goes on. What was gathered is written before more of
     // the file is read, and where it is much.
-    fn step<R: Read, W: Write>(
+    fn step<R: Read, W: Write, E: Write>(
         &mut self,
         file: &mut CaptureFile,
         source: &mut R,
         w: &mut W,
+        errors: &mut E,
     ) -> Result<bool, CapturesFault>
         ensures moves { WroteBytes (W.contents w.old) (W.contents w.new) }
     {
         if !file.is_at_hand() {
-            write_gathered(&mut self.out, w)?;
+            write_gathered(&mut self.told.out, w)?;
+            self.tell(errors);
             return self.read_on(file, source);
         }
         if let Stood::Packet(packet) = file.stand()? {
@@ -121,10 +144,10 @@ impl Stage {
     fn write_much<W: Write>(&mut self, w: &mut W) -> Result<(), CapturesFault>
         ensures moves { WroteBytes (W.contents w.old) (W.contents w.new) }
     {
-        if self.out.len() < GATHERED {
+        if self.told.out.len() < GATHERED {
             return Ok(());
         }
-        let out = &mut self.out;
+        let out = &mut self.told.out;
         write_gathered(out, w)
     }
 
@@ -136,55 +159,52 @@ impl Stage {
         file: &mut CaptureFile,
         source: &mut R,
     ) -> Result<bool, CapturesFault>
-        requires written { self.old.out.items ≡ [] }
+        requires written { self.old.told.out.items ≡ [] }
     {
         file.read_on(source)
     }
 
+    // Writes a line for each remark but the last. A failed write of one is not told.
+    fn tell<E: Write>(&mut self, errors: &mut E)
+        ensures kept { self.new.told.out ≡ self.old.told.out }
+    {
+        let remarks = std::mem::replace(&mut self.told.remarks, Vec::new(self.alloc));
+        tell_lines(remarks, &mut self.fault, self.showing.name, errors);
+    }
+
     // Takes a packet. One with no segment that is read is passed over.
     fn hear(&mut self, packet: Numbered<'_>) -> Result<(), CapturesFault> {
-        let segment = match packet.segment() {
-            Ok(Some(segment)) => segment,
-            Ok(None) => return Ok(()),
+        match packet.segment() {
+            Ok(Some(segment)) => self.hear_segment(&packet, &segment),
+            Ok(None) => Ok(()),
             Err(reason) => {
                 self.passed.note(reason);
-                return Ok(());
+                Ok(())
             }
-        };
-        let heard = heard_of(&segment, packet.number);
+        }
+    }
+
+    // Takes the segment of a packet.
+    fn hear_segment(
+        &mut self,
+        packet: &Numbered<'_>,
+        segment: &Segment<'_>,
+    ) -> Result<(), CapturesFault> {
+        let heard = heard_of(segment, packet.number);
         self.fresh.clear();
         let number = self.connections.take(heard, &mut self.fresh)?;
         self.connections.keep_within();
-        self.meet(number, &packet)?;
-        let scene = Scene::new(self.form, number, &packet, &heard);
-        let (said, has_port) = match self.connections.list().get(number) {
-            Some(connection) => {
-                let (talks, out) = (&mut self.talks, &mut self.out);
-                let said = heard_by(self.alloc, talks, scene, connection, &self.fresh, out);
-                (said, has_port(connection))
-            }
-            None => (Ok(()), false),
+        self.meet(number, packet)?;
+        let Some(connection) = self.connections.list().get(number) else {
+            return Ok(());
         };
-        let is_told = self.only.is_some() || has_port;
-        self.note(said, is_told)
-    }
-
-    // Notes the fault of a direction, if it is the first; a beginning that is missing is not always
-    // told.
-    fn note(
-        &mut self,
-        said: Result<(), CapturesFault>,
-        is_told: bool,
-    ) -> Result<(), CapturesFault> {
-        match said {
-            Ok(()) => {}
-            Err(CapturesFault::NoMemory) => return Err(CapturesFault::NoMemory),
-            Err(CapturesFault::Begun { .. }) if !is_told => {}
-            Err(fault) => {
-                self.fault = self.fault.or(Some(fault));
-            }
+        let asked = self.showing.only.is_some() || has_port(connection);
+        let form = self.showing.form;
+        let scene = Scene::new(form, number, packet, &heard, segment.missing, asked);
+        match self.talks.get_mut(number) {
+            Some(talk) => talk.hear(scene, connection, heard.bytes, &self.fresh, &mut self.told),
+            None => Ok(()),
         }
-        Ok(())
     }
 
     // Has a connection of this number, of which this is the first packet if there was none.
@@ -192,7 +212,7 @@ impl Stage {
         if number < self.talks.len() {
             return Ok(());
         }
-        let standing = match self.only {
+        let standing = match self.showing.only {
             None => Standing::Undecided,
             Some(only) if only == number => Standing::Shown,
             Some(_) => Standing::PassedOver,
@@ -200,27 +220,42 @@ impl Stage {
         Ok(self.talks.push(Talk::new(self.alloc, nanoseconds_of(&packet.packet), standing))?)
     }
 
-    // What is wrong where the capture ends.
+    // Tells what is due where the capture ends.
     fn end(&mut self) -> Result<(), CapturesFault> {
         let list = self.connections.list();
         for (number, talk) in self.talks.iter_mut().enumerate() {
-            let Some(connection) = list.get(number) else {
-                continue;
-            };
-            if let Err(fault) = talk.end(number, connection) {
-                self.fault = self.fault.or(Some(fault));
+            if let Some(connection) = list.get(number) {
+                talk.end(connection, &mut self.told)?;
             }
         }
-        match self.fault.or(self.unshown()).or(self.passed.first()) {
-            Some(fault) => Err(fault),
-            None => Ok(()),
+        Ok(())
+    }
+
+    // How the job ends, which is the fault of reading, or the last remark. A remark before a fault of
+    // reading is written.
+    fn concluded<E: Write>(
+        &self,
+        read: Result<(), CapturesFault>,
+        ended: Result<(), CapturesFault>,
+        errors: &mut E,
+    ) -> Result<(), CapturesFault> {
+        let Err(failed) = first_of(read, ended) else {
+            return match self.fault.or(self.unshown()).or(self.passed.first()) {
+                Some(fault) => Err(fault),
+                None => Ok(()),
+            };
+        };
+        if let Some(last) = self.fault {
+            let name = self.showing.name;
+            let _ = writeln!(errors, "{name}: {last}");
         }
+        Err(failed)
     }
 
     // Why there is nothing to show, if that is so: the capture has no connection that is asked for.
     // Why the first packet was passed over tells more.
     fn unshown(&self) -> Option<CapturesFault> {
-        let missing = match self.only {
+        let missing = match self.showing.only {
             None if self.talks.iter().any(|talk| talk.is_shown()) => return None,
             None => CapturesFault::NoSession,
             Some(connection) if connection < self.talks.len() => return None,
@@ -230,21 +265,28 @@ impl Stage {
     }
 }
 
-// Has the connection of a segment take it.
-#[tactic(auto, using(crate::proofs::Shown::some_none))]
-fn heard_by(
-    alloc: Global,
-    talks: &mut Vec<Talk>,
-    scene: Scene,
-    connection: &Connection,
-    fresh: &[u8],
-    out: &mut Vec<u8>,
-) -> Result<(), CapturesFault>
-    ensures appends { AppendsSome scene.form out.old.items out.new.items }
-{
-    match talks.get_mut(scene.number) {
-        Some(talk) => talk.hear(alloc, scene, connection, fresh, out),
-        None => Ok(()),
+// Writes a line for each remark but the last, which is kept.
+fn tell_lines<E: Write>(
+    remarks: Vec<CapturesFault>,
+    fault: &mut Option<CapturesFault>,
+    name: &str,
+    errors: &mut E,
+) {
+    for remark in remarks {
+        if let Some(last) = fault.replace(remark) {
+            let _ = writeln!(errors, "{name}: {last}");
+        }
+    }
+}
+
+// The first fault of two.
+fn first_of(
+    first: Result<(), CapturesFault>,
+    second: Result<(), CapturesFault>,
+) -> Result<(), CapturesFault> {
+    match first {
+        Ok(()) => second,
+        Err(fault) => Err(fault),
     }
 }
 

@@ -1,18 +1,14 @@
-//! What both ends of a connection said, PDU by PDU. One file, since both directions go through the
-//! same steps.
+//! What both ends of a connection said, PDU by PDU.
 
-ghost use Rattle.std.specs.Prelude.{◌≡◌};
-ghost use Rattle.iscsi_explain.specs.Showing.{AppendsSome};
-
-use crate::beginning::begins_before;
+use crate::beginning::{begins_before, starts_late};
 use crate::captured::stop_fault;
 use crate::fault::CapturesFault;
-use crate::file::Numbered;
-use crate::moment::{is_precise, nanoseconds_of};
-use capture_connections::{Connection, Heard, PORT, Said, Side, Stop};
-use iscsi_explain::{Form, Manner, Origin, Requests, Stamp, pass_on};
-use iscsi_stream::{Framer, LONGEST_SEGMENT, ToolFault};
-use std::alloc::{AllocError, Global};
+use crate::scene::Scene;
+use crate::told::Told;
+use crate::voice::{Speaker, Voice};
+use capture_connections::{Connection, PORT, Side, Stop};
+use iscsi_explain::{Origin, Requests};
+use std::alloc::Global;
 
 /// How many bytes of a target are kept until the initiator's first byte is known.
 const MOST_PENDING: usize = 65_536;
@@ -24,124 +20,40 @@ pub(crate) enum Standing {
     Undecided,
     /// It is shown.
     Shown,
-    /// It is not shown: it has no login, or its beginning is missing.
+    /// It is not shown: it has no login, or is not asked for and begins before the capture.
     PassedOver,
-}
-
-/// What one end said.
-#[derive(Drop)]
-struct Voice {
-    framer: Framer,
-    pending: Vec<u8>,
-    ended: bool,
 }
 
 /// What both ends of a connection said.
 #[derive(Drop)]
 pub(crate) struct Talk {
+    alloc: Global,
     began: u64,
     standing: Standing,
     lower: Voice,
     upper: Voice,
     requests: Requests,
-    unheard: Unheard,
-}
-
-/// What came of a connection while the initiator's first byte was missing.
-#[derive(Clone, Copy)]
-struct Unheard {
-    // The first packet with bytes of either end that were kept; 0: there was none.
+    // whether it was told that it begins before the capture
+    is_begun: bool,
+    // the last segment that it took
+    last: Option<Scene>,
+    // the first packet with bytes of either end that were kept; 0: there was none
     kept_from: u64,
-    // The first segment of the initiator of which bytes were not captured.
-    cut: Option<CapturesFault>,
-}
-
-impl Unheard {
-    // Notes a segment of the initiator, or of its target, after which bytes are kept or not.
-    fn note(&mut self, scene: Scene, is_initiator: bool, keeps: bool) {
-        if keeps && self.kept_from == 0 {
-            self.kept_from = scene.packet;
-        }
-        if is_initiator && scene.is_cut && self.cut.is_none() {
-            let (at, packet) = (scene.at, scene.packet);
-            self.cut = Some(CapturesFault::Cut { at, packet });
-        }
-    }
-}
-
-/// A segment of a connection, and the form in which PDUs are shown.
-#[derive(Clone, Copy)]
-pub(crate) struct Scene {
-    pub(crate) form: Form,
-    pub(crate) number: usize,
-    pub(crate) said: Said,
-    pub(crate) is_cut: bool,
-    pub(crate) packet: u64,
-    pub(crate) at: u64,
-    pub(crate) nanoseconds: u64,
-    pub(crate) precise: bool,
-}
-
-impl Scene {
-    /// The segment of a packet, in a connection of this number.
-    pub(crate) fn new(form: Form, number: usize, packet: &Numbered<'_>, heard: &Heard<'_>) -> Scene
-        ensures form { result.form ≡ form }
-    {
-        Scene {
-            form,
-            number,
-            said: heard.said,
-            is_cut: heard.is_cut,
-            packet: packet.number,
-            at: packet.at,
-            nanoseconds: nanoseconds_of(&packet.packet),
-            precise: is_precise(&packet.packet),
-        }
-    }
-}
-
-impl Voice {
-    fn new(alloc: Global) -> Voice {
-        Voice {
-            framer: Framer::new(alloc, LONGEST_SEGMENT),
-            pending: Vec::new(alloc),
-            ended: false,
-        }
-    }
-
-    // Appends what it says, and whether it is shown at all.
-    #[tactic(auto, using(crate::proofs::Shown::some_none, crate::proofs::Shown::some_passed))]
-    fn say(
-        &mut self,
-        alloc: Global,
-        manner: Manner,
-        requests: &mut Requests,
-        bytes: &[u8],
-        out: &mut Vec<u8>,
-    ) -> Result<bool, ToolFault>
-        ensures appends { AppendsSome manner.form out.old.items out.new.items }
-    {
-        if self.ended {
-            return Ok(false);
-        }
-        pass_on(alloc, manner, requests, &mut self.framer, bytes, out)?;
-        Ok(true)
-    }
 }
 
 impl Talk {
     /// A connection before its first packet. It takes no memory.
     pub(crate) fn new(alloc: Global, began: u64, standing: Standing) -> Talk {
         Talk {
+            alloc,
             began,
             standing,
             lower: Voice::new(alloc),
             upper: Voice::new(alloc),
             requests: Requests::new(alloc),
-            unheard: Unheard {
-                kept_from: 0,
-                cut: None,
-            },
+            is_begun: false,
+            last: None,
+            kept_from: 0,
         }
     }
 
@@ -150,254 +62,214 @@ impl Talk {
         self.standing == Standing::Shown
     }
 
-    /// Takes a segment, and appends each PDU that is whole then. Returns the fault of a direction,
-    /// which ends that direction; after `NoMemory` it is used no more.
-    #[tactic(auto, using(crate::proofs::Shown::some_none))]
+    /// Takes a segment with its bytes, and those of its direction that are known with it. Tells each
+    /// PDU that is whole then, and each remark. Returns `NoMemory` alone; after that it is used no
+    /// more.
     pub(crate) fn hear(
         &mut self,
-        alloc: Global,
         scene: Scene,
         connection: &Connection,
+        bytes: &[u8],
         fresh: &[u8],
-        out: &mut Vec<u8>,
-    ) -> Result<(), CapturesFault>
-        ensures appends { AppendsSome scene.form out.old.items out.new.items }
-    {
+        told: &mut Told,
+    ) -> Result<(), CapturesFault> {
         if self.standing == Standing::PassedOver {
             return Ok(());
         }
-        if scene.said.some && begins_before(connection) {
-            self.standing = Standing::PassedOver;
-            let connection = scene.number;
-            return Err(CapturesFault::Begun { connection });
+        self.last = Some(scene);
+        if scene.said.some && !self.is_begun && begins_before(connection) {
+            self.begin_late(scene, told)?;
         }
-        let initiator = connection.initiator();
-        let stop = connection.half(scene.said.side).stop;
+        let side = scene.said.side;
+        self.voice(side).keep(scene, connection.half(side), bytes)?;
         if self.standing == Standing::Shown {
-            let side = scene.said.side;
-            return self.say(alloc, scene, (side, side == initiator), stop, fresh, out);
+            self.say(scene, connection, side, fresh, told)?;
+            return self.follow(scene, connection, side, false, told);
         }
-        self.keep(scene.said.side, fresh)?;
-        let is_initiator = scene.said.side == initiator;
-        self.unheard.note(scene, is_initiator, !fresh.is_empty());
-        self.decide(connection);
-        match self.standing {
-            Standing::Undecided => Ok(()),
-            Standing::Shown => self.catch_up(alloc, scene, initiator, stop, out),
-            Standing::PassedOver => self.missed(scene.number, connection),
-        }
+        self.wait(scene, side, fresh)?;
+        self.decide(scene, connection, told)
     }
 
-    // Why the first byte of the initiator is missing, if it is and one of the ends has the port of
-    // iSCSI. Either the initiator's direction stopped or waits, or the byte was not captured, or
-    // the target alone was heard.
-    fn missed(&self, number: usize, connection: &Connection) -> Result<(), CapturesFault> {
-        let half = connection.half(connection.initiator());
-        if half.first_byte.is_some() || !has_port(connection) {
+    // Tells that the connection begins before the capture, if it is asked for. Else it is passed over.
+    fn begin_late(&mut self, scene: Scene, told: &mut Told) -> Result<(), CapturesFault> {
+        self.is_begun = true;
+        if !scene.asked {
+            self.standing = Standing::PassedOver;
             return Ok(());
         }
-        if let Some(cut) = self.unheard.cut {
-            return Err(cut);
-        }
-        if let Some(stop) = half.stopped() {
-            return Err(stop_fault(number, stop));
-        }
-        match self.unheard.kept_from {
-            0 => Ok(()),
-            packet => Err(stop_fault(number, Stop::Gap(0, packet))),
-        }
+        self.standing = Standing::Shown;
+        let connection = scene.number;
+        told.remark(self.alloc, scene, None, CapturesFault::Begun { connection })
     }
 
     // Keeps what an end said until it is known whether the connection is shown.
-    fn keep(&mut self, side: Side, fresh: &[u8]) -> Result<(), AllocError> {
-        match side {
-            Side::Lower => self.lower.pending.extend_from_slice(fresh),
-            Side::Upper => self.upper.pending.extend_from_slice(fresh),
-        }
-    }
-
-    // Decides by the initiator's first byte; too much from its target is no login either.
-    fn decide(&mut self, connection: &Connection) {
-        let side = connection.initiator();
-        let half = connection.half(side);
-        if half.first_byte.is_some() {
-            self.standing = if half.is_login() {
-                Standing::Shown
-            } else {
-                Standing::PassedOver
-            };
-        } else if self.lower.pending.len().max(self.upper.pending.len()) > MOST_PENDING {
-            self.standing = Standing::PassedOver;
-        }
+    fn wait(&mut self, scene: Scene, side: Side, fresh: &[u8]) -> Result<(), CapturesFault> {
         if self.standing == Standing::PassedOver {
-            self.lower.pending.clear();
-            self.upper.pending.clear();
-        }
-    }
-
-    // Appends what was kept of both ends, the initiator first.
-    fn catch_up(
-        &mut self,
-        alloc: Global,
-        scene: Scene,
-        initiator: Side,
-        stop: Option<Stop>,
-        out: &mut Vec<u8>,
-    ) -> Result<(), CapturesFault>
-        ensures appends { AppendsSome scene.form out.old.items out.new.items }
-    {
-        let lower = std::mem::replace(&mut self.lower.pending, Vec::new(alloc));
-        let upper = std::mem::replace(&mut self.upper.pending, Vec::new(alloc));
-        let target = initiator.other();
-        let (first, second) = match initiator {
-            Side::Lower => (&lower, &upper),
-            Side::Upper => (&upper, &lower),
-        };
-        let said = self.say(alloc, scene, (initiator, true), stop, first, out);
-        let answered = self.say(alloc, scene, (target, false), stop, second, out);
-        first_of(said, answered)
-    }
-
-    // Appends what an end said, the initiator or not.
-    fn say(
-        &mut self,
-        alloc: Global,
-        scene: Scene,
-        end: (Side, bool),
-        stop: Option<Stop>,
-        bytes: &[u8],
-        out: &mut Vec<u8>,
-    ) -> Result<(), CapturesFault>
-        ensures appends { AppendsSome scene.form out.old.items out.new.items }
-    {
-        let (side, is_initiator) = end;
-        let manner = Manner {
-            form: scene.form,
-            stamp: Some(self.stamp(scene, is_initiator)),
-        };
-        let said = match side {
-            Side::Lower => self
-                .lower
-                .say(alloc, manner, &mut self.requests, bytes, out),
-            Side::Upper => self
-                .upper
-                .say(alloc, manner, &mut self.requests, bytes, out),
-        };
-        let told = told(scene, side, stop, said);
-        if told.is_err() {
-            self.end_voice(side);
-        }
-        told
-    }
-
-    // Shows an end no further.
-    fn end_voice(&mut self, side: Side) {
-        match side {
-            Side::Lower => self.lower.ended = true,
-            Side::Upper => self.upper.ended = true,
-        }
-    }
-
-    // Where and when a segment was seen.
-    fn stamp(&self, scene: Scene, is_initiator: bool) -> Stamp {
-        Stamp {
-            connection: scene.number,
-            origin: if is_initiator {
-                Origin::Initiator
-            } else {
-                Origin::Target
-            },
-            nanoseconds: scene.nanoseconds.saturating_sub(self.began),
-            precise: scene.precise,
-            since_request: None,
-        }
-    }
-
-    /// What is wrong with the connection if the capture ends here: the first fault, that of the
-    /// initiator before that of the target. Of one that is not decided this is why the initiator's
-    /// first byte is missing.
-    pub(crate) fn end(
-        &mut self,
-        number: usize,
-        connection: &Connection,
-    ) -> Result<(), CapturesFault> {
-        match self.standing {
-            Standing::Undecided => return self.missed(number, connection),
-            Standing::PassedOver => return Ok(()),
-            Standing::Shown => {}
-        }
-        let side = connection.initiator();
-        let said = self.end_of(number, connection, side);
-        let answered = self.end_of(number, connection, side.other());
-        first_of(said, answered)
-    }
-
-    // What is wrong with a direction if the capture ends here.
-    fn end_of(
-        &mut self,
-        number: usize,
-        connection: &Connection,
-        side: Side,
-    ) -> Result<(), CapturesFault> {
-        let voice = match side {
-            Side::Lower => &mut self.lower,
-            Side::Upper => &mut self.upper,
-        };
-        if voice.ended {
             return Ok(());
         }
-        voice.ended = true;
-        if let Some(stop) = connection.half(side).stopped() {
-            return Err(stop_fault(number, stop));
+        if !fresh.is_empty() && self.kept_from == 0 {
+            self.kept_from = scene.packet;
         }
-        match voice.framer.finish() {
-            Ok(()) => Ok(()),
-            Err(fault) => Err(CapturesFault::Stream {
-                connection: number,
-                fault,
-            }),
-        }
+        Ok(self.voice(side).pending.extend_from_slice(fresh)?)
     }
-}
 
-/// The first fault of two.
-pub(crate) fn first_of(
-    first: Result<(), CapturesFault>,
-    second: Result<(), CapturesFault>,
-) -> Result<(), CapturesFault> {
-    match first {
-        Ok(()) => second,
-        Err(fault) => Err(fault),
-    }
-}
-
-// Why a direction goes no further after a segment: its stream, its bytes, or its capture.
-fn told(
-    scene: Scene,
-    side: Side,
-    stop: Option<Stop>,
-    passed: Result<bool, ToolFault>,
-) -> Result<(), CapturesFault> {
-    let connection = scene.number;
-    match passed {
-        Ok(false) => return Ok(()),
-        Ok(true) => {}
-        Err(ToolFault::Stream(fault)) => {
-            return Err(CapturesFault::Stream { connection, fault });
+    // Decides by the initiator's first byte. Where it is missing, the connection is shown if it is
+    // asked for; else too much of its target is no login either.
+    fn decide(
+        &mut self,
+        scene: Scene,
+        connection: &Connection,
+        told: &mut Told,
+    ) -> Result<(), CapturesFault> {
+        if self.standing == Standing::PassedOver {
+            return Ok(());
         }
-        Err(_) => return Err(CapturesFault::NoMemory),
+        let half = connection.half(connection.initiator());
+        let much = self.lower.pending.len().max(self.upper.pending.len()) > MOST_PENDING;
+        if half.first_byte.is_none() && half.stop.is_none() && !much {
+            return Ok(());
+        }
+        if half.is_login() || (half.first_byte.is_none() && scene.asked) {
+            return self.catch_up(scene, connection, false, told);
+        }
+        self.standing = Standing::PassedOver;
+        self.lower = Voice::new(self.alloc);
+        self.upper = Voice::new(self.alloc);
+        Ok(())
     }
-    if side != scene.said.side {
-        return Ok(());
+
+    // Shows what was kept of both ends, the initiator first.
+    fn catch_up(
+        &mut self,
+        scene: Scene,
+        connection: &Connection,
+        at_end: bool,
+        told: &mut Told,
+    ) -> Result<(), CapturesFault> {
+        self.standing = Standing::Shown;
+        let initiator = connection.initiator();
+        for side in [initiator, initiator.other()] {
+            let alloc = self.alloc;
+            let pending = std::mem::replace(&mut self.voice(side).pending, Vec::new(alloc));
+            self.say(scene, connection, side, &pending, told)?;
+            self.follow(scene, connection, side, at_end, told)?;
+        }
+        Ok(())
     }
-    if let Some(stop) = stop {
-        return Err(stop_fault(connection, stop));
+
+    // What an end said.
+    fn voice(&mut self, side: Side) -> &mut Voice {
+        match side {
+            Side::Lower => &mut self.lower,
+            Side::Upper => &mut self.upper,
+        }
     }
-    if scene.is_cut {
-        let (at, packet) = (scene.at, scene.packet);
-        return Err(CapturesFault::Cut { at, packet });
+
+    // Who speaks at an end.
+    fn speaker(&self, connection: &Connection, side: Side) -> Speaker {
+        let (origin, other) = if side == connection.initiator() {
+            (Origin::Initiator, Origin::Target)
+        } else {
+            (Origin::Target, Origin::Initiator)
+        };
+        let numbers = match side {
+            Side::Lower => self.upper.numbers(other),
+            Side::Upper => self.lower.numbers(other),
+        };
+        Speaker {
+            origin,
+            began: self.began,
+            late: starts_late(connection.half(side)),
+            is_begun: self.is_begun,
+            other: numbers,
+        }
     }
-    Ok(())
+
+    // Tells what an end said.
+    fn say(
+        &mut self,
+        scene: Scene,
+        connection: &Connection,
+        side: Side,
+        bytes: &[u8],
+        told: &mut Told,
+    ) -> Result<(), CapturesFault> {
+        let speaker = self.speaker(connection, side);
+        match side {
+            Side::Lower => self
+                .lower
+                .say(speaker, scene, bytes, &mut self.requests, told),
+            Side::Upper => self
+                .upper
+                .say(speaker, scene, bytes, &mut self.requests, told),
+        }
+    }
+
+    // Follows an end past missing bytes.
+    fn follow(
+        &mut self,
+        scene: Scene,
+        connection: &Connection,
+        side: Side,
+        at_end: bool,
+        told: &mut Told,
+    ) -> Result<(), CapturesFault> {
+        let speaker = self.speaker(connection, side);
+        let half = connection.half(side);
+        match side {
+            Side::Lower => self
+                .lower
+                .follow(speaker, scene, half, at_end, &mut self.requests, told),
+            Side::Upper => self
+                .upper
+                .follow(speaker, scene, half, at_end, &mut self.requests, told),
+        }
+    }
+
+    /// Tells what is due if the capture ends here: segments that wait for missing bytes, and what is
+    /// wrong with each direction. Of a connection that is not decided this is why the initiator's
+    /// first byte is missing, if it is asked for.
+    pub(crate) fn end(
+        &mut self,
+        connection: &Connection,
+        told: &mut Told,
+    ) -> Result<(), CapturesFault> {
+        let Some(scene) = self.last else {
+            return Ok(());
+        };
+        if self.standing == Standing::Undecided && scene.asked {
+            self.end_undecided(scene, connection, told)?;
+        }
+        if self.standing != Standing::Shown {
+            return Ok(());
+        }
+        let initiator = connection.initiator();
+        for side in [initiator, initiator.other()] {
+            self.follow(scene, connection, side, true, told)?;
+            let speaker = self.speaker(connection, side);
+            self.voice(side).end(speaker, scene, told)?;
+        }
+        Ok(())
+    }
+
+    // Shows what the initiator said behind its missing first byte; if that is nothing, its byte is
+    // told missing where its target spoke.
+    fn end_undecided(
+        &mut self,
+        scene: Scene,
+        connection: &Connection,
+        told: &mut Told,
+    ) -> Result<(), CapturesFault> {
+        let initiator = connection.initiator();
+        if self.voice(initiator).keeps() {
+            return self.catch_up(scene, connection, true, told);
+        }
+        if self.kept_from == 0 {
+            return Ok(());
+        }
+        let gap = stop_fault(scene.number, Stop::Gap(0, self.kept_from));
+        told.remark(self.alloc, scene, Some(Origin::Initiator), gap)
+    }
 }
 
 /// Whether one of the ends has the port of iSCSI.

@@ -1,3 +1,4 @@
+pub mod Lining
 pub mod Noting
 pub mod Passing
 pub mod Reading

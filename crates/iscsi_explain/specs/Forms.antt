@@ -19,12 +19,19 @@ abbrev pub notes_from : List (List ℕ) → List ℕ
 notes_from [] = []
 notes_from (text ∷ texts) = note text ++ notes_from texts
 
+-- The line of a PDU, with what a capture says at its end of bytes that are missing.
+pub record IsEntryLine (line : List ℕ) : Type 0 where
+  pub text : List ℕ
+  pub end : List ℕ
+  pub is_line : IsShownLine (text ++ 10 ∷ [])
+  pub whole : line ≡ text ++ (map printable end ++ 10 ∷ [])
+
 -- The line of a PDU stands there, with what a capture says of it before it and these notes under it.
 -- So the lines of notes are those that begin with a space.
 pub record IsText (texts : List (List ℕ)) (entry : List ℕ) : Type 0 where
   pub front : List ℕ
   pub line : List ℕ
-  pub is_line : IsShownLine line
+  pub is_line : IsEntryLine line
   pub whole : entry ≡ map printable front ++ (line ++ notes_from texts)
 
 -- JSON text without spaces between its tokens (RFC 8259)
@@ -37,3 +44,10 @@ IsPduEntry forms.Line entry = IsText [] entry
 IsPduEntry forms.Explained entry = (texts : List (List ℕ)) × IsText texts entry
 IsPduEntry forms.Json entry = (text : List ℕ) × IsObject text × (entry ≡ text ++ 10 ∷ [])
 IsPduEntry forms.ExplainedJson entry = (text : List ℕ) × IsObject text × (entry ≡ text ++ 10 ∷ [])
+
+-- what is written of a remark: in the forms of lines nothing, since it is told elsewhere
+abbrev pub IsRemarkEntry : Form → List ℕ → Type 0
+IsRemarkEntry forms.Line entry = entry ≡ []
+IsRemarkEntry forms.Explained entry = entry ≡ []
+IsRemarkEntry forms.Json entry = (text : List ℕ) × IsObject text × (entry ≡ text ++ 10 ∷ [])
+IsRemarkEntry forms.ExplainedJson entry = (text : List ℕ) × IsObject text × (entry ≡ text ++ 10 ∷ [])

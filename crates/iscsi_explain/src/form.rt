@@ -1,6 +1,6 @@
 //! What is written of a PDU, in each form.
 
-ghost use Rattle.std.specs.Prelude.{◌≡◌, ◌++◌, ◌∷◌, [], IfOk, OnOk, OnErr, map, ℕ, List};
+ghost use Rattle.std.specs.Prelude.{◌≡◌, ◌++◌, ◌∷◌, ◌-◌, [], IfOk, OnOk, OnErr, length, map, take, ℕ, List};
 ghost use Rattle.iscsi_pdu.specs.Meaning.{HeadFits};
 ghost use Rattle.iscsi_explain.specs.Forms.{IsPduEntry, IsObject, IsText, printable};
 
@@ -77,8 +77,24 @@ fn front_of(alloc: Global, stamp: Option<Stamp>) -> Result<Vec<u8>, AllocError>
     }
 }
 
-// The line of a PDU, and what a capture says of it before.
+// The line of a PDU, and what a capture says of it before and behind.
 fn line_of(
+    alloc: Global,
+    stamp: Option<Stamp>,
+    place: u64,
+    pdu: &Pdu<'_>,
+) -> Result<Vec<u8>, AllocError>
+    requires { HeadFits pdu.now.head }
+    ensures text { IfOk result (λ line. IsText [] line.items) }
+{
+    match stamp {
+        Some(stamp) if stamp.missing > 0 => cut_line_of(alloc, stamp, place, pdu),
+        _ => whole_line_of(alloc, stamp, place, pdu),
+    }
+}
+
+// The line of a PDU, and what a capture says of it before.
+fn whole_line_of(
     alloc: Global,
     stamp: Option<Stamp>,
     place: u64,
@@ -90,6 +106,35 @@ fn line_of(
     let mut entry = front_of(alloc, stamp)?;
     show_line(place, pdu, &mut entry)?;
     Ok(entry)
+}
+
+// The same of a PDU of which bytes are missing: at the end stands how many were captured.
+fn cut_line_of(
+    alloc: Global,
+    stamp: Stamp,
+    place: u64,
+    pdu: &Pdu<'_>,
+) -> Result<Vec<u8>, AllocError>
+    requires { HeadFits pdu.now.head }
+    ensures text { IfOk result (λ line. IsText [] line.items) }
+{
+    let mut entry = front_of(alloc, Some(stamp))?;
+    let mut line = Vec::new(alloc);
+    show_line(place, pdu, &mut line)?;
+    let end = stamp.end(alloc, pdu.bytes.len())?;
+    let end = printed(alloc, end.as_bytes())?;
+    append_cut(line.as_slice(), end.as_slice(), &mut entry)?;
+    Ok(entry)
+}
+
+// Appends a line with an end put in before the byte that ends it.
+fn append_cut(line: &[u8], end: &[u8], entry: &mut Vec<u8>) -> Result<(), AllocError>
+    ensures { OnOk result (entry.new.items
+        ≡ ((entry.old.items ++ take (length line.now - 1) line.now) ++ end.now) ++ 10 ∷ []) }
+{
+    entry.extend_from_slice(&line[..line.len().saturating_sub(1)])?;
+    entry.extend_from_slice(end)?;
+    Ok(entry.push(b'\n')?)
 }
 
 // The line of a PDU with its notes.

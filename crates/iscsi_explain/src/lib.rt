@@ -6,6 +6,7 @@ mod form;
 mod iscsi_words;
 mod notes;
 mod objects;
+mod remarks;
 mod requests;
 mod sense;
 mod stamp;
@@ -14,6 +15,7 @@ mod writing;
 
 pub use form::{Form, write_pdu};
 pub use notes::notes_of;
+pub use remarks::{Remark, write_remark};
 pub use requests::Requests;
 pub use stamp::{Origin, Stamp};
 pub use stream::{Manner, pass_on, show_in_form};

@@ -23,16 +23,23 @@ pub fn notes_of(alloc: Global, pdu: &Pdu<'_>) -> Result<Vec<String>, AllocError>
     Ok(notes)
 }
 
-/// The notes of a PDU, that of the time from its request last.
+/// The notes of a PDU, that of the time from its request last. Where bytes of its segment are
+/// missing, what the segment says is left out.
 pub(crate) fn all_notes(
     alloc: Global,
     stamp: Option<Stamp>,
     pdu: &Pdu<'_>,
 ) -> Result<Vec<String>, AllocError> {
-    let mut notes = notes_of(alloc, pdu)?;
-    if let Some(stamp) = stamp {
-        add_elapsed(alloc, &stamp, &mut notes)?;
-    }
+    let Some(stamp) = stamp else {
+        return notes_of(alloc, pdu);
+    };
+    let bytes = if stamp.missing > 0 { &[] } else { pdu.bytes };
+    let known = Pdu {
+        head: pdu.head,
+        bytes,
+    };
+    let mut notes = notes_of(alloc, &known)?;
+    add_elapsed(alloc, &stamp, &mut notes)?;
     Ok(notes)
 }
 

@@ -5,6 +5,7 @@ ghost use Rattle.iscsi_pdu.specs.Meaning.{HeadFits};
 ghost use Rattle.iscsi_explain.specs.Forms.{IsObject};
 
 use crate::notes::all_notes;
+use crate::remarks::Remark;
 use crate::stamp::{Origin, Stamp, seconds};
 use iscsi_pdu::Pdu;
 use iscsi_stream::show_line;
@@ -13,8 +14,8 @@ use std::alloc::{AllocError, Global};
 
 /// The object of a PDU: its place, its kind, and each field of its line by the line's name. A value
 /// of up to four bytes is a number; `lun`, `isid` and `cdb` are the line's digits as a string, and
-/// so is a place of 2^53 or more. A PDU of a capture has its connection, its origin and its time as
-/// a string of seconds, too. With notes they are an array of strings, `explain`.
+/// so is a place of 2^53 or more. A PDU of a capture has its connection, its origin, its packet and
+/// its times as strings of seconds, too. With notes they are an array of strings, `explain`.
 pub(crate) fn object_of(
     alloc: Global,
     explained: bool,
@@ -44,6 +45,7 @@ fn put_members(
     put_line(alloc, place, pdu, map)?;
     if let Some(stamp) = stamp {
         put_stamp(alloc, &stamp, map)?;
+        put_captured(alloc, &stamp, pdu.bytes.len(), map)?;
     }
     if explained {
         put_notes(alloc, stamp, pdu, map)
@@ -139,14 +141,41 @@ fn value_of(digits: &[u8], base: u64) -> u64 {
     value
 }
 
-// Puts where and when the PDU was seen.
-fn put_stamp(alloc: Global, stamp: &Stamp, map: &mut Map<String, Value>) -> Result<(), AllocError> {
-    let origin = match stamp.origin {
+// Puts how much of a segment was captured, if not all was, and that its place was assumed.
+fn put_captured(
+    alloc: Global,
+    stamp: &Stamp,
+    len: usize,
+    map: &mut Map<String, Value>,
+) -> Result<(), AllocError> {
+    if stamp.missing > 0 {
+        put_number(alloc, map, "captured", stamp.captured(len))?;
+    }
+    if stamp.assumed {
+        return put(alloc, map, "assumed", Value::Bool(true));
+    }
+    Ok(())
+}
+
+// Puts which end sent what is told.
+fn put_origin(
+    alloc: Global,
+    origin: Origin,
+    map: &mut Map<String, Value>,
+) -> Result<(), AllocError> {
+    let origin = match origin {
         Origin::Initiator => "initiator",
         Origin::Target => "target",
     };
+    put_text(alloc, map, "from", origin)
+}
+
+// Puts where and when the PDU was seen.
+fn put_stamp(alloc: Global, stamp: &Stamp, map: &mut Map<String, Value>) -> Result<(), AllocError> {
     put_number(alloc, map, "connection", stamp.connection as u64)?;
-    put_text(alloc, map, "from", origin)?;
+    put_origin(alloc, stamp.origin, map)?;
+    put_number(alloc, map, "packet", stamp.packet)?;
+    put_time(alloc, map, "epoch", stamp.epoch, stamp.precise)?;
     put_time(alloc, map, "time", stamp.nanoseconds, stamp.precise)?;
     match stamp.since_request {
         Some(since) => put_time(alloc, map, "after", since, stamp.precise),
@@ -176,4 +205,48 @@ fn put_notes(
     let notes = all_notes(alloc, stamp, pdu)?;
     let values = notes.into_iter().map(Value::String).collect(alloc)?;
     put(alloc, map, "explain", Value::Array(values))
+}
+
+/// The object of a remark: its kind, and what of it is known. `text` is its line.
+pub(crate) fn remark_object(
+    alloc: Global,
+    remark: &Remark,
+    text: &str,
+) -> Result<Vec<u8>, AllocError>
+    ensures object { IfOk result (λ bytes. IsObject bytes.items) }
+{
+    let mut map = Map::new(alloc);
+    put_remark(alloc, remark, text, &mut map)?;
+    Value::Object(map).to_vec(alloc)
+}
+
+// Puts what is known of a remark.
+fn put_remark(
+    alloc: Global,
+    remark: &Remark,
+    text: &str,
+    map: &mut Map<String, Value>,
+) -> Result<(), AllocError> {
+    put_text(alloc, map, "kind", remark.kind)?;
+    put_text(alloc, map, "text", text)?;
+    put_some(alloc, map, "connection", remark.connection)?;
+    put_some(alloc, map, "place", remark.place)?;
+    put_some(alloc, map, "packet", remark.packet)?;
+    match remark.origin {
+        Some(origin) => put_origin(alloc, origin, map),
+        None => Ok(()),
+    }
+}
+
+// Puts a number that is known.
+fn put_some(
+    alloc: Global,
+    map: &mut Map<String, Value>,
+    name: &str,
+    value: Option<u64>,
+) -> Result<(), AllocError> {
+    match value {
+        Some(value) => put_number(alloc, map, name, value),
+        None => Ok(()),
+    }
 }

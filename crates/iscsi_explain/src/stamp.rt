@@ -18,12 +18,22 @@ pub struct Stamp {
     pub connection: usize,
     /// Who sent it.
     pub origin: Origin,
-    /// Nanoseconds from the connection's first packet to the packet that completed it.
+    /// The packet that completed it, by its number from 1.
+    pub packet: u64,
+    /// When that packet was captured, in nanoseconds from 1970 on.
+    pub epoch: u64,
+    /// Nanoseconds from the connection's first packet to that packet.
     pub nanoseconds: u64,
     /// Whether times have nine digits, as in a file with nanoseconds, or six.
     pub precise: bool,
     /// Nanoseconds from the request to this PDU, if it is the response to one that was seen.
     pub since_request: Option<u64>,
+    /// How many bytes of its direction stand before those that are read as a stream of its own.
+    pub from: u64,
+    /// Whether that stream begins at a place that was assumed.
+    pub assumed: bool,
+    /// How many bytes of its segment were not captured; those stand as 0.
+    pub missing: u64,
 }
 
 /// A time in seconds, with six or nine digits behind the point.
@@ -43,7 +53,7 @@ pub(crate) fn seconds(
 
 impl Stamp {
     /// What stands before the line of the PDU: the connection, the time, and `>` from the initiator
-    /// or `<` from the target.
+    /// or `<` from the target. Behind it stands `?` where the beginning was assumed.
     pub(crate) fn front(&self, alloc: Global) -> Result<String, AllocError> {
         let connection = self.connection;
         let time = seconds(alloc, self.nanoseconds, self.precise)?;
@@ -51,7 +61,20 @@ impl Stamp {
             Origin::Initiator => '>',
             Origin::Target => '<',
         };
-        format!(in alloc; "{connection} {time} {arrow} ")
+        let mark = if self.assumed { "?" } else { "" };
+        format!(in alloc; "{connection} {time} {arrow}{mark} ")
+    }
+
+    /// What stands at the end of the line of a PDU of which bytes are missing, whose segment has this
+    /// length.
+    pub(crate) fn end(&self, alloc: Global, len: usize) -> Result<String, AllocError> {
+        let captured = self.captured(len);
+        format!(in alloc; " captured={captured}")
+    }
+
+    /// How many bytes were captured of its segment, which has this length.
+    pub(crate) fn captured(&self, len: usize) -> u64 {
+        (len as u64).saturating_sub(self.missing)
     }
 
     /// The note of how long the request took, if this is its response.

@@ -21,6 +21,16 @@ pub struct Manner {
     pub stamp: Option<Stamp>,
 }
 
+impl Manner {
+    // How many bytes stand before the stream that is read, in the places that are told.
+    fn from(&self) -> u64 {
+        match self.stamp {
+            Some(stamp) => stamp.from,
+            None => 0,
+        }
+    }
+}
+
 /// Reads a stream to its end, and writes each PDU in a form; what the PDUs of one read give goes out
 /// in one write.
 ///
@@ -104,7 +114,8 @@ fn append_ready(
         return Ok(());
     };
     let stamp = requests.stamped(manner.stamp, &pdu.head);
-    write_pdu(alloc, manner.form, stamp, framer.place(), &pdu, out)?;
+    let place = framer.place().saturating_add(manner.from());
+    write_pdu(alloc, manner.form, stamp, place, &pdu, out)?;
     framer.take();
     Ok(())
 }

@@ -1,5 +1,5 @@
 -- What a job over a capture writes.
-use Rattle.std.specs.Prelude.{◌≡◌, ◌⊎◌, ℕ, List, [], Result, OnOk, IsOk, MatchResult}
+use Rattle.std.specs.Prelude.{◌≡◌, ◌⊎◌, ℕ, List, [], Result, Ok, Err, OnOk, IsOk, MatchResult}
 use Rattle.iscsi_captures.specs.declared.fault.CapturesFault.{CapturesFault}
 use Rattle.iscsi_pdu.specs.Meaning.{AreBytes}
 use Rattle.iscsi_stream.specs.declared.counts.Counts.{Counts}
@@ -16,15 +16,20 @@ use Rattle.iscsi_words.specs.declared.capture_words.CaptureWork.TheVariants.{Lis
 abbrev pub CaptureOutcome : Type 0
 CaptureOutcome = Result (Unit {0}) CapturesFault
 
--- Lines are written as show writes them for the bytes of a stream, or nothing.
+-- Nothing was written, and the job failed.
+abbrev pub WritesNothing : CaptureOutcome → List ℕ → Type 0
+WritesNothing (Ok done) written = ⊥
+WritesNothing (Err fault) written = written ≡ []
+
+-- Lines are written as show writes them for the bytes of a stream, or nothing with a fault.
 abbrev pub ShowsCaptured : CaptureOutcome → List ℕ → Type 0
-ShowsCaptured ends written = (written ≡ [])
+ShowsCaptured ends written = WritesNothing ends written
     ⊎ ((said : Result Counts ToolFault) × (bytes : List ℕ) × AreBytes bytes
     × ShowPost said bytes written × (IsOk ends → IsOk said))
 
--- A canonical stream is written as normalise writes it for the bytes of a stream, or nothing.
+-- A canonical stream is written as normalise writes it for the bytes of a stream, or nothing with a fault.
 abbrev pub NormalisesCaptured : CaptureOutcome → List ℕ → Type 0
-NormalisesCaptured ends written = (written ≡ [])
+NormalisesCaptured ends written = WritesNothing ends written
     ⊎ ((said : Result Counts ToolFault) × (bytes : List ℕ) × AreBytes bytes
     × MatchResult said (λ counts. IsNormalised counts bytes written)
     (λ fault. WritesUntil IsCanonical fault bytes written)
@@ -35,9 +40,9 @@ abbrev pub TellsCaptured : Form → CaptureOutcome → List ℕ → Type 0
 TellsCaptured form ends written =
     OnOk ends ((bytes : List ℕ) × (ms : List Message) × StreamMeans bytes ms × AreEntries form ms written)
 
--- A target's answers are written as `answer` writes them for the bytes of a stream, or nothing.
+-- A target's answers are written as `answer` writes them for the bytes of a stream, or nothing with a fault.
 abbrev pub AnswersCaptured : ℕ → CaptureOutcome → List ℕ → Type 0
-AnswersCaptured blocks ends written = (written ≡ [])
+AnswersCaptured blocks ends written = WritesNothing ends written
     ⊎ ((said : Result (Unit {0}) ToolFault) × (bytes : List ℕ)
     × AnswersBytes blocks said bytes written × (IsOk ends → IsOk said))
 

@@ -10,8 +10,8 @@ ghost use Rattle.iscsi_tool.specs.inner.Capturing.{not_opened, not_read};
 
 use crate::answering::answer;
 use iscsi_captures::{
-    Captured, CapturesFault, End, Wanted, list_connections, normalise_captured, show_capture,
-    show_captured, tell_captured,
+    Captured, CapturesFault, End, Showing, Wanted, list_connections, normalise_captured,
+    show_capture, show_captured, tell_captured,
 };
 use iscsi_explain::Form;
 use iscsi_stream::ToolFault;
@@ -33,13 +33,13 @@ pub(crate) fn run_capture<W: Write>(
 {
     if job.file == STDIN {
         let mut input = rt.stdin();
-        return capture_from(rt.alloc(), job.work, &mut input, w);
+        return capture_from(rt, job, &mut input, w);
     }
     let mut input = match fs::open(rt, job.file) {
         Ok(input) => input,
         Err(error) => return Err(not_opened(error.kind())),
     };
-    capture_from(rt.alloc(), job.work, &mut input, w)
+    capture_from(rt, job, &mut input, w)
 }
 
 /// Why a file is not opened, by the kind of the system's error.
@@ -62,18 +62,23 @@ pub(crate) fn not_read(fault: Option<CapturesFault>, connection: usize) -> Captu
 
 // Runs a job over the capture that a reader gives.
 fn capture_from<R: Read, W: Write>(
-    alloc: Global,
-    work: CaptureWork,
+    rt: &HostRuntime,
+    job: CaptureJob<'_>,
     source: &mut R,
     w: &mut W,
 ) -> Result<(), CapturesFault>
-    requires work { CanWork work }
+    requires work { CanWork job.work }
     ensures writes { (written : List ℕ) × Appends (W.contents w.old) (W.contents w.new) written
-        × WritesCapture work result written }
+        × WritesCapture job.entry.work result written }
 {
-    match work {
+    let alloc = rt.alloc();
+    match job.work {
         CaptureWork::List => list_connections(alloc, source, w),
-        CaptureWork::ShowAll { form, only } => show_capture(alloc, form, only, source, w),
+        CaptureWork::ShowAll { form, only } => {
+            let name = job.blamed(CapturesFault::NoSession).unwrap_or(job.file);
+            let showing = Showing { form, only, name };
+            show_capture(alloc, showing, source, w, &mut rt.stderr())
+        }
         CaptureWork::Tell(wanted, form) => tell_from(alloc, source, wanted, form, w),
         CaptureWork::Answer { connection, blocks } => answer_from(
             alloc, source, connection, blocks, w,

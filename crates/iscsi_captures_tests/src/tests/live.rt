@@ -4,7 +4,7 @@ use super::bytes_of;
 use super::captures::WHOLE;
 use super::interleaved::{LOGIN_LINE, PING_LINE};
 use crate::asserts::same;
-use iscsi_captures::show_capture;
+use iscsi_captures::{Showing, show_capture};
 use iscsi_explain::Form;
 use std::alloc::Global;
 use std::cell::Cell;
@@ -101,7 +101,13 @@ fn is_shown_at_once(rt: &impl Abort, alloc: Global, file: &[u8], ends: &[usize])
         taken: Vec::new(alloc),
         written: &written,
     };
-    let result = show_capture(alloc, Form::Line, None, &mut pipe, &mut seen);
+    let mut lines = Vec::new(alloc);
+    let showing = Showing {
+        form: Form::Line,
+        only: None,
+        name: "a",
+    };
+    let result = show_capture(alloc, showing, &mut pipe, &mut seen, &mut lines);
     same(rt, &result, &Ok(()), &ends);
     same(rt, &seen.taken.len(), &DUE.1, &ends);
     same(rt, &pipe.early, &0, &ends);

@@ -9,6 +9,6 @@ returns-in-Err g c = record {
     [],
     Consumes-nil (g.R.Read.remaining c.args.r.now),
     Appends-nil (g.W.Write.contents c.args.w.now),
-    (Err c.in-Err.fault, c.in-Err.ensures.unasked, (refl, refl, refl)),
+    (Err c.in-Err.fault, c.in-Err.ensures.unasked, tt, (refl, refl, refl)),
   );
 }

@@ -1,0 +1,272 @@
+//! The PDUs of one direction, of which bytes may be missing.
+
+ghost use Rattle.std.specs.Prelude.{◌≡◌, ℕ, List, drop, OnOk, OnErr};
+ghost use Rattle.iscsi_stream.specs.Stream.{Message, longest_segment};
+ghost use Rattle.iscsi_stream.specs.Framing.{opening_framing};
+ghost use Rattle.iscsi_explain.specs.Showing.{AppendsSome, PassesEntries};
+
+use crate::search::{Numbers, Search, numbers_of};
+use crate::walk::Walk;
+use iscsi_explain::{Manner, Origin, Requests, Stamp, pass_on};
+use iscsi_stream::{Framer, LONGEST_SEGMENT, StreamFault, ToolFault};
+use std::alloc::{AllocError, Global};
+
+/// What is read of one direction.
+#[derive(Drop)]
+pub(crate) struct Reading {
+    alloc: Global,
+    framer: Framer,
+    walk: Walk,
+    // where the next PDU is looked for, while its place is not known
+    search: Search,
+    is_searching: bool,
+    // whether nothing of the direction went by before what is searched
+    at_start: bool,
+    // how many bytes of the direction stand before the framer's first
+    from: u64,
+    assumed: bool,
+    // how many bytes of the PDU that is begun are missing
+    missing: u64,
+    // how many bytes of the direction were taken or are missing
+    at: u64,
+}
+
+impl Reading {
+    /// A direction before its first byte, where its first PDU begins. It takes no memory.
+    pub(crate) fn new(alloc: Global) -> Reading {
+        Reading {
+            alloc,
+            framer: Framer::new(alloc, LONGEST_SEGMENT),
+            walk: Walk::new(),
+            search: Search::new(alloc),
+            is_searching: false,
+            at_start: true,
+            from: 0,
+            assumed: false,
+            missing: 0,
+            at: 0,
+        }
+    }
+
+    /// How many bytes of the direction were taken or are missing.
+    pub(crate) fn at(&self) -> u64 {
+        self.at
+    }
+
+    /// Whether the place of the next PDU is not known.
+    pub(crate) fn is_searching(&self) -> bool {
+        self.is_searching
+    }
+
+    /// The offset of the byte from which on PDUs are read, if that place was assumed.
+    pub(crate) fn assumed_from(&self) -> Option<u64> {
+        if self.assumed { Some(self.from) } else { None }
+    }
+
+    /// The numbers of the last header.
+    pub(crate) fn numbers(&self, origin: Origin) -> Option<Numbers> {
+        if self.is_searching {
+            return None;
+        }
+        Some(numbers_of(self.walk.header()?, origin))
+    }
+
+    /// Bytes behind this one begin no PDU that is known: the next one is looked for.
+    pub(crate) fn lose(&mut self) {
+        self.is_searching = true;
+        self.missing = 0;
+        self.search.clear();
+    }
+
+    /// Looks for a PDU in what is held and in more bytes, and says how many bytes stand before it. A
+    /// login at the first byte of the direction is one; the place of each other one is assumed.
+    pub(crate) fn look(
+        &mut self,
+        origin: Origin,
+        other: Option<Numbers>,
+        bytes: &[u8],
+    ) -> Result<Option<usize>, AllocError> {
+        self.search.take(bytes)?;
+        self.at = self.at.saturating_add(bytes.len() as u64);
+        let start = self.at.saturating_sub(self.search.len() as u64);
+        if self.at_start && self.search.begins_with_login(origin) {
+            self.from = start;
+            self.assumed = false;
+            return Ok(Some(0));
+        }
+        let Some(place) = self.search.find(origin, other)? else {
+            if self.search.shorten()? > 0 {
+                self.at_start = false;
+            }
+            return Ok(None);
+        };
+        self.from = start.saturating_add(place as u64);
+        self.assumed = true;
+        Ok(Some(place))
+    }
+
+    /// Reads on where a PDU was found: appends the PDUs that are whole in what is held.
+    #[tactic(auto, using(crate::proofs::Shown::some_none, crate::proofs::Shown::some_passed))]
+    pub(crate) fn begin(
+        &mut self,
+        manner: Manner,
+        requests: &mut Requests,
+        place: usize,
+        out: &mut Vec<u8>,
+    ) -> Result<(), ToolFault>
+        ensures appends { AppendsSome manner.form out.old.items out.new.items }
+    {
+        let search = std::mem::replace(&mut self.search, Search::new(self.alloc));
+        let rest = search.from(place);
+        self.walk = Walk::new();
+        self.walk.take(rest);
+        self.is_searching = false;
+        self.at_start = false;
+        self.missing = 0;
+        let manner = self.marked(manner);
+        begin_stream(self.alloc, manner, requests, &mut self.framer, rest, out)
+    }
+
+    /// Reads more bytes, where the place of the next PDU is known: appends those that are whole.
+    #[tactic(auto, using(crate::proofs::Shown::some_none, crate::proofs::Shown::some_passed, crate::proofs::Shown::some_then))]
+    pub(crate) fn read(
+        &mut self,
+        manner: Manner,
+        requests: &mut Requests,
+        bytes: &[u8],
+        out: &mut Vec<u8>,
+    ) -> Result<(), ToolFault>
+        ensures appends { AppendsSome manner.form out.old.items out.new.items }
+    {
+        if self.missing == 0 {
+            return self.pass(manner, requests, bytes, out);
+        }
+        let left = self.walk.left().min(bytes.len());
+        self.pass(manner, requests, &bytes[..left], out)?;
+        if self.walk.left() > 0 {
+            return Ok(());
+        }
+        self.missing = 0;
+        self.pass(manner, requests, &bytes[left..], out)
+    }
+
+    // Passes bytes to the framer.
+    #[tactic(auto, using(crate::proofs::Shown::some_none, crate::proofs::Shown::some_passed))]
+    fn pass(
+        &mut self,
+        manner: Manner,
+        requests: &mut Requests,
+        bytes: &[u8],
+        out: &mut Vec<u8>,
+    ) -> Result<(), ToolFault>
+        ensures appends { AppendsSome manner.form out.old.items out.new.items }
+    {
+        self.at = self.at.saturating_add(bytes.len() as u64);
+        self.walk.take(bytes);
+        let manner = self.marked(manner);
+        pass_on(self.alloc, manner, requests, &mut self.framer, bytes, out)
+    }
+
+    /// Passes over bytes that are missing. Where all of them lie in the segment that is begun, 0
+    /// stands for each, and the next PDU is known. Else it is looked for.
+    #[tactic(auto, using(crate::proofs::Shown::some_none))]
+    pub(crate) fn skip(
+        &mut self,
+        manner: Manner,
+        requests: &mut Requests,
+        count: u32,
+        out: &mut Vec<u8>,
+    ) -> Result<(), ToolFault>
+        ensures appends { AppendsSome manner.form out.old.items out.new.items }
+    {
+        let count = count as usize;
+        if !self.is_searching && count <= self.walk.left() {
+            self.missing = self.missing.saturating_add(count as u64);
+            return self.fill(manner, requests, count, out);
+        }
+        self.at = self.at.saturating_add(count as u64);
+        self.at_start = false;
+        self.lose();
+        Ok(())
+    }
+
+    // Takes zeros for missing bytes of the segment that is begun.
+    #[tactic(auto, using(crate::proofs::Shown::some_none))]
+    fn fill(
+        &mut self,
+        manner: Manner,
+        requests: &mut Requests,
+        count: usize,
+        out: &mut Vec<u8>,
+    ) -> Result<(), ToolFault>
+        ensures appends { AppendsSome manner.form out.old.items out.new.items }
+    {
+        let zeros = vec![in self.alloc; 0u8; count]?;
+        self.pass(manner, requests, &zeros, out)?;
+        if self.walk.left() == 0 {
+            self.missing = 0;
+        }
+        Ok(())
+    }
+
+    // How PDUs are written, with what is known of their places and of missing bytes.
+    fn marked(&self, manner: Manner) -> Manner
+        ensures form { result.form ≡ manner.form }
+    {
+        let stamp = match manner.stamp {
+            Some(stamp) => Some(Stamp {
+                from: self.from,
+                assumed: self.assumed,
+                missing: self.missing,
+                ..stamp
+            }),
+            None => None,
+        };
+        Manner {
+            form: manner.form,
+            stamp,
+        }
+    }
+
+    /// A fault of the stream, with its place counted from the direction's first byte.
+    pub(crate) fn moved(&self, fault: StreamFault) -> StreamFault {
+        match fault {
+            StreamFault::Head(head, place) => {
+                StreamFault::Head(head, place.saturating_add(self.from))
+            }
+            StreamFault::OverLimit(place) => StreamFault::OverLimit(place.saturating_add(
+                self.from,
+            )),
+            StreamFault::Truncated(place) => StreamFault::Truncated(place.saturating_add(
+                self.from,
+            )),
+            fault => fault,
+        }
+    }
+
+    /// Ends the direction: `Truncated` where a PDU is begun, and no more is known of it.
+    pub(crate) fn finish(&mut self) -> Result<(), StreamFault> {
+        if self.is_searching {
+            return Ok(());
+        }
+        self.framer.finish()
+    }
+}
+
+// Reads bytes as a stream of its own: the entries are those of the PDUs that `show` has of them.
+fn begin_stream(
+    alloc: Global,
+    manner: Manner,
+    requests: &mut Requests,
+    framer: &mut Framer,
+    bytes: &[u8],
+    out: &mut Vec<u8>,
+) -> Result<(), ToolFault>
+    ensures ok { OnOk result ((more : List Message)
+        × PassesEntries manner.form (opening_framing longest_segment) framer.new
+        out.old.items out.new.items bytes.now more) }
+    ensures err { OnErr result (AppendsSome manner.form out.old.items out.new.items) }
+{
+    *framer = Framer::new(alloc, LONGEST_SEGMENT);
+    pass_on(alloc, manner, requests, framer, bytes, out)
+}
