@@ -1,13 +1,20 @@
 #!/usr/bin/env python3
 """Tries `serve` with the programs that other initiators are: a disk in memory, which is thin, an image, and one with `--plain`.
 
-    tools/initiators/run.py [PROGRAM]
+    tools/initiators/run.py [--family NAME].. [PROGRAM]
 
 PROGRAM is crates/lanthovur/out/lanthovur if none is named; `./lanthovur </dev/null` builds it. All is done on 127.0.0.1. The
-programs are iscsi-inq and iscsi-test-cu (Debian: libiscsi-bin), qemu-img and qemu-io (qemu-utils, qemu-block-extra); what isn't installed
-is skipped, with a word. Each group of cases of iscsi-test-cu is told with how many of its cases passed and how many were skipped.
-The last line is 'N passed, M failed, K skipped'. It takes two minutes. What Linux itself does is in tools/guest.
+programs are iscsi-inq and iscsi-test-cu (Debian: libiscsi-bin), qemu-img and qemu-io (qemu-utils, qemu-block-extra), and tgt; what
+isn't installed is skipped, with a word.
+
+Every family of iscsi-test-cu is run with each kind of disk, each time with a fresh service. Its line has how many cases passed, were
+skipped and failed, and beside it the same of tgt. A case that leaves out something, or prints nothing, counts as skipped. The tables
+in conformance.py have a reason for each case that fails, and for whatever is left out. A case without a reason fails the script, and
+so does a row that is true no more. With --family only these families are run, and nothing else.
+
+The last line is 'N passed, M failed, K skipped'. It takes minutes. What Linux itself does is in tools/guest.
 """
+import argparse
 import contextlib
 import os
 import re
@@ -17,12 +24,21 @@ import subprocess
 import sys
 import tempfile
 import threading
+from collections import Counter
+
+sys.dont_write_bytecode = True
+import conformance
 
 TOP = os.path.dirname(os.path.dirname(os.path.dirname(os.path.abspath(__file__))))
 TARGET = "iqn.2026-01.example:disk"
 MIB = 1 << 20
+sys.path.insert(0, f"{TOP}/tools/captures")
+from taps import Tgt
+
+sys.path.pop(0)
 # The words of a disk of the bare profile, of an image, and of a disk in memory.
 PLAIN, IMAGE, MEMORY = ["--plain"], ["--file"], []
+KINDS = [MEMORY, IMAGE, PLAIN]
 
 
 class Skipped(Exception):
@@ -60,7 +76,7 @@ class Service:
         self.process.wait()
 
 
-class Counter:
+class Meter:
     """Stands between a service and its initiators, and counts the bytes that they send."""
 
     def __init__(self, service):
@@ -87,16 +103,6 @@ class Counter:
             sink.shutdown(socket.SHUT_WR)
 
 
-def conformance(service, group):
-    """The cases of a group of iscsi-test-cu that failed, and how many said that they skip something."""
-    _, text = ran("iscsi-test-cu", "--dataloss", f"--test=ALL.{group}", service.url)
-    cases = re.findall(r"Test: (\S+) \.\.\.(.*?)(passed|FAILED)", text, re.S)
-    failed = [name for name, _, outcome in cases if outcome == "FAILED"]
-    skipped = sum("[SKIPPED]" in said for _, said, _ in cases)
-    print(f"         {group}: {len(cases) - len(failed)} passed, {len(failed)} failed, {skipped} of them skip something", flush=True)
-    return failed if cases else text, skipped
-
-
 def numbers(program, room, words):
     """Two disks have serial numbers and names of their own. An image has them again after a restart, a disk in memory has others."""
     told = []
@@ -121,41 +127,11 @@ def holes(program, room, words):
     return status != 0 if words == PLAIN else same
 
 
-def inquiry(program, room, words):
-    """iscsi-test-cu Inquiry."""
-    with Service(program, room, words) as service:
-        return conformance(service, "Inquiry")[0] == (["BlockLimits"] if words == PLAIN else [])
-
-
-def modes(program, room, words):
-    """iscsi-test-cu ModeSense6."""
-    with Service(program, room, words) as service:
-        return conformance(service, "ModeSense6")[0] == []
-
-
-def management(program, room, words):
-    """iscsi-test-cu iSCSITMF."""
-    with Service(program, room, words) as service:
-        return conformance(service, "iSCSITMF")[0] == (["AbortTaskSimpleAsync"] if words == PLAIN else [])
-
-
-def same_blocks(group):
-    """A case of a group for WRITE SAME: of an image nearly all skip something, of a thin disk fewer than half."""
-
-    def case(program, room, words):
-        with Service(program, room, words) as service:
-            failed, skipped = conformance(service, group)
-        return failed == [] and (skipped < 5) == (words == MEMORY)
-
-    case.__doc__ = f"iscsi-test-cu {group}."
-    return case
-
-
 def zeros(program, room, words):
     """qemu-io writes zeros over 32 MiB of other bytes, and sends less than 64 KiB for them to a thin disk; it reads zeros there, and the others around."""
     with Service(program, room, words) as service:
         fill = ran("qemu-io", "-f", "raw", "-c", "write -P 7 0 64M", service.url)[0]
-        counter = Counter(service)
+        counter = Meter(service)
         zero = ran("qemu-io", "-f", "raw", "-c", "write -z 8M 32M", counter.url)[0]
         reads = ("read -P 7 0 8M", "read -P 0 8M 32M", "read -P 7 40M 24M")
         status, text = ran("qemu-io", "-f", "raw", *(word for read in reads for word in ("-c", read)), service.url)
@@ -168,11 +144,6 @@ def zeros(program, room, words):
 CASES = [
     (numbers, PLAIN, IMAGE, MEMORY),
     (holes, PLAIN, IMAGE, MEMORY),
-    (inquiry, PLAIN, IMAGE, MEMORY),
-    (modes, PLAIN, IMAGE),
-    (management, PLAIN, IMAGE),
-    (same_blocks("WriteSame10"), IMAGE, MEMORY),
-    (same_blocks("WriteSame16"), IMAGE, MEMORY),
     (zeros, IMAGE, MEMORY),
 ]
 
@@ -187,15 +158,79 @@ def outcome_of(case, program, words):
             return "failed", str(late)
 
 
+def title(words):
+    return " ".join(words) or "in memory"
+
+
+def conforms(program, words, family):
+    """The cases of a family with a fresh service, and what is not as the tables say."""
+    try:
+        with tempfile.TemporaryDirectory() as room, Service(program, room, words) as service:
+            cases = conformance.cases_of(family, service.url)
+    except (ValueError, subprocess.TimeoutExpired) as fault:
+        return [], [str(fault)]
+    return cases, list(conformance.faults(cases, title(words)))
+
+
+def beside(family):
+    """The cases of a family with a fresh tgt; none if it isn't installed."""
+    if not shutil.which("tgtd"):
+        return []
+    with tempfile.TemporaryDirectory() as room:
+        target = Tgt(None, room, 64 * MIB)
+        try:
+            return conformance.cases_of(family, f"iscsi://127.0.0.1:{target.port}/{target.name}/{target.unit}")
+        except (ValueError, subprocess.TimeoutExpired) as fault:
+            print(f"         tgt: {fault}", flush=True)
+            return []
+        finally:
+            target.close()
+
+
+def conformance_of(program, chosen):
+    """Runs families with each kind of disk, tells of each, and returns how many ended well and how many not."""
+    counts, tried, theirs = Counter(), {}, {family: beside(family) for family in chosen}
+    for words in KINDS:
+        tried[title(words)] = []
+        for family in chosen:
+            cases, faults = conforms(program, words, family)
+            tried[title(words)] += cases
+            outcome = "failed" if faults else "passed"
+            counts[outcome] += 1
+            than = f"; tgt: {conformance.counted(theirs[family])}" if theirs[family] else ""
+            print(f"{outcome:8} {title(words):10} {family}: {conformance.counted(cases)}{than}", flush=True)
+            for case in cases:
+                if case.failed:
+                    print(f"         {case.name} fails: {conformance.KNOWN.get(case.name, ['no reason'])[0]}", flush=True)
+            for fault in faults:
+                print(f"         {fault}", flush=True)
+    for kind, cases in tried.items():
+        print(f"         {kind}, in all: {conformance.counted(cases)}", flush=True)
+    print(f"         tgt, in all: {conformance.counted(sum(theirs.values(), []))}", flush=True)
+    return counts, tried
+
+
 def main():
-    program = os.path.abspath(sys.argv[1] if len(sys.argv) > 1 else f"{TOP}/crates/lanthovur/out/lanthovur")
-    counts = {"passed": 0, "failed": 0, "skipped": 0}
-    for case, *kinds in CASES:
+    parser = argparse.ArgumentParser(description=__doc__, formatter_class=argparse.RawDescriptionHelpFormatter)
+    parser.add_argument("--family", action="append", help="a family of iscsi-test-cu, such as Read10")
+    parser.add_argument("program", nargs="?", default=f"{TOP}/crates/lanthovur/out/lanthovur")
+    asked = parser.parse_args()
+    program, counts = os.path.abspath(asked.program), Counter()
+    for case, *kinds in CASES if not asked.family else []:
         for words in kinds:
             outcome, why = outcome_of(case, program, words)
             counts[outcome] += 1
-            print(f"{outcome:8} {' '.join(words) or 'in memory':10} {case.__doc__} {why}", flush=True)
-    print(", ".join(f"{count} {outcome}" for outcome, count in counts.items()))
+            print(f"{outcome:8} {title(words):10} {case.__doc__} {why}", flush=True)
+    if not shutil.which("iscsi-test-cu"):
+        counts["skipped"] += 1
+        print("skipped  every family of iscsi-test-cu: it is not installed")
+    else:
+        ended, tried = conformance_of(program, asked.family or conformance.families())
+        counts += ended
+        for fault in conformance.stale(tried) if not asked.family else []:
+            counts["failed"] += 1
+            print(f"failed   {fault}", flush=True)
+    print(", ".join(f"{counts[outcome]} {outcome}" for outcome in ("passed", "failed", "skipped")))
     return 1 if counts["failed"] else 0
 
 
