@@ -1,7 +1,7 @@
 //! Why a command failed, and its sense data (SPC-4, section 4.5).
 
 ghost use Rattle.std.specs.Prelude.{◌≡◌};
-ghost use Rattle.scsi_cdb.specs.Sense.{sense_bytes, triple_of};
+ghost use Rattle.scsi_cdb.specs.Sense.{information_of, sense_bytes, triple_of};
 
 /// Why a command ended in CHECK CONDITION, each by its sense key and additional sense code.
 #[derive(Clone, Copy, Debug, PartialEq, Eq)]
@@ -20,6 +20,14 @@ pub enum Sense {
     WriteError,
     /// DATA PROTECT, WRITE PROTECTED.
     WriteProtected,
+    /// DATA PROTECT, SPACE ALLOCATION FAILED WRITE PROTECT.
+    NoSpace,
+    /// ILLEGAL REQUEST, INVALID FIELD IN PARAMETER LIST.
+    InvalidParameter,
+    /// ILLEGAL REQUEST, PARAMETER LIST LENGTH ERROR.
+    ParameterLength,
+    /// MISCOMPARE, MISCOMPARE DURING VERIFY OPERATION, with the place of the first byte that differs.
+    Miscompare(u32),
 }
 
 impl Sense {
@@ -35,6 +43,20 @@ impl Sense {
             Sense::ReadError => (0x3, 0x11, 0x00),
             Sense::WriteError => (0x3, 0x0c, 0x00),
             Sense::WriteProtected => (0x7, 0x27, 0x00),
+            Sense::NoSpace => (0x7, 0x27, 0x07),
+            Sense::InvalidParameter => (0x5, 0x26, 0x00),
+            Sense::ParameterLength => (0x5, 0x1a, 0x00),
+            Sense::Miscompare(_) => (0xe, 0x1d, 0x00),
+        }
+    }
+
+    // The field INFORMATION, if it is valid (SPC-4, section 4.5.3).
+    fn information(self) -> Option<u32>
+        ensures { result ≡ information_of self }
+    {
+        match self {
+            Sense::Miscompare(place) => Some(place),
+            _ => None,
         }
     }
 
@@ -43,8 +65,14 @@ impl Sense {
         ensures { result ≡ sense_bytes self }
     {
         let (key, code, qualifier) = self.triple();
+        let valid = if self.information().is_some() {
+            0xf0
+        } else {
+            0x70
+        };
+        let [a, b, c, d] = self.information().unwrap_or(0).to_be_bytes();
         [
-            0x70, 0, key, 0, 0, 0, 0, 0x0a, 0, 0, 0, 0, code, qualifier, 0, 0, 0, 0,
+            valid, 0, key, a, b, c, d, 0x0a, 0, 0, 0, 0, code, qualifier, 0, 0, 0, 0,
         ]
     }
 }

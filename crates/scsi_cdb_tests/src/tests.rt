@@ -267,29 +267,37 @@ fn each_bit_of_each_record(rt: HostRuntime) {
     }
 }
 
-/// What the sense says, its key and its code.
-const SENSES: &[(Sense, u8, u8)] = &[
-    (Sense::InvalidCode, 5, 0x20),
-    (Sense::OutOfRange, 5, 0x21),
-    (Sense::InvalidField, 5, 0x24),
-    (Sense::NoUnit, 5, 0x25),
-    (Sense::ReadError, 3, 0x11),
-    (Sense::WriteError, 3, 0x0c),
-    (Sense::WriteProtected, 7, 0x27),
+/// What the sense says: its key, its code and its qualifier, and the bytes 0 to 6 of its data.
+const SENSES: &[(Sense, u8, u8, u8, &[u8; 7])] = &[
+    (Sense::InvalidCode, 5, 0x20, 0, b"\x70\0\x05\0\0\0\0"),
+    (Sense::OutOfRange, 5, 0x21, 0, b"\x70\0\x05\0\0\0\0"),
+    (Sense::InvalidField, 5, 0x24, 0, b"\x70\0\x05\0\0\0\0"),
+    (Sense::NoUnit, 5, 0x25, 0, b"\x70\0\x05\0\0\0\0"),
+    (Sense::ReadError, 3, 0x11, 0, b"\x70\0\x03\0\0\0\0"),
+    (Sense::WriteError, 3, 0x0c, 0, b"\x70\0\x03\0\0\0\0"),
+    (Sense::WriteProtected, 7, 0x27, 0, b"\x70\0\x07\0\0\0\0"),
+    (Sense::NoSpace, 7, 0x27, 7, b"\x70\0\x07\0\0\0\0"),
+    (Sense::InvalidParameter, 5, 0x26, 0, b"\x70\0\x05\0\0\0\0"),
+    (Sense::ParameterLength, 5, 0x1a, 0, b"\x70\0\x05\0\0\0\0"),
+    (Sense::Miscompare(0), 0xe, 0x1d, 0, b"\xf0\0\x0e\0\0\0\0"),
+    (
+        Sense::Miscompare(0x0102_0304),
+        0xe,
+        0x1d,
+        0,
+        b"\xf0\0\x0e\x01\x02\x03\x04",
+    ),
 ];
-
-fn check_sense(rt: &impl Abort, sense: Sense, key: u8, code: u8) {
-    same(rt, &sense.triple(), &(key, code, 0), &sense);
-    let due = [
-        0x70, 0, key, 0, 0, 0, 0, 0x0a, 0, 0, 0, 0, code, 0, 0, 0, 0, 0,
-    ];
-    same(rt, &sense.bytes(), &due, &sense);
-}
 
 #[test]
 fn sense_data(rt: HostRuntime) {
-    for (sense, key, code) in SENSES {
-        check_sense(&rt, *sense, *key, *code);
+    for (sense, key, code, qualifier, front) in SENSES {
+        same(&rt, &sense.triple(), &(*key, *code, *qualifier), sense);
+        let bytes = sense.bytes();
+        same(&rt, &bytes.starts_with(*front), &true, sense);
+        let back = [0x0a, 0, 0, 0, 0, *code, *qualifier, 0, 0, 0, 0];
+        same(&rt, &bytes.ends_with(&back), &true, sense);
+        same(&rt, &bytes.len(), &18, sense);
     }
 }
 
