@@ -14,7 +14,8 @@ PROGRAMS = ["qemu-system-x86_64", "busybox", "cpio", "modprobe", "depmod", "iscs
 # What is loaded, in this order.
 MODULES = ["e1000", "virtio_pci", "virtio_blk", "iscsi_tcp", "sd_mod", "ext4"]
 # Programs of this machine that the guest has, and those of busybox that it has not.
-COPIED = ["iscsid", "iscsiadm", "mkfs.ext4", "fsck.ext4", "fstrim", "blkdiscard", "lsblk", "sg_reset", "sg_inq", "sg_vpd"]
+COPIED = ["iscsid", "iscsiadm", "mkfs.ext4", "fsck.ext4", "fstrim", "blkdiscard", "lsblk", "sg_reset", "sg_inq", "sg_vpd",
+          "sg_opcodes", "sg_verify", "sg_compare_and_write", "sg_unmap", "sg_get_lba_status"]
 INITIATOR = "iqn.2026-01.example:guest"
 INIT = """#!/bin/busybox sh
 /bin/busybox --install -s /bin

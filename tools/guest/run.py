@@ -122,7 +122,7 @@ set -- $(cat /sys/block/sda/stat)
 [ ${16} -gt 0 ] && flushed=flushed
 echo "RESULT files $flushed $data"
 """
-# What Linux makes of a thin disk: mkfs and fstrim discard blocks of it, by WRITE SAME, and blkdiscard all of them.
+# What Linux makes of a thin disk: mkfs and fstrim discard blocks of it, by UNMAP, and blkdiscard all of them.
 THIN_JOB = """
 record
 node --login > /tmp/said 2>&1 && has_disk
@@ -141,6 +141,50 @@ blkdiscard /dev/sda; status=$?
 data=none
 head -c 67108864 /dev/zero > /tmp/zeros && dd if=/dev/sda of=/tmp/read bs=1M iflag=direct 2> /dev/null; cmp /tmp/zeros /tmp/read && data=zeros
 dmesg | grep -i 'sda.*error'
+echo "RESULT discards $status $data"
+"""
+# What sg3-utils make of the commands that are no READ and no WRITE: the status of each, 14 where bytes differ.
+COMMANDS_JOB = """
+record
+node --login > /tmp/said 2>&1 && has_disk
+head -c 512 /dev/urandom > /tmp/one
+head -c 512 /dev/urandom > /tmp/two
+cat /tmp/one /tmp/two > /tmp/both
+cat /tmp/two /tmp/one > /tmp/back
+block() { dd if=/dev/sda bs=512 skip=$1 count=1 iflag=direct 2> /dev/null; }
+dd if=/tmp/one of=/dev/sda bs=512 seek=7 oflag=direct 2> /dev/null
+data=none
+sg_opcodes /dev/sda > /tmp/said 2>&1; status=$?
+grep -q 'Compare and write' /tmp/said && grep -q -i 'unmap' /tmp/said && grep -q 'Verify(16)' /tmp/said && data=all
+cat /tmp/said
+echo "RESULT opcodes $status $data"
+sg_verify --lba=0 --count=64 /dev/sda > /tmp/said 2>&1; range=$?
+sg_verify --lba=7 --count=1 --ndo=512 --in=/tmp/one /dev/sda > /tmp/said 2>&1; alike=$?
+sg_verify --lba=7 --count=1 --ndo=512 --in=/tmp/two /dev/sda > /tmp/said 2>&1; other=$?
+echo "RESULT verify $range,$alike,$other done"
+data=none
+sg_compare_and_write --lba=7 --num=1 --xferlen=1024 --in=/tmp/both /dev/sda > /tmp/said 2>&1; alike=$?
+sg_compare_and_write --lba=7 --num=1 --xferlen=1024 --in=/tmp/both /dev/sda > /tmp/said 2>&1; other=$?
+block 7 | cmp - /tmp/two && data=second
+echo "RESULT compares $alike,$other $data"
+data=none
+sg_unmap --lba=4 --num=8 /dev/sda > /tmp/said 2>&1; status=$?
+head -c 512 /dev/zero > /tmp/zeros
+block 7 | cmp - /tmp/zeros && data=zeros
+echo "RESULT unmaps $status $data"
+data=none
+sg_get_lba_status --lba=0 /dev/sda > /tmp/said 2>&1; status=$?
+cat /tmp/said
+grep -q 'mapped' /tmp/said && data=mapped
+echo "RESULT maps $status $data"
+"""
+# A guest whose disk QEMU has from `serve`, and gives back what the guest discards.
+DISCARD_JOB = """
+head -c 16777216 /dev/urandom > /tmp/big
+dd if=/tmp/big of=/dev/vda bs=1M oflag=direct 2> /tmp/said
+blkdiscard /dev/vda; status=$?
+data=none
+head -c 16777216 /dev/zero > /tmp/zeros && dd if=/dev/vda of=/tmp/read bs=1M count=16 iflag=direct 2> /dev/null; cmp /tmp/zeros /tmp/read && data=zeros
 echo "RESULT discards $status $data"
 """
 # A guest that serves its own disk, and writes records of 4 KiB through it: each is flushed before it is told.
@@ -246,7 +290,7 @@ def trims(program, room):
     """Linux discards what mkfs and fstrim name, and all of a disk; what is left reads as it was, and the others as zeros."""
     with Service(program) as service:
         seen, text = results(room, service.port, THIN_JOB)
-    due = {"thin": ("1", "writesame_16"), "trims": ("mostmost", "same"), "discards": ("0", "zeros")}
+    due = {"thin": ("1", "unmap"), "trims": ("mostmost", "same"), "discards": ("0", "zeros")}
     return seen == due or (seen, text[-4000:])
 
 
@@ -278,7 +322,28 @@ def keeps_what_qemu_writes(program, room):
     return seen == due or (seen, text[-4000:])
 
 
-CASES = [logs_in_by_secret, finds_the_portal, keeps_a_disk, flushes, trims, keeps_what_was_flushed, keeps_what_qemu_writes]
+def does_other_commands(program, room):
+    """sg3-utils find VERIFY, COMPARE AND WRITE, UNMAP and GET LBA STATUS in the list of commands, and each does what it is for."""
+    with Service(program) as service:
+        seen, text = results(room, service.port, COMMANDS_JOB)
+    due = {
+        "opcodes": ("0", "all"), "verify": ("0,0,14", "done"), "compares": ("0,14", "second"), "unmaps": ("0", "zeros"),
+        "maps": ("0", "mapped"),
+    }
+    return seen == due or (seen, text[-4000:])
+
+
+def discards_through_qemu(program, room):
+    """What a guest discards of a virtio disk, QEMU gives back: it reads as zeros."""
+    with Service(program) as service:
+        disk = f"iscsi://127.0.0.1:{service.port}/{TARGET}/0,discard=unmap"
+        text = guest.told(guest.words(guest.make(room, TOOLS % (TARGET, 0) + DISCARD_JOB, guest.INITIATOR), disk), 300)
+    seen = found(text)
+    return seen == {"discards": ("0", "zeros")} or (seen, text[-4000:])
+
+
+CASES = [logs_in_by_secret, finds_the_portal, keeps_a_disk, flushes, trims, does_other_commands, keeps_what_was_flushed, keeps_what_qemu_writes,
+         discards_through_qemu]
 
 
 def outcome_of(case, program):

@@ -4,7 +4,7 @@ use crate::Counts;
 use crate::row::{cell, decimal, hex, quoted};
 use arrayvec::ArrayVec;
 use scsi_cdb::Cdb;
-use scsi_disk::Order;
+use scsi_disk::{Deed, Order};
 use scsi_unit::LogicalUnit;
 use std::alloc::Global;
 use std::io;
@@ -92,7 +92,7 @@ fn hold_row(alloc: Global, row: &str, asked: &Asked) -> Option<()> {
         read: true,
         write: false,
         expected: 0xffff,
-        same: false,
+        deed: Deed::Write,
     };
     let unit = LogicalUnit::new(NAME, SERIAL, false)?;
     let unit = if asked.thin { unit.with_thin() } else { unit };

@@ -29,7 +29,7 @@ use Rattle.iscsi_initiator.specs.declared.target_pdu.TargetPdu.{TargetPdu}
 use Rattle.iscsi_initiator.specs.TargetPdu.{target_pdu}
 use Rattle.iscsi_initiator.specs.Full.{DuePdu, UnsolicitedNopIn, Pong, Data, R2t, Response, TextAnswer, LogoutAnswer, Async, RejectPdu, on_due, outcome_with}
 use Rattle.iscsi_initiator.specs.Full.{sense_of, takes, due, pdu_step, initiator_full_step, fits_reading, fits_writing, update_counters, is_in_turn}
-use Rattle.iscsi_initiator.specs.Machine.{initiator_step, step_in, outcome_taken}
+use Rattle.iscsi_initiator.specs.Machine.{initiator_step, step_in, outcome_handed_out}
 use Rattle.iscsi_initiator.specs.Submitted.{submitted, or_accepted, accepted, submit_refusal}
 use Rattle.iscsi_initiator.specs.Configured.{IsStart}
 use Rattle.iscsi_initiator.specs.Laws.{InitiatorEvent, Starts, Meets, Comes, Asks, Takes, Ends, session_after, run, HeldStays}
@@ -219,7 +219,7 @@ unfolding initiator_step submitted
 event_goes m Starts s = start_goes (is_session_closed m) m s
 event_goes m (Meets (Comes message)) s = step_goes m.phase m message refl s
 event_goes m (Meets (Asks request)) s = submitted_goes (submit_refusal m request) m request s
-event_goes m (Meets Takes) s = goes_by m (outcome_taken m) s refl refl refl (λ f. f)
+event_goes m (Meets Takes) s = goes_by m (outcome_handed_out m) s refl refl refl (λ f. f)
 event_goes m Ends s = goes_by m (closed_session m) s refl refl refl (λ g. absurd (subst (λ (p : Phase). IsShut p) g tt))
 
 -- ---- runs

@@ -44,7 +44,7 @@ use Rattle.iscsi_initiator.specs.TargetPdu.{target_pdu}
 use Rattle.iscsi_initiator.specs.Full.{DuePdu, UnsolicitedNopIn, Pong, Data, R2t, Response, TextAnswer, LogoutAnswer, Async, RejectPdu, on_due, outcome_with}
 use Rattle.iscsi_initiator.specs.Full.{sense_of, takes, due, due_to, pdu_step, initiator_full_step, fits_reading, fits_writing, update_counters, is_in_turn}
 use Rattle.iscsi_initiator.specs.Full.{completes, has_received, read_outcome, residual}
-use Rattle.iscsi_initiator.specs.Machine.{initiator_step, step_in, outcome_taken}
+use Rattle.iscsi_initiator.specs.Machine.{initiator_step, step_in, outcome_handed_out}
 use Rattle.iscsi_initiator.specs.Submitted.{submitted, or_accepted, accepted as accept, submit_refusal, refusal_in}
 use Rattle.iscsi_initiator.specs.declared.request.SubmitFault.TheVariants as refusals
 use Rattle.iscsi_initiator.specs.Laws.{InitiatorEvent, Starts, Meets, Comes, Asks, Takes, Ends, session_after, run, accepted_requests, accepted_in, accepted_if, outcomes_given, outcome_given_in, listed}
@@ -449,7 +449,7 @@ asks_inv (Some f) m r rs ds e i = subst (λ (xs : List Request). Inv m xs ds) (s
 asks_inv None m r rs ds e (idle i) = accept_inv m r rs ds (free_in m.phase m r e).1 i.all
 asks_inv None m r rs ds e (waits w) = absurd (never_both m.outstanding w.outstanding (free_in m.phase m r e).0 w.is)
 
-takes_inv : (m : InitiatorSession) (rs : List Request) (ds : List Done) → Inv m rs ds → Inv (outcome_taken m) rs (ds ++ listed m.done)
+takes_inv : (m : InitiatorSession) (rs : List Request) (ds : List Done) → Inv m rs ds → Inv (outcome_handed_out m) rs (ds ++ listed m.done)
 takes_inv m rs ds (idle i) = idle (record { none = i.none; all = subst (λ (xs : List Done). AllOutcomes rs xs) (sym (append-nil (ds ++ listed m.done))) i.all })
 takes_inv m rs ds (waits w) =
     waits (record {
@@ -478,7 +478,7 @@ event_inv m (Meets (Asks request)) rs ds i =
     subst (λ (ys : List Done). Inv (or_accepted (submit_refusal m request) m request).machine (rs ++ accepted_if (submit_refusal m request) request) ys)
     (sym (append-nil ds))
     (asks_inv (submit_refusal m request) m request rs ds refl i)
-event_inv m (Meets Takes) rs ds i = subst (λ (xs : List Request). Inv (outcome_taken m) xs (ds ++ listed m.done)) (sym (append-nil rs)) (takes_inv m rs ds i)
+event_inv m (Meets Takes) rs ds i = subst (λ (xs : List Request). Inv (outcome_handed_out m) xs (ds ++ listed m.done)) (sym (append-nil rs)) (takes_inv m rs ds i)
 event_inv m Ends rs ds i = none_more m (closed_session m) rs ds (same m (closed_session m) refl refl) i
 
 -- ---- runs

@@ -19,7 +19,7 @@ use Rattle.iscsi_initiator.specs.declared.request.SubmitFault.TheVariants as ref
 use Rattle.iscsi_initiator.specs.State.{InitiatorSettings, InitiatorSession, new_session, is_session_closed}
 use Rattle.iscsi_initiator.specs.Steps.{InitiatorStep, closed_session}
 use Rattle.iscsi_initiator.specs.Login.{start_step}
-use Rattle.iscsi_initiator.specs.Machine.{steps, outcome_taken}
+use Rattle.iscsi_initiator.specs.Machine.{steps, outcome_handed_out}
 use Rattle.iscsi_initiator.specs.Submitted.{submitted}
 
 -- An initiator between two calls: its session, and what it has of the next PDU.
@@ -187,7 +187,7 @@ InitiatorFinishPost (Err _) old new = ⊥
 
 -- The outcome is taken.
 abbrev pub after_taking : InitiatorConnection → InitiatorConnection
-after_taking old = record old { machine = outcome_taken old.machine }
+after_taking old = record old { machine = outcome_handed_out old.machine }
 
 -- ---- one outcome
 

@@ -14,7 +14,7 @@ use Rattle.iscsi_initiator.specs.Progress.{ReadProgress}
 use Rattle.iscsi_initiator.specs.State.{InitiatorSettings, InitiatorSession, new_session, is_session_closed}
 use Rattle.iscsi_initiator.specs.Steps.{closed_session}
 use Rattle.iscsi_initiator.specs.Login.{start_step}
-use Rattle.iscsi_initiator.specs.Machine.{initiator_step, outcome_taken}
+use Rattle.iscsi_initiator.specs.Machine.{initiator_step, outcome_handed_out}
 use Rattle.iscsi_initiator.specs.Submitted.{submitted, submit_refusal}
 use Rattle.iscsi_stream.specs.Pieces.{TilesFrom, data_pieces, piece_data}
 
@@ -38,7 +38,7 @@ pub data InitiatorEvent : Type 0 where
 abbrev pub met : InitiatorSession → SessionInput → InitiatorSession
 met m (Comes message) = (initiator_step m message).machine
 met m (Asks request) = (submitted m request).machine
-met m Takes = outcome_taken m
+met m Takes = outcome_handed_out m
 
 -- The session after an event.
 abbrev pub session_after : InitiatorSession → InitiatorEvent → InitiatorSession

@@ -22,9 +22,9 @@ step_in Closed m message = quiet m
 unfoldable pub initiator_step : InitiatorSession → Message → InitiatorStep
 initiator_step m message = step_in m.phase m message
 
--- The outcome is taken.
-abbrev pub outcome_taken : InitiatorSession → InitiatorSession
-outcome_taken m = record m { done = None }
+-- The outcome is handed out to who takes it.
+abbrev pub outcome_handed_out : InitiatorSession → InitiatorSession
+outcome_handed_out m = record m { done = None }
 
 -- A step, and then others.
 abbrev pub then_steps : InitiatorStep → InitiatorStep → InitiatorStep

@@ -6,7 +6,7 @@ ghost use Rattle.iscsi_stream.specs.Stream.{message};
 ghost use Rattle.iscsi_initiator.specs.declared.fault.InitiatorFault.TheVariants.{Protocol};
 ghost use Rattle.iscsi_initiator.specs.State.{new_session, is_session_closed, sent_exp_stat_sn};
 ghost use Rattle.iscsi_initiator.specs.Steps.{closed_session};
-ghost use Rattle.iscsi_initiator.specs.Machine.{initiator_step, outcome_taken};
+ghost use Rattle.iscsi_initiator.specs.Machine.{initiator_step, outcome_handed_out};
 ghost use Rattle.iscsi_initiator.specs.inner.Inside.{SessionStepPost, CountedStepPost};
 
 mod data_in;
@@ -178,7 +178,7 @@ impl Session {
     /// Takes the outcome of the last request, if there is one.
     pub fn outcome(&mut self) -> Option<Done>
         ensures outcome { result ≡ self.old.done }
-        ensures taken { self.new ≡ outcome_taken self.old }
+        ensures taken { self.new ≡ outcome_handed_out self.old }
     {
         self.done.take()
     }

@@ -38,7 +38,7 @@ use Rattle.iscsi_initiator.specs.declared.request.SubmitFault.TheVariants as ref
 use Rattle.iscsi_initiator.specs.Calls as initiator
 use Rattle.iscsi_initiator.specs.Laws.{listed}
 use Rattle.iscsi_initiator.specs.Login.{fits_segment, login_request_message, offered, sends_cut, sends_text, start_step}
-use Rattle.iscsi_initiator.specs.Machine.{outcome_taken}
+use Rattle.iscsi_initiator.specs.Machine.{outcome_handed_out}
 use Rattle.iscsi_initiator.specs.State as initiator_state
 use Rattle.iscsi_initiator.specs.Steps.{InitiatorStep, step_sending}
 use Rattle.iscsi_initiator.specs.Submitted.{is_request_too_long, most_bytes, submitted}
@@ -275,14 +275,14 @@ pub in_step : (i : initiator.InitiatorConnection) (t : target.TargetConnection) 
 in_step i t disk blocks past h goes_on =
     let c : Opening = loop_opening blocks in
     let w : World = world_of (ends_of i t disk [] []) h.bytes in
-    let rests : AreAtEnd (requests_of h.events) (outcome_taken i.machine) t.machine =
+    let rests : AreAtEnd (requests_of h.events) (outcome_handed_out i.machine) t.machine =
     idle_rests c h.events w (outcomes_on blocks past) (is_normal blocks) h.runs refl refl in
     let whole : outcomes_on blocks past ++ listed i.machine.done ≡ disk_outcomes c (requests_of h.events) =
     (idle_whole c h.events w (outcomes_on blocks past) (is_normal blocks) h.runs refl refl).0 in
     let none : i.machine.done ≡ None = none_listed i.machine.done
     (append_cancel_left (outcomes_on blocks past) (listed i.machine.done) []
     (whole ∙ ap (disk_outcomes c) h.requests_are ∙ sym (append-nil (outcomes_on blocks past)))) in
-    let same : outcome_taken i.machine ≡ i.machine = ap (λ (d : Option Done). record i.machine { done = d }) (sym none) in
+    let same : outcome_handed_out i.machine ≡ i.machine = ap (λ (d : Option Done). record i.machine { done = d }) (sym none) in
     elim rests [
       | inl on_ ↦ subst (λ (m : initiator_state.InitiatorSession). AreInStep m t.machine) same on_
       | inr over ↦ absurd (goes_on (subst EndsInLogout h.requests_are over.1))

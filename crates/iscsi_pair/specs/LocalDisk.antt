@@ -6,10 +6,11 @@ use Rattle.scsi_cdb.specs.declared.sense.Sense.{Sense}
 use Rattle.scsi_cdb.specs.Blocks.{record_of}
 use Rattle.scsi_disk.specs.Disk.{Disk}
 use Rattle.scsi_disk.specs.Effect.{Effect, effect}
+use Rattle.scsi_disk.specs.declared.deed.Deed.TheVariants.{Write}
 use Rattle.scsi_disk.specs.declared.order.Order.{Order}
 use Rattle.scsi_disk.specs.declared.order.Outcome.{Outcome}
 use Rattle.scsi_unit.specs.LogicalUnit.{LogicalUnit}
-use Rattle.scsi_unit.specs.WriteSame.{meant}
+use Rattle.scsi_unit.specs.Deeds.{meant}
 use Rattle.iscsi_pdu.specs.declared.serial.Window.{Window}
 use Rattle.iscsi_stream.specs.Stream.{Message}
 use Rattle.iscsi_login.specs.declared.phase.Phase.TheVariants as phases
@@ -24,7 +25,7 @@ use Rattle.iscsi_initiator.specs.declared.request.Done.TheVariants as done
 use Rattle.iscsi_initiator.specs.declared.request.Request.{Request}
 use Rattle.iscsi_initiator.specs.declared.request.Request.TheVariants as requests
 use Rattle.iscsi_initiator.specs.State as initiator
-use Rattle.iscsi_initiator.specs.Machine.{initiator_step, outcome_taken}
+use Rattle.iscsi_initiator.specs.Machine.{initiator_step, outcome_handed_out}
 use Rattle.iscsi_initiator.specs.Submitted.{submitted}
 
 -- What a request that may read orders of a disk (section 11.3).
@@ -35,7 +36,7 @@ reading_order lun cdb expected = record {
   read = not (expected == 0);
   write = false;
   expected = expected;
-  same = false;
+  deed = Write;
 }
 
 -- What a request that may write orders of a disk (section 11.3).
@@ -46,7 +47,7 @@ writing_order lun cdb bytes = record {
   read = false;
   write = not (length bytes == 0);
   expected = length bytes;
-  same = false;
+  deed = Write;
 }
 
 -- The sense bytes, where there are any (section 11.4.7).
@@ -68,8 +69,8 @@ pub record Local : Type 0 where
 abbrev pub local_command : Effect → Local
 local_command after = record { outcome = reported after.outcome; disk = after.disk }
 
--- What an order does to a disk that is here: with no unit, what it says. A thin unit takes a WRITE SAME
--- for a WRITE, and each unit answers some commands of itself (SPC-4; SBC-3).
+-- What an order does to a disk that is here: with no unit, what it says. A unit takes some commands for a
+-- READ or a WRITE, and answers some of itself (SPC-4; SBC-3).
 abbrev pub effect_here : Option LogicalUnit → Disk → Order → List ℕ → Effect
 effect_here None disk order bytes = effect false disk order bytes
 effect_here (Some unit) disk order bytes =
@@ -199,7 +200,7 @@ pub record RequestHasEnded (held : Held) (unit : Option LogicalUnit) (outcome : 
   pub done_is : x.initiator.done ≡ Some outcome
   pub silent : x.answers ≡ []
   pub disk_is : x.disk ≡ disk_now
-  pub at_rest : AreAtRest held unit outcome (outcome_taken x.initiator) x.target
+  pub at_rest : AreAtRest held unit outcome (outcome_handed_out x.initiator) x.target
 
 -- After some answers it has.
 abbrev pub EndsAfterAnswers : Held → Option LogicalUnit → Done → Disk → DiskExchange → Type 0

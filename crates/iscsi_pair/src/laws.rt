@@ -13,7 +13,7 @@ ghost use Rattle.iscsi_initiator.specs.declared.request.Done.{Done};
 ghost use Rattle.iscsi_initiator.specs.declared.request.Request.{Request};
 ghost use Rattle.iscsi_initiator.specs.declared.request.Request.TheVariants as requests;
 ghost use Rattle.iscsi_initiator.specs.Laws.{SessionInput, listed};
-ghost use Rattle.iscsi_initiator.specs.Machine.{outcome_taken};
+ghost use Rattle.iscsi_initiator.specs.Machine.{outcome_handed_out};
 ghost use Rattle.iscsi_initiator.specs.State as initiator;
 ghost use Rattle.iscsi_initiator.specs.Submitted.{is_request_too_long, submitted};
 ghost use Rattle.iscsi_pair.specs.LocalDisk.{AreInStep, EndsAfterAnswers, handed_in, local};
@@ -157,7 +157,7 @@ pub fn one_local_disk()
     ensures rests { (c : Opening) (events : List PairEvent) (w : World) (outcomes : List Done)
         → IsNormal c → RunsServed (new_pair c) events w outcomes
         → w.to_target ≡ [] → w.to_initiator ≡ []
-        → AreAtEnd (requests_of events) (outcome_taken w.initiator.machine) w.target.machine }
+        → AreAtEnd (requests_of events) (outcome_handed_out w.initiator.machine) w.target.machine }
 {}
 
 /// Every list of commands and pings can be served, if each is one that any target takes. Some

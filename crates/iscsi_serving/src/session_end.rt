@@ -9,7 +9,7 @@ use iscsi_target::TargetFault;
 use thiserror::Error;
 
 /// Why a session of a slot ends, but for a logout, a refused login and an end between two PDUs. The
-/// service goes on.
+/// service goes on, but for `Sync`, which ends it.
 #[derive(Clone, Copy, Debug, PartialEq, Eq, Error)]
 pub enum SessionEnd {
     /// The target refuses what its initiator sent; a want of memory is told apart.

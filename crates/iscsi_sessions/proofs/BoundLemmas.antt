@@ -1,14 +1,16 @@
 -- How many tasks a session keeps, and how many commands a PDU has executed.
-use Rattle.std.proofs.Common.{◌≡◌, ◌≤◌, ◌<◌, inl, inr, ℕ, ◌+◌, Bool, true, List, [], ◌∷◌, ◌++◌, length, Option, Some, None, refl, sym}
+use Rattle.std.proofs.Common.{◌≡◌, ◌≤◌, ◌<◌, inl, inr, ℕ, ◌+◌, ◌∙◌, Bool, true, false, List, [], ◌∷◌, ◌++◌, length, Option, Some, None, refl, sym}
 use Rattle.std.proofs.Common.{subst, ◌*◌, append-nil, arith, length-append, map}
 use Rattle.std.specs.Prelude.{◌==◌, ◌&&◌, ◌||◌, nat_lt, not, Result}
 use Rattle.std.specs.List.{AllByRecursion}
-use Rattle.std.proofs.lemmas.Bool.{eqb-true, ltb-true}
+use Rattle.std.proofs.lemmas.Bool.{eqb-true, ltb-false, ltb-true}
 use Rattle.scsi_disk.specs.Disk.{Disk}
 use Rattle.scsi_disk.specs.Plan.{is_read, plan_of, named_transfer, wanted_length}
 use Rattle.scsi_disk.specs.declared.order.Order.{Order}
-use Rattle.scsi_disk.proofs.PlanLemmas.{IsGiven, given as given_by_plan, taken as taken_by_plan}
-use Rattle.scsi_disk.proofs.RepeatLemmas.{takes_few}
+use Rattle.scsi_disk.proofs.PlanLemmas.{IsGiven, given as given_by_plan, none_refused, not_refused, taken as taken_by_plan}
+use Rattle.scsi_disk.specs.Deed.{is_twofold, taken_by}
+use Rattle.scsi_disk.specs.declared.deed.Deed.{Deed}
+use Rattle.scsi_disk.specs.declared.deed.Deed.TheVariants.{Write, Same, Verify, Compare, Unmap}
 use Rattle.scsi_disk.specs.declared.order.Plan.TheVariants as plans
 use Rattle.iscsi_stream.specs.Stream.{Message}
 use Rattle.iscsi_stream.specs.Canonical.{canon}
@@ -24,7 +26,7 @@ use Rattle.iscsi_target.specs.Feed.{Store}
 use Rattle.iscsi_sessions.specs.Slots.{SessionTable, Slot, has_answer_room as has_room_at, may_take_at, slot_at, slot_waiting}
 use Rattle.iscsi_sessions.specs.Turns.{SlotEvent, Comes, Takes, Syncs, Ends, Goes, IsEnded, IsLeftSession, SessionEvents, TakesTurn, answers_of}
 use Rattle.iscsi_sessions.specs.Company.{Group, HaveCount, answers_over}
-use Rattle.iscsi_sessions.specs.Bounds.{ExecutesFew, HoldsFew, IsNumbered}
+use Rattle.iscsi_sessions.specs.Bounds.{ExecutesFew, HoldsFew, IsNumbered, most_taken}
 use Rattle.iscsi_target.proofs.Writes.WriteTilingLaws.{IsSound}
 use Rattle.iscsi_target.proofs.Queue.QueueLemmas.{AreFew, AlikeIn, AtPdus, nine, no_few, cons_alike, same_alike, may_few}
 use Rattle.iscsi_sessions.proofs.CompanyLemmas.{over_sound}
@@ -119,9 +121,18 @@ turn_waits protected slot old new before after result t may =
 
 -- ---- what a command moves
 
-pub most_taken : (order : Order) (blocks n : ℕ) → plan_of order blocks ≡ plans.Take n → n ≤ 4_194_304
-most_taken order blocks n p =
-    takes_few order blocks n (taken_by_plan order blocks n p)
+few_by : (deed : Deed) (count n : ℕ) → n ≡ taken_by deed count → count ≤ 8192 → (is_twofold deed && nat_lt 1 count) ≡ false → n ≤ most_taken deed
+few_by Write count n e few once = omega (arith, e, few)
+few_by Same count n e few once = omega (arith, e)
+few_by Verify count n e few once = omega (arith, e, few)
+few_by Compare count n e few once = omega (arith, e, ltb-false 1 count once)
+few_by (Unmap length) count n e few once = omega (arith, e)
+
+pub takes_few : (order : Order) (blocks n : ℕ) → plan_of order blocks ≡ plans.Take n → n ≤ most_taken order.deed
+takes_few order blocks n p =
+    let taken = taken_by_plan order blocks n p in
+    let none = none_refused order blocks (not_refused order blocks (λ sense e. (let h : plans.Refuse sense ≡ plans.Take n = sym e ∙ p in cc))) in
+    few_by order.deed (named_transfer order.cdb).count n taken.length taken.names.few none.once
 
 read_wants : (order : Order) (blocks : ℕ) → is_read order.cdb ≡ true → wanted_length order blocks ≡ 512 * (named_transfer order.cdb).count
 read_wants order blocks e = rw e refl
@@ -140,7 +151,7 @@ sound_few count [] o = tt
 sound_few count (Command tag order ∷ more) o = (tt, sound_few count more o.1)
 sound_few count (Request k ∷ more) o = (tt, sound_few count more o.1)
 sound_few count (Data w ∷ more) o =
-    let most : w.total ≤ 4_194_304 = most_taken w.order count w.total o.0.plan in
+    let most : w.total ≤ most_taken w.order.deed = takes_few w.order count w.total o.0.plan in
     let fits : bytes_received w ≤ w.total = o.0.fits in
     (omega (arith, most, fits), sound_few count more o.1)
 

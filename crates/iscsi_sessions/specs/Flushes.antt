@@ -13,7 +13,7 @@ use Rattle.iscsi_target.specs.Asking.{NoneAsks}
 use Rattle.iscsi_target.specs.Crash.{IsBehindCommand, IsNextPdu, commands_at}
 use Rattle.iscsi_target.specs.Feed.{TargetConnection}
 use Rattle.iscsi_target.specs.State.{Execution}
-use Rattle.iscsi_sessions.specs.Blocks.{block_by, written_by}
+use Rattle.iscsi_sessions.specs.Blocks.{aimed_block, aimed_by}
 use Rattle.iscsi_sessions.specs.Slots.{Slot, notes_asking, slot_waiting}
 
 -- What happens to a store: the store before it and behind it, and the commands that may be executed
@@ -62,14 +62,14 @@ IsWrittenIn protected disk (c ∷ cs) n bytes =
 abbrev pub IsOrdered : Bool → ℕ → List Supplied → ℕ → List ℕ → Type 0
 IsOrdered protected count [] n bytes = ⊥
 IsOrdered protected count (o ∷ orders) n bytes =
-    (block_by (guarded protected (plan_of o.0 count)) o.0 o.1 n ≡ Some bytes)
+    (aimed_block (guarded protected o.0.deed (plan_of o.0 count)) o.0 o.1 n ≡ Some bytes)
     ⊎ IsOrdered protected count orders n bytes
 
 -- One of these commands, which were executed, wrote these bytes to block n.
 abbrev pub IsWrittenBy : Bool → ℕ → List Execution → ℕ → List ℕ → Type 0
 IsWrittenBy protected count [] n bytes = ⊥
 IsWrittenBy protected count (e ∷ es) n bytes =
-    (written_by protected count e n ≡ Some bytes) ⊎ IsWrittenBy protected count es n bytes
+    (aimed_by protected count e n ≡ Some bytes) ⊎ IsWrittenBy protected count es n bytes
 
 -- ---- who asks
 

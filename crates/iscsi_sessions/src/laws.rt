@@ -28,7 +28,7 @@ ghost use Rattle.iscsi_sessions.specs.Access.{IsLetIn};
 ghost use Rattle.iscsi_sessions.specs.Turns.{SlotEvent, Takes, Turn, SlotEventsRun, Slots, SessionEvents, KeepsSlot, TakesTurn, answers_of, slot_events, executed_in, executed_of};
 ghost use Rattle.iscsi_sessions.specs.Blocks.{ExactExecutionsLead, block_left};
 ghost use Rattle.iscsi_sessions.specs.Flushes.{AreNextCommands, AreNoted, Change, IsOrdered, IsWrittenBy, IsWrittenIn, LeaveInTurn, CrashLeavesCommands, change, owed_behind};
-ghost use Rattle.iscsi_sessions.specs.Bounds.{ExecutesFew, HoldsFew, IsNumbered};
+ghost use Rattle.iscsi_sessions.specs.Bounds.{ExecutesFew, HoldsFew, IsNumbered, most_taken};
 ghost use Rattle.iscsi_sessions.specs.OwnOrder.{executed_for, placed_in};
 ghost use Rattle.iscsi_sessions.specs.Company.{Group, HaveCount, IsCalm, answers_in, answers_over, groups_in, messages_in};
 
@@ -164,15 +164,16 @@ pub fn few_at_a_time()
         (end : Machine) (es : List SlotEvent)
         → SessionEvents protected (opening_machine settings n) es end → AllByRecursion IsNumbered es
         → AllByRecursion ExecutesFew es }
-    // Where no failure was counted, a write that waits for data has at most 4,194,304 bytes of them.
+    // Where no failure was counted, a write that waits for data has at most 4,194,304 bytes of them, or
+    // those of an UNMAP's list.
     ensures held { (protected : Bool) (settings : TargetSettings) (n count : ℕ)
         (disk : Disk) (gs : List Group)
         → HaveCount count gs
         → AllByRecursion HoldsFew (answers_over protected (opening_machine settings n)
         disk gs).machine.tasks }
-    // A write takes, and a READ gives, at most 4,194,304 bytes.
+    // A write takes, and a READ gives, at most 4,194,304 bytes; an UNMAP takes its list.
     ensures write { (order : Order) (blocks n : ℕ) → plan_of order blocks ≡ Take n
-        → n ≤ 4_194_304 }
+        → n ≤ most_taken order.deed }
     ensures read { (order : Order) (blocks n : ℕ) → is_read order.cdb ≡ true
         → plan_of order blocks ≡ Give n → n ≤ 4_194_304 }
     // What waits to be written at a slot behind a turn: less than 65,536 bytes, and the answers of

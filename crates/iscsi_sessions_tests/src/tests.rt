@@ -7,6 +7,7 @@ use iscsi_sessions::{MOST_READ, SessionTable};
 use iscsi_target::{Config, TargetFault};
 use iscsi_test_support::{LineFault, SESSION, marked};
 use scsi_disk::SparseStore;
+use scsi_unit::LogicalUnit;
 use std::alloc::{AllocError, Global};
 use std::fmt::Debug;
 use std::process::Abort;
@@ -66,6 +67,12 @@ fn config(alloc: Global) -> Result<Config, Trouble> {
     }
 }
 
+// The same, whose disk tells more of itself.
+fn telling(alloc: Global) -> Result<Config, Trouble> {
+    let unit = LogicalUnit::new(NAME, b"disk-7", false).ok_or(Trouble::Step("no unit"))?;
+    Ok(config(alloc)?.with_unit(unit))
+}
+
 // A table, and the disk of all its sessions.
 #[derive(Drop)]
 struct Room {
@@ -76,18 +83,34 @@ struct Room {
 // A disk of 2,048 blocks of 00, and so many slots, all taken. It stands in a box: a function that
 // owns it is then proved much sooner.
 fn full_room(alloc: Global, slots: usize) -> Result<Box<Room>, Trouble> {
-    let store = SparseStore::new(alloc, 2048);
-    let table = SessionTable::new(alloc, slots)?;
-    let mut room = match Box::new(alloc, Room { table, store }) {
-        Ok(room) => room,
-        Err(fault) => return Err(AllocError::from(fault).into()),
-    };
+    let mut room = free_room(alloc, slots)?;
     for _ in 0..slots {
         room.table
             .slot(config(alloc)?)
             .ok_or(Trouble::Step("no slot"))?;
     }
     Ok(room)
+}
+
+// Two slots, all taken, whose disk tells more of itself.
+fn telling_room(alloc: Global) -> Result<Box<Room>, Trouble> {
+    let mut room = free_room(alloc, 2)?;
+    for _ in 0..2 {
+        room.table
+            .slot(telling(alloc)?)
+            .ok_or(Trouble::Step("no slot"))?;
+    }
+    Ok(room)
+}
+
+// A disk of 2,048 blocks of 00, and so many slots, all free.
+fn free_room(alloc: Global, slots: usize) -> Result<Box<Room>, Trouble> {
+    let store = SparseStore::new(alloc, 2048);
+    let table = SessionTable::new(alloc, slots)?;
+    match Box::new(alloc, Room { table, store }) {
+        Ok(room) => Ok(room),
+        Err(fault) => Err(AllocError::from(fault).into()),
+    }
 }
 
 // Writes what waits at a slot.

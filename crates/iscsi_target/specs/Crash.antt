@@ -5,7 +5,7 @@
 use Rattle.std.specs.Prelude.{Bool, ◌≡◌, ◌≤◌, ◌⊎◌, ℕ, List, [], ◌∷◌, ◌++◌, take}
 use Rattle.std.specs.List.{flat_map}
 use Rattle.scsi_disk.specs.Disk.{Disk}
-use Rattle.scsi_disk.specs.Effect.{effect, IsSupplied}
+use Rattle.scsi_disk.specs.Effect.{disk_aimed, IsSupplied}
 use Rattle.scsi_disk.specs.Runs.{Supplied}
 use Rattle.iscsi_stream.specs.Pieces.{piece_data}
 use Rattle.iscsi_stream.specs.Stream.{Message}
@@ -48,11 +48,12 @@ commands_at s count m = commands_in s.session.phase s count m
 
 -- ---- a crash
 
--- The block has these bytes behind one of these commands, of those whose data are all there.
+-- The block has these bytes behind one of these commands, of those whose data are all there, where it is
+-- done: also where a comparison would fail, since what was read for it may not be so.
 abbrev pub IsBehindCommand : Bool → Disk → List Supplied → ℕ → List ℕ → Type 0
 IsBehindCommand protected disk [] n bytes = ⊥
 IsBehindCommand protected disk (o ∷ orders) n bytes =
-    (IsSupplied disk.count o.0 o.1 × (bytes ≡ (effect protected disk o.0 o.1).disk.block n))
+    (IsSupplied disk.count o.0 o.1 × (bytes ≡ (disk_aimed protected disk o.0 o.1).block n))
     ⊎ IsBehindCommand protected disk orders n bytes
 
 -- A crash leaves of each block what it would have left before, or the block behind one of these

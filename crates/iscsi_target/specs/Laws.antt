@@ -122,7 +122,7 @@ supplied e = (e.order, piece_data e.pieces)
 abbrev pub MayLeave : Bool → Execution → Effect → Type 0
 MayLeave protected e after =
     (after ≡ effect protected e.disk e.order (piece_data e.pieces))
-    ⊎ StoreFailureLeaves (guarded protected (plan_of e.order e.disk.count)) e.disk e.order
+    ⊎ StoreFailureLeaves (guarded protected e.order.deed (plan_of e.order e.disk.count)) e.disk e.order
     (piece_data e.pieces) after
 
 -- What was executed, one after another, leads from one disk to another, each on the disk that the

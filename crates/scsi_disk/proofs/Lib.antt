@@ -10,3 +10,4 @@ pub mod ReadingLemmas
 pub mod GuardLemmas
 pub mod ProtectedLemmas
 pub mod RepeatLemmas
+pub mod DeedLemmas

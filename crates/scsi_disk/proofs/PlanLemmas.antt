@@ -11,6 +11,7 @@ use Rattle.scsi_disk.specs.declared.order.Plan.TheVariants.{Refuse, Take, Give}
 use Rattle.scsi_disk.specs.Disk.{Disk, IsDisk, joined_blocks, blocks_from}
 use Rattle.scsi_disk.specs.declared.reading.BlockRange.{BlockRange}
 use Rattle.scsi_disk.specs.Effect.{good_outcome, outcome_by, wanted_data}
+use Rattle.scsi_disk.specs.Deed.{is_twofold}
 use Rattle.scsi_disk.specs.Found.{NamesFewBlocks}
 use Rattle.scsi_disk.specs.Plan.{named_transfer, synchronized, parameter_data, taken_length, is_unknown, is_standard_inquiry, is_write, is_read, first_reason, refusals, first_refusal, plan_by, plan_of, wanted_length, expected_length}
 
@@ -34,9 +35,10 @@ pub record NotRefused (order : Order) (blocks : ℕ) : Type 0 where
   pub unprotected : not (bit_and (named_transfer order.cdb).options 0xe0 == 0) ≡ false
   pub has_data : is_none (parameter_data order blocks) ≡ false
   pub few : nat_lt 8192 (named_transfer order.cdb).count ≡ false
+  pub once : (is_twofold order.deed && nat_lt 1 (named_transfer order.cdb).count) ≡ false
   pub inside : nat_lt blocks ((named_transfer order.cdb).first + (named_transfer order.cdb).count) ≡ false
   pub expects_all : (is_write order.cdb && not (order.expected == taken_length order)) ≡ false
-  pub sends_some : (is_write order.cdb && not order.write && (order.same || nat_lt 0 (named_transfer order.cdb).count)) ≡ false
+  pub sends_some : (is_write order.cdb && not order.write && nat_lt 0 (taken_length order)) ≡ false
   pub flushes_inside : nat_lt blocks ((synchronized order.cdb).first + (synchronized order.cdb).count) ≡ false
 
 pub none_refused : (order : Order) (blocks : ℕ) → first_refusal order blocks ≡ None → NotRefused order blocks
@@ -51,13 +53,14 @@ none_refused order blocks none =
       unprotected = t.1.1.1.1.0;
       has_data = later.0;
       few = later.1.0;
-      inside = later.1.1.0;
-      expects_all = later.1.1.1.0;
-      sends_some = later.1.1.1.1.0;
-      flushes_inside = later.1.1.1.1.1.0;
+      once = later.1.1.0;
+      inside = later.1.1.1.0;
+      expects_all = later.1.1.1.1.0;
+      sends_some = later.1.1.1.1.1.0;
+      flushes_inside = later.1.1.1.1.1.1.0;
     }
 
-unrefused : (order : Order) (blocks : ℕ) → first_refusal order blocks ≡ None → NamesBlocks order blocks
+pub unrefused : (order : Order) (blocks : ℕ) → first_refusal order blocks ≡ None → NamesBlocks order blocks
 unrefused order blocks e =
     let none = none_refused order blocks e in
     record { few = ltb-false _ _ none.few; inside = ltb-false _ _ none.inside }
@@ -83,14 +86,6 @@ taken_by order blocks n None e p = record {
 
 pub taken : (order : Order) (blocks n : ℕ) → plan_of order blocks ≡ Take n → IsTaken order blocks n
 taken order blocks n p = taken_by order blocks n (first_refusal order blocks) refl p
-
--- where the data of one block go to each, those are taken
-pub takes_one : (order : Order) → order.same ≡ true → taken_length order ≡ 512
-takes_one order same = rw same refl
-
--- else those of all blocks
-pub takes_all : (order : Order) → order.same ≡ false → taken_length order ≡ 512 * (named_transfer order.cdb).count
-takes_all order same = rw same refl
 
 given_by : (order : Order) (blocks n : ℕ) (r : Option Sense) → first_refusal order blocks ≡ r → plan_by r order blocks ≡ Give n → IsGiven order blocks n
 given_by order blocks n (Some sense) e p = absurd (let h : Refuse sense ≡ Give n = p in cc)
@@ -171,7 +166,7 @@ read_wants order blocks range reads names = rw reads (ap (λ n. 512 * n) (sym na
 pub gives_front : (disk : Disk) (order : Order) (range : BlockRange) (n : ℕ) (bytes : List ℕ) → is_read order.cdb ≡ true → NamesFewBlocks order disk.count
     range → n ≤ 512 * range.count
     → length bytes ≡ n → bytes ≡ take n (blocks_from disk range.first ((n + 511) / 512)) → good_outcome order (512 * range.count) bytes
-    ≡ outcome_by (Give n) disk order
+    ≡ outcome_by (Give n) disk order []
 gives_front disk order range n bytes reads names most size is =
     let named = named_transfer order.cdb in
     let few : (n + 511) / 512 ≤ named.count = omega (arith, names.count, most) in

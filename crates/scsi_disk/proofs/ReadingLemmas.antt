@@ -111,7 +111,7 @@ pub executed : (protected : Bool) (disk now : Disk) (order : Order) (range : Blo
     → OrderExecuted protected before after disk order [] (record { disk = now; outcome = good_outcome order (wanted_length order disk.count) bytes })
 executed protected disk now order range before after bytes is is_disk same rises were =
     let n : ℕ = 512 * range.count in
-    let plan = plan_stays protected (plan_of order disk.count) n is.plan in
+    let plan = plan_stays protected order.deed (plan_of order disk.count) n is.plan in
     record {
       rises = rises;
       works = λ none. worked protected before after 0 0 disk now order [] n plan same (good_outcome order (wanted_length order disk.count) bytes)
@@ -127,6 +127,6 @@ not_executed protected disk now order range before after o is same rose told = r
   rises = omega (arith, rose);
   works = λ none. absurd (omega (arith, none, rose));
   fails = λ _. failed protected before after 0 0 disk now order [] (512 * range.count)
-      (plan_stays protected (plan_of order disk.count) (512 * range.count) is.plan)
+      (plan_stays protected order.deed (plan_of order disk.count) (512 * range.count) is.plan)
       same o (inl told, is.reads, same);
 }

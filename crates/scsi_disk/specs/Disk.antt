@@ -58,6 +58,10 @@ pub record IsOldOrNew (old new disk : Disk) : Type 0 where
 unfoldable pub zero_blocks : ℕ → ℕ → ℕ → List ℕ
 zero_blocks size count n = if nat_lt n count then replicate size 0 else []
 
+-- a block of 00
+abbrev pub zero_block : List ℕ
+zero_block = replicate 512 0
+
 -- the most blocks that a disk may have (own rule)
 abbrev pub most_blocks : ℕ
 most_blocks = 2 ^ 40

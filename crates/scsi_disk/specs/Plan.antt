@@ -11,6 +11,7 @@ use Rattle.scsi_disk.specs.declared.order.Order.{Order}
 use Rattle.scsi_disk.specs.declared.order.Plan.{Plan}
 use Rattle.scsi_disk.specs.declared.order.Plan.TheVariants.{Refuse, Take, Give}
 use Rattle.scsi_disk.specs.declared.command.transfer.Transfer.{Transfer}
+use Rattle.scsi_disk.specs.Deed.{is_twofold, taken_by}
 
 -- ---- commands
 
@@ -88,17 +89,18 @@ cut_parameter_data present last _ = Some []
 abbrev pub parameter_data : Order → ℕ → Option (List ℕ)
 parameter_data order blocks = cut_parameter_data (order.lun == 0) (blocks - 1) order.cdb
 
--- How many bytes a WRITE takes: those of its blocks, or those of one, which go to each.
+-- how many bytes a command that takes data takes, which is a WRITE in the table of blocks
 abbrev pub taken_length : Order → ℕ
-taken_length order = if order.same then 512 else 512 * (named_transfer order.cdb).count
+taken_length order = taken_by order.deed (named_transfer order.cdb).count
 
 -- ---- refusals
 
 -- The reasons to refuse an order on a disk of n blocks, in their order. The command is unknown, or
 -- the unit is not 0, but for the standard INQUIRY data. Data go both ways, or to a command that
 -- takes none. The command asks for protection (RDPROTECT or WRPROTECT), or for a page or a report
--- that there is not. It names over 8,192 blocks, or blocks past the end. A WRITE expects other than
--- what it takes, or sends none of it. A SYNCHRONIZE CACHE names blocks past the end.
+-- that there is not. It names over 8,192 blocks, or over one where it takes the data of each twice, or
+-- blocks past the end. A WRITE expects other than what it takes, or sends none of it. A SYNCHRONIZE
+-- CACHE names blocks past the end.
 abbrev pub refusals : Order → ℕ → List (Bool × Sense)
 refusals order blocks =
     let named = named_transfer order.cdb in
@@ -110,9 +112,10 @@ refusals order blocks =
     ∷ (not (bit_and named.options 0xe0 == 0), InvalidField)
     ∷ (is_none (parameter_data order blocks), InvalidField)
     ∷ (nat_lt 8192 named.count, InvalidField)
+    ∷ (is_twofold order.deed && nat_lt 1 named.count, InvalidField)
     ∷ (nat_lt blocks (named.first + named.count), OutOfRange)
     ∷ (is_write order.cdb && not (order.expected == taken_length order), InvalidField)
-    ∷ (is_write order.cdb && not order.write && (order.same || nat_lt 0 named.count), InvalidField)
+    ∷ (is_write order.cdb && not order.write && nat_lt 0 (taken_length order), InvalidField)
     ∷ (nat_lt blocks (flushed.first + flushed.count), OutOfRange)
     ∷ []
 

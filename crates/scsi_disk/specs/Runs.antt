@@ -24,11 +24,11 @@ OrdersRun protected before disk (o ∷ orders) after last told =
     × OrdersRun protected now left.disk orders after last more
     × (told ≡ left.outcome ∷ more)
 
--- n first orders ran, and no other did anything
+-- n first orders ran, and no other changed a block; it may have read some, over a store that failed
 abbrev pub RunsSome : Bool → ℕ → Disk → List Supplied → ℕ → Disk → Type 0
 RunsSome protected before disk orders after last =
-    (n : ℕ) × (told : List Outcome) × (n ≤ length orders)
-    × OrdersRun protected before disk (take n orders) after last told
+    (n : ℕ) × (told : List Outcome) × (now : ℕ) × (n ≤ length orders) × (now ≤ after)
+    × OrdersRun protected before disk (take n orders) now last told
 
 -- ---- where no failure is counted
 

@@ -1,14 +1,17 @@
 //! What an order does to a store, and its answer. One file, half of which is contracts.
 
-ghost use Rattle.std.specs.Prelude.{◌≡◌, ◌+◌, ◌*◌, ◌/◌, ◌<◌, ◌≤◌, ◌^◌, length as size, min, true, take as front, OnOk, OnErr, IfOk, IsOk, IsErr, IsErrOf};
+ghost use Rattle.std.specs.Prelude.{◌≡◌, ◌+◌, ◌*◌, ◌/◌, ◌<◌, ◌≤◌, ◌^◌, ◌&&◌, length as size, min, true, false, None, [], take as front, OnOk, OnErr, IfOk, IsOk, IsErr, IsErrOf};
 ghost use Rattle.std.specs.List.{repeat};
-ghost use Rattle.scsi_disk.specs.Disk.{StoreTellsFailures, IsOldOrNew, blocks_from, disk_written};
+ghost use Rattle.scsi_disk.specs.Disk.{StoreTellsFailures, IsOldOrNew, blocks_from, zero_block};
 ghost use Rattle.scsi_disk.specs.Lasting.{CrashAddsDisk, LastsOnceSynced, Within};
-ghost use Rattle.scsi_disk.specs.Plan.{named_transfer, is_read, taken_length, expected_length, plan_of};
+ghost use Rattle.scsi_disk.specs.Plan.{is_read, taken_length, expected_length, plan_of};
 ghost use Rattle.scsi_disk.specs.Found.{IsFound, NamesFewBlocks, plan_by_work};
-ghost use Rattle.scsi_disk.specs.declared.found.Work.TheVariants.{Read, Write};
-ghost use Rattle.scsi_disk.specs.Effect.{IsSupplied, IsSuppliedBy, OrderExecuted, write_block_data, effect, residual_of, good_outcome, data_given, check_condition, HasOtherData, disk_by, outcome_by};
+ghost use Rattle.scsi_disk.specs.declared.found.Work.TheVariants.{Read};
+ghost use Rattle.scsi_disk.specs.Deed.{compares, first_other, miscompare, writes};
+ghost use Rattle.scsi_disk.specs.Effect.{IsSupplied, IsSuppliedBy, OrderExecuted, deed_failure, disk_aimed, disk_done, residual_of, good_outcome, data_given, check_condition, HasOtherData, outcome_by};
+ghost use Rattle.scsi_disk.specs.inner.Taken.{IsTakenBy, IsUndone, IsVerified};
 
+use crate::deed::{Deed, first_other, unmap_range, unmap_refusal};
 use crate::found::{Found, Work};
 use crate::order::{Order, Outcome, Plan};
 use crate::planning::expected_length;
@@ -112,7 +115,7 @@ fn give<S: BlockStore>(
     requires reads { is_read order.now.cdb ≡ true }
     requires names { NamesFewBlocks order.now (S.disk store.old).count range }
     ensures ok { IfOk result (λ outcome. S.failures store.new ≡ S.failures store.old
-        → outcome ≡ outcome_by (plan_by_work order.now (Read range)) (S.disk store.old) order.now) }
+        → outcome ≡ outcome_by (plan_by_work order.now (Read range)) (S.disk store.old) order.now []) }
     ensures untold { IfOk result (HasOtherData (S.disk store.old) order.now
         (min (512 * range.count) (expected_length order.now))) }
     ensures disk { S.disk store.new ≡ S.disk store.old }
@@ -130,56 +133,205 @@ fn give<S: BlockStore>(
     Ok(Outcome::good(order, wanted, bytes))
 }
 
-/// Writes the data of a WRITE to these blocks.
-fn take<S: BlockStore>(
+/// Holds data against these blocks: the place of the first byte that is another one, if there is one.
+fn compared<S: BlockStore>(
+    alloc: Global,
+    due: &[u8],
+    range: BlockRange,
+    store: &mut S,
+) -> Result<Option<u32>, StoreFault>
+    requires inside { range.first + range.count ≤ (S.disk store.old).count }
+    requires few { range.count ≤ 8192 }
+    requires whole { size due.now ≡ 512 * range.count }
+    ensures ok { IfOk result (λ place. S.failures store.new ≡ S.failures store.old → place
+        ≡ first_other 0 due.now (blocks_from (S.disk store.old) range.first range.count)) }
+    ensures disk { S.disk store.new ≡ S.disk store.old }
+    ensures kept { Within (S.kept store.old) (S.kept store.new) }
+    ensures lasts { S.failures store.new ≡ S.failures store.old
+        → LastsOnceSynced (S.synced store.old) (S.disk store.old) (S.kept store.old)
+        → LastsOnceSynced (S.synced store.new) (S.disk store.new) (S.kept store.new) }
+    ensures tells { StoreTellsFailures (S.disk store.old).tells (S.failures store.old)
+        (S.failures store.new)
+        (S.untold store.old) (S.untold store.new) result }
+{
+    let mut found = Vec::new(alloc);
+    store.read_onto(range.first, range.count, &mut found)?;
+    Ok(first_other(due, &found))
+}
+
+/// Holds data against these blocks: the outcome of a command that fails by it, or `None` where all bytes
+/// are alike. The only error is that memory ran out.
+fn verified<S: BlockStore>(
+    alloc: Global,
+    order: &Order,
+    due: &[u8],
+    range: BlockRange,
+    store: &mut S,
+) -> Result<Option<Outcome>, AllocError>
+    requires inside { range.first + range.count ≤ (S.disk store.old).count }
+    requires few { range.count ≤ 8192 }
+    requires whole { size due.now ≡ 512 * range.count }
+    ensures ok { IfOk result (λ given. IsVerified (S.disk store.old).tells order.now
+        (miscompare due.now (blocks_from (S.disk store.old) range.first range.count))
+        (S.failures store.old) (S.failures store.new) given) }
+    ensures err { OnErr result (S.failures store.new ≡ S.failures store.old) }
+    ensures disk { S.disk store.new ≡ S.disk store.old }
+    ensures kept { Within (S.kept store.old) (S.kept store.new) }
+    ensures lasts { S.failures store.new ≡ S.failures store.old
+        → LastsOnceSynced (S.synced store.old) (S.disk store.old) (S.kept store.old)
+        → LastsOnceSynced (S.synced store.new) (S.disk store.new) (S.kept store.new) }
+{
+    match compared(alloc, due, range, store) {
+        Ok(None) => Ok(None),
+        Ok(Some(place)) => {
+            let sense = Sense::Miscompare(place);
+            Ok(Some(Outcome::check_condition(alloc, order, sense)))
+        }
+        Err(StoreFault::NoMemory) => Err(AllocError),
+        Err(StoreFault::Device) => {
+            Ok(Some(Outcome::check_condition(alloc, order, Sense::ReadError)))
+        }
+    }
+}
+
+/// The outcome of a command that takes data and fails with these, before it writes a block; `None` where
+/// it goes on. The only error is that memory ran out.
+fn undone<S: BlockStore>(
     alloc: Global,
     order: &Order,
     bytes: &[u8],
     range: BlockRange,
     store: &mut S,
-) -> Result<Outcome, StoreFault>
+) -> Result<Option<Outcome>, AllocError>
     requires names { NamesFewBlocks order.now (S.disk store.old).count range }
     requires supplied { size bytes.now ≡ taken_length order.now }
-    ensures ok { IfOk result (λ outcome.
-        outcome ≡ outcome_by (plan_by_work order.now (Write range)) (S.disk store.old) order.now) }
+    ensures ok { IfOk result (λ given. IsUndone (S.disk store.old).tells order.now
+        (deed_failure (S.disk store.old) order.now bytes.now)
+        (S.failures store.old) (S.failures store.new) given) }
+    ensures err { OnErr result (S.failures store.new ≡ S.failures store.old) }
+    ensures disk { S.disk store.new ≡ S.disk store.old }
+    ensures kept { Within (S.kept store.old) (S.kept store.new) }
+    ensures lasts { S.failures store.new ≡ S.failures store.old
+        → LastsOnceSynced (S.synced store.old) (S.disk store.old) (S.kept store.old)
+        → LastsOnceSynced (S.synced store.new) (S.disk store.new) (S.kept store.new) }
+{
+    match order.deed {
+        Deed::Write | Deed::Same => Ok(None),
+        Deed::Verify => verified(alloc, order, bytes, range, store),
+        Deed::Compare => {
+            let due = &bytes[..512 * range.count as usize];
+            verified(alloc, order, due, range, store)
+        }
+        Deed::Unmap(_) => {
+            let refused = unmap_refusal(bytes, store.blocks());
+            Ok(refused.map(|sense| Outcome::check_condition(alloc, order, sense)))
+        }
+    }
+}
+
+/// Writes what a command that takes data leaves in its blocks, where it isn't undone.
+fn write_data<S: BlockStore>(
+    alloc: Global,
+    order: &Order,
+    bytes: &[u8],
+    range: BlockRange,
+    store: &mut S,
+) -> Result<(), StoreFault>
+    requires names { NamesFewBlocks order.now (S.disk store.old).count range }
+    requires supplied { size bytes.now ≡ taken_length order.now }
+    requires goes_on { compares order.now.deed ≡ false
+        → deed_failure (S.disk store.old) order.now bytes.now ≡ None }
     ensures written { OnOk result (S.failures store.new ≡ S.failures store.old
-        → S.disk store.new
-        ≡ disk_by (plan_by_work order.now (Write range)) (S.disk store.old) order.now bytes.now) }
+        → S.disk store.new ≡ disk_done (S.disk store.old) order.now bytes.now) }
     ensures lasts { S.failures store.new ≡ S.failures store.old
         → LastsOnceSynced (S.synced store.old) (S.disk store.old) (S.kept store.old)
         → LastsOnceSynced (S.synced store.new) (S.disk store.new) (S.kept store.new) }
     ensures count { (S.disk store.new).count ≡ (S.disk store.old).count }
     ensures no_memory { IsErrOf result StoreFault.NoMemory
         → (S.disk store.new ≡ S.disk store.old) × Within (S.kept store.old) (S.kept store.new) }
-    ensures each { IsOldOrNew (S.disk store.old) (disk_written (named_transfer order.now.cdb).first
-        (write_block_data order.now bytes.now) (S.disk store.old)) (S.disk store.new) }
-    ensures kept { CrashAddsDisk (disk_written (named_transfer order.now.cdb).first
-        (write_block_data order.now bytes.now)
-        (S.disk store.old)) (S.kept store.old) (S.kept store.new) }
+    ensures each { IsOldOrNew (S.disk store.old)
+        (disk_done (S.disk store.old) order.now bytes.now) (S.disk store.new) }
+    ensures kept { CrashAddsDisk (disk_done (S.disk store.old) order.now bytes.now)
+        (S.kept store.old) (S.kept store.new) }
     ensures tells { StoreTellsFailures (S.disk store.old).tells (S.failures store.old)
         (S.failures store.new)
         (S.untold store.old) (S.untold store.new) result }
 {
-    if order.same {
-        let all = repeated(alloc, bytes, range.count)?;
-        store.write(range.first, &all)?;
-    } else {
-        store.write(range.first, bytes)?;
+    match order.deed {
+        Deed::Write => store.write(range.first, bytes),
+        Deed::Same => {
+            let all = repeated(alloc, bytes, range.count)?;
+            store.write(range.first, &all)
+        }
+        Deed::Verify => Ok(()),
+        Deed::Compare => store.write(range.first, &bytes[512 * range.count as usize..]),
+        Deed::Unmap(_) => {
+            let range = unmap_range(bytes);
+            let all = zeros(alloc, range.count)?;
+            store.write(range.first, &all)
+        }
     }
-    Ok(Outcome::good(order, bytes.len() as u32, Vec::new(alloc)))
+}
+
+/// Does what a command that takes data is for. The only error is that memory ran out; then no block has
+/// changed.
+fn take<S: BlockStore>(
+    alloc: Global,
+    order: &Order,
+    bytes: &[u8],
+    range: BlockRange,
+    store: &mut S,
+) -> Result<Outcome, AllocError>
+    requires names { NamesFewBlocks order.now (S.disk store.old).count range }
+    requires supplied { size bytes.now ≡ taken_length order.now }
+    ensures ok { IfOk result (λ outcome. IsTakenBy (S.failures store.old) (S.failures store.new)
+        (S.disk store.old) order.now bytes.now
+        (record { disk = S.disk store.new; outcome = outcome })) }
+    ensures count { (S.disk store.new).count ≡ (S.disk store.old).count }
+    ensures lasts { S.failures store.new ≡ S.failures store.old
+        → LastsOnceSynced (S.synced store.old) (S.disk store.old) (S.kept store.old)
+        → LastsOnceSynced (S.synced store.new) (S.disk store.new) (S.kept store.new) }
+    ensures crash { CrashAddsDisk (disk_done (S.disk store.old) order.now bytes.now)
+        (S.kept store.old) (S.kept store.new) }
+    ensures err { OnErr result (S.disk store.new ≡ S.disk store.old) }
+    // A failure that isn't told may come before it, while blocks are compared.
+    ensures err_failures { OnErr result (compares order.now.deed ≡ false
+        → S.failures store.new ≡ S.failures store.old) }
+    ensures err_rises { OnErr result (S.failures store.old ≤ S.failures store.new) }
+{
+    if let Some(outcome) = undone(alloc, order, bytes, range, store)? {
+        return Ok(outcome);
+    }
+    let length = order.deed.taken(range.count);
+    let good = Outcome::good(order, length, Vec::new(alloc));
+    match write_data(alloc, order, bytes, range, store) {
+        Ok(()) => Ok(good),
+        Err(StoreFault::NoMemory) => Err(AllocError),
+        Err(StoreFault::Device) => Ok(Outcome::check_condition(alloc, order, Sense::WriteError)),
+    }
 }
 
 /// The bytes of a block `n` times, at most 4 MiB of them.
 fn repeated(alloc: Global, block: &[u8], count: u32) -> Result<Vec<u8>, AllocError>
     requires short { size block.now ≡ 512 }
     requires few { count ≤ 8192 }
-    ensures { IfOk result (λ v. v.items ≡ repeat count block.now) }
+    ensures items { IfOk result (λ v. v.items ≡ repeat count block.now) }
+    ensures size { IfOk result (λ v. size v.items ≡ 512 * count) }
 {
     let mut all = Vec::with_capacity(alloc, 512 * count as usize)?;
     for _ in 0..count {
         all.extend_from_slice(block)?;
     }
     Ok(all)
+}
+
+/// Blocks of 00, at most 4 MiB of them.
+fn zeros(alloc: Global, count: u32) -> Result<Vec<u8>, AllocError>
+    requires few { count ≤ 8192 }
+    ensures items { IfOk result (λ v. v.items ≡ repeat count zero_block) }
+    ensures size { IfOk result (λ v. size v.items ≡ 512 * count) }
+{
+    repeated(alloc, &[0; 512], count)
 }
 
 /// What a command answers, where its store answered so.
@@ -200,6 +352,13 @@ fn settled(
         Err(StoreFault::NoMemory) => Err(AllocError),
         Err(StoreFault::Device) => Ok(Outcome::check_condition(alloc, order, sense)),
     }
+}
+
+/// The store refuses what the command of an order may write.
+fn is_refused<S: BlockStore>(order: &Order, store: &S) -> bool
+    ensures { result ≡ (writes order.now.deed && S.protected) }
+{
+    order.deed.writes() && store.is_protected()
 }
 
 /// Executes an order on a store.
@@ -237,11 +396,14 @@ pub fn execute<S: BlockStore>(
         → LastsOnceSynced (S.synced store.old) (S.disk store.old) (S.kept store.old)
         → LastsOnceSynced (S.synced store.new) (S.disk store.new) (S.kept store.new) }
     // Whatever comes of it, a crash leaves each block old or new.
-    ensures crash { CrashAddsDisk (effect S.protected (S.disk store.old) order.now bytes.now).disk
+    ensures crash { CrashAddsDisk (disk_aimed S.protected (S.disk store.old) order.now bytes.now)
         (S.kept store.old) (S.kept store.new) }
     // Memory ran out.
     ensures err { OnErr result (S.disk store.new ≡ S.disk store.old) }
-    ensures err_failures { OnErr result (S.failures store.new ≡ S.failures store.old) }
+    // A failure that isn't told may come before it, while blocks are compared.
+    ensures err_failures { OnErr result (compares order.now.deed ≡ false
+        → S.failures store.new ≡ S.failures store.old) }
+    ensures err_rises { OnErr result (S.failures store.old ≤ S.failures store.new) }
 {
     let found = Found::of(order, store.blocks());
     execute_found(alloc, order, &found, bytes, store)
@@ -266,10 +428,13 @@ pub fn execute_planned<S: BlockStore>(
     ensures lasts { S.failures store.new ≡ S.failures store.old
         → LastsOnceSynced (S.synced store.old) (S.disk store.old) (S.kept store.old)
         → LastsOnceSynced (S.synced store.new) (S.disk store.new) (S.kept store.new) }
-    ensures crash { CrashAddsDisk (effect S.protected (S.disk store.old) order.now bytes.now).disk
+    ensures crash { CrashAddsDisk (disk_aimed S.protected (S.disk store.old) order.now bytes.now)
         (S.kept store.old) (S.kept store.new) }
     ensures err { OnErr result (S.disk store.new ≡ S.disk store.old) }
-    ensures err_failures { OnErr result (S.failures store.new ≡ S.failures store.old) }
+    // A failure that isn't told may come before it, while blocks are compared.
+    ensures err_failures { OnErr result (compares order.now.deed ≡ false
+        → S.failures store.new ≡ S.failures store.old) }
+    ensures err_rises { OnErr result (S.failures store.old ≤ S.failures store.new) }
 {
     let found = Found::by_plan(order, planned, store.blocks());
     execute_found(alloc, order, &found, bytes, store)
@@ -295,10 +460,13 @@ pub fn execute_found<S: BlockStore>(
     ensures lasts { S.failures store.new ≡ S.failures store.old
         → LastsOnceSynced (S.synced store.old) (S.disk store.old) (S.kept store.old)
         → LastsOnceSynced (S.synced store.new) (S.disk store.new) (S.kept store.new) }
-    ensures crash { CrashAddsDisk (effect S.protected (S.disk store.old) order.now bytes.now).disk
+    ensures crash { CrashAddsDisk (disk_aimed S.protected (S.disk store.old) order.now bytes.now)
         (S.kept store.old) (S.kept store.new) }
     ensures err { OnErr result (S.disk store.new ≡ S.disk store.old) }
-    ensures err_failures { OnErr result (S.failures store.new ≡ S.failures store.old) }
+    // A failure that isn't told may come before it, while blocks are compared.
+    ensures err_failures { OnErr result (compares order.now.deed ≡ false
+        → S.failures store.new ≡ S.failures store.old) }
+    ensures err_rises { OnErr result (S.failures store.old ≤ S.failures store.new) }
 {
     match &found.work {
         Work::Refuse(sense) => Ok(Outcome::check_condition(alloc, order, *sense)),
@@ -308,11 +476,10 @@ pub fn execute_found<S: BlockStore>(
             settled(alloc, order, answer, Sense::ReadError)
         }
         Work::Write(range) => {
-            if store.is_protected() {
+            if is_refused(order, store) {
                 return Ok(Outcome::check_condition(alloc, order, Sense::WriteProtected));
             }
-            let answer = take(alloc, order, bytes, *range, store);
-            settled(alloc, order, answer, Sense::WriteError)
+            take(alloc, order, bytes, *range, store)
         }
     }
 }

@@ -3,6 +3,7 @@
 #![tactic(auto)]
 
 mod command;
+mod deed;
 mod execution;
 mod fail_at;
 mod found;
@@ -16,6 +17,7 @@ mod running;
 mod sparse;
 mod store;
 
+pub use deed::{Deed, LONGEST_UNMAP};
 pub use execution::{execute, execute_found, execute_planned};
 pub use fail_at::FailAt;
 pub use found::{Found, Work};

@@ -1,5 +1,6 @@
 //! Orders to a disk, what they lead to, and what they give.
 
+use crate::deed::Deed;
 use scsi_cdb::{Bytes, Cdb, Residual, Sense};
 
 /// A command with what its initiator says of the transfer.
@@ -15,9 +16,9 @@ pub struct Order {
     pub write: bool,
     /// The expected data transfer length, in bytes.
     pub expected: u32,
-    /// A WRITE has the data of one block, which go to each of its blocks, as those of WRITE SAME do. Of
-    /// another command it is not looked at.
-    pub same: bool,
+    /// What the command does with the data that it takes. Of a command that takes none it is not looked
+    /// at.
+    pub deed: Deed,
 }
 
 /// What an order leads to. The order and the number of blocks alone decide it.
@@ -25,7 +26,7 @@ pub struct Order {
 pub enum Plan {
     /// It is refused for this reason.
     Refuse(Sense),
-    /// It takes `n` bytes, which are then written.
+    /// It takes `n` bytes, and does what it is for with them.
     Take(u32),
     /// It gives `n` bytes, and changes no block.
     Give(u32),

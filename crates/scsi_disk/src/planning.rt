@@ -70,6 +70,7 @@ fn refusal(order: &Order, command: &Command, blocks: u64) -> Option<Sense>
     if transfer.options & PROTECTION != 0
         || command.told.is_none()
         || transfer.count > LONGEST_TRANSFER
+        || order.deed.is_twofold() && transfer.count > 1
     {
         return Some(Sense::InvalidField);
     }
@@ -77,8 +78,8 @@ fn refusal(order: &Order, command: &Command, blocks: u64) -> Option<Sense>
         return Some(Sense::OutOfRange);
     }
     if is_write(cdb)
-        && (order.expected != taken_length(order, transfer.count)
-            || !order.write && (order.same || transfer.count > 0))
+        && (order.expected != order.deed.taken(transfer.count)
+            || !order.write && order.expected > 0)
     {
         return Some(Sense::InvalidField);
     }
@@ -86,16 +87,6 @@ fn refusal(order: &Order, command: &Command, blocks: u64) -> Option<Sense>
         return Some(Sense::OutOfRange);
     }
     None
-}
-
-/// How many bytes a WRITE of `n` blocks takes: those of its blocks, or those of one, which go to
-/// each.
-fn taken_length(order: &Order, count: u32) -> u32
-    requires few { count ≤ 8192 }
-    requires named { count ≡ (named_transfer order.now.cdb).count }
-    ensures { result ≡ taken_length order.now }
-{
-    if order.same { 512 } else { 512 * count }
 }
 
 /// What the initiator expects, which a residual is counted from: nothing, where it names no
@@ -145,6 +136,7 @@ impl Found {
     }
 
     /// What is found of an order that is not refused, by what its command names and tells.
+    #[tactic(auto, using(crate::proofs::PlanLemmas::unrefused))]
     fn unrefused(order: &Order, command: Command, blocks: u64) -> Found
         requires transfer { named_blocks command.transfer ≡ named_transfer order.now.cdb }
         requires kind { is_some command.transfer ≡ (is_read order.now.cdb || is_write order.now.cdb) }
@@ -182,7 +174,7 @@ impl Found {
     {
         match &self.work {
             Work::Refuse(sense) => Plan::Refuse(*sense),
-            Work::Write(range) => Plan::Take(taken_length(order, range.count)),
+            Work::Write(range) => Plan::Take(order.deed.taken(range.count)),
             Work::Read(range) => Plan::Give((512 * range.count).min(expected_length(order))),
             Work::Tell(data) => Plan::Give((data.len() as u32).min(expected_length(order))),
         }
@@ -196,15 +188,14 @@ impl Found {
 /// 2. `NoUnit`: its unit is not 0. An INQUIRY for the standard data is answered for any unit.
 /// 3. `InvalidField`: it has data both ways, or sends data to a command that is no WRITE.
 /// 4. `InvalidField`: it asks for protection, or for a page or a report that there is not.
-/// 5. `InvalidField`: it is over 8,192 blocks.
+/// 5. `InvalidField`: it is over 8,192 blocks, or over one whose data come twice.
 /// 6. `OutOfRange`: its blocks end past the last one, also those of a SYNCHRONIZE CACHE, to which
 ///    the limit of 8,192 blocks does not apply. No blocks at the end are in range.
-/// 7. `InvalidField`: it is a WRITE whose expected length is not that of its blocks, or that has
-///    blocks and sends no data. A WRITE of the same data to each block expects those of one block,
-///    and sends them.
+/// 7. `InvalidField`: it is a WRITE whose expected length is not what it takes, or that takes data and
+///    sends none. How much it takes its `Deed` says.
 ///
-/// Else a WRITE takes the bytes of its blocks, or those of one block, and another command gives the lesser of what it has
-/// and what the initiator expects. The commands are those of SPC-4 and SBC-3; the order of the
+/// Else a WRITE takes that, and another command gives the lesser of what it has and what the initiator
+/// expects. The commands are those of SPC-4 and SBC-3; the order of the
 /// reasons, the sense of each and the limit of 8,192 blocks are own rules.
 pub fn plan(order: &Order, blocks: u64) -> Plan
     ensures { result ≡ plan_of order.now blocks }

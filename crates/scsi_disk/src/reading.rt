@@ -1,6 +1,6 @@
 //! READs of whole blocks, whose data a caller takes from the store itself.
 
-ghost use Rattle.std.specs.Prelude.{◌≡◌, [], IfOk, IsOk, IsSome};
+ghost use Rattle.std.specs.Prelude.{◌≡◌, ◌+◌, nat_lt, [], IfOk, IsOk, IsSome};
 ghost use Rattle.scsi_disk.specs.Plan.{plan_of, wanted_length};
 ghost use Rattle.scsi_disk.specs.Found.{IsFound};
 ghost use Rattle.scsi_disk.specs.Effect.{good_outcome, check_condition};
@@ -21,6 +21,18 @@ pub struct BlockRange {
     pub first: u64,
     /// How many there are.
     pub count: u32,
+}
+
+impl BlockRange {
+    /// It ends past `n` blocks, also where its end is not below 2^64.
+    pub(crate) fn ends_past(&self, blocks: u64) -> bool
+        ensures { result ≡ nat_lt blocks (self.now.first + self.now.count) }
+    {
+        match self.first.checked_add(u64::from(self.count)) {
+            Some(end) => blocks < end,
+            None => true,
+        }
+    }
 }
 
 impl Found {

@@ -4,9 +4,11 @@ ghost use Rattle.std.specs.Prelude.{IsTrue};
 ghost use Rattle.scsi_disk.specs.Effect.{IsSupplied};
 ghost use Rattle.scsi_disk.specs.Runs.{AreSupplied};
 
+mod deeds;
+
 use scsi_cdb::{Bytes, Cdb, Residual, Sense};
 use scsi_disk::{
-    BlockRange, BlockStore, FailAt, Found, MOST_BLOCKS, MemoryStore, Order, Outcome, Plan,
+    BlockRange, BlockStore, Deed, FailAt, Found, MOST_BLOCKS, MemoryStore, Order, Outcome, Plan,
     ReadOnly, SparseStore, StoreFault, execute, failed_read, plan, run_orders,
 };
 use std::alloc::{AllocError, Global};
@@ -35,7 +37,7 @@ fn order(words: [u32; 4], read: bool, write: bool, expected: u32) -> Order {
         read,
         write,
         expected,
-        same: false,
+        deed: Deed::Write,
     }
 }
 
@@ -828,7 +830,7 @@ const SAME_8: [u32; 4] = [0x2a000000, 0x00020000, 0x08000000, 0];
 /// An order of the data of one block for each of its blocks, with so many bytes.
 fn same_order(words: [u32; 4], data: Data) -> Order {
     Order {
-        same: true,
+        deed: Deed::Same,
         ..order_of(words, data)
     }
 }

@@ -8,7 +8,7 @@ use Rattle.scsi_cdb.specs.Layout.{bits_at, is_set, number_at}
 use Rattle.scsi_unit.specs.Supported.{all_commands, asked_command, commands_told, has_action, has_actions, has_no_action, no_timeouts, one_command, supported}
 use Rattle.scsi_unit.specs.declared.supported.SupportedCommand.{SupportedCommand}
 
-all_few : (timeouts thin : Bool) → length (all_commands timeouts (supported thin)) ≤ 544
+all_few : (timeouts thin : Bool) → length (all_commands timeouts (supported thin)) ≤ 664
 all_few false false = omega arith
 all_few false true = omega arith
 all_few true false = omega arith
@@ -34,7 +34,7 @@ all_short : (thin : Bool) → list_all is_short (supported thin) ≡ true
 all_short true = refl
 all_short false = refl
 
-one_few : (timeouts : Bool) (found : Option SupportedCommand) → HasShort found → length (one_command timeouts found) ≤ 544
+one_few : (timeouts : Bool) (found : Option SupportedCommand) → HasShort found → length (one_command timeouts found) ≤ 664
 one_few timeouts None short = omega arith
 one_few true (Some row) short =
     omega (arith, length-append (take row.length row.usage) (no_timeouts true), length-take row.length row.usage, leb-true row.length 16 short)
@@ -57,7 +57,7 @@ asked_short option code action thin =
     (λ e. found_short (has_action code action) rows (all_short thin)) (λ e. tt)))
 
 abbrev pub AreShort : Option (List ℕ) → Type 0
-AreShort told = IfSome told (λ bytes. length bytes ≤ 544)
+AreShort told = IfSome told (λ bytes. length bytes ≤ 664)
 
 told_short : (timeouts : Bool) (asked : Option (Option SupportedCommand)) → AskShort asked → AreShort (option_map (one_command timeouts) asked)
 told_short timeouts None short = tt

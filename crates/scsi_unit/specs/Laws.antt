@@ -6,7 +6,7 @@ use Rattle.scsi_disk.specs.declared.order.Order.{Order}
 use Rattle.scsi_disk.specs.declared.order.Outcome.{Outcome}
 use Rattle.scsi_unit.specs.LogicalUnit.{LogicalUnit}
 use Rattle.scsi_unit.specs.Telling.{outcome_with_unit}
-use Rattle.scsi_unit.specs.WriteSame.{meant}
+use Rattle.scsi_unit.specs.Deeds.{meant}
 
 -- The outcome of an order, with these bytes, on a disk with a unit, whose store refuses each write or takes
 -- them, and doesn't fail.

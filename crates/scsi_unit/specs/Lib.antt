@@ -4,6 +4,7 @@ pub mod Pages
 pub mod Modes
 pub mod Spellings
 pub mod WriteSame
+pub mod Deeds
 pub mod Supported
 pub mod Telling
 pub mod WriteCache

@@ -26,24 +26,26 @@ abbrev pub name_page : List ℕ → List ℕ → List ℕ
 name_page name serial =
     0x00 ∷ 0x83 ∷ to_be_bytes w16 (length (designators name serial)) ++ designators name serial
 
--- The limits of a transfer (SBC-3, section 6.5.3): at most 8,192 blocks. Of a thin unit these are
--- also the limits of a WRITE SAME, which names a block at least (WSNZ) and gives back any number.
+-- The limits of a transfer (SBC-3, section 6.5.3): at most 8,192 blocks, and one of a COMPARE AND WRITE. Of
+-- a thin unit these are also the limits of a WRITE SAME, which names a block at least (WSNZ) and gives back
+-- any number, and of an UNMAP, which has one range.
 abbrev pub limits_page : Bool → List ℕ
 limits_page false =
-    0x00 ∷ 0xb0 ∷ 0x00 ∷ 0x3c ∷ 0x00 ∷ 0x00 ∷ 0x00 ∷ 0x00 ∷ 0x00 ∷ 0x00 ∷ 0x20 ∷ 0x00 ∷ replicate 52 0
+    0x00 ∷ 0xb0 ∷ 0x00 ∷ 0x3c ∷ 0x00 ∷ 0x01 ∷ 0x00 ∷ 0x00 ∷ 0x00 ∷ 0x00 ∷ 0x20 ∷ 0x00 ∷ replicate 52 0
 limits_page true =
-    0x00 ∷ 0xb0 ∷ 0x00 ∷ 0x3c ∷ 0x01 ∷ 0x00 ∷ 0x00 ∷ 0x00 ∷ 0x00 ∷ 0x00 ∷ 0x20 ∷ 0x00 ∷ replicate 16 0
-    ++ 0x00 ∷ 0x00 ∷ 0x00 ∷ 0x01 ∷ replicate 4 0
+    0x00 ∷ 0xb0 ∷ 0x00 ∷ 0x3c ∷ 0x01 ∷ 0x01 ∷ 0x00 ∷ 0x00 ∷ 0x00 ∷ 0x00 ∷ 0x20 ∷ 0x00 ∷ replicate 8 0
+    ++ 0x00 ∷ 0x00 ∷ 0x20 ∷ 0x00 ∷ 0x00 ∷ 0x00 ∷ 0x00 ∷ 0x01
+    ∷ 0x00 ∷ 0x00 ∷ 0x00 ∷ 0x01 ∷ replicate 4 0
     ++ 0x00 ∷ 0x00 ∷ 0x00 ∷ 0x00 ∷ 0x00 ∷ 0x00 ∷ 0x20 ∷ 0x00 ∷ replicate 20 0
 
 -- The kind of the medium (SBC-3, section 6.5.2): it doesn't rotate.
 abbrev pub medium_page : List ℕ
 medium_page = 0x00 ∷ 0xb1 ∷ 0x00 ∷ 0x3c ∷ 0x00 ∷ 0x01 ∷ replicate 58 0
 
--- How a thin unit gives blocks back (SBC-3, section 6.5.4): by WRITE SAME(16) and (10) with the bit
--- UNMAP, after which they read as zeros, and by no list of ranges.
+-- How a thin unit gives blocks back (SBC-3, section 6.5.4): by UNMAP, and by WRITE SAME(16) and (10) with
+-- the bit UNMAP. They read as zeros then.
 abbrev pub provisioning_page : List ℕ
-provisioning_page = 0x00 ∷ 0xb2 ∷ 0x00 ∷ 0x04 ∷ 0x00 ∷ 0x64 ∷ 0x02 ∷ 0x00 ∷ []
+provisioning_page = 0x00 ∷ 0xb2 ∷ 0x00 ∷ 0x04 ∷ 0x00 ∷ 0xe4 ∷ 0x02 ∷ 0x00 ∷ []
 
 -- READ CAPACITY(16) of a thin unit (SBC-3, section 5.16): the last block, the 512 bytes of a block, and
 -- that blocks may be given back and then read as zeros (LBPME and LBPRZ).

@@ -1,6 +1,7 @@
 -- What a unit answers of itself, whatever its blocks hold (SPC-4; the order of the reasons to refuse,
 -- and the choice of each sense, are own rules).
-use Rattle.std.specs.Prelude.{ℕ, ◌+◌, ◌-◌, Bool, true, false, not, ◌==◌, ◌&&◌, ◌||◌, nat_lt, if◌then◌else◌, List, [], ◌∷◌, take, replicate, Option, Some, None, option_map, is_some, unwrap_or}
+use Rattle.std.specs.Prelude.{ℕ, ◌+◌, ◌-◌, Bool, true, false, not, ◌==◌, ◌&&◌, ◌||◌, nat_lt, bit_and, min, if◌then◌else◌, List, [], ◌∷◌, ◌++◌, take, replicate, Option, Some, None, option_map, is_some, unwrap_or}
+use Rattle.std.specs.Int.{to_be_bytes, w32, w64}
 use Rattle.scsi_cdb.specs.Layout.{bits_at, is_set, number_at}
 use Rattle.scsi_cdb.specs.Sense.{sense_bytes, triple_of}
 use Rattle.scsi_cdb.specs.declared.cdb.Cdb.{Cdb}
@@ -45,12 +46,29 @@ inquiry_data unit present false page =
 abbrev pub asks_commands : List ℕ → Bool
 asks_commands block = (number_at 0 0 block == 0xa3) && (bits_at 1 0x1f block == 0x0c)
 
+-- The block is one of GET LBA STATUS, another service action of the code of READ CAPACITY(16).
+abbrev pub asks_mapping : List ℕ → Bool
+asks_mapping block = (number_at 0 0 block == 0x9e) && (bits_at 1 0x1f block == 0x12)
+
+-- The data of GET LBA STATUS from this block on, of a unit of n blocks (SBC-3, section 5.6): all blocks up
+-- to the last one are mapped.
+abbrev pub all_mapped : ℕ → ℕ → List ℕ
+all_mapped blocks first =
+    0x00 ∷ 0x00 ∷ 0x00 ∷ 0x14 ∷ replicate 4 0
+    ++ to_be_bytes w64 first ++ to_be_bytes w32 (min (blocks - first) 0xffffffff) ++ replicate 4 0
+
+-- A VERIFY that is sent no bytes has no data. It is refused where it asks for protection (VRPROTECT), or to
+-- be sent the bytes of one block for all (BYTCHK).
+abbrev pub verify_data : List ℕ → Option (List ℕ)
+verify_data block = if bit_and (number_at 1 1 block) 0xe6 == 0 then Some [] else None
+
 -- The data of a command, by its code and block, which has no record of its own in the table of blocks:
--- REQUEST SENSE, MODE SENSE(6) or (10), START STOP UNIT or PREFETCH(10) or (16), which have none, or REPORT
--- SUPPORTED OPERATION CODES. None for another block; Some None where there is no such page or option, where
--- a medium is to be loaded, and for a WRITE SAME that a thin unit doesn't take.
-unfoldable pub unit_block_data : LogicalUnit → Bool → ℕ → List ℕ → Option (Option (List ℕ))
-unit_block_data unit present code block =
+-- REQUEST SENSE, MODE SENSE(6) or (10), START STOP UNIT, PREFETCH or VERIFY, which have none, REPORT SUPPORTED
+-- OPERATION CODES, or of a thin unit of n blocks GET LBA STATUS. None for another block; Some None where
+-- there is no such page or option, where a medium is to be loaded, and for an UNMAP or a WRITE SAME that a
+-- thin unit doesn't take.
+unfoldable pub unit_block_data : LogicalUnit → Bool → ℕ → ℕ → List ℕ → Option (Option (List ℕ))
+unit_block_data unit present blocks code block =
     if code == 0x03
     then Some (Some (take (number_at 4 4 block) (requested_sense present (is_set 1 0x01 block))))
     else (if code == 0x1a
@@ -62,10 +80,17 @@ unit_block_data unit present code block =
     else (if code == 0x1b then Some (if loads block then None else Some [])
     else (if code == 0x34 then Some (Some [])
     else (if code == 0x90 then Some (Some [])
+    else (if code == 0x2f then Some (verify_data block)
+    else (if code == 0xaf then Some (verify_data block)
+    else (if code == 0x8f then Some (verify_data block)
     else (if asks_commands block
     then Some (option_map (take (number_at 6 9 block)) (commands_told unit.thin block))
-    else (if unit.thin && is_some (same_blocks block) then Some None
-    else None)))))))
+    else (if not unit.thin then None
+    else (if asks_mapping block
+    then Some (Some (take (number_at 10 13 block) (all_mapped blocks (number_at 2 9 block))))
+    else (if code == 0x42 then Some None
+    else (if is_some (same_blocks block) then Some None
+    else None)))))))))))))
 
 -- The data of READ CAPACITY(16), of a thin unit; another one leaves it to its disk.
 abbrev pub capacity_told : LogicalUnit → ℕ → ℕ → Option (Option (List ℕ))
@@ -80,16 +105,21 @@ data_told unit present blocks (Inquiry evpd page allocation_length control) =
 data_told unit present blocks (Capacity16 allocation_length control) =
     capacity_told unit blocks allocation_length
 data_told unit present blocks (Unknown block) =
-    unit_block_data unit present (number_at 0 0 block) block
+    unit_block_data unit present blocks (number_at 0 0 block) block
 data_told unit present blocks _ = None
 
--- The end of the blocks that a PREFETCH(10) or (16) names; 0 of another command (SBC-3).
-abbrev pub prefetched : Cdb → ℕ
-prefetched (Unknown block) =
-    if number_at 0 0 block == 0x34 then number_at 2 5 block + number_at 7 8 block
-    else if number_at 0 0 block == 0x90 then number_at 2 9 block + number_at 10 13 block
+-- The end of the blocks that a PREFETCH, a VERIFY or a GET LBA STATUS names; 0 of another command (SBC-3).
+abbrev pub block_reaches : ℕ → List ℕ → ℕ
+block_reaches code block =
+    if (code == 0x34) || (code == 0x2f) then number_at 2 5 block + number_at 7 8 block
+    else if (code == 0x90) || (code == 0x8f) then number_at 2 9 block + number_at 10 13 block
+    else if code == 0xaf then number_at 2 5 block + number_at 6 9 block
+    else if asks_mapping block then number_at 2 9 block + 1
     else 0
-prefetched _ = 0
+
+abbrev pub reaches : Cdb → ℕ
+reaches (Unknown block) = block_reaches (number_at 0 0 block) block
+reaches _ = 0
 
 -- The command is answered for any unit: the standard INQUIRY data, or REQUEST SENSE.
 abbrev pub is_for_any_unit : Cdb → Bool
@@ -97,12 +127,12 @@ is_for_any_unit (Unknown block) = number_at 0 0 block == 0x03
 is_for_any_unit cdb = is_standard_inquiry cdb
 
 -- The reasons to refuse such a command to a unit of n blocks, in their order. The unit is not 0, but for a
--- command that is answered for any. The initiator sends data. The blocks of a PREFETCH end past the last.
+-- command that is answered for any. The initiator sends data. The blocks that it names end past the last.
 abbrev pub told_refusals : ℕ → Order → List (Bool × Sense)
 told_refusals blocks order =
     (not (order.lun == 0) && not (is_for_any_unit order.cdb), NoUnit)
     ∷ (order.write, InvalidField)
-    ∷ (nat_lt blocks (prefetched order.cdb), OutOfRange)
+    ∷ (nat_lt blocks (reaches order.cdb), OutOfRange)
     ∷ []
 
 -- The outcome by the first reason to refuse the command.

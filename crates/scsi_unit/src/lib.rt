@@ -3,6 +3,7 @@
 #![tactic(auto)]
 
 mod data;
+mod deeds;
 mod designators;
 pub mod laws;
 mod modes;
@@ -12,7 +13,6 @@ mod supported;
 mod telling;
 mod unit;
 mod write_cache;
-mod write_same;
 
 pub use unit::{LONGEST_SERIAL, LogicalUnit, is_serial};
 pub use write_cache::asks_to_last;

@@ -14,16 +14,17 @@ const PAGE_LIST: &[u8] = b"\0\0\0\x05\0\x80\x83\xb0\xb1";
 /// Which pages there are of a thin unit.
 const THIN_PAGE_LIST: &[u8] = b"\0\0\0\x06\0\x80\x83\xb0\xb1\xb2";
 
-/// At most 8,192 blocks in one transfer.
+/// At most 8,192 blocks in one transfer, and one in a COMPARE AND WRITE.
 const LIMITS: [u8; 64] =
-    *b"\0\xb0\0\x3c\0\0\0\0\0\0\x20\0\0\0\0\0\0\0\0\0\0\0\0\0\0\0\0\0\0\0\0\0\0\0\0\0\0\0\0\0\0\0\0\0\0\0\0\0\0\0\0\0\0\0\0\0\0\0\0\0\0\0\0\0";
+    *b"\0\xb0\0\x3c\0\x01\0\0\0\0\x20\0\0\0\0\0\0\0\0\0\0\0\0\0\0\0\0\0\0\0\0\0\0\0\0\0\0\0\0\0\0\0\0\0\0\0\0\0\0\0\0\0\0\0\0\0\0\0\0\0\0\0\0\0";
 
-/// At most 8,192 blocks also in a WRITE SAME, which names one at least and gives back any number.
+/// At most 8,192 blocks also in an UNMAP, which has one range, and in a WRITE SAME, which names one block
+/// at least and gives back any number.
 const THIN_LIMITS: [u8; 64] =
-    *b"\0\xb0\0\x3c\x01\0\0\0\0\0\x20\0\0\0\0\0\0\0\0\0\0\0\0\0\0\0\0\0\0\0\0\x01\0\0\0\0\0\0\0\0\0\0\x20\0\0\0\0\0\0\0\0\0\0\0\0\0\0\0\0\0\0\0\0\0";
+    *b"\0\xb0\0\x3c\x01\x01\0\0\0\0\x20\0\0\0\0\0\0\0\0\0\0\0\x20\0\0\0\0\x01\0\0\0\x01\0\0\0\0\0\0\0\0\0\0\x20\0\0\0\0\0\0\0\0\0\0\0\0\0\0\0\0\0\0\0\0\0";
 
-/// A thin unit takes blocks back by WRITE SAME(16) and (10), and then they read as zeros.
-const PROVISIONING: &[u8] = b"\0\xb2\0\x04\0\x64\x02\0";
+/// A thin unit takes blocks back by UNMAP and by WRITE SAME(16) and (10), and then they read as zeros.
+const PROVISIONING: &[u8] = b"\0\xb2\0\x04\0\xe4\x02\0";
 
 /// The medium doesn't rotate.
 const MEDIUM: [u8; 64] =

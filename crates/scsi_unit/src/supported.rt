@@ -22,7 +22,7 @@ pub(crate) struct SupportedCommand {
 }
 
 /// How many commands a unit takes that is not thin.
-const PLAIN_COMMANDS: usize = 25;
+const PLAIN_COMMANDS: usize = 29;
 
 // A row for each command: its code, its service action, the length of its block, and what is looked at.
 macro_rules! commands {
@@ -31,8 +31,8 @@ macro_rules! commands {
     };
 }
 
-/// Each command of a thin unit; another one takes all but the last two, WRITE SAME.
-const COMMANDS: [SupportedCommand; 27] = commands! {
+/// Each command of a thin unit; another one takes all but the last four.
+const COMMANDS: [SupportedCommand; 33] = commands! {
     0x00, None, 6, b"\0\0\0\0\0\0\0\0\0\0\0\0\0\0\0\0"; // TEST UNIT READY
     0x03, None, 6, b"\x03\x01\0\0\xff\0\0\0\0\0\0\0\0\0\0\0"; // REQUEST SENSE
     0x08, None, 6, b"\x08\x1f\xff\xff\xff\0\0\0\0\0\0\0\0\0\0\0"; // READ(6)
@@ -44,12 +44,15 @@ const COMMANDS: [SupportedCommand; 27] = commands! {
     0x28, None, 10, b"\x28\xf8\xff\xff\xff\xff\0\xff\xff\0\0\0\0\0\0\0"; // READ(10)
     0x2a, None, 10, b"\x2a\xf8\xff\xff\xff\xff\0\xff\xff\0\0\0\0\0\0\0"; // WRITE(10)
     0x2e, None, 10, b"\x2e\xf0\xff\xff\xff\xff\0\xff\xff\0\0\0\0\0\0\0"; // WRITE AND VERIFY(10)
+    0x2f, None, 10, b"\x2f\xf6\xff\xff\xff\xff\0\xff\xff\0\0\0\0\0\0\0"; // VERIFY(10)
     0x34, None, 10, b"\x34\0\xff\xff\xff\xff\0\xff\xff\0\0\0\0\0\0\0"; // PREFETCH(10)
     0x35, None, 10, b"\x35\0\xff\xff\xff\xff\0\xff\xff\0\0\0\0\0\0\0"; // SYNCHRONIZE CACHE(10)
     0x5a, None, 10, b"\x5a\0\xff\xff\0\0\0\xff\xff\0\0\0\0\0\0\0"; // MODE SENSE(10)
     0x88, None, 16, b"\x88\xf8\xff\xff\xff\xff\xff\xff\xff\xff\xff\xff\xff\xff\0\0"; // READ(16)
+    0x89, None, 16, b"\x89\xf8\xff\xff\xff\xff\xff\xff\xff\xff\0\0\0\xff\0\0"; // COMPARE AND WRITE
     0x8a, None, 16, b"\x8a\xf8\xff\xff\xff\xff\xff\xff\xff\xff\xff\xff\xff\xff\0\0"; // WRITE(16)
     0x8e, None, 16, b"\x8e\xf0\xff\xff\xff\xff\xff\xff\xff\xff\xff\xff\xff\xff\0\0"; // WRITE AND VERIFY(16)
+    0x8f, None, 16, b"\x8f\xf6\xff\xff\xff\xff\xff\xff\xff\xff\xff\xff\xff\xff\0\0"; // VERIFY(16)
     0x90, None, 16, b"\x90\0\xff\xff\xff\xff\xff\xff\xff\xff\xff\xff\xff\xff\0\0"; // PREFETCH(16)
     0x91, None, 16, b"\x91\0\0\0\0\0\0\0\0\0\0\0\0\0\0\0"; // SYNCHRONIZE CACHE(16)
     0x9e, Some(0x10), 16, b"\x9e\x10\0\0\0\0\0\0\0\0\xff\xff\xff\xff\0\0"; // READ CAPACITY(16)
@@ -58,8 +61,11 @@ const COMMANDS: [SupportedCommand; 27] = commands! {
     0xa8, None, 12, b"\xa8\xf8\xff\xff\xff\xff\xff\xff\xff\xff\0\0\0\0\0\0"; // READ(12)
     0xaa, None, 12, b"\xaa\xf8\xff\xff\xff\xff\xff\xff\xff\xff\0\0\0\0\0\0"; // WRITE(12)
     0xae, None, 12, b"\xae\xf0\xff\xff\xff\xff\xff\xff\xff\xff\0\0\0\0\0\0"; // WRITE AND VERIFY(12)
+    0xaf, None, 12, b"\xaf\xf6\xff\xff\xff\xff\xff\xff\xff\xff\0\0\0\0\0\0"; // VERIFY(12)
     0x41, None, 10, b"\x41\xff\xff\xff\xff\xff\0\xff\xff\0\0\0\0\0\0\0"; // WRITE SAME(10)
+    0x42, None, 10, b"\x42\x01\0\0\0\0\0\xff\xff\0\0\0\0\0\0\0"; // UNMAP
     0x93, None, 16, b"\x93\xff\xff\xff\xff\xff\xff\xff\xff\xff\xff\xff\xff\xff\0\0"; // WRITE SAME(16)
+    0x9e, Some(0x12), 16, b"\x9e\x12\xff\xff\xff\xff\xff\xff\xff\xff\xff\xff\xff\xff\0\0"; // GET LBA STATUS
 };
 
 /// A descriptor of timeouts that names none.
@@ -86,7 +92,7 @@ pub(crate) fn commands_told(thin: bool, block: &[u8; 16]) -> Option<Data>
 // The commands that a unit takes, which is thin or not.
 fn supported(thin: bool) -> &'static [SupportedCommand]
     ensures rows { result.now ≡ supported thin }
-    ensures few { length result.now ≤ 27 }
+    ensures few { length result.now ≤ 33 }
 {
     if thin {
         &COMMANDS
@@ -97,7 +103,7 @@ fn supported(thin: bool) -> &'static [SupportedCommand]
 
 // All commands, behind the length of their descriptors.
 fn all_commands(timeouts: bool, rows: &[SupportedCommand]) -> Data
-    requires { length rows.now ≤ 27 }
+    requires { length rows.now ≤ 33 }
     ensures { result.items ≡ all_commands timeouts rows.now }
 {
     let all = descriptors(timeouts, rows);
@@ -106,9 +112,9 @@ fn all_commands(timeouts: bool, rows: &[SupportedCommand]) -> Data
 
 // The descriptors of these commands.
 fn descriptors(timeouts: bool, rows: &[SupportedCommand]) -> Data
-    requires { length rows.now ≤ 27 }
+    requires { length rows.now ≤ 33 }
     ensures all { result.items ≡ flat_map (descriptor timeouts) rows.now }
-    ensures few { length result.items ≤ 540 }
+    ensures few { length result.items ≤ 660 }
 {
     let mut all = Data::new();
     for row in rows {

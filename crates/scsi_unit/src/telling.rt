@@ -3,14 +3,14 @@
 ghost use Rattle.std.specs.Prelude.{◌≡◌, ◌+◌, ◌≤◌, IfOk, IfSome, length, nat_lt, option_map};
 ghost use Rattle.scsi_disk.specs.Plan.{first_reason};
 ghost use Rattle.scsi_cdb.specs.Layout.{number_at};
-ghost use Rattle.scsi_unit.specs.Telling.{asks_commands, capacity_told, data_told, is_for_any_unit, no_sense, prefetched, requested_sense, told_refusals, unit_block_data, unit_outcome, unit_sense};
+ghost use Rattle.scsi_unit.specs.Telling.{asks_commands, all_mapped, asks_mapping, block_reaches, capacity_told, data_told, is_for_any_unit, no_sense, reaches, requested_sense, told_refusals, unit_block_data, unit_outcome, unit_sense, verify_data};
 
-use crate::data::{Data, cut, data};
+use crate::data::{Data, cut, data, joined};
+use crate::deeds::{UNMAP, VERIFY10, VERIFY12, VERIFY16, same_blocks};
 use crate::pages::thin_capacity;
 use crate::spellings::loads;
 use crate::supported::commands_told;
 use crate::unit::LogicalUnit;
-use crate::write_same::same_blocks;
 use scsi_cdb::layout::{bit, bits, u8_at, u16_at, u32_at, u64_at};
 use scsi_cdb::{Cdb, Sense};
 use scsi_disk::{Order, Outcome};
@@ -29,6 +29,14 @@ const PREFETCH10: u8 = 0x34;
 
 const PREFETCH16: u8 = 0x90;
 
+/// SERVICE ACTION IN(16), of which READ CAPACITY(16) is another service action.
+const SERVICE_ACTION_IN: u8 = 0x9e;
+
+const GET_LBA_STATUS: u8 = 0x12;
+
+/// The bits VRPROTECT and BYTCHK of a VERIFY.
+const VERIFY_OPTIONS: u8 = 0xe6;
+
 /// MAINTENANCE IN, of which a unit has one service action, REPORT SUPPORTED OPERATION CODES.
 const MAINTENANCE_IN: u8 = 0xa3;
 
@@ -38,16 +46,17 @@ impl LogicalUnit {
     /// What the unit answers of itself to an order, as `meant` gives it, or `None` where another command is
     /// ordered.
     ///
-    /// It answers INQUIRY, REQUEST SENSE, MODE SENSE(6) and (10), START STOP UNIT, PREFETCH(10) and (16), and
-    /// REPORT SUPPORTED OPERATION CODES, and neither reads nor changes a block. A thin unit, of this number of
-    /// blocks, also answers READ CAPACITY(16), and a WRITE SAME that `meant` leaves. It refuses an order for
-    /// the first of these reasons that applies:
+    /// It answers INQUIRY, REQUEST SENSE, MODE SENSE(6) and (10), START STOP UNIT, PREFETCH(10) and (16), a
+    /// VERIFY(10), (12) or (16) that is sent no bytes, and REPORT SUPPORTED OPERATION CODES, and neither reads
+    /// nor changes a block. A thin unit, of this number of blocks, also answers READ CAPACITY(16) and GET LBA
+    /// STATUS, and an UNMAP and a WRITE SAME that `meant` leaves. It refuses an order for the first of these
+    /// reasons that applies:
     /// 1. `NoUnit`: its unit is not 0. An INQUIRY for the standard data and a REQUEST SENSE are answered for
     ///    any unit, and give that there is none.
     /// 2. `InvalidField`: it sends data.
-    /// 3. `OutOfRange`: it is a PREFETCH whose blocks end past the last one.
-    /// 4. `InvalidField`: it asks for a page or an option that there is not, asks to load a medium, or is a
-    ///    WRITE SAME.
+    /// 3. `OutOfRange`: it is a PREFETCH, a VERIFY or a GET LBA STATUS whose blocks end past the last one.
+    /// 4. `InvalidField`: it asks for a page or an option that there is not, asks to load a medium, or is an
+    ///    UNMAP or a WRITE SAME.
     ///
     /// Else it gives its data, cut at the allocation length and at what the initiator expects. The
     /// order of the reasons and the sense of each are own rules. The only error is that memory ran out.
@@ -58,7 +67,7 @@ impl LogicalUnit {
         blocks: u64,
     ) -> Result<Option<Outcome>, AllocError>
         ensures told { IfOk result (λ outcome. outcome ≡ unit_outcome self.now blocks order.now) }
-        ensures few { IfOk result (λ outcome. IfSome outcome (λ told. length told.bytes ≤ 544)) }
+        ensures few { IfOk result (λ outcome. IfSome outcome (λ told. length told.bytes ≤ 664)) }
     {
         let Some(told) = self.data_told(order.lun == 0, blocks, &order.cdb) else {
             return Ok(None);
@@ -92,7 +101,7 @@ impl LogicalUnit {
                 allocation_length,
                 ..
             } => self.capacity_told(blocks, *allocation_length),
-            Cdb::Unknown(block) => self.block_data(present, block),
+            Cdb::Unknown(block) => self.block_data(present, blocks, block),
             _ => None,
         }
     }
@@ -110,9 +119,9 @@ impl LogicalUnit {
 
     // The data of a command by its block.
     #[tactic(auto, unfolding(crate::specs::Telling::unit_block_data))]
-    fn block_data(&self, present: bool, block: &[u8; 16]) -> Option<Option<Data>>
+    fn block_data(&self, present: bool, blocks: u64, block: &[u8; 16]) -> Option<Option<Data>>
         ensures { option_map (option_map (λ bytes. bytes.items)) result
-            ≡ unit_block_data self.now present (number_at 0 0 block.now) block.now }
+            ≡ unit_block_data self.now present blocks (number_at 0 0 block.now) block.now }
     {
         match u8_at(block, 0) {
             REQUEST_SENSE => {
@@ -135,16 +144,51 @@ impl LogicalUnit {
             }
             START_STOP_UNIT if loads(block) => Some(None),
             START_STOP_UNIT | PREFETCH10 | PREFETCH16 => Some(Some(Data::new())),
+            VERIFY10 | VERIFY12 | VERIFY16 => Some(verify_data(block)),
             _ if asks_commands(block) => {
                 let Some(whole) = commands_told(self.is_thin(), block) else {
                     return Some(None);
                 };
                 Some(Some(cut(&whole, u32_at(block, 6) as usize)))
             }
-            _ if self.is_thin() && same_blocks(block).is_some() => Some(None),
+            _ if !self.is_thin() => None,
+            _ if asks_mapping(block) => {
+                let whole = all_mapped(blocks, u64_at(block, 2));
+                Some(Some(cut(&whole, u32_at(block, 10) as usize)))
+            }
+            UNMAP => Some(None),
+            _ if same_blocks(block).is_some() => Some(None),
             _ => None,
         }
     }
+}
+
+// The data of a VERIFY that is sent no bytes.
+fn verify_data(block: &[u8; 16]) -> Option<Data>
+    ensures { option_map (λ bytes. bytes.items) result ≡ verify_data block.now }
+{
+    if u8_at(block, 1) & VERIFY_OPTIONS == 0 {
+        Some(Data::new())
+    } else {
+        None
+    }
+}
+
+// Whether a block is one of GET LBA STATUS.
+fn asks_mapping(block: &[u8; 16]) -> bool
+    ensures { result ≡ asks_mapping block.now }
+{
+    u8_at(block, 0) == SERVICE_ACTION_IN && bits(block, 1, 0x1f) == GET_LBA_STATUS
+}
+
+// The data of GET LBA STATUS from a block on, of a unit of so many.
+fn all_mapped(blocks: u64, first: u64) -> Data
+    ensures { result.items ≡ all_mapped blocks first }
+{
+    let count = blocks.saturating_sub(first).min(u64::from(u32::MAX)) as u32;
+    let range = joined(&first.to_be_bytes(), &count.to_be_bytes());
+    let behind = joined(range.as_slice(), &[0; 4]);
+    joined(&[0, 0, 0, 0x14, 0, 0, 0, 0], behind.as_slice())
 }
 
 // Whether a block is one of REPORT SUPPORTED OPERATION CODES.
@@ -198,7 +242,7 @@ fn refusal(order: &Order, blocks: u64) -> Option<Sense>
     if order.write {
         return Some(Sense::InvalidField);
     }
-    if is_prefetch_past(&order.cdb, blocks) {
+    if reaches_past(&order.cdb, blocks) {
         return Some(Sense::OutOfRange);
     }
     None
@@ -215,16 +259,27 @@ fn is_for_any_unit(cdb: &Cdb) -> bool
     }
 }
 
-// Whether a command is a PREFETCH of blocks that end past `n` of them.
-fn is_prefetch_past(cdb: &Cdb, blocks: u64) -> bool
-    ensures { result ≡ nat_lt blocks (prefetched cdb.now) }
+// Whether the blocks that a command names end past `n` of them.
+fn reaches_past(cdb: &Cdb, blocks: u64) -> bool
+    ensures { result ≡ nat_lt blocks (reaches cdb.now) }
 {
-    let Cdb::Unknown(block) = cdb else {
-        return false;
-    };
+    match cdb {
+        Cdb::Unknown(block) => block_reaches_past(block, blocks),
+        _ => false,
+    }
+}
+
+// The same by the block of a PREFETCH, a VERIFY or a GET LBA STATUS.
+fn block_reaches_past(block: &[u8; 16], blocks: u64) -> bool
+    ensures { result ≡ nat_lt blocks (block_reaches (number_at 0 0 block.now) block.now) }
+{
     match u8_at(block, 0) {
-        PREFETCH10 => blocks < u64::from(u32_at(block, 2)) + u64::from(u16_at(block, 7)),
-        PREFETCH16 => ends_past(u64_at(block, 2), u32_at(block, 10), blocks),
+        PREFETCH10 | VERIFY10 => {
+            blocks < u64::from(u32_at(block, 2)) + u64::from(u16_at(block, 7))
+        }
+        PREFETCH16 | VERIFY16 => ends_past(u64_at(block, 2), u32_at(block, 10), blocks),
+        VERIFY12 => blocks < u64::from(u32_at(block, 2)) + u64::from(u32_at(block, 6)),
+        _ if asks_mapping(block) => ends_past(u64_at(block, 2), 1, blocks),
         _ => false,
     }
 }

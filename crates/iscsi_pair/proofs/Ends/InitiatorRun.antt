@@ -16,7 +16,7 @@ use Rattle.iscsi_initiator.specs.declared.request.SubmitFault.{SubmitFault}
 use Rattle.iscsi_initiator.specs.State.{InitiatorSession, new_session, is_session_closed}
 use Rattle.iscsi_login.specs.Stage.{is_closed_phase}
 use Rattle.iscsi_initiator.specs.Login.{start_step}
-use Rattle.iscsi_initiator.specs.Machine.{outcome_taken}
+use Rattle.iscsi_initiator.specs.Machine.{outcome_handed_out}
 use Rattle.iscsi_initiator.specs.Submitted.{submitted, or_accepted, submit_refusal, refusal_in}
 use Rattle.iscsi_initiator.specs.Calls.{InitiatorConnection, InitiatorSubmitPost, SubmitAccepted}
 use Rattle.iscsi_initiator.specs.Calls.{after_taking, initiator_limit}
@@ -67,7 +67,7 @@ initiator_took_outcome past c acts moved out i fault s =
         reads = subst (λ (xs : List Message). ReadsAs (initiator_limit c.initiator) no_login l.given xs) (coming_same l.inputs) l.reads;
         order = order_same l.inputs l.order;
         follows = follows_more past l.inputs (Takes ∷ []) l.follows;
-        machine = ap outcome_taken l.machine ∙ sym (after_append (begun c) l.inputs (Takes ∷ []));
+        machine = ap outcome_handed_out l.machine ∙ sym (after_append (begun c) l.inputs (Takes ∷ []));
         output = l.output ∙ sent_same l.inputs;
       });
       lives = λ none live. (let l : InitiatorLives past c acts moved out i = s.lives none live in record {
@@ -75,7 +75,7 @@ initiator_took_outcome past c acts moved out i fault s =
         taken = subst (λ (xs : List Message). HasTaken moved xs i.framing) (coming_same l.inputs) l.taken;
         order = order_same l.inputs l.order;
         follows = follows_more past l.inputs (Takes ∷ []) l.follows;
-        machine = ap outcome_taken l.machine ∙ sym (after_append (begun c) l.inputs (Takes ∷ []));
+        machine = ap outcome_handed_out l.machine ∙ sym (after_append (begun c) l.inputs (Takes ∷ []));
         output = l.output ∙ sent_same l.inputs;
         unready = l.unready;
         limit = l.limit;

@@ -18,7 +18,7 @@ use Rattle.iscsi_initiator.specs.declared.request.Refused.{Refused}
 use Rattle.iscsi_initiator.specs.declared.request.Request.{Request}
 use Rattle.iscsi_initiator.specs.declared.request.SubmitFault.{SubmitFault}
 use Rattle.iscsi_initiator.specs.State.{is_session_closed}
-use Rattle.iscsi_initiator.specs.Machine.{outcome_taken}
+use Rattle.iscsi_initiator.specs.Machine.{outcome_handed_out}
 use Rattle.iscsi_initiator.specs.Calls as initiator
 use Rattle.iscsi_initiator.proofs.OneOutcomeLaw.{one_feed, one_submit}
 use Rattle.iscsi_pair.specs.declared.step.EndFault.{EndFault}
@@ -203,7 +203,7 @@ takes : (old same : World) → LooksAlike old same → LooksAlike (record old { 
 takes old same l = record {
   target = l.target;
   disk = l.disk;
-  initiator = record { machine = ap outcome_taken l.initiator.machine; framing = l.initiator.framing };
+  initiator = record { machine = ap outcome_handed_out l.initiator.machine; framing = l.initiator.framing };
   to_target = l.to_target;
   to_initiator = l.to_initiator;
   target_fault = l.target_fault;

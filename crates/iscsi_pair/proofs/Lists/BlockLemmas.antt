@@ -1,17 +1,24 @@
 -- The blocks of a target's disk are those of some bytes, whatever it executed.
 use Rattle.std.specs.List.{AllByRecursion}
-use Rattle.std.proofs.Common.{false, ◌≡◌, ◌≤◌, ℕ, ◌+◌, ◌-◌, ◌*◌, ◌/◌, List, [], ◌∷◌, ◌++◌, length, take, drop, refl, sym, ap, ◌∙◌, subst, arith}
+use Rattle.std.specs.Prelude.{if◌then◌else◌}
+use Rattle.std.proofs.lemmas.Bool.{ltb-false}
+use Rattle.std.proofs.Common.{Bool, true, false, Option, Some, None, ◌≡◌, ◌≤◌, ℕ, ◌+◌, ◌-◌, ◌*◌, ◌/◌, List, [], ◌∷◌, ◌++◌, length, take, drop, refl, sym, ap, ◌∙◌, subst, arith}
 use Rattle.std.proofs.lemmas.List.{drop_at, length-append, length-drop, length-take-le, take_at}
 use borrow.Rule.Slice.PartMut.{put_mid}
-use Rattle.scsi_disk.specs.Disk.{Disk, disk_of, joined_blocks, disk_written}
-use Rattle.scsi_disk.specs.Effect.{write_block_data, disk_by, effect}
-use Rattle.scsi_disk.specs.Plan.{plan_of, named_transfer}
+use Rattle.scsi_disk.specs.Disk.{Disk, disk_of, joined_blocks, disk_written, zero_block}
+use Rattle.scsi_disk.specs.Effect.{deed_failure, disk_taken, write_block_data, write_first, disk_by, effect}
+use Rattle.scsi_disk.specs.Deed.{failure_by, taken_by, unmap_range, written_bytes, written_first}
+use Rattle.scsi_disk.specs.Plan.{plan_of, named_transfer, taken_length}
+use Rattle.scsi_cdb.specs.declared.sense.Sense.{Sense}
+use Rattle.scsi_cdb.specs.declared.sense.Sense.TheVariants.{InvalidParameter, OutOfRange, ParameterLength}
+use Rattle.scsi_disk.specs.declared.deed.Deed.{Deed}
+use Rattle.scsi_disk.specs.declared.deed.Deed.TheVariants.{Write, Same, Verify, Compare, Unmap}
 use Rattle.scsi_disk.specs.declared.order.Order.{Order}
 use Rattle.scsi_disk.specs.declared.order.Plan.{Plan}
 use Rattle.scsi_disk.specs.declared.order.Plan.TheVariants.{Refuse, Take, Give}
 use Rattle.scsi_disk.proofs.BlockLemmas.{cut-put, joined-cut, same_disk}
 use Rattle.scsi_disk.proofs.PlanLemmas.{IsTaken, taken}
-use Rattle.scsi_disk.proofs.RepeatLemmas.{block_data_size}
+use Rattle.scsi_disk.proofs.RepeatLemmas.{length_repeat}
 use Rattle.iscsi_stream.specs.Pieces.{Pieces, TilesFrom, piece_data}
 use Rattle.iscsi_stream.specs.Stream.{Message}
 use Rattle.iscsi_target.specs.State.{Machine, Execution, TargetStep}
@@ -60,6 +67,19 @@ joined_back xs ys first count whole inside =
 
 -- ---- an order
 
+-- whole blocks that lie inside a disk
+record IsWhole (first : ℕ) (bytes : List ℕ) (disk : Disk) : Type 0 where
+  count : ℕ
+  size : length bytes ≡ 512 * count
+  inside : first + count ≤ disk.count
+
+-- a list that isn't refused has no range past the end
+not_past : (a b c : Bool) → (if a then Some ParameterLength else if b then Some InvalidParameter else if c then Some OutOfRange else None) ≡ None → c ≡ false
+not_past true b c e = absurd (let h : Some ParameterLength ≡ None = e in cc)
+not_past false true c e = absurd (let h : Some InvalidParameter ≡ None = e in cc)
+not_past false false true e = absurd (let h : Some OutOfRange ≡ None = e in cc)
+not_past false false false e = refl
+
 -- pieces that tile n bytes have as many
 tiles_size : (at : ℕ) (pieces : Pieces) (end : ℕ) → TilesFrom at pieces end → at + length (piece_data pieces) ≡ end
 tiles_size at [] end e = omega (arith, e)
@@ -67,6 +87,37 @@ tiles_size at (piece ∷ pieces) end e =
     let more = tiles_size (at + length piece.1) pieces end e.1 in
     let both = length-append piece.1 (piece_data pieces) in
     omega (arith, more, both)
+
+-- what a command writes that doesn't fail
+written_whole : (deed : Deed) (order : Order) (disk : Disk) (bytes : List ℕ) → failure_by deed (named_transfer order.cdb) disk bytes ≡ None
+    → (named_transfer order.cdb).first + (named_transfer order.cdb).count ≤ disk.count → length bytes ≡ taken_by deed (named_transfer order.cdb).count
+    → IsWhole (written_first deed (named_transfer order.cdb) bytes) (written_bytes deed (named_transfer order.cdb) bytes) disk
+written_whole Write order disk bytes none inside size = record { count = (named_transfer order.cdb).count; size = size; inside = inside }
+written_whole Same order disk bytes none inside size = record {
+  count = (named_transfer order.cdb).count;
+  size = length_repeat (named_transfer order.cdb).count 512 bytes size;
+  inside = inside;
+}
+written_whole Verify order disk bytes none inside size = record { count = 0; size = omega arith; inside = omega (arith, inside) }
+written_whole Compare order disk bytes none inside size = record {
+  count = (named_transfer order.cdb).count;
+  size = length-drop (512 * (named_transfer order.cdb).count) bytes ∙ (let half : length bytes - 512 * (named_transfer order.cdb).count
+      ≡ 512 * (named_transfer order.cdb).count = omega (arith, size) in half);
+  inside = inside;
+}
+written_whole (Unmap n) order disk bytes none inside size = record {
+  count = (unmap_range bytes).count;
+  size = length_repeat (unmap_range bytes).count 512 zero_block refl;
+  inside = ltb-false _ _ (not_past _ _ _ none);
+}
+
+taken_blocks : (reason : Option Sense) (xs : List ℕ) (order : Order) (bytes : List ℕ) → deed_failure (disk_of xs) order bytes ≡ reason
+    → (named_transfer order.cdb).first + (named_transfer order.cdb).count ≤ length xs / 512 → length bytes ≡ taken_length order
+    → HasBlocks (disk_taken reason (disk_of xs) order bytes)
+taken_blocks (Some sense) xs order bytes is inside size = record { bytes = xs; is = refl }
+taken_blocks None xs order bytes is inside size =
+    let w = written_whole order.deed order (disk_of xs) bytes is inside size in
+    writes xs (write_block_data order bytes) (write_first order bytes) w.count w.size w.inside
 
 by_plan : (plan : Plan) (xs : List ℕ) (order : Order) (pieces : Pieces) → plan_of order (length xs / 512) ≡ plan → TilesPlan plan pieces
     → HasBlocks (disk_by plan (disk_of xs) order (piece_data pieces))
@@ -76,8 +127,7 @@ by_plan (Take n) xs order pieces is t =
     let f : IsTaken order (length xs / 512) n = taken order (length xs / 512) n is in
     let size = tiles_size 0 pieces n t in
     let same : length (piece_data pieces) ≡ n = omega (arith, size) in
-    writes xs (write_block_data order (piece_data pieces)) (named_transfer order.cdb).first (named_transfer order.cdb).count
-    (block_data_size order (length xs / 512) n (piece_data pieces) f same) f.names.inside
+    taken_blocks (deed_failure (disk_of xs) order (piece_data pieces)) xs order (piece_data pieces) refl f.names.inside (same ∙ f.length)
 
 -- an order is executed, with data that tile what it takes
 executes : (xs : List ℕ) (order : Order) (pieces : Pieces) → TilesPlan (plan_of order (length xs / 512)) pieces

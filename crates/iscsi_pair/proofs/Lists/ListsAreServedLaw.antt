@@ -18,7 +18,7 @@ use Rattle.iscsi_initiator.specs.declared.request.Done.TheVariants as done
 use Rattle.iscsi_initiator.specs.declared.request.Request.{Request}
 use Rattle.iscsi_initiator.specs.declared.request.Request.TheVariants as requests
 use Rattle.iscsi_initiator.specs.State as initiator
-use Rattle.iscsi_initiator.specs.Machine.{outcome_taken}
+use Rattle.iscsi_initiator.specs.Machine.{outcome_handed_out}
 use Rattle.iscsi_initiator.specs.Submitted.{is_request_too_long, most_bytes, submitted}
 use Rattle.iscsi_pair.specs.World.{Opening}
 use Rattle.iscsi_pair.specs.LocalDisk.{AreAtRest, AreInStep, Local, DiskExchange, local, local_disk, local_outcomes}
@@ -141,24 +141,24 @@ one_done c past request r served short =
     let quiet : Stays c (between last.initiator last.target last.disk []) [] (so_far come.there come.here g) =
     subst (λ (ms : List Message). Stays c (between last.initiator last.target last.disk ms) [] (so_far come.there come.here g)) b.ends.ended.silent come.stays
     in
-    let given : Stays c (between (outcome_taken last.initiator) last.target last.disk []) []
+    let given : Stays c (between (outcome_handed_out last.initiator) last.target last.disk []) []
     (so_far come.there come.here (record g { outcomes = disk_outcomes c past ++ here.outcome ∷ [] })) =
     gives_out c g last.initiator last.target last.disk come.there come.here here.outcome quiet b.ends.ended.done_is in
     record {
       held = i.held;
-      initiator = outcome_taken last.initiator;
+      initiator = outcome_handed_out last.initiator;
       target = last.target;
       there = come.there;
       here = come.here;
       stays = subst
-          (λ (d : Disk). Stays c (between (outcome_taken last.initiator) last.target d []) []
+          (λ (d : Disk). Stays c (between (outcome_handed_out last.initiator) last.target d []) []
           (so_far come.there come.here (record { requests = past ++ request ∷ []; outcomes = disk_outcomes c (past ++ request ∷ []) })))
           (b.ends.ended.disk_is ∙ sym (disk_more (pinged c) unit (disk_of c.blocks) past request))
-          (subst (λ (x : List Done). Stays c (between (outcome_taken last.initiator) last.target last.disk []) []
+          (subst (λ (x : List Done). Stays c (between (outcome_handed_out last.initiator) last.target last.disk []) []
           (so_far come.there come.here (record { requests = past ++ request ∷ []; outcomes = x })))
           (sym (outcomes_more (pinged c) unit (disk_of c.blocks) past request)) given);
       agreed = now;
-      at_rest = subst (λ (u : Option LogicalUnit). AreAtRest i.held u here.outcome (outcome_taken last.initiator) last.target) r.has b.ends.ended.at_rest;
+      at_rest = subst (λ (u : Option LogicalUnit). AreAtRest i.held u here.outcome (outcome_handed_out last.initiator) last.target) r.has b.ends.ended.at_rest;
     }
 
 one_more : (c : Opening) (past : List Request) (request : Request) → Rests c past → IsAlwaysTaken request → Rests c (past ++ request ∷ [])

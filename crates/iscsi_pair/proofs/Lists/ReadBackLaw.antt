@@ -15,11 +15,12 @@ use Rattle.scsi_cdb.specs.Blocks.{record_of}
 use Rattle.scsi_disk.specs.Disk.{Disk, disk_of, joined_blocks, disk_written}
 use Rattle.scsi_disk.specs.Effect.{Effect, disk_by, effect, outcome_by, residual_of}
 use Rattle.scsi_disk.specs.Plan.{plan_of}
+use Rattle.scsi_disk.specs.declared.deed.Deed.TheVariants.{Write}
 use Rattle.scsi_disk.specs.declared.order.Order.{Order}
 use Rattle.scsi_disk.specs.declared.order.Plan.{Plan}
 use Rattle.scsi_disk.specs.declared.order.Plan.TheVariants.{Take, Give}
 use Rattle.scsi_unit.specs.LogicalUnit.{LogicalUnit}
-use Rattle.scsi_unit.specs.WriteSame.{as_write}
+use Rattle.scsi_unit.specs.Deeds.{as_write}
 use Rattle.iscsi_target.specs.Execution.{as_told}
 use Rattle.iscsi_pdu.specs.Meaning.{AreBytes}
 use Rattle.iscsi_login.specs.Name.{IsName}
@@ -39,10 +40,10 @@ use Rattle.iscsi_stream.proofs.ReadyLemmas.{and_left, and_right}
 -- ---- the orders
 
 abbrev a_write : Transfer10 → Order
-a_write t = record { cdb = Write10 t; lun = 0; read = false; write = true; expected = 512 * t.blocks; same = false }
+a_write t = record { cdb = Write10 t; lun = 0; read = false; write = true; expected = 512 * t.blocks; deed = Write }
 
 abbrev a_read : Transfer10 → Order
-a_read t = record { cdb = Read10 t; lun = 0; read = true; write = false; expected = 512 * t.blocks; same = false }
+a_read t = record { cdb = Read10 t; lun = 0; read = true; write = false; expected = 512 * t.blocks; deed = Write }
 
 -- n bytes are some
 not_none : (n : ℕ) → 0 < n → not (512 * n == 0) ≡ true
@@ -50,10 +51,10 @@ not_none n some = ap not (ne_eqb (512 * n) 0 (λ none. omega (arith, some, none)
 
 write_order : (c : Opening) (write_cdb read_cdb bytes : List ℕ) → (p : NameSame c write_cdb read_cdb bytes) → writing_order 0 write_cdb bytes ≡ a_write p.named
 write_order c write_cdb read_cdb bytes p =
-    ap (λ (x : Cdb). (let order : Order = record { cdb = x; lun = 0; read = false; write = not (length bytes == 0); expected = length bytes; same = false }
+    ap (λ (x : Cdb). (let order : Order = record { cdb = x; lun = 0; read = false; write = not (length bytes == 0); expected = length bytes; deed = Write }
     in order))
     p.writes
-    ∙ ap (λ (n : ℕ). (let order : Order = record { cdb = Write10 p.named; lun = 0; read = false; write = not (n == 0); expected = n; same = false }
+    ∙ ap (λ (n : ℕ). (let order : Order = record { cdb = Write10 p.named; lun = 0; read = false; write = not (n == 0); expected = n; deed = Write }
     in order)) p.size
     ∙ ap (λ (b : Bool). (let order : Order = record {
       cdb = Write10 p.named;
@@ -61,16 +62,16 @@ write_order c write_cdb read_cdb bytes p =
       read = false;
       write = b;
       expected = 512 * p.named.blocks;
-      same = false;
+      deed = Write;
     } in order))
     (not_none p.named.blocks p.some)
 
 read_order : (c : Opening) (write_cdb read_cdb bytes : List ℕ) → (p : NameSame c write_cdb read_cdb bytes)
     → reading_order 0 read_cdb (length bytes) ≡ a_read p.named
 read_order c write_cdb read_cdb bytes p =
-    ap (λ (x : Cdb). (let order : Order = record { cdb = x; lun = 0; read = not (length bytes == 0); write = false; expected = length bytes; same = false }
+    ap (λ (x : Cdb). (let order : Order = record { cdb = x; lun = 0; read = not (length bytes == 0); write = false; expected = length bytes; deed = Write }
     in order)) p.reads
-    ∙ ap (λ (n : ℕ). (let order : Order = record { cdb = Read10 p.named; lun = 0; read = not (n == 0); write = false; expected = n; same = false }
+    ∙ ap (λ (n : ℕ). (let order : Order = record { cdb = Read10 p.named; lun = 0; read = not (n == 0); write = false; expected = n; deed = Write }
     in order)) p.size
     ∙ ap (λ (b : Bool). (let order : Order = record {
       cdb = Read10 p.named;
@@ -78,7 +79,7 @@ read_order c write_cdb read_cdb bytes p =
       read = b;
       write = false;
       expected = 512 * p.named.blocks;
-      same = false;
+      deed = Write;
     } in order))
     (not_none p.named.blocks p.some)
 
@@ -110,22 +111,14 @@ none_over : (n : ℕ) → residual_of n n ≡ Exact
 none_over n = (let same : nat_lt n n ≡ false = le-ltb n n (omega arith) in rw same refl)
 
 -- no unit takes a READ or a WRITE for another command, or answers it of itself
-never : (thin : Bool) → (let none : Option Transfer16 = None in (if thin then none else none) ≡ none)
-never true = refl
-never false = refl
-
 write_here : (unit : Option LogicalUnit) (disk : Disk) (t : Transfer10) (bytes : List ℕ)
     → effect_here unit disk (a_write t) bytes ≡ effect false disk (a_write t) bytes
 write_here None disk t bytes = refl
-write_here (Some unit) disk t bytes =
-    ap (λ (x : Option Transfer16). (let order : Order = record (a_write t) { cdb = as_write x (Write10 t); same = is_some x || false } in
-    as_told (Some unit) disk.count order (effect false disk order bytes))) (never unit.thin)
+write_here (Some unit) disk t bytes = refl
 
 read_here : (unit : Option LogicalUnit) (disk : Disk) (t : Transfer10) → effect_here unit disk (a_read t) [] ≡ effect false disk (a_read t) []
 read_here None disk t = refl
-read_here (Some unit) disk t =
-    ap (λ (x : Option Transfer16). (let order : Order = record (a_read t) { cdb = as_write x (Read10 t); same = is_some x || false } in
-    as_told (Some unit) disk.count order (effect false disk order []))) (never unit.thin)
+read_here (Some unit) disk t = refl
 
 -- the write is told to be good, and leaves its bytes
 write_outcome : (most : ℕ) (c : Opening) (write_cdb read_cdb bytes : List ℕ) → NameSame c write_cdb read_cdb bytes
@@ -135,7 +128,7 @@ write_outcome most c write_cdb read_cdb bytes p =
     let unit : Option LogicalUnit = c.target.extras.unit in
     ap (λ (x : Order). reported (effect_here unit disk x bytes).outcome) (write_order c write_cdb read_cdb bytes p)
     ∙ ap (λ (x : Effect). reported x.outcome) (write_here unit disk p.named bytes)
-    ∙ ap (λ (x : Plan). reported (outcome_by x disk (a_write p.named))) (write_plan p.named (length c.blocks / 512) (are_fine c write_cdb read_cdb bytes p))
+    ∙ ap (λ (x : Plan). reported (outcome_by x disk (a_write p.named) bytes)) (write_plan p.named (length c.blocks / 512) (are_fine c write_cdb read_cdb bytes p))
     ∙ ap (λ (x : Residual). done.Command 0 0x00 [] [] x) (none_over (512 * p.named.blocks))
 
 write_disk : (most : ℕ) (c : Opening) (write_cdb read_cdb bytes : List ℕ) → (p : NameSame c write_cdb read_cdb bytes)
@@ -161,7 +154,7 @@ read_outcome most c write_cdb read_cdb bytes p =
     ap (take size) (joined_back c.blocks bytes first p.named.blocks p.size p.inside) ∙ take_all size bytes (let same = p.size in omega (arith, same)) in
     ap (λ (x : Order). reported (effect_here unit disk x []).outcome) (read_order c write_cdb read_cdb bytes p)
     ∙ ap (λ (x : Effect). reported x.outcome) (read_here unit disk p.named)
-    ∙ ap (λ (x : Plan). reported (outcome_by x disk (a_read p.named))) (read_plan p.named (length c.blocks / 512) (are_fine c write_cdb read_cdb bytes p))
+    ∙ ap (λ (x : Plan). reported (outcome_by x disk (a_read p.named) [])) (read_plan p.named (length c.blocks / 512) (are_fine c write_cdb read_cdb bytes p))
     ∙ ap (λ (x : Residual). done.Command 0 0x00 [] (take size (joined_blocks disk.block first p.named.blocks)) x) (none_over size)
     ∙ ap good_done all
 

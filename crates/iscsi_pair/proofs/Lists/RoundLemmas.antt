@@ -17,7 +17,7 @@ use Rattle.iscsi_initiator.specs.declared.request.Request.{Request}
 use Rattle.iscsi_initiator.specs.Laws.{listed}
 use Rattle.iscsi_initiator.specs.State as initiator
 use Rattle.iscsi_initiator.specs.State.{is_session_closed}
-use Rattle.iscsi_initiator.specs.Machine.{initiator_step, outcome_taken}
+use Rattle.iscsi_initiator.specs.Machine.{initiator_step, outcome_handed_out}
 use Rattle.iscsi_initiator.specs.Submitted.{submitted}
 use Rattle.iscsi_pair.specs.World.{World, Opening, PairEvent, ToTarget, ToInitiator, Submits, Takes, new_pair}
 use Rattle.iscsi_pair.specs.Served.{IsServed, RunsServed, requests_of}
@@ -153,10 +153,10 @@ hands_in c h i t disk there here request s served none =
 
 pub gives_out : (c : Opening) (h : History) (i : initiator.InitiatorSession) (t : target.Machine) (disk : Disk) (there here : Logins) (d : Done)
     → Stays c (between i t disk []) [] (so_far there here h) → i.done ≡ Some d
-    → Stays c (between (outcome_taken i) t disk []) [] (so_far there here (record h { outcomes = h.outcomes ++ d ∷ [] }))
+    → Stays c (between (outcome_handed_out i) t disk []) [] (so_far there here (record h { outcomes = h.outcomes ++ d ∷ [] }))
 gives_out c h i t disk there here d s is =
     let old : World = level c i t s.blocks s.place s.place_back there here [] [] in
-    let new : World = level c (outcome_taken i) t s.blocks s.place s.place_back there here [] [] in
+    let new : World = level c (outcome_handed_out i) t s.blocks s.place s.place_back there here [] [] in
     let on : RunsServed (new_pair c) (s.events ++ Takes ∷ []) new (h.outcomes ++ listed i.done) =
     served_more (new_pair c) s.events old h.outcomes Takes new s.runs refl tt refl in
     record {

@@ -12,7 +12,7 @@ use Rattle.iscsi_initiator.specs.declared.request.Done.{Done}
 use Rattle.iscsi_initiator.specs.declared.request.Request.{Request}
 use Rattle.iscsi_initiator.specs.declared.request.Request.TheVariants as requests
 use Rattle.iscsi_initiator.specs.Laws.{listed}
-use Rattle.iscsi_initiator.specs.Machine.{outcome_taken}
+use Rattle.iscsi_initiator.specs.Machine.{outcome_handed_out}
 use Rattle.iscsi_initiator.specs.State as initiator
 use Rattle.iscsi_initiator.specs.Submitted.{submitted}
 use Rattle.iscsi_pair.specs.declared.step.RunFault.{RunFault}
@@ -265,13 +265,13 @@ pub asks_next : (c : Opening) (asked : List Request) (request : Request) (old mi
 asks_next c asked request old mid outcomes o h a next e calm =
     let r : RunsServed (new_pair c) h.events old outcomes = runs_served c asked old outcomes h (all_served asked a) in
     let none : old.initiator.machine.done ≡ None = none_waits c asked old outcomes o h r in
-    let same : outcome_taken old.initiator.machine ≡ old.initiator.machine = ap (λ (d : Option Done). record old.initiator.machine { done = d }) (sym none) in
-    let end : AreAtEnd asked (outcome_taken old.initiator.machine) old.target.machine =
-    subst (λ (x : List Request). AreAtEnd x (outcome_taken old.initiator.machine) old.target.machine) h.requests
+    let same : outcome_handed_out old.initiator.machine ≡ old.initiator.machine = ap (λ (d : Option Done). record old.initiator.machine { done = d }) (sym none) in
+    let end : AreAtEnd asked (outcome_handed_out old.initiator.machine) old.target.machine =
+    subst (λ (x : List Request). AreAtEnd x (outcome_handed_out old.initiator.machine) old.target.machine) h.requests
     (idle_rests c h.events old outcomes o r h.idle.2 h.idle.3) in
     let on : AreInStep old.initiator.machine old.target.machine =
     subst (λ (m : initiator.InitiatorSession). AreInStep m old.target.machine) same
-    (are_in_step asked (outcome_taken old.initiator.machine) old.target.machine a end) in
+    (are_in_step asked (outcome_handed_out old.initiator.machine) old.target.machine a end) in
     served_more (new_pair c) h.events old outcomes (Submits request) mid r e
     (next_served request next, next_accepted request old.initiator.machine old.target.machine on next) calm
 

@@ -19,7 +19,7 @@ use Rattle.iscsi_initiator.specs.declared.request.SubmitFault.TheVariants as ref
 use Rattle.iscsi_initiator.specs.State as initiator
 use Rattle.iscsi_login.specs.Stage.{is_closed_phase}
 use Rattle.iscsi_initiator.specs.Steps.{InitiatorStep}
-use Rattle.iscsi_initiator.specs.Machine.{initiator_step, outcome_taken}
+use Rattle.iscsi_initiator.specs.Machine.{initiator_step, outcome_handed_out}
 use Rattle.iscsi_initiator.specs.Submitted.{SubmitStep, submitted, or_accepted, refusal_in}
 use Rattle.iscsi_initiator.specs.Laws as history
 use Rattle.iscsi_initiator.proofs.HeldLaws.{held_stays}
@@ -199,7 +199,7 @@ pub exchange_ends : (inputs : List SessionInput) (w : Way) (MayClose : Type 0) (
 unfolding answers
 exchange_ends [] w MayClose P i t disk ms o turns p x = Waiting t disk ms p x refl
 exchange_ends (Takes ∷ inputs) w MayClose P i t disk ms o turns p x =
-    let same : outcome_taken i ≡ i = ap (λ (d : Option Done). record i { done = d }) (sym x.asking.no_outcome) in
+    let same : outcome_handed_out i ≡ i = ap (λ (d : Option Done). record i { done = d }) (sym x.asking.no_outcome) in
     subst (λ (m : initiator.InitiatorSession). Ended w MayClose P (answers false t disk ms).machine (session_after_all m inputs)) (sym same)
     (exchange_ends inputs w MayClose P i t disk ms o turns p
     (skipped w Takes inputs i t disk ms x refl (ap (λ (m : initiator.InitiatorSession). canon (sent m inputs)) same)))

@@ -12,7 +12,7 @@ use Rattle.iscsi_initiator.specs.declared.request.Done.{Done}
 use Rattle.iscsi_initiator.specs.declared.request.Request.{Request}
 use Rattle.iscsi_initiator.specs.State as initiator
 use Rattle.iscsi_initiator.specs.State.{is_session_closed}
-use Rattle.iscsi_initiator.specs.Machine.{initiator_step, outcome_taken}
+use Rattle.iscsi_initiator.specs.Machine.{initiator_step, outcome_handed_out}
 use Rattle.iscsi_initiator.specs.Submitted.{submitted}
 use Rattle.iscsi_initiator.specs.Calls as calls
 use Rattle.iscsi_pair.specs.World.{Opening}
@@ -116,4 +116,4 @@ pub record IsKept (most : Limits) (P : Relation) : Type 1 where
   -- an outcome is taken
   pub takes : (i : initiator.InitiatorSession) (t : target.Machine) (disk : Disk) (back : List Message) (there here : Logins) (h : History) (d : Done)
       → P (between i t disk back) (so_far there here h) → i.done ≡ Some d
-      → P (between (outcome_taken i) t disk back) (so_far there here (record h { outcomes = h.outcomes ++ d ∷ [] }))
+      → P (between (outcome_handed_out i) t disk back) (so_far there here (record h { outcomes = h.outcomes ++ d ∷ [] }))

@@ -11,11 +11,11 @@ use Rattle.scsi_disk.specs.declared.order.Outcome.{Outcome}
 use Rattle.scsi_disk.specs.declared.order.Plan.{Plan}
 use Rattle.scsi_disk.specs.declared.order.Plan.TheVariants.{Refuse, Take, Give}
 use Rattle.scsi_disk.specs.Disk.{Disk}
-use Rattle.scsi_disk.specs.Effect.{Effect, outcome_by, wanted_data}
+use Rattle.scsi_disk.specs.Effect.{Effect, deed_failure, outcome_by, outcome_taken, wanted_data}
 use Rattle.scsi_disk.specs.Plan.{expected_length, first_refusal, is_unknown, is_write, plan_by, plan_of, taken_length, named_transfer, wanted_length}
 use Rattle.scsi_disk.proofs.PlanLemmas.{none_refused}
 use Rattle.scsi_unit.specs.LogicalUnit.{LogicalUnit}
-use Rattle.scsi_unit.specs.WriteSame.{meant}
+use Rattle.scsi_unit.specs.Deeds.{meant}
 use Rattle.iscsi_pdu.specs.declared.head.Head.TheVariants as heads
 use Rattle.iscsi_pdu.specs.declared.serial.Window.{Window}
 use Rattle.iscsi_pdu.specs.Serial.{next_sn, is_within}
@@ -132,11 +132,10 @@ planned_now (Give n) t cmd_sn disk h order none = refl
 planned_now (Refuse sense) t cmd_sn disk h order none = refl
 
 -- a write without data is refused, unless it has no blocks
-none_by : (b same : Bool) (count n total : ℕ) → (b && not false && (same || nat_lt 0 count)) ≡ false
-    → (if b then Take (if same then 512 else 512 * count) else Give n) ≡ Take total → total ≡ 0
-none_by true true count n total test e = absurd cc
-none_by true false count n total test e = (let is : 512 * count ≡ total = cc in omega (arith, is, ltb-false 0 count test))
-none_by false same count n total test e = absurd cc
+none_by : (b : Bool) (size n total : ℕ) → (b && not false && nat_lt 0 size) ≡ false
+    → (if b then Take size else Give n) ≡ Take total → total ≡ 0
+none_by true size n total test e = (let is : size ≡ total = cc in omega (arith, is, ltb-false 0 size test))
+none_by false size n total test e = absurd cc
 
 -- what a read orders of a disk that may have a unit
 abbrev reads_here : Option LogicalUnit → ℕ → List ℕ → ℕ → Order
@@ -148,7 +147,7 @@ takes_none : (f : Option Sense) (unit : Option LogicalUnit) (lun : ℕ) (cdb : L
 takes_none (Some sense) unit lun cdb expected blocks total f e = absurd cc
 takes_none None unit lun cdb expected blocks total f e =
     let order : Order = reads_here unit lun cdb expected in
-    none_by (is_write order.cdb) order.same (named_transfer order.cdb).count (min (wanted_length order blocks) (expected_length order)) total
+    none_by (is_write order.cdb) (taken_length order) (min (wanted_length order blocks) (expected_length order)) total
     (none_refused order blocks f).sends_some e
 
 -- no more is given than is expected
@@ -165,10 +164,15 @@ gives_few None order blocks n e =
       expected_by (order.read || (order.write && (is_write order.cdb || is_unknown order.cdb))) order.expected,
     )
 
-outcome_few : (p : Plan) (disk : Disk) (order : Order) (most : ℕ) → ((n : ℕ) → p ≡ Give n → n ≤ most) → length (outcome_by p disk order).bytes ≤ most
-outcome_few (Refuse sense) disk order most few = omega arith
-outcome_few (Take n) disk order most few = omega arith
-outcome_few (Give n) disk order most few = omega (arith, few n refl, length-take n (wanted_data disk order))
+taken_few : (reason : Option Sense) (order : Order) (n most : ℕ) → length (outcome_taken reason order n).bytes ≤ most
+taken_few None order n most = omega arith
+taken_few (Some sense) order n most = omega arith
+
+outcome_few : (p : Plan) (disk : Disk) (order : Order) (bytes : List ℕ) (most : ℕ) → ((n : ℕ) → p ≡ Give n → n ≤ most)
+    → length (outcome_by p disk order bytes).bytes ≤ most
+outcome_few (Refuse sense) disk order bytes most few = omega arith
+outcome_few (Take n) disk order bytes most few = taken_few (deed_failure disk order bytes) order n most
+outcome_few (Give n) disk order bytes most few = omega (arith, few n refl, length-take n (wanted_data disk order))
 
 -- the command is executed
 read_taken : (m : initiator.InitiatorSession) (t : target.Machine) (disk : Disk) (lun : ℕ) (cdb : List ℕ) (expected : ℕ) → m.cmd_sn < 2 ^ 32
@@ -301,7 +305,7 @@ local_read m t disk lun cdb expected on_ size are a e =
     ∙ read_taken m t disk lun cdb expected a.cmd_sn_fits in
     let tag : next_tag m.initiator_task_tag ≤ 0xffff_fffe = tag_after m.initiator_task_tag a.tag_fits in
     let room : length after.outcome.bytes ≤ expected = told_few unit disk order []
-    (outcome_few (plan_of order disk.count) disk order expected (λ n. gives_few (first_refusal order disk.count) order disk.count n)) in
+    (outcome_few (plan_of order disk.count) disk order [] expected (λ n. gives_few (first_refusal order disk.count) order disk.count n)) in
     let h : ReadReceived begun_ t' r0 m.window after.outcome = read_received begun_ t' m.window after.outcome expected a.held a.is_held a.stat_sn a.none_done
     room
     (omega (arith, few)) in

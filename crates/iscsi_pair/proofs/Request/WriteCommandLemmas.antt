@@ -6,14 +6,14 @@ use Rattle.std.proofs.lemmas.Bool.{eqb-true, le-ltb, lt-leb, ltb-true, not-false
 use Rattle.std.proofs.lemmas.List.{length-take}
 use Rattle.scsi_cdb.specs.declared.sense.Sense.{Sense}
 use Rattle.scsi_disk.specs.Disk.{Disk}
-use Rattle.scsi_disk.specs.Effect.{Effect, disk_by, outcome_by, wanted_data}
+use Rattle.scsi_disk.specs.Effect.{Effect, deed_failure, disk_by, outcome_by, outcome_taken, wanted_data}
 use Rattle.scsi_disk.specs.Plan.{expected_length, first_refusal, is_unknown, is_write, plan_by, plan_of, taken_length, wanted_length}
 use Rattle.scsi_disk.specs.declared.order.Plan.{Plan}
 use Rattle.scsi_disk.specs.declared.order.Plan.TheVariants.{Refuse, Take, Give}
 use Rattle.scsi_disk.specs.declared.order.Order.{Order}
 use Rattle.scsi_disk.proofs.PlanLemmas.{none_refused}
 use Rattle.scsi_unit.specs.LogicalUnit.{LogicalUnit}
-use Rattle.scsi_unit.specs.WriteSame.{meant}
+use Rattle.scsi_unit.specs.Deeds.{meant}
 use Rattle.iscsi_pdu.specs.declared.head.Head.TheVariants as heads
 use Rattle.iscsi_pdu.specs.declared.head.data_out.DataOut.{DataOut}
 use Rattle.iscsi_pdu.specs.declared.head.scsi_command.ScsiCommand.{ScsiCommand}
@@ -28,7 +28,7 @@ use Rattle.iscsi_target.specs.State as target
 use Rattle.iscsi_target.specs.State.{TargetStep, unchanged}
 use Rattle.iscsi_stream.specs.Pieces.{chunks}
 use Rattle.iscsi_pdu.specs.Serial.{next_sn}
-use Rattle.iscsi_target.specs.Execution.{execute, reliable}
+use Rattle.iscsi_target.specs.Execution.{as_told, execute, reliable}
 use Rattle.iscsi_target.specs.Command.{breaks_burst_rules, is_bad_announcement, is_bad_segment, task_planned}
 use Rattle.iscsi_target.specs.Machine.{task_begun, answers, having_accepted, step_on, then_stepped}
 use Rattle.iscsi_target.proofs.Turns.SingleTaskLemmas.{request_alone}
@@ -127,10 +127,14 @@ gives_none None unit lun cdb bytes blocks n f e =
     give_by (is_write order.cdb) order.write (is_unknown order.cdb) (taken_length order) (wanted_length order blocks) order.expected n
     (none_refused order blocks f).takes_data e
 
-pub outcome_none : (p : Plan) (disk : Disk) (order : Order) → ((n : ℕ) → p ≡ Give n → n ≡ 0) → (outcome_by p disk order).bytes ≡ []
-outcome_none (Refuse sense) disk order none = refl
-outcome_none (Take n) disk order none = refl
-outcome_none (Give n) disk order none = ap (λ (x : ℕ). take x (wanted_data disk order)) (none n refl)
+taken_none : (reason : Option Sense) (order : Order) (n : ℕ) → (outcome_taken reason order n).bytes ≡ []
+taken_none None order n = refl
+taken_none (Some sense) order n = refl
+
+pub outcome_none : (p : Plan) (disk : Disk) (order : Order) (bytes : List ℕ) → ((n : ℕ) → p ≡ Give n → n ≡ 0) → (outcome_by p disk order bytes).bytes ≡ []
+outcome_none (Refuse sense) disk order bytes none = refl
+outcome_none (Take n) disk order bytes none = taken_none (deed_failure disk order bytes) order n
+outcome_none (Give n) disk order bytes none = ap (λ (x : ℕ). take x (wanted_data disk order)) (none n refl)
 
 -- ---- data for which no write is open
 
@@ -200,6 +204,12 @@ same_effect (Take n) disk order bytes none = absurd (none n refl)
 same_effect (Give n) disk order bytes none = refl
 same_effect (Refuse sense) disk order bytes none = refl
 
+same_outcome : (p : Plan) (disk : Disk) (order : Order) (bytes : List ℕ) → ((n : ℕ) → p ≡ Take n → ⊥)
+    → outcome_by p disk order [] ≡ outcome_by p disk order bytes
+same_outcome (Take n) disk order bytes none = absurd (none n refl)
+same_outcome (Give n) disk order bytes none = refl
+same_outcome (Refuse sense) disk order bytes none = refl
+
 -- a command that takes no data: what follows it is dropped
 pub executed_alone : (m : initiator.InitiatorSession) (t : target.Machine) (disk : Disk) (lun : ℕ) (cdb bytes : List ℕ) (window : Window)
     → Throughout (begun_write m) t (next_sn m.cmd_sn) bytes (writes_here (target.unit_of t.session) lun cdb bytes) disk → IsNear (next_sn m.cmd_sn) window
@@ -228,11 +238,10 @@ executed_alone m t disk lun cdb bytes window a near none =
     let gone : answers false r.machine r.disk (unasked_data m bytes) ≡ unchanged r.machine r.disk =
     ap (λ (k : Held). answers false r.machine r.disk (data_outs h (chunks k.target_max_recv uns))) (sym a.held)
     ∙ dropped (counted_on t) n r.disk h (chunks t.session.held.target_max_recv uns) a.segment (pieces_are (length uns) t.session.held.target_max_recv uns lt) in
-    let same : told unit disk order [] ≡ after = λ i_. record {
+    let same : told unit disk order [] ≡ after = λ i_. as_told unit disk.count order (record {
       disk = same_effect (plan_of order disk.count) disk order bytes none i_;
-      outcome =
-          after.outcome;
-    } in
+      outcome = same_outcome (plan_of order disk.count) disk order bytes none i_;
+    }) in
     let well : IsAnswered m.held r = executed_written (begun_write m) t n bytes order disk (next_tag m.initiator_task_tag) [] a refl in
     let ends_ : Ends (length bytes + 1) m.held unit i r (local_command after) =
     response_ends (length bytes + 1) (omega arith) (begun_write m) t n (opens.Out (first_sent m bytes)) window bytes order disk

@@ -38,7 +38,7 @@ use Rattle.iscsi_initiator.specs.State.{sent_exp_stat_sn, serial}
 use Rattle.iscsi_initiator.specs.Progress.{WriteProgress}
 use Rattle.iscsi_initiator.specs.Steps.{quiet, step_sending}
 use Rattle.iscsi_initiator.specs.Full.{data_outs, sequence}
-use Rattle.iscsi_initiator.specs.Machine.{initiator_step, outcome_taken}
+use Rattle.iscsi_initiator.specs.Machine.{initiator_step, outcome_handed_out}
 use Rattle.iscsi_pair.specs.LocalDisk.{AreInStep, DiskExchange, reported_sense, local_command}
 use Rattle.iscsi_pair.proofs.Wire.WindowLemmas.{IsNear, last_with, tells_fewer, tells_eight}
 use Rattle.iscsi_pair.proofs.Login.RoundAgrees.{some_then}
@@ -94,7 +94,7 @@ pub record Throughout (m : initiator.InitiatorSession) (t : target.Machine) (cmd
   pub cmd_sn_is : cmd_sn ≡ m.cmd_sn
   pub cmd_sn_fits : m.cmd_sn < 2 ^ 32
   pub few : length bytes ≤ 4194304
-  pub none_given : (told (target.unit_of t.session) disk order bytes).outcome.bytes ≡ []
+  pub none_given : (others : List ℕ) → (told (target.unit_of t.session) disk order others).outcome.bytes ≡ []
   pub stat_sn_fits : t.session.stat_sn < 2 ^ 32
   pub stat_sn_sends : sent_exp_stat_sn m < 2 ^ 32
   pub lun : order.lun < 2 ^ 64
@@ -137,7 +137,7 @@ executed_written m t cmd_sn bytes order disk tag pieces_ a same = record {
   answered = subst (λ (k : Held). ArePlain k.initiator_max_recv (execute (reliable false) (ready t cmd_sn) disk tag order pieces_).answers) a.held
       (command_written (ready t cmd_sn) tag (told (target.unit_of t.session) disk order (piece_data pieces_)).outcome (subst IsHeld (sym a.held) a.is_held)
       (omega (arith, same, a.tag_fits)) (omega (arith, a.cmd_sn_is, a.cmd_sn_fits)) a.stat_sn_fits
-      (omega (arith, ap (λ (x : List ℕ). length x) a.none_given)) (outcome_fits (target.unit_of t.session) disk order (piece_data pieces_) a.expected a.short));
+      (omega (arith, ap (λ (x : List ℕ). length x) (a.none_given (piece_data pieces_)))) (outcome_fits (target.unit_of t.session) disk order (piece_data pieces_) a.expected a.short));
 }
 
 -- the response to a command that gives no data
@@ -161,10 +161,10 @@ response_ends most le m t cmd_sn open_ window bytes order disk tag pieces_ a nea
     (omega (arith, a.is_held.initiator_max_recv.0)) in
     let is : (execute (reliable false) s disk tag order pieces_).answers ≡ response ∷ [] =
     ap (λ (x : Effect). command_answers s.session (target.waiting_tasks s.tasks) tag x.outcome (data_in_parts s.session x.outcome.bytes)) data_
-    ∙ ap (λ (x : List ℕ). command_answers s.session (target.waiting_tasks s.tasks) tag after.outcome (data_in_parts s.session x)) a.none_given
+    ∙ ap (λ (x : List ℕ). command_answers s.session (target.waiting_tasks s.tasks) tag after.outcome (data_in_parts s.session x)) (a.none_given bytes)
     ∙ ap (λ (x : ℕ). command_answers s.session (target.waiting_tasks s.tasks) x after.outcome []) same in
     let disk_is : (execute (reliable false) s disk tag order pieces_).disk ≡ after.disk = ap (λ (x : Effect). x.disk) data_ in
-    let again : AreInStep (outcome_taken (finished m (ready t m.cmd_sn) window after.outcome [])) (counted_on (ready t m.cmd_sn)) =
+    let again : AreInStep (outcome_handed_out (finished m (ready t m.cmd_sn) window after.outcome [])) (counted_on (ready t m.cmd_sn)) =
     in_step_again m t window a.held a.is_held (subst (λ (h : Held). h.target_max_recv ≤ target_session.target_limit t.session.settings) a.held a.segment)
     a.tag_fits
     a.cmd_sn_fits
@@ -180,11 +180,11 @@ response_ends most le m t cmd_sn open_ window bytes order disk tag pieces_ a nea
           (0, omega arith, refl)));
       ended = record {
         done_is = ap (λ (x : List ℕ). Some (done.Command 0 after.outcome.status (reported_sense after.outcome.sense) x after.outcome.residual))
-            (sym a.none_given);
+            (sym (a.none_given bytes));
         silent = refl;
         disk_is = refl;
         at_rest = inl (
-          subst (λ (x : ℕ). AreInStep (outcome_taken (finished m (ready t x) window after.outcome [])) (counted_on (ready t x))) (sym a.cmd_sn_is) again,
+          subst (λ (x : ℕ). AreInStep (outcome_handed_out (finished m (ready t x) window after.outcome [])) (counted_on (ready t x))) (sym a.cmd_sn_is) again,
           refl,
           refl,
         );

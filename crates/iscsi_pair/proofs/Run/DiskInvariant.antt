@@ -26,7 +26,7 @@ use Rattle.iscsi_initiator.specs.Steps.{InitiatorStep}
 use Rattle.iscsi_initiator.specs.Calls as initiator_calls
 use Rattle.iscsi_initiator.specs.Laws.{listed}
 use Rattle.iscsi_initiator.specs.Login.{start_step}
-use Rattle.iscsi_initiator.specs.Machine.{initiator_step, outcome_taken}
+use Rattle.iscsi_initiator.specs.Machine.{initiator_step, outcome_handed_out}
 use Rattle.iscsi_initiator.specs.Submitted.{submitted}
 use Rattle.iscsi_pair.specs.World.{Opening}
 use Rattle.iscsi_pair.specs.LocalDisk.{AreAtRest, AreInStep, RequestHasEnded, HaveParted, Local, DiskExchange, local, local_disk, local_outcomes}
@@ -346,7 +346,7 @@ settles c held h past request i t all rest =
 -- the outcome that is there is the last request's, and no answer is on its way
 record IsDone (c : Opening) (held : Held) (x : DiskExchange) (h : History) (d : Done) : Type 0 where
   silent : x.answers ≡ []
-  settled : AreSettled held c.target.extras.unit h (outcome_taken x.initiator) x.target
+  settled : AreSettled held c.target.extras.unit h (outcome_handed_out x.initiator) x.target
   disk_is : x.disk ≡ local_disk_after c h.requests
   outcomes_are : h.outcomes ++ d ∷ [] ≡ disk_outcomes c h.requests
 
@@ -358,8 +358,8 @@ serving_done zero c i t disk back h d v l is =
     let one : here.outcome ≡ d = (let e : Some here.outcome ≡ Some d = sym v.ended.done_is ∙ ap (λ (x : DiskExchange). x.initiator.done) (sym l) ∙ is in cc) in
     record {
       silent = ap (λ (x : DiskExchange). x.answers) l ∙ v.ended.silent;
-      settled = settles c v.held h v.past v.request (outcome_taken i) t v.requests_are
-          (subst (λ (x : DiskExchange). AreAtRest v.held c.target.extras.unit here.outcome (outcome_taken x.initiator) x.target) (sym l) v.ended.at_rest);
+      settled = settles c v.held h v.past v.request (outcome_handed_out i) t v.requests_are
+          (subst (λ (x : DiskExchange). AreAtRest v.held c.target.extras.unit here.outcome (outcome_handed_out x.initiator) x.target) (sym l) v.ended.at_rest);
       disk_is = ap (λ (x : DiskExchange). x.disk) l ∙ v.ended.disk_is ∙ sym (disk_more (pinged c) c.target.extras.unit (disk_of c.blocks) v.past v.request)
           ∙ ap (local_disk_after c) (sym v.requests_are);
       outcomes_are = ap (λ (x : List Done). x ++ d ∷ []) v.outcomes_are ∙ ap (λ (x : Done). disk_outcomes c v.past ++ x ∷ []) (sym one)
@@ -397,7 +397,7 @@ serves_asks c i t disk back there here h request (Serve v) served e = absurd (se
 pub serves_takes : (c : Opening) (i : initiator.InitiatorSession) (t : target.Machine) (disk : Disk) (back : List Message) (there here : Logins) (h : History)
     (d : Done)
     → Serves c (between i t disk back) (so_far there here h) → i.done ≡ Some d
-    → Serves c (between (outcome_taken i) t disk back) (so_far there here (record h { outcomes = h.outcomes ++ d ∷ [] }))
+    → Serves c (between (outcome_handed_out i) t disk back) (so_far there here (record h { outcomes = h.outcomes ++ d ∷ [] }))
 serves_takes c i t disk back there here h d (Logs l) is = absurd (let bad : None ≡ Some d = sym l.asking.no_outcome ∙ is in cc)
 serves_takes c i t disk back there here h d (Rest r) is = absurd (let bad : None ≡ Some d = sym r.none_done ∙ is in cc)
 serves_takes c i t disk back there here h d (Serve v) is =
@@ -444,7 +444,7 @@ first_outcomes c i t disk back there here h (Serve v) =
 -- with nothing on its way every request has its outcome
 pub record IsIdle (c : Opening) (i : initiator.InitiatorSession) (t : target.Machine) (disk : Disk) (h : History) : Type 0 where
   pub held : Held
-  pub at_rest : AreSettled held c.target.extras.unit h (outcome_taken i) t
+  pub at_rest : AreSettled held c.target.extras.unit h (outcome_handed_out i) t
   pub disk_is : disk ≡ local_disk_after c h.requests
   pub outcomes_are : h.outcomes ++ listed i.done ≡ disk_outcomes c h.requests
 
@@ -461,7 +461,7 @@ pub idle_serves : (c : Opening) (i : initiator.InitiatorSession) (t : target.Mac
     → Serves c (between i t disk []) (so_far there here h) → IsIdle c i t disk h
 idle_serves c i t disk there here h (Logs l) = absurd (let bad : [] ≡ l.turn.answer ∷ [] = l.back_is in cc)
 idle_serves c i t disk there here h (Rest r) =
-    let none : outcome_taken i ≡ i = ap (λ (d : Option Done). record i { done = d }) (sym r.none_done) in
+    let none : outcome_handed_out i ≡ i = ap (λ (d : Option Done). record i { done = d }) (sym r.none_done) in
     record {
       held = r.held;
       at_rest = subst (λ (x : initiator.InitiatorSession). AreSettled r.held c.target.extras.unit h x t) (sym none) r.at_rest;

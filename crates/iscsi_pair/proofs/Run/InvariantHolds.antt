@@ -32,7 +32,7 @@ use Rattle.iscsi_initiator.specs.State as initiator
 use Rattle.iscsi_initiator.specs.State.{is_session_closed}
 use Rattle.iscsi_initiator.specs.Steps as initiator_steps
 use Rattle.iscsi_initiator.specs.Login.{start_step}
-use Rattle.iscsi_initiator.specs.Machine.{steps, outcome_taken}
+use Rattle.iscsi_initiator.specs.Machine.{steps, outcome_handed_out}
 use Rattle.iscsi_initiator.specs.Submitted.{submitted, accepted, or_accepted, submit_refusal}
 use Rattle.iscsi_initiator.specs.Laws.{listed}
 use Rattle.iscsi_initiator.specs.Calls as calls
@@ -447,7 +447,7 @@ given_out h d = record h { outcomes = h.outcomes ++ listed d }
 -- the relation holds once the outcome is taken, if there is one
 takes_one : (d : Option Done) (c : Opening) (P : Relation) → Keeps c P
     → (i : initiator.InitiatorSession) (t : target.Machine) (disk : Disk) (back : List Message) (there here : Logins) (h : History)
-    → i.done ≡ d → P (between i t disk back) (so_far there here h) → P (between (outcome_taken i) t disk back) (so_far there here (given_out h d))
+    → i.done ≡ d → P (between i t disk back) (so_far there here h) → P (between (outcome_handed_out i) t disk back) (so_far there here (given_out h d))
 takes_one None c P k i t disk back there here h is p =
     subst (λ (m : initiator.InitiatorSession). P (between m t disk back) (so_far there here (given_out h None)))
     (ap (λ (d : Option Done). record i { done = d }) is)

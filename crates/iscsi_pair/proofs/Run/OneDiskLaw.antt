@@ -11,7 +11,7 @@ use Rattle.iscsi_target.specs.declared.tasks.Task.{Task}
 use Rattle.iscsi_target.specs.Machine.{answers}
 use Rattle.iscsi_initiator.specs.declared.request.Done.{Done}
 use Rattle.iscsi_initiator.specs.Laws.{listed}
-use Rattle.iscsi_initiator.specs.Machine.{outcome_taken}
+use Rattle.iscsi_initiator.specs.Machine.{outcome_handed_out}
 use Rattle.iscsi_initiator.specs.State as initiator
 use Rattle.iscsi_pair.specs.World.{PairEvent, Opening, World, new_pair}
 use Rattle.iscsi_pair.specs.LocalDisk.{AreInStep}
@@ -99,8 +99,8 @@ joined_ends held unit h i t rest =
 
 pub idle_rests : (c : Opening) (events : List PairEvent) (w : World) (outcomes : List Done) → IsNormal c → RunsServed (new_pair c) events w outcomes
     → w.to_target ≡ [] → w.to_initiator ≡ []
-    → AreAtEnd (requests_of events) (outcome_taken w.initiator.machine) w.target.machine
+    → AreAtEnd (requests_of events) (outcome_handed_out w.initiator.machine) w.target.machine
 idle_rests c events w outcomes n r p q =
     let s = still c events w outcomes n r p q in
-    subst (AreAtEnd (requests_of events) (outcome_taken w.initiator.machine)) (sym s.machine) (joined_ends s.is_idle.held c.target.extras.unit (history events outcomes)
-    (outcome_taken w.initiator.machine) s.session s.is_idle.at_rest)
+    subst (AreAtEnd (requests_of events) (outcome_handed_out w.initiator.machine)) (sym s.machine) (joined_ends s.is_idle.held c.target.extras.unit (history events outcomes)
+    (outcome_handed_out w.initiator.machine) s.session s.is_idle.at_rest)

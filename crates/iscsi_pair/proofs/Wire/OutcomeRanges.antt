@@ -1,5 +1,5 @@
 -- The numbers of an outcome have room in its response.
-use Rattle.std.specs.Prelude.{◌≡◌, ◌-◌, ◌*◌, ◌^◌, ◌<◌, ◌≤◌, nat_lt, ◌==◌, ◌||◌, ◌&&◌, if◌then◌else◌, IfSome, is_some, unwrap_or}
+use Rattle.std.specs.Prelude.{◌≡◌, ◌-◌, ◌*◌, ◌^◌, ◌<◌, ◌≤◌, bit_and, nat_lt, not, ◌==◌, ◌||◌, ◌&&◌, if◌then◌else◌, IfSome, is_some, unwrap_or}
 use Rattle.std.specs.Option.{option_map}
 use Rattle.std.proofs.Common.{ℕ, Bool, true, false, List, [], ◌++◌, length, take, Option, Some, None, refl, subst, arith}
 use Rattle.std.proofs.lemmas.Bool.{cond_both}
@@ -18,19 +18,20 @@ use Rattle.scsi_disk.specs.declared.order.Outcome.{Outcome}
 use Rattle.scsi_disk.specs.declared.order.Plan.{Plan}
 use Rattle.scsi_disk.specs.declared.order.Plan.TheVariants.{Refuse, Take, Give}
 use Rattle.scsi_disk.specs.Disk.{Disk}
-use Rattle.scsi_disk.specs.Effect.{effect, outcome_by, residual_of}
+use Rattle.scsi_disk.specs.Effect.{check_condition, deed_failure, effect, outcome_by, outcome_taken, residual_of}
 use Rattle.scsi_disk.specs.Plan.{cut_parameter_data, expected_length, first_reason, is_read, is_unknown, is_write, parameter_data, plan_of, named_transfer, wanted_length}
 use Rattle.scsi_cdb.proofs.RecordLemmas.{IsRecord-room, record_is}
-use Rattle.scsi_disk.proofs.PlanLemmas.{given, taken}
-use Rattle.scsi_disk.proofs.RepeatLemmas.{takes_few}
+use Rattle.scsi_disk.proofs.PlanLemmas.{given}
+use Rattle.iscsi_target.proofs.Writes.WriteTilingLaws.{take_is}
 use Rattle.scsi_unit.specs.LogicalUnit.{LogicalUnit}
 use Rattle.scsi_unit.specs.Modes.{ModePage, asked_page, behind_long_header, behind_short_header, caching_page, control_page, is_enabled, mode_pages}
 use Rattle.scsi_unit.proofs.LengthLemmas.{AreShort, commands_short}
 use Rattle.scsi_unit.specs.Pages.{thin_capacity}
 use Rattle.scsi_unit.specs.Spellings.{loads, spelled, spelled_block, stops}
 use Rattle.scsi_unit.specs.Supported.{commands_told}
-use Rattle.scsi_unit.specs.Telling.{asks_commands, data_told, inquiry_data, outcome_or_refused, requested_sense, told_outcome, told_refusals, unit_block_data}
-use Rattle.scsi_unit.specs.WriteSame.{as_write, meant_cdb, same_blocks, same_taken}
+use Rattle.scsi_unit.specs.Telling.{all_mapped, asks_commands, asks_mapping, data_told, inquiry_data, outcome_or_refused, requested_sense, told_outcome, told_refusals, unit_block_data}
+use Rattle.scsi_unit.specs.Deeds.{Taken, as_write, meant_cdb, taken_for}
+use Rattle.scsi_unit.specs.WriteSame.{same_blocks}
 use Rattle.iscsi_pdu.specs.Meaning.{AreBytes}
 use Rattle.iscsi_target.specs.Execution.{residual_count}
 use Rattle.iscsi_pair.proofs.Wire.ToldOutcomes.{by_unit, told}
@@ -99,17 +100,25 @@ residual_fits wanted expected w e =
     (λ h. tt))
 
 -- by its plan
-fits_by : (p : Plan) (disk : Disk) (order : Order) → plan_of order disk.count ≡ p → order.expected ≤ 4194304 → HasRoom (outcome_by p disk order)
-fits_by (Refuse sense) disk order e few = record {
+failed_fits : (order : Order) (sense : Sense) → order.expected ≤ 4194304 → HasRoom (check_condition order sense)
+failed_fits order sense few = record {
   status = omega arith;
   residual = residual_fits 0 (expected_length order) (omega arith) (expected_most order few);
 }
-fits_by (Take n) disk order e few =
-    record {
-      status = omega arith;
-      residual = residual_fits n (expected_length order) (takes_few order disk.count n (taken order disk.count n e)) (expected_most order few);
-    }
-fits_by (Give n) disk order e few =
+
+taken_fits : (reason : Option Sense) (order : Order) (n : ℕ) → n ≤ 4194304 → order.expected ≤ 4194304 → HasRoom (outcome_taken reason order n)
+taken_fits None order n size few = record {
+  status = omega arith;
+  residual = residual_fits n (expected_length order) size (expected_most order few);
+}
+taken_fits (Some sense) order n size few = failed_fits order sense few
+
+fits_by : (p : Plan) (disk : Disk) (order : Order) (bytes : List ℕ) → plan_of order disk.count ≡ p → order.expected ≤ 4194304
+    → HasRoom (outcome_by p disk order bytes)
+fits_by (Refuse sense) disk order bytes e few = failed_fits order sense few
+fits_by (Take n) disk order bytes e few =
+    taken_fits (deed_failure disk order bytes) order n (omega (arith, take_is order disk.count n e, few)) few
+fits_by (Give n) disk order bytes e few =
     let facts = given order disk.count n e in
     record {
       status = omega arith;
@@ -128,9 +137,9 @@ short_rows : (cdb : Cdb) → HaveRoom (cdb_rows cdb) → IsShort cdb
 short_rows (Inquiry evpd page n control) room = room.1.1.1.0.1
 short_rows _ room = tt
 
-short_write : (named : Option Transfer16) (cdb : Cdb) → IsShort cdb → IsShort (as_write named cdb)
+short_write : (taken : Option Taken) (cdb : Cdb) → IsShort cdb → IsShort (as_write taken cdb)
 short_write None cdb short = short
-short_write (Some named) cdb short = tt
+short_write (Some taken) cdb short = tt
 
 -- what a block spells in another way is no INQUIRY
 short_spelled : (code : ℕ) (block : List ℕ) → IsShort (spelled_block code block)
@@ -156,7 +165,7 @@ spelled_short (Some unit) _ short = tt
 pub short_block : (unit : Option LogicalUnit) (block : List ℕ) → length block ≡ 16 → AreBytes block
     → IsShort (meant_cdb unit (record_of block))
 short_block unit block size are =
-    short_write (same_taken unit (record_of block)) (spelled unit (record_of block))
+    short_write (taken_for unit (record_of block)) (spelled unit (record_of block))
     (spelled_short unit (record_of block)
     (short_rows (record_of block) (IsRecord-room block (record_of block) are (record_is block size))))
 
@@ -215,9 +224,17 @@ few_commands : (n : ℕ) (told : Option (List ℕ)) → AreShort told → AreBel
 few_commands n None short = tt
 few_commands n (Some bytes) short = omega (arith, short, length-take n bytes)
 
-few_block : (unit : LogicalUnit) (present : Bool) (code : ℕ) (block : List ℕ) → AreTold (unit_block_data unit present code block)
+-- a VERIFY gives nothing
+few_verified : (plain : Bool) → AreBelow (if plain then Some [] else None)
+few_verified true = omega arith
+few_verified false = tt
+
+mapped_size : (blocks first : ℕ) → length (all_mapped blocks first) ≡ 24
+mapped_size blocks first = refl
+
+few_block : (unit : LogicalUnit) (present : Bool) (blocks code : ℕ) (block : List ℕ) → AreTold (unit_block_data unit present blocks code block)
 unfolding unit_block_data
-few_block unit present code block =
+few_block unit present blocks code block =
     cond_both (code == 0x03) _ _ AreTold
     (λ e. omega (arith, few_sense present (is_set 1 0x01 block), length-take (number_at 4 4 block) (requested_sense present (is_set 1 0x01 block)))) (λ e.
     cond_both (code == 0x1a) _ _ AreTold
@@ -227,16 +244,23 @@ few_block unit present code block =
     cond_both (code == 0x1b) _ _ AreTold (λ e. few_stop (loads block)) (λ e.
     cond_both (code == 0x34) _ _ AreTold (λ e. omega arith) (λ e.
     cond_both (code == 0x90) _ _ AreTold (λ e. omega arith) (λ e.
+    cond_both (code == 0x2f) _ _ AreTold (λ e. few_verified (bit_and (number_at 1 1 block) 0xe6 == 0)) (λ e.
+    cond_both (code == 0xaf) _ _ AreTold (λ e. few_verified (bit_and (number_at 1 1 block) 0xe6 == 0)) (λ e.
+    cond_both (code == 0x8f) _ _ AreTold (λ e. few_verified (bit_and (number_at 1 1 block) 0xe6 == 0)) (λ e.
     cond_both (asks_commands block) _ _ AreTold
     (λ e. few_commands (number_at 6 9 block) (commands_told unit.thin block) (commands_short unit.thin block)) (λ e.
-    cond_both (unit.thin && is_some (same_blocks block)) _ _ AreTold (λ e. tt) (λ e. tt))))))))
+    cond_both (not unit.thin) _ _ AreTold (λ e. tt) (λ e.
+    cond_both (asks_mapping block) _ _ AreTold
+    (λ e. omega (arith, mapped_size blocks (number_at 2 9 block), length-take (number_at 10 13 block) (all_mapped blocks (number_at 2 9 block)))) (λ e.
+    cond_both (code == 0x42) _ _ AreTold (λ e. tt) (λ e.
+    cond_both (is_some (same_blocks block)) _ _ AreTold (λ e. tt) (λ e. tt))))))))))))))
 
 few_told : (unit : LogicalUnit) (present : Bool) (blocks : ℕ) (cdb : Cdb) → IsShort cdb → AreTold (data_told unit present blocks cdb)
 few_told unit present blocks (Inquiry evpd page n control) short = below_of n (inquiry_data unit present evpd page) short
 few_told unit present blocks (Capacity16 n control) short =
     (let all : length (thin_capacity (blocks - 1)) ≡ 32 = refl in
     cond_both unit.thin _ _ AreTold (λ e. omega (arith, all, length-take n (thin_capacity (blocks - 1)))) (λ e. tt))
-few_told unit present blocks (Unknown block) short = few_block unit present (number_at 0 0 block) block
+few_told unit present blocks (Unknown block) short = few_block unit present blocks (number_at 0 0 block) block
 few_told unit present blocks _ short = tt
 
 refused_fits : (order : Order) (sense : Sense) → order.expected ≤ 4194304 → HasRoom (outcome_or_refused (Some sense) order [])
@@ -264,5 +288,5 @@ told_fits blocks order (Some bytes) few size = answer_fits (first_reason (told_r
 pub outcome_fits : (unit : Option LogicalUnit) (disk : Disk) (order : Order) (bytes : List ℕ) → order.expected ≤ 4194304 → IsShort order.cdb
     → HasRoom (told unit disk order bytes).outcome
 outcome_fits unit disk order bytes few short =
-    by_unit HasRoom unit disk.count order (effect false disk order bytes).outcome (fits_by (plan_of order disk.count) disk order refl few)
+    by_unit HasRoom unit disk.count order (effect false disk order bytes).outcome (fits_by (plan_of order disk.count) disk order bytes refl few)
     (λ u f e. told_fits disk.count order f few (subst AreTold e (few_told u (order.lun == 0) disk.count order.cdb short)))

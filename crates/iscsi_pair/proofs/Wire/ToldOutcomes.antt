@@ -10,8 +10,8 @@ use Rattle.scsi_disk.specs.Plan.{expected_length, first_reason, is_unknown, is_w
 use Rattle.scsi_disk.specs.declared.order.Order.{Order}
 use Rattle.scsi_disk.specs.declared.order.Outcome.{Outcome}
 use Rattle.scsi_unit.specs.LogicalUnit.{LogicalUnit}
-use Rattle.scsi_unit.specs.Telling.{data_told, is_for_any_unit, outcome_or_refused, outcome_with_unit, prefetched, told_outcome, told_refusals}
-use Rattle.scsi_unit.specs.WriteSame.{meant}
+use Rattle.scsi_unit.specs.Telling.{data_told, is_for_any_unit, outcome_or_refused, outcome_with_unit, reaches, told_outcome, told_refusals}
+use Rattle.scsi_unit.specs.Deeds.{meant}
 use Rattle.iscsi_target.specs.Execution.{as_told}
 use Rattle.iscsi_target.proofs.Answers.OrderLemmas.{expected_by}
 use Rattle.iscsi_pair.specs.LocalDisk.{effect_here}
@@ -77,7 +77,7 @@ none_by false false false order bytes reads is =
 none_answered : (blocks : ℕ) (order : Order) (f : Option (List ℕ)) → order.read ≡ false → (told_outcome blocks order f).bytes ≡ []
 none_answered blocks order None reads = refl
 none_answered blocks order (Some bytes) reads =
-    none_by (not (order.lun == 0) && not (is_for_any_unit order.cdb)) order.write (nat_lt blocks (prefetched order.cdb)) order bytes reads refl
+    none_by (not (order.lun == 0) && not (is_for_any_unit order.cdb)) order.write (nat_lt blocks (reaches order.cdb)) order bytes reads refl
 
 pub told_none : (unit : Option LogicalUnit) (disk : Disk) (order : Order) (bytes : List ℕ) → order.read ≡ false
     → (effect false disk order bytes).outcome.bytes ≡ [] → (told unit disk order bytes).outcome.bytes ≡ []

@@ -2,7 +2,7 @@
 
 use super::{
     LOGIN, LOGOUT, PING, READ, Room, WRITE, check_phase, config, pdus_at, pdus_in, play, play_part,
-    read_piece, read_pieces, room_of,
+    read_piece, read_pieces, room_of, telling_room,
 };
 use crate::asserts::same;
 use iscsi_login::Phase;
@@ -84,6 +84,45 @@ fn check_write(rt: &impl Abort, alloc: Global, room: &mut Room, len: usize) {
 fn a_write_between_two_reads(rt: HostRuntime) {
     for len in LENGTHS {
         check_write(&rt, rt.alloc(), &mut room_of(&rt, rt.alloc(), 2), *len);
+    }
+}
+
+// A COMPARE AND WRITE of block 3, whose data are asked for.
+const LOCK: &str =
+    "I> 01a10000 00000000 00000000 00000000 00000001 00000400 00000001 00000003 89000000 00000000 00030000 00010000\n\
+    T> 31800000 00000000 00000000 00000000 00000001 00000000 00000003 00000002 00000008 00000000 00000000 00000400";
+
+// Its data: a block of 00 is expected, and one of 55 is written.
+const LOCKED: &str =
+    "I> 05000000 00000200 00000000 00000000 00000001 00000000 00000000 00000003 00000000 00000000 00000000 00000000 00*512\n\
+    I> 05800000 00000200 00000000 00000000 00000001 00000000 00000000 00000003 00000000 00000001 00000200 00000000 55*512\n\
+    T> 21800000 00000000 00000000 00000000 00000001 00000000 00000003 00000002 00000009 00000000 00000000 00000000";
+
+// The same data but for 44, which come too late: the first byte is another.
+const TOO_LATE: &str =
+    "I> 05000000 00000200 00000000 00000000 00000001 00000000 00000000 00000003 00000000 00000000 00000000 00000000 00*512\n\
+    I> 05800000 00000200 00000000 00000000 00000001 00000000 00000000 00000003 00000000 00000001 00000200 00000000 44*512\n\
+    T> 21820002 00000014 00000000 00000000 00000001 00000000 00000003 00000002 00000009 00000000 00000000 00000400 0012f0000e000000000a000000001d0000000000";
+
+// A READ of the block, which gives 55.
+const LOCKED_READ: &str =
+    "I> 01c10000 00000000 00000000 00000000 00000002 00000200 00000002 00000004 28000000 00030000 01000000 00000000\n\
+    T> 25800000 00000200 00000000 00000000 00000002 ffffffff 00000000 00000003 0000000a 00000000 00000000 00000000 55*512\n\
+    T> 21800000 00000000 00000000 00000000 00000002 00000000 00000004 00000003 0000000a 00000001 00000000 00000000";
+
+/// Of two sessions that compare and write the same block, that one does whose data come first.
+#[test]
+fn one_of_two_sessions_compares_and_writes(rt: HostRuntime) {
+    for len in LENGTHS {
+        let mut room = telling_room(rt.alloc()).expect(&rt, "a room");
+        play_part(&rt, rt.alloc(), &mut room, 0, LOGIN, *len);
+        play_part(&rt, rt.alloc(), &mut room, 1, LOGIN, *len);
+        play(&rt, rt.alloc(), &mut room, 0, LOCK, *len);
+        play(&rt, rt.alloc(), &mut room, 1, LOCK, *len);
+        play(&rt, rt.alloc(), &mut room, 1, LOCKED, *len);
+        play(&rt, rt.alloc(), &mut room, 0, TOO_LATE, *len);
+        play(&rt, rt.alloc(), &mut room, 0, LOCKED_READ, *len);
+        play(&rt, rt.alloc(), &mut room, 1, LOCKED_READ, *len);
     }
 }
 

@@ -8,8 +8,11 @@ use Rattle.std.proofs.lemmas.List.{length-take}
 use Rattle.scsi_cdb.specs.declared.cdb.Cdb.{Cdb}
 use Rattle.scsi_cdb.specs.declared.cdb.Cdb.TheVariants.{Read10, Read16}
 use Rattle.scsi_cdb.specs.declared.sense.Sense.{Sense}
+use Rattle.scsi_cdb.specs.declared.sense.Sense.TheVariants.{WriteProtected}
 use Rattle.scsi_disk.specs.Disk.{Disk}
-use Rattle.scsi_disk.specs.Effect.{Effect, OrderExecuted, StoreFailureLeaves, effect, guarded, wanted_data, outcome_by, disk_by}
+use Rattle.scsi_disk.specs.Deed.{writes}
+use Rattle.scsi_disk.specs.declared.deed.Deed.{Deed}
+use Rattle.scsi_disk.specs.Effect.{Effect, IsFailedTaking, OrderExecuted, StoreFailureLeaves, deed_failure, effect, guarded, wanted_data, outcome_by, outcome_taken, disk_by}
 use Rattle.scsi_disk.specs.Plan.{plan_of, plan_by, first_refusal, is_read, is_write, is_unknown, taken_length, wanted_length, expected_length}
 use Rattle.scsi_disk.proofs.GuardLemmas.{takes_none}
 use Rattle.scsi_disk.specs.declared.order.Order.{Order}
@@ -28,39 +31,54 @@ use Rattle.scsi_disk.specs.declared.order.Plan.TheVariants.{Refuse, Take, Give}
 
 -- ---- a WRITE gives no bytes
 
-none_by : (r : Option Sense) (disk : Disk) (order : Order) → is_write order.cdb ≡ true → (outcome_by (plan_by r order disk.count) disk order).bytes ≡ []
-none_by (Some sense) disk order e = refl
-none_by None disk order e = rw e refl
+taken_none : (reason : Option Sense) (order : Order) (n : ℕ) → (outcome_taken reason order n).bytes ≡ []
+taken_none None order n = refl
+taken_none (Some sense) order n = refl
+
+none_by : (r : Option Sense) (disk : Disk) (order : Order) (bytes : List ℕ) → is_write order.cdb ≡ true
+    → (outcome_by (plan_by r order disk.count) disk order bytes).bytes ≡ []
+none_by (Some sense) disk order bytes e = refl
+none_by None disk order bytes e = rw e (taken_none (deed_failure disk order bytes) order (taken_length order))
 
 not_both : (c : Cdb) → IsTrue (is_read c) → is_write c ≡ true → ⊥
 not_both (Read10 t) r w = false≢true w
 not_both (Read16 t) r w = false≢true w
 not_both _ r w = false≢true r
 
+failed_taking : (tells : Bool) (order : Order) (n : ℕ) (outcome : Outcome) → IsFailedTaking tells order n outcome → outcome.bytes ≡ []
+failed_taking tells order n outcome (inl is) = ap (λ (o : Outcome). o.bytes) is
+failed_taking tells order n outcome (inr (inl read)) = ap (λ (o : Outcome). o.bytes) read.1
+failed_taking tells order n outcome (inr (inr (t, inl good))) = ap (λ (o : Outcome). o.bytes) good
+failed_taking tells order n outcome (inr (inr (t, inr other))) = ap (λ (o : Outcome). o.bytes) other.2
+
 failed_none : (plan : Plan) (disk : Disk) (order : Order) (bytes : List ℕ) (after : Effect) → is_write order.cdb ≡ true
     → StoreFailureLeaves plan disk order bytes after →
     after.outcome.bytes ≡ []
 failed_none (Refuse sense) disk order bytes after w f = absurd f
-failed_none (Take n) disk order bytes after w (inl is, each) = ap (λ (o : Outcome). o.bytes) is
-failed_none (Take n) disk order bytes after w (inr other, each) = ap (λ (o : Outcome). o.bytes) other.1
+failed_none (Take n) disk order bytes after w f = failed_taking disk.tells order n after.outcome f.0
 failed_none (Give n) disk order bytes after w f = absurd (not_both order.cdb f.1 w)
 
 -- what a store that refuses writes gives in its place has no bytes
-guarded_none : (protected : Bool) (plan : Plan) (disk : Disk) (order : Order) → (outcome_by plan disk order).bytes ≡ []
-    → (outcome_by (guarded protected plan) disk order).bytes ≡ []
-guarded_none true (Refuse sense) disk order e = e
-guarded_none true (Give n) disk order e = e
-guarded_none true (Take n) disk order e = refl
-guarded_none false plan disk order e = e
+refused_none : (b : Bool) (n : ℕ) (disk : Disk) (order : Order) (bytes : List ℕ)
+    → (outcome_by (if b then Refuse WriteProtected else Take n) disk order bytes).bytes ≡ []
+refused_none true n disk order bytes = refl
+refused_none false n disk order bytes = taken_none (deed_failure disk order bytes) order n
+
+guarded_none : (protected : Bool) (plan : Plan) (disk : Disk) (order : Order) (bytes : List ℕ) → (outcome_by plan disk order bytes).bytes ≡ []
+    → (outcome_by (guarded protected order.deed plan) disk order bytes).bytes ≡ []
+guarded_none true (Refuse sense) disk order bytes e = e
+guarded_none true (Give n) disk order bytes e = e
+guarded_none true (Take n) disk order bytes e = refused_none (writes order.deed) n disk order bytes
+guarded_none false plan disk order bytes e = e
 
 pub write_gives_none : (protected : Bool) (fb fa : ℕ) (disk : Disk) (order : Order) (bytes : List ℕ) (after : Effect)
     → OrderExecuted protected fb fa disk order bytes after → is_write order.cdb
     ≡ true → after.outcome.bytes ≡ []
 write_gives_none protected fb fa disk order bytes after x e =
     elim (cases_lt fb fa) [
-      | inl lt ↦ failed_none (guarded protected (plan_of order disk.count)) disk order bytes after e (x.fails lt)
+      | inl lt ↦ failed_none (guarded protected order.deed (plan_of order disk.count)) disk order bytes after e (x.fails lt)
       | inr ge ↦ ap (λ (a : Effect). a.outcome.bytes) (x.works (omega (arith, ge, x.rises)))
-          ∙ guarded_none protected (plan_of order disk.count) disk order (none_by (first_refusal order disk.count) disk order e)
+          ∙ guarded_none protected (plan_of order disk.count) disk order bytes (none_by (first_refusal order disk.count) disk order bytes e)
     ]
 
 -- ---- an order that takes no bytes
@@ -80,11 +98,11 @@ pub order_keeps : (protected : Bool) (fb fa : ℕ) (disk : Disk) (order : Order)
     → OrderExecuted protected fb fa disk order bytes after
     → ((n : ℕ) → plan_of order disk.count ≡ Take n → ⊥) → after.disk ≡ disk
 order_keeps protected fb fa disk order bytes after x no_take =
-    let none = takes_none protected (plan_of order disk.count) no_take in
+    let none = takes_none protected order.deed (plan_of order disk.count) no_take in
     elim (cases_lt fb fa) [
-      | inl lt ↦ fails_keeps (guarded protected (plan_of order disk.count)) disk order bytes after none (x.fails lt)
+      | inl lt ↦ fails_keeps (guarded protected order.deed (plan_of order disk.count)) disk order bytes after none (x.fails lt)
       | inr ge ↦ ap (λ (a : Effect). a.disk) (x.works (omega (arith, ge, x.rises)))
-          ∙ disk_kept (guarded protected (plan_of order disk.count)) disk order bytes none
+          ∙ disk_kept (guarded protected order.deed (plan_of order disk.count)) disk order bytes none
     ]
 
 -- so does one whose result is this
@@ -110,10 +128,10 @@ expected_by false n = omega arith
 expected_most : (order : Order) → expected_length order ≤ order.expected
 expected_most order = expected_by (order.read || (order.write && (is_write order.cdb || is_unknown order.cdb))) order.expected
 
-given_by : (w : Bool) (n : ℕ) (disk : Disk) (order : Order) → length (outcome_by
-    (if w then Take n else Give (min (wanted_length order disk.count) (expected_length order))) disk order).bytes ≤ order.expected
-given_by true n disk order = omega arith
-given_by false n disk order = omega (
+given_by : (w : Bool) (n : ℕ) (disk : Disk) (order : Order) (bytes : List ℕ) → length (outcome_by
+    (if w then Take n else Give (min (wanted_length order disk.count) (expected_length order))) disk order bytes).bytes ≤ order.expected
+given_by true n disk order bytes = omega (arith, ap length (taken_none (deed_failure disk order bytes) order n))
+given_by false n disk order bytes = omega (
   arith,
   length-take (min (wanted_length order disk.count) (expected_length order)) (wanted_data disk order),
   expected_most order,
@@ -127,8 +145,7 @@ given _ = 0
 failed_most : (plan : Plan) (disk : Disk) (order : Order) (bytes : List ℕ) (after : Effect) → StoreFailureLeaves plan disk order bytes after
     → length after.outcome.bytes ≤ given plan
 failed_most (Refuse sense) disk order bytes after f = absurd f
-failed_most (Take n) disk order bytes after (inl is, each) = omega (arith, ap (λ (o : Outcome). length o.bytes) is)
-failed_most (Take n) disk order bytes after (inr other, each) = omega (arith, ap (λ (o : Outcome). length o.bytes) other.1)
+failed_most (Take n) disk order bytes after f = omega (arith, ap length (failed_taking disk.tells order n after.outcome f.0))
 failed_most (Give n) disk order bytes after (inl is, reads, same) = omega (arith, ap (λ (o : Outcome). length o.bytes) is)
 failed_most (Give n) disk order bytes after (inr other, reads, same) =
     let given_bytes = other.1 in omega (arith, ap (λ (o : Outcome). length o.bytes) given_bytes.2, given_bytes.1)
@@ -142,22 +159,28 @@ limit : (r : Option Sense) (disk : Disk) (order : Order) → given (plan_by r or
 limit (Some sense) disk order = omega arith
 limit None disk order = limit_by (is_write order.cdb) (taken_length order) disk order
 
-given_most_by : (r : Option Sense) (disk : Disk) (order : Order) → length (outcome_by (plan_by r order disk.count) disk order).bytes ≤ order.expected
-given_most_by (Some sense) disk order = omega arith
-given_most_by None disk order = given_by (is_write order.cdb) (taken_length order) disk order
+given_most_by : (r : Option Sense) (disk : Disk) (order : Order) (bytes : List ℕ)
+    → length (outcome_by (plan_by r order disk.count) disk order bytes).bytes ≤ order.expected
+given_most_by (Some sense) disk order bytes = omega arith
+given_most_by None disk order bytes = given_by (is_write order.cdb) (taken_length order) disk order bytes
 
-guarded_given : (protected : Bool) (plan : Plan) (n : ℕ) → given plan ≤ n → given (guarded protected plan) ≤ n
-guarded_given true (Refuse sense) n e = e
-guarded_given true (Give k) n e = e
-guarded_given true (Take k) n e = e
-guarded_given false plan n e = e
+refused_given : (b : Bool) (k n : ℕ) → given (if b then Refuse WriteProtected else Take k) ≤ n
+refused_given true k n = omega arith
+refused_given false k n = omega arith
 
-guarded_most : (protected : Bool) (plan : Plan) (disk : Disk) (order : Order) (n : ℕ) → length (outcome_by plan disk order).bytes ≤ n
-    → length (outcome_by (guarded protected plan) disk order).bytes ≤ n
-guarded_most true (Refuse sense) disk order n e = e
-guarded_most true (Give k) disk order n e = e
-guarded_most true (Take k) disk order n e = e
-guarded_most false plan disk order n e = e
+guarded_given : (protected : Bool) (deed : Deed) (plan : Plan) (n : ℕ) → given plan ≤ n → given (guarded protected deed plan) ≤ n
+guarded_given true deed (Refuse sense) n e = e
+guarded_given true deed (Give k) n e = e
+guarded_given true deed (Take k) n e = refused_given (writes deed) k n
+guarded_given false deed plan n e = e
+
+guarded_most : (protected : Bool) (plan : Plan) (disk : Disk) (order : Order) (bytes : List ℕ) (n : ℕ)
+    → length (outcome_by plan disk order bytes).bytes ≤ n
+    → length (outcome_by (guarded protected order.deed plan) disk order bytes).bytes ≤ n
+guarded_most true (Refuse sense) disk order bytes n e = e
+guarded_most true (Give k) disk order bytes n e = e
+guarded_most true (Take k) disk order bytes n e = omega (arith, ap length (refused_none (writes order.deed) k disk order bytes))
+guarded_most false plan disk order bytes n e = e
 
 pub given_most : (protected : Bool) (fb fa : ℕ) (disk : Disk) (order : Order) (bytes : List ℕ) (after : Effect)
     → OrderExecuted protected fb fa disk order bytes after →
@@ -166,13 +189,13 @@ given_most protected fb fa disk order bytes after x =
     elim (cases_lt fb fa) [
       | inl lt ↦ omega (
         arith,
-        failed_most (guarded protected (plan_of order disk.count)) disk order bytes after (x.fails lt),
-        guarded_given protected (plan_of order disk.count) order.expected (limit (first_refusal order disk.count) disk order),
+        failed_most (guarded protected order.deed (plan_of order disk.count)) disk order bytes after (x.fails lt),
+        guarded_given protected order.deed (plan_of order disk.count) order.expected (limit (first_refusal order disk.count) disk order),
       )
       | inr ge ↦ omega (
         arith,
         ap (λ (a : Effect). length a.outcome.bytes) (x.works (omega (arith, ge, x.rises))),
-        guarded_most protected (plan_of order disk.count) disk order order.expected (given_most_by (first_refusal order disk.count) disk order),
+        guarded_most protected (plan_of order disk.count) disk order bytes order.expected (given_most_by (first_refusal order disk.count) disk order bytes),
       )
     ]
 
@@ -198,14 +221,14 @@ staged_at order found total bytes due w f t fits asked = record { is_write = w; 
 
 -- an order that the unit answers leaves store and disk as they are
 pub told_leads : (protected : Bool) (unit : LogicalUnit) (order : Order) (disk : Disk) (failures : ℕ) (outcome : Outcome)
-    → ((n : ℕ) → plan_of order disk.count ≡ Take n → ⊥) → Some outcome ≡ unit_outcome unit disk.count order → length outcome.bytes ≤ 544
+    → ((n : ℕ) → plan_of order disk.count ≡ Take n → ⊥) → Some outcome ≡ unit_outcome unit disk.count order → length outcome.bytes ≤ 664
     → OrderLedTo protected (Some unit) order (store_of disk failures) (store_of disk failures) outcome
 told_leads protected unit order disk failures outcome no_take is few = record {
   given = (effect protected disk order []).outcome;
   executes = record {
     rises = omega arith;
-    works = λ same. (let kept = disk_kept (guarded protected (plan_of order disk.count)) disk order []
-        (takes_none protected (plan_of order disk.count) no_take) in
+    works = λ same. (let kept = disk_kept (guarded protected order.deed (plan_of order disk.count)) disk order []
+        (takes_none protected order.deed (plan_of order disk.count) no_take) in
         λ i. record { disk = sym kept i; outcome = (effect protected disk order []).outcome });
     fails = λ lt. absurd (omega (arith, lt));
   };

@@ -2,8 +2,8 @@
 use Rattle.std.proofs.Common.{◌≡◌, ◌⊎◌, inl, inr, ℕ, ◌*◌, ◌-◌, List, [], ◌∷◌, ◌++◌, Bool, true, false, length, refl, sym, ap, ◌∙◌, subst}
 use Rattle.std.specs.Prelude.{nat_lt, if◌then◌else◌}
 use Rattle.scsi_disk.specs.Disk.{Disk, cut, overlaid}
-use Rattle.scsi_disk.specs.Plan.{plan_of, named_transfer}
-use Rattle.scsi_disk.specs.Effect.{write_block_data, effect, disk_by, guarded, IsSupplied}
+use Rattle.scsi_disk.specs.Plan.{plan_of}
+use Rattle.scsi_disk.specs.Effect.{write_block_data, write_first, disk_aimed, done_by, guarded, IsSupplied}
 use Rattle.scsi_disk.proofs.GuardLemmas.{takes_none}
 use Rattle.scsi_disk.specs.Lasting.{CrashAddsDisk, Within}
 use Rattle.scsi_disk.specs.Runs.{Supplied}
@@ -25,8 +25,13 @@ use Rattle.iscsi_target.proofs.Feed.FeedInvariant.{rest_moves}
 use Rattle.iscsi_stream.specs.Pieces.{piece_data}
 use Rattle.iscsi_target.proofs.Writes.JoiningLemmas.{ones}
 use Rattle.iscsi_target.proofs.Writes.OpenWriteLemmas.{data_of_one}
-use Rattle.iscsi_target.proofs.Answers.OrderLemmas.{disk_kept}
 use Rattle.iscsi_target.proofs.Steps.TurnLemmas.{with_tasks}
+
+-- an order that takes no bytes has none to write
+done_kept : (plan : Plan) (disk : Disk) (order : Order) (bytes : List ℕ) → ((n : ℕ) → plan ≡ Take n → ⊥) → done_by plan disk order bytes ≡ disk
+done_kept (Refuse sense) disk order bytes none = refl
+done_kept (Take n) disk order bytes none = absurd (none n refl)
+done_kept (Give n) disk order bytes none = refl
 
 -- nothing was done
 pub none_done : (protected : Bool) (orders : List Supplied) (disk : Disk) (kept : ℕ → List ℕ → Type 0) → CrashLeavesBlocks protected orders disk disk kept kept
@@ -34,7 +39,7 @@ none_done protected orders disk kept = record { count = refl; adds = λ n c h. i
 
 -- one command was executed
 pub one_done : (protected : Bool) (order : Order) (bytes : List ℕ) (before after : Disk) (old new : ℕ → List ℕ → Type 0) → after.count ≡ before.count →
-    IsSupplied before.count order bytes → CrashAddsDisk (effect protected before order bytes).disk old new
+    IsSupplied before.count order bytes → CrashAddsDisk (disk_aimed protected before order bytes) old new
     → CrashLeavesBlocks protected ((order, bytes) ∷ []) before after old new
 one_done protected order bytes before after old new count supplied adds = record {
   count = count;
@@ -43,7 +48,7 @@ one_done protected order bytes before after old new count supplied adds = record
 
 -- one that writes nothing was
 pub none_written : (protected : Bool) (order : Order) (bytes : List ℕ) (before after : Disk) (old new : ℕ → List ℕ → Type 0) → after.count ≡ before.count →
-    ((k : ℕ) → plan_of order before.count ≡ Take k → ⊥) → ((n : ℕ) → old n (before.block n)) → CrashAddsDisk (effect protected before order bytes).disk old new
+    ((k : ℕ) → plan_of order before.count ≡ Take k → ⊥) → ((n : ℕ) → old n (before.block n)) → CrashAddsDisk (disk_aimed protected before order bytes) old new
     →
     CrashLeavesBlocks protected [] before after old new
 none_written protected order bytes before after old new count gives stays adds = record {
@@ -51,8 +56,8 @@ none_written protected order bytes before after old new count gives stays adds =
   adds = λ n c h. elim (adds n c h) [
     | inl was ↦ inl was
     | inr is ↦ inl (subst (λ (x : List ℕ). old n x)
-        (sym (is ∙ ap (λ (d : Disk). d.block n) (disk_kept (guarded protected (plan_of order before.count)) before order bytes
-        (takes_none protected (plan_of order before.count) gives)))) (stays n))
+        (sym (is ∙ ap (λ (d : Disk). d.block n) (done_kept (guarded protected order.deed (plan_of order before.count)) before order bytes
+        (takes_none protected order.deed (plan_of order before.count) gives)))) (stays n))
   ];
 }
 
@@ -76,11 +81,11 @@ over : (size first n : ℕ) (bytes : List ℕ) (a b : ℕ → List ℕ) (c : Lis
 unfolding overlaid
 over size first n bytes a b c e = over_by (nat_lt n first) (nat_lt (size * (n - first)) (length bytes)) (a n) (b n) (cut size bytes (n - first)) c e
 
-moved_by : (plan : Plan) (before now : Disk) (order : Order) (bytes : List ℕ) (n : ℕ) (c : List ℕ) → c ≡ (disk_by plan now order bytes).block n →
-    (c ≡ now.block n) ⊎ (c ≡ (disk_by plan before order bytes).block n)
+moved_by : (plan : Plan) (before now : Disk) (order : Order) (bytes : List ℕ) (n : ℕ) (c : List ℕ) → c ≡ (done_by plan now order bytes).block n →
+    (c ≡ now.block n) ⊎ (c ≡ (done_by plan before order bytes).block n)
 moved_by (Refuse sense) before now order bytes n c e = inl e
 moved_by (Give k) before now order bytes n c e = inl e
-moved_by (Take k) before now order bytes n c e = over 512 (named_transfer order.cdb).first n (write_block_data order bytes) now.block before.block c e
+moved_by (Take k) before now order bytes n c e = over 512 (write_first order bytes) n (write_block_data order bytes) now.block before.block c e
 
 pub moved : (protected : Bool) (orders : List Supplied) (before now : Disk) (n : ℕ) (c : List ℕ) → now.count ≡ before.count
     → IsBehindCommand protected now orders n c →
@@ -88,9 +93,9 @@ pub moved : (protected : Bool) (orders : List Supplied) (before now : Disk) (n :
 moved protected [] before now n c same h = absurd h
 moved protected (o ∷ orders) before now n c same (inr h) = elim (moved protected orders before now n c same h) [ inl is ↦ inl is | inr more ↦ inr (inr more) ]
 moved protected (o ∷ orders) before now n c same (inl h) =
-    let is : c ≡ (disk_by (guarded protected (plan_of o.0 before.count)) now o.0 o.1).block n =
-    h.1 ∙ ap (λ (k : ℕ). (disk_by (guarded protected (plan_of o.0 k)) now o.0 o.1).block n) same in
-    elim (moved_by (guarded protected (plan_of o.0 before.count)) before now o.0 o.1 n c is) [
+    let is : c ≡ (done_by (guarded protected o.0.deed (plan_of o.0 before.count)) now o.0 o.1).block n =
+    h.1 ∙ ap (λ (k : ℕ). (done_by (guarded protected o.0.deed (plan_of o.0 k)) now o.0 o.1).block n) same in
+    elim (moved_by (guarded protected o.0.deed (plan_of o.0 before.count)) before now o.0 o.1 n c is) [
       | inl was ↦ inl was
       | inr new ↦ inr (inl (subst (λ (k : ℕ). IsSupplied k o.0 o.1) same h.0, new))
     ]

@@ -6,7 +6,7 @@ use Rattle.std.specs.List.{AllByRecursion}
 use Rattle.std.proofs.lemmas.Bool.{eqb-true, ltb-false}
 use Rattle.scsi_cdb.specs.declared.sense.Sense.{Sense}
 use Rattle.scsi_disk.specs.Disk.{Disk}
-use Rattle.scsi_disk.specs.Effect.{guarded, Effect, effect, disk_by}
+use Rattle.scsi_disk.specs.Effect.{guarded, Effect, deed_failure, effect, disk_by, disk_taken}
 use Rattle.scsi_disk.specs.Runs.{disk_after}
 use Rattle.scsi_disk.specs.Plan.{plan_of, plan_by, first_refusal, is_write, taken_length}
 use Rattle.scsi_disk.specs.declared.order.Order.{Order}
@@ -170,8 +170,12 @@ immediate_fits unit count h held total bytes e f =
 
 -- ---- tasks
 
+count_taken : (reason : Option Sense) (disk : Disk) (order : Order) (bytes : List ℕ) → (disk_taken reason disk order bytes).count ≡ disk.count
+count_taken None disk order bytes = refl
+count_taken (Some sense) disk order bytes = refl
+
 count_by_plan : (plan : Plan) (disk : Disk) (order : Order) (bytes : List ℕ) → (disk_by plan disk order bytes).count ≡ disk.count
-count_by_plan (Take n) disk order bytes = refl
+count_by_plan (Take n) disk order bytes = count_taken (deed_failure disk order bytes) disk order bytes
 count_by_plan (Refuse sense) disk order bytes = refl
 count_by_plan (Give n) disk order bytes = refl
 
@@ -184,7 +188,7 @@ record Goes (s : Machine) (disk : Disk) (r : TargetStep) : Type 0 where
 executed_count : (protected : Bool) (device : Device) (disk : Disk) (order : Order) (bytes : List ℕ) → device ≡ reliable protected
     → (device 0 disk order bytes).disk.count ≡ disk.count
 executed_count protected device disk order bytes e = ap (λ (d : Device). (d 0 disk order bytes).disk.count) e
-    ∙ count_by_plan (guarded protected (plan_of order disk.count)) disk order bytes
+    ∙ count_by_plan (guarded protected order.deed (plan_of order disk.count)) disk order bytes
 
 execute_goes : (protected : Bool) (device : Device) (s : Machine) (disk : Disk) (tag : ℕ) (order : Order) (pieces : Pieces) → device ≡ reliable protected →
     TilesPlan (plan_of order disk.count) pieces
@@ -350,7 +354,7 @@ count_kept : (protected : Bool) (disk : Disk) (es : List Execution) → (disk_af
 unfolding disk_after
 count_kept protected disk [] = refl
 count_kept protected disk (e ∷ es) = count_kept protected (effect protected disk e.order (piece_data e.pieces)).disk es
-    ∙ count_by_plan (guarded protected (plan_of e.order disk.count)) disk e.order (piece_data e.pieces)
+    ∙ count_by_plan (guarded protected e.order.deed (plan_of e.order disk.count)) disk e.order (piece_data e.pieces)
 
 pub step_count : (protected : Bool) (s : Machine) (disk : Disk) (m : Message) → (target_step protected s disk m).disk.count ≡ disk.count
 step_count protected s disk m = ap (λ (d : Disk). d.count) (step_folds protected s disk m) ∙ count_kept protected disk (target_step protected s disk m).executed

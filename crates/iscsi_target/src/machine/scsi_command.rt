@@ -22,7 +22,7 @@ use super::source::Source;
 use crate::scsi_response::{append_response, response_head};
 use iscsi_login::{Answered, NegKey};
 use iscsi_pdu::ScsiCommand;
-use scsi_disk::{BlockStore, Found, Order, Outcome, Plan, StoreFault, execute_found};
+use scsi_disk::{BlockStore, Deed, Found, Order, Outcome, Plan, StoreFault, execute_found};
 use std::alloc::{AllocError, Global};
 
 impl Machine {
@@ -190,7 +190,7 @@ impl Machine {
             (store_of (S.disk store.old) (S.failures store.old))
             (store_of (S.disk store.new) (S.failures store.new))) }
         ensures disk { S.disk store.new ≡ S.disk store.old }
-        ensures err_failures { OnErr result (S.failures store.new ≡ S.failures store.old) }
+        ensures err_rises { OnErr result (S.failures store.old ≤ S.failures store.new) }
         ensures crash { CrashLeavesBlocks S.protected []
             (S.disk store.old) (S.disk store.new) (S.kept store.old) (S.kept store.new) }
     {
@@ -266,6 +266,6 @@ fn order_said(command: &ScsiCommand) -> Order
         read: command.read,
         write: command.write,
         expected: command.expected_data_transfer_length,
-        same: false,
+        deed: Deed::Write,
     }
 }

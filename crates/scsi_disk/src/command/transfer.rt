@@ -30,10 +30,7 @@ impl Transfer {
     pub(crate) fn ends_past(&self, blocks: u64) -> bool
         ensures { result ≡ nat_lt blocks (self.now.first + self.now.count) }
     {
-        match self.first.checked_add(u64::from(self.count)) {
-            Some(end) => blocks < end,
-            None => true,
-        }
+        self.range().ends_past(blocks)
     }
 
     /// The blocks alone.

@@ -4,16 +4,17 @@
 use super::rows::{reads, unit};
 use crate::asserts::same;
 use scsi_cdb::{Cdb, Residual, Sense, Synchronize10, Transfer16};
-use scsi_disk::{Order, Outcome, Plan, plan};
+use scsi_disk::{Deed, Order, Outcome, Plan, plan};
 use scsi_unit::{LogicalUnit, asks_to_last};
 use std::alloc::Global;
 use std::process::Abort;
 
-/// What an order means: a READ or a WRITE by its options, its first block and how many, a flush of all
-/// blocks, or itself.
+/// What an order means: a READ or a WRITE by its options, its first block and how many, such a WRITE that
+/// does something else with its data, a flush of all blocks, or itself.
 enum Meaning {
     Read(u8, u64, u32),
     Write(u8, u64, u32),
+    Takes(u8, u64, u32, Deed),
     Flush,
     Itself,
 }
@@ -34,7 +35,7 @@ impl Meaning {
             Meaning::Read(options, first, blocks) => {
                 Cdb::Read16(transfer(*options, *first, *blocks))
             }
-            Meaning::Write(options, first, blocks) => {
+            Meaning::Write(options, first, blocks) | Meaning::Takes(options, first, blocks, _) => {
                 Cdb::Write16(transfer(*options, *first, *blocks))
             }
             Meaning::Flush => Cdb::SyncCache10(Synchronize10 {
@@ -45,6 +46,13 @@ impl Meaning {
                 control: 0,
             }),
             Meaning::Itself => order.cdb,
+        }
+    }
+
+    fn deed(&self) -> Deed {
+        match self {
+            Meaning::Takes(_, _, _, deed) => *deed,
+            _ => Deed::Write,
         }
     }
 }
@@ -157,7 +165,66 @@ const MEANT: &[(&str, &[u8], Meaning, bool)] = &[
         Meaning::Itself,
         false,
     ),
-    ("VERIFY(10)", b"\x2f", Meaning::Itself, false),
+    (
+        "COMPARE AND WRITE, FUA",
+        b"\x89\x08\0\0\0\0\0\0\x01\x02\0\0\0\x01\0\0",
+        Meaning::Takes(0x08, 0x102, 1, Deed::Compare),
+        true,
+    ),
+    (
+        "COMPARE AND WRITE, two blocks",
+        b"\x89\0\x01\0\0\0\0\0\0\x05\xff\xff\xff\x02\0\0",
+        Meaning::Takes(0, 0x0100_0000_0000_0005, 2, Deed::Compare),
+        false,
+    ),
+    (
+        "VERIFY(10) without bytes",
+        b"\x2f\0\0\0\x01\x02\0\0\x03\0",
+        Meaning::Itself,
+        false,
+    ),
+    (
+        "VERIFY(10) with bytes",
+        b"\x2f\x02\0\0\x01\x02\0\0\x03\0",
+        Meaning::Takes(0, 0x102, 3, Deed::Verify),
+        false,
+    ),
+    (
+        "VERIFY(10) with bytes, DPO and the bit of FUA, which it has not",
+        b"\x2f\x1a\0\0\x01\x02\0\x01\x03\0",
+        Meaning::Takes(0, 0x102, 0x103, Deed::Verify),
+        false,
+    ),
+    (
+        "VERIFY(12) with bytes, protection",
+        b"\xaf\x22\0\0\x01\x02\0\x01\0\x03",
+        Meaning::Takes(0x20, 0x102, 0x0001_0003, Deed::Verify),
+        false,
+    ),
+    (
+        "VERIFY(16) with bytes",
+        b"\x8f\x02\x01\0\0\0\0\0\0\x05\0\0\0\x03\0\0",
+        Meaning::Takes(0, 0x0100_0000_0000_0005, 3, Deed::Verify),
+        false,
+    ),
+    (
+        "VERIFY(10), BYTCHK 10",
+        b"\x2f\x04\0\0\0\0\0\0\x01\0",
+        Meaning::Itself,
+        false,
+    ),
+    (
+        "VERIFY(10), BYTCHK 11",
+        b"\x2f\x06\0\0\0\0\0\0\x01\0",
+        Meaning::Itself,
+        false,
+    ),
+    (
+        "UNMAP, of a unit that is not thin",
+        b"\x42\0\0\0\0\0\0\0\x18\0",
+        Meaning::Itself,
+        false,
+    ),
 ];
 
 #[test]
@@ -166,6 +233,7 @@ fn other_spellings_are_meant(rt: HostRuntime) {
         let order = reads(first, 512);
         let due = Order {
             cdb: meaning.cdb(&order),
+            deed: meaning.deed(),
             ..order
         };
         let meant = unit(&rt, false).meant(order);
@@ -254,6 +322,76 @@ const PLANS: &[(&str, &[u8], bool, u32, Plan)] = &[
         Plan::Give(0),
     ),
     ("stop", b"\x1b\0\0\0\0\0", false, 0, Plan::Give(0)),
+    (
+        "COMPARE AND WRITE",
+        b"\x89\0\0\0\0\0\0\0\x07\xff\0\0\0\x01\0\0",
+        true,
+        1024,
+        Plan::Take(1024),
+    ),
+    (
+        "COMPARE AND WRITE, no block",
+        b"\x89\0\0\0\0\0\0\0\x08\0\0\0\0\0\0\0",
+        false,
+        0,
+        Plan::Take(0),
+    ),
+    (
+        "COMPARE AND WRITE, two blocks",
+        b"\x89\0\0\0\0\0\0\0\0\0\0\0\0\x02\0\0",
+        true,
+        2048,
+        Plan::Refuse(Sense::InvalidField),
+    ),
+    (
+        "COMPARE AND WRITE, protection",
+        b"\x89\x20\0\0\0\0\0\0\0\0\0\0\0\x01\0\0",
+        true,
+        1024,
+        Plan::Refuse(Sense::InvalidField),
+    ),
+    (
+        "COMPARE AND WRITE, past the end",
+        b"\x89\0\0\0\0\0\0\0\x08\0\0\0\0\x01\0\0",
+        true,
+        1024,
+        Plan::Refuse(Sense::OutOfRange),
+    ),
+    (
+        "COMPARE AND WRITE, the bytes of one block",
+        b"\x89\0\0\0\0\0\0\0\0\0\0\0\0\x01\0\0",
+        true,
+        512,
+        Plan::Refuse(Sense::InvalidField),
+    ),
+    (
+        "VERIFY(10) with bytes",
+        b"\x2f\x02\0\0\x07\xfe\0\0\x02\0",
+        true,
+        1024,
+        Plan::Take(1024),
+    ),
+    (
+        "VERIFY(10) with bytes, past the end",
+        b"\x2f\x02\0\0\x07\xff\0\0\x02\0",
+        true,
+        1024,
+        Plan::Refuse(Sense::OutOfRange),
+    ),
+    (
+        "VERIFY(12) with bytes, protection",
+        b"\xaf\x22\0\0\0\0\0\0\0\x01",
+        true,
+        512,
+        Plan::Refuse(Sense::InvalidField),
+    ),
+    (
+        "VERIFY(16) with bytes, 8,193 blocks",
+        b"\x8f\x02\0\0\0\0\0\0\0\0\0\0\x20\x01\0\0",
+        true,
+        4_194_816,
+        Plan::Refuse(Sense::InvalidField),
+    ),
 ];
 
 #[test]
@@ -285,6 +423,10 @@ const TOLD: &[(&str, &[u8], &[u8])] = &[
     ("PREFETCH(10)", b"\x34\0\0\0\x07\xff\0\0\x01\0", b""),
     ("PREFETCH(10), to the end", b"\x34\0\0\0\x08\0\0\0\0\0", b""),
     ("PREFETCH(16)", b"\x90\0\0\0\0\0\0\0\0\0\0\0\x08\0\0\0", b""),
+    ("VERIFY(10)", b"\x2f\0\0\0\x07\xff\0\0\x01\0", b""),
+    ("VERIFY(10), DPO", b"\x2f\x10\0\0\x08\0\0\0\0\0", b""),
+    ("VERIFY(12)", b"\xaf\0\0\0\0\0\0\0\x08\0\0\0", b""),
+    ("VERIFY(16)", b"\x8f\0\0\0\0\0\0\0\0\0\0\0\x08\0\0\0", b""),
     (
         "READ(10) is there",
         b"\xa3\x0c\x01\x28\0\0\0\0\0\xff\0\0",
@@ -316,7 +458,7 @@ const TOLD: &[(&str, &[u8], &[u8])] = &[
         b"\0\x01\0\0",
     ),
     (
-        "another service action of READ CAPACITY(16)",
+        "GET LBA STATUS is not there",
         b"\xa3\x0c\x02\x9e\0\x12\0\0\0\xff\0\0",
         b"\0\x01\0\0",
     ),
@@ -326,8 +468,18 @@ const TOLD: &[(&str, &[u8], &[u8])] = &[
         b"\0\x01\0\0",
     ),
     (
-        "VERIFY(10) is not there",
-        b"\xa3\x0c\x81\x2f\0\0\0\0\0\xff\0\0",
+        "VERIFY(10) is there",
+        b"\xa3\x0c\x01\x2f\0\0\0\0\0\xff\0\0",
+        b"\0\x03\0\x0a\x2f\xf6\xff\xff\xff\xff\0\xff\xff\0",
+    ),
+    (
+        "COMPARE AND WRITE is there",
+        b"\xa3\x0c\x01\x89\0\0\0\0\0\xff\0\0",
+        b"\0\x03\0\x10\x89\xf8\xff\xff\xff\xff\xff\xff\xff\xff\0\0\0\xff\0\0",
+    ),
+    (
+        "UNMAP is not there",
+        b"\xa3\x0c\x81\x42\0\0\0\0\0\xff\0\0",
         b"\0\x01\0\0",
     ),
     (
@@ -372,6 +524,36 @@ const REFUSED: &[(&str, &[u8], Sense)] = &[
         Sense::OutOfRange,
     ),
     (
+        "VERIFY(10), past the end",
+        b"\x2f\0\0\0\x07\xff\0\0\x02\0",
+        Sense::OutOfRange,
+    ),
+    (
+        "VERIFY(12), past the end",
+        b"\xaf\0\0\0\0\x01\0\0\x08\0\0",
+        Sense::OutOfRange,
+    ),
+    (
+        "VERIFY(16), past 2^64",
+        b"\x8f\0\xff\xff\xff\xff\xff\xff\xff\xff\0\0\0\x01\0\0",
+        Sense::OutOfRange,
+    ),
+    (
+        "VERIFY(10), protection",
+        b"\x2f\x20\0\0\0\0\0\0\x01\0",
+        Sense::InvalidField,
+    ),
+    (
+        "VERIFY(12), BYTCHK 10",
+        b"\xaf\x04\0\0\0\0\0\0\0\x01\0",
+        Sense::InvalidField,
+    ),
+    (
+        "VERIFY(16), BYTCHK 11",
+        b"\x8f\x06\0\0\0\0\0\0\0\0\0\0\0\x01\0\0",
+        Sense::InvalidField,
+    ),
+    (
         "an option over 3",
         b"\xa3\x0c\x04\x28\0\0\0\0\0\xff\0\0",
         Sense::InvalidField,
@@ -400,10 +582,11 @@ fn other_options_are_refused(rt: HostRuntime) {
 
 /// The descriptors of all commands, in the order of their codes.
 const COMMANDS: &[u8] =
-    b"\0\0\0\0\0\0\0\x06\x03\0\0\0\0\0\0\x06\x08\0\0\0\0\0\0\x06\x0a\0\0\0\0\0\0\x06\x12\0\0\0\0\0\0\x06\x1a\0\0\0\0\0\0\x06\x1b\0\0\0\0\0\0\x06\x25\0\0\0\0\0\0\x0a\x28\0\0\0\0\0\0\x0a\x2a\0\0\0\0\0\0\x0a\x2e\0\0\0\0\0\0\x0a\x34\0\0\0\0\0\0\x0a\x35\0\0\0\0\0\0\x0a\x5a\0\0\0\0\0\0\x0a\x88\0\0\0\0\0\0\x10\x8a\0\0\0\0\0\0\x10\x8e\0\0\0\0\0\0\x10\x90\0\0\0\0\0\0\x10\x91\0\0\0\0\0\0\x10\x9e\0\0\x10\0\x01\0\x10\xa0\0\0\0\0\0\0\x0c\xa3\0\0\x0c\0\x01\0\x0c\xa8\0\0\0\0\0\0\x0c\xaa\0\0\0\0\0\0\x0c\xae\0\0\0\0\0\0\x0c";
+    b"\0\0\0\0\0\0\0\x06\x03\0\0\0\0\0\0\x06\x08\0\0\0\0\0\0\x06\x0a\0\0\0\0\0\0\x06\x12\0\0\0\0\0\0\x06\x1a\0\0\0\0\0\0\x06\x1b\0\0\0\0\0\0\x06\x25\0\0\0\0\0\0\x0a\x28\0\0\0\0\0\0\x0a\x2a\0\0\0\0\0\0\x0a\x2e\0\0\0\0\0\0\x0a\x2f\0\0\0\0\0\0\x0a\x34\0\0\0\0\0\0\x0a\x35\0\0\0\0\0\0\x0a\x5a\0\0\0\0\0\0\x0a\x88\0\0\0\0\0\0\x10\x89\0\0\0\0\0\0\x10\x8a\0\0\0\0\0\0\x10\x8e\0\0\0\0\0\0\x10\x8f\0\0\0\0\0\0\x10\x90\0\0\0\0\0\0\x10\x91\0\0\0\0\0\0\x10\x9e\0\0\x10\0\x01\0\x10\xa0\0\0\0\0\0\0\x0c\xa3\0\0\x0c\0\x01\0\x0c\xa8\0\0\0\0\0\0\x0c\xaa\0\0\0\0\0\0\x0c\xae\0\0\0\0\0\0\x0c\xaf\0\0\0\0\0\0\x0c";
 
-/// Those of WRITE SAME(10) and (16).
-const THIN_COMMANDS: &[u8] = b"\x41\0\0\0\0\0\0\x0a\x93\0\0\0\0\0\0\x10";
+/// Those of WRITE SAME(10), UNMAP, WRITE SAME(16) and GET LBA STATUS.
+const THIN_COMMANDS: &[u8] =
+    b"\x41\0\0\0\0\0\0\x0a\x42\0\0\0\0\0\0\x0a\x93\0\0\0\0\0\0\x10\x9e\0\0\x12\0\x01\0\x10";
 
 // The data of REPORT SUPPORTED OPERATION CODES by byte 2 of its block.
 fn list(rt: &impl Abort, alloc: Global, unit: &LogicalUnit, options: u8) -> Outcome {
@@ -415,32 +598,32 @@ fn list(rt: &impl Abort, alloc: Global, unit: &LogicalUnit, options: u8) -> Outc
 fn all_commands_are_listed(rt: HostRuntime) {
     let plain = list(&rt, rt.alloc(), &unit(&rt, false), 0);
     let bytes = plain.bytes.as_slice();
-    // 25 commands of 8 bytes
-    same(&rt, &bytes.starts_with(b"\0\0\0\xc8"), &true, &"length");
+    // 29 commands of 8 bytes
+    same(&rt, &bytes.starts_with(b"\0\0\0\xe8"), &true, &"length");
     same(&rt, &bytes.ends_with(COMMANDS), &true, &"commands");
-    same(&rt, &bytes.len(), &204, &"all");
+    same(&rt, &bytes.len(), &236, &"all");
     let thin = list(&rt, rt.alloc(), &unit(&rt, false).with_thin(), 0);
     let bytes = thin.bytes.as_slice();
     same(
         &rt,
-        &bytes.starts_with(b"\0\0\0\xd8"),
+        &bytes.starts_with(b"\0\0\x01\x08"),
         &true,
         &"length, thin",
     );
     same(&rt, &bytes.ends_with(THIN_COMMANDS), &true, &"thin");
-    same(&rt, &bytes.len(), &220, &"all, thin");
+    same(&rt, &bytes.len(), &268, &"all, thin");
 }
 
 #[test]
 fn timeouts_are_told_on_request(rt: HostRuntime) {
     let thin = list(&rt, rt.alloc(), &unit(&rt, false).with_thin(), 0x80);
     let bytes = thin.bytes.as_slice();
-    // 27 commands of 20 bytes, each with the flag 02
-    let front = b"\0\0\x02\x1c\0\0\0\0\0\x02\0\x06\0\x0a\0\0\0\0\0\0\0\0\0\0\x03\0\0\0\0\x02";
+    // 33 commands of 20 bytes, each with the flag 02
+    let front = b"\0\0\x02\x94\0\0\0\0\0\x02\0\x06\0\x0a\0\0\0\0\0\0\0\0\0\0\x03\0\0\0\0\x02";
     same(&rt, &bytes.starts_with(front), &true, &"front");
-    let back = b"\x93\0\0\0\0\x02\0\x10\0\x0a\0\0\0\0\0\0\0\0\0\0";
+    let back = b"\x9e\0\0\x12\0\x03\0\x10\0\x0a\0\0\0\0\0\0\0\0\0\0";
     same(&rt, &bytes.ends_with(back), &true, &"back");
-    same(&rt, &bytes.len(), &544, &"all");
+    same(&rt, &bytes.len(), &664, &"all");
 }
 
 /// REQUEST SENSE of a unit that is not there, in both formats.
@@ -469,6 +652,7 @@ fn another_unit_has_the_sense_that_it_is_not_there(rt: HostRuntime) {
 const ELSEWHERE: &[&[u8]] = &[
     b"\x1b\0\0\0\x01\0",
     b"\x34\0\0\0\0\0\0\0\x01\0",
+    b"\x2f\0\0\0\0\0\0\0\x01\0",
     b"\xa3\x0c\0\0\0\0\0\0\xff\xff\0\0",
 ];
 

@@ -3,7 +3,7 @@
 
 use crate::asserts::same;
 use scsi_cdb::{Cdb, Residual, Sense};
-use scsi_disk::{Order, Outcome};
+use scsi_disk::{Deed, Order, Outcome};
 use scsi_unit::{LogicalUnit, asks_to_last};
 use std::alloc::Global;
 use std::process::Abort;
@@ -25,7 +25,7 @@ pub fn reads(first: &[u8], expected: u32) -> Order {
         read: true,
         write: false,
         expected,
-        same: false,
+        deed: Deed::Write,
     }
 }
 
@@ -71,7 +71,7 @@ const DATA: &[(&str, &[u8], &[u8], u32)] = &[
     (
         "limits",
         b"\x12\x01\xb0\0\xff\0",
-        b"\0\xb0\0\x3c\0\0\0\0\0\0\x20",
+        b"\0\xb0\0\x3c\0\x01\0\0\0\0\x20",
         64,
     ),
     ("medium", b"\x12\x01\xb1\0\xff\0", b"\0\xb1\0\x3c\0\x01", 64),
@@ -345,8 +345,8 @@ fn flushes_and_fua_ask(rt: HostRuntime) {
     }
 }
 
-/// Commands that the unit leaves to its disk: TEST UNIT READY, READ CAPACITY, READ, WRITE, REPORT LUNS,
-/// VERIFY, one of no code that is known.
+/// Commands that the unit leaves to its disk: TEST UNIT READY, READ CAPACITY, READ, WRITE, REPORT LUNS, those
+/// that only a thin unit has, one of no code that is known.
 const OTHERS: &[&[u8]] = &[
     b"\0",
     b"\x25",
@@ -357,7 +357,9 @@ const OTHERS: &[&[u8]] = &[
     b"\x8a",
     b"\x9e\x10",
     b"\xa0",
-    b"\x2f",
+    b"\x41\0\0\0\0\0\0\0\x01",
+    b"\x42\0\0\0\0\0\0\0\x18",
+    b"\x9e\x12",
     b"\xc1",
 ];
 

@@ -1,10 +1,10 @@
-//! A thin unit: what it tells of itself, and the WRITE SAME that it takes. The bytes are laid out by hand
+//! A thin unit: what it tells of itself, and the WRITE SAME and UNMAP that it takes. The bytes are laid out by hand
 //! from the tables of SBC-3.
 
 use super::rows::{reads, unit};
 use crate::asserts::same;
 use scsi_cdb::{Cdb, Residual, Sense, Transfer16};
-use scsi_disk::{Order, Plan, plan};
+use scsi_disk::{Deed, Order, Plan, plan};
 use scsi_unit::LogicalUnit;
 use std::process::Abort;
 
@@ -22,12 +22,12 @@ const DATA: &[(&str, &[u8], &[u8])] = &[
     (
         "limits",
         b"\x12\x01\xb0\0\xff\0",
-        b"\0\xb0\0\x3c\x01\0\0\0\0\0\x20\0\0\0\0\0\0\0\0\0\0\0\0\0\0\0\0\0\0\0\0\x01\0\0\0\0\0\0\0\0\0\0\x20\0\0\0\0\0\0\0\0\0\0\0\0\0\0\0\0\0\0\0\0\0",
+        b"\0\xb0\0\x3c\x01\x01\0\0\0\0\x20\0\0\0\0\0\0\0\0\0\0\0\x20\0\0\0\0\x01\0\0\0\x01\0\0\0\0\0\0\0\0\0\0\x20\0\0\0\0\0\0\0\0\0\0\0\0\0\0\0\0\0\0\0\0\0",
     ),
     (
         "provisioning",
         b"\x12\x01\xb2\0\xff\0",
-        b"\0\xb2\0\x04\0\x64\x02\0",
+        b"\0\xb2\0\x04\0\xe4\x02\0",
     ),
     (
         "READ CAPACITY(16)",
@@ -38,6 +38,26 @@ const DATA: &[(&str, &[u8], &[u8])] = &[
         "READ CAPACITY(16), cut",
         b"\x9e\x10\0\0\0\0\0\0\0\0\0\0\0\x0f",
         b"\0\0\0\0\0\0\x07\xff\0\0\x02\0\0\0\xc0",
+    ),
+    (
+        "GET LBA STATUS, from the first block on",
+        b"\x9e\x12\0\0\0\0\0\0\0\0\0\0\0\xff",
+        b"\0\0\0\x14\0\0\0\0\0\0\0\0\0\0\0\0\0\0\x08\0\0\0\0\0",
+    ),
+    (
+        "GET LBA STATUS, of the last block",
+        b"\x9e\x12\0\0\0\0\0\0\x07\xff\0\0\0\xff",
+        b"\0\0\0\x14\0\0\0\0\0\0\0\0\0\0\x07\xff\0\0\0\x01\0\0\0\0",
+    ),
+    (
+        "GET LBA STATUS, cut",
+        b"\x9e\x12\0\0\0\0\0\0\x07\xff\0\0\0\x05",
+        b"\0\0\0\x14\0",
+    ),
+    (
+        "UNMAP is there",
+        b"\xa3\x0c\x01\x42\0\0\0\0\0\xff\0\0",
+        b"\0\x03\0\x0a\x42\x01\0\0\0\0\0\xff\xff\0",
     ),
 ];
 
@@ -98,7 +118,7 @@ fn write_same_is_a_write(rt: HostRuntime) {
                 group_number: 0,
                 control: 0,
             }),
-            same: true,
+            deed: Deed::Same,
             ..order
         };
         same(&rt, &thin(&rt).meant(order), &due, name);
@@ -107,7 +127,7 @@ fn write_same_is_a_write(rt: HostRuntime) {
     }
 }
 
-/// A WRITE SAME that asks for more, or names no block.
+/// A WRITE SAME that asks for more, or names no block, and an UNMAP that does.
 const REFUSED: &[(&str, &[u8])] = &[
     ("no blocks (10)", b"\x41\0\0\0\0\x01\0\0\0\0"),
     ("protection (10)", b"\x41\x20\0\0\0\x01\0\0\x01\0"),
@@ -127,10 +147,11 @@ const REFUSED: &[(&str, &[u8])] = &[
         b"\x93\x04\0\0\0\0\0\0\0\x05\0\0\0\x01\0\0",
     ),
     ("no data (16)", b"\x93\x01\0\0\0\0\0\0\0\x05\0\0\0\x01\0\0"),
+    ("an anchor (UNMAP)", b"\x42\x01\0\0\0\0\0\0\x18\0"),
 ];
 
 #[test]
-fn another_write_same_is_refused(rt: HostRuntime) {
+fn what_asks_for_more_is_refused(rt: HostRuntime) {
     for (name, first) in REFUSED {
         let order = sends(first);
         same(&rt, &thin(&rt).meant(order), &order, name);
@@ -195,5 +216,70 @@ fn write_same_takes_one_block(rt: HostRuntime) {
         };
         let order = thin(&rt).meant(order);
         same(&rt, &plan(&order, 2048), due, name);
+    }
+}
+
+/// The lengths of lists of UNMAP.
+const LENGTHS: &[(&str, &[u8], u16)] = &[
+    ("one range", b"\x42\0\0\0\0\0\0\0\x18\0", 24),
+    ("no list", b"\x42\0\0\0\0\0\0\0\0\0", 0),
+    (
+        "the longest, and bits that have no meaning",
+        b"\x42\xfe\x01\x02\x03\x04\x05\xff\xff\xff",
+        65_535,
+    ),
+];
+
+#[test]
+fn unmap_takes_its_list(rt: HostRuntime) {
+    for (name, first, length) in LENGTHS {
+        let order = Order {
+            expected: u32::from(*length),
+            ..sends(first)
+        };
+        let due = Order {
+            cdb: Cdb::Write16(Transfer16 {
+                options: 0,
+                logical_block_address: 0,
+                blocks: 0,
+                group_number: 0,
+                control: 0,
+            }),
+            deed: Deed::Unmap(*length),
+            ..order
+        };
+        let meant = thin(&rt).meant(order);
+        same(&rt, &meant, &due, name);
+        let taken = Plan::Take(u32::from(*length));
+        same(&rt, &plan(&meant, 2048), &taken, name);
+        let longer = Order {
+            expected: u32::from(*length) + 1,
+            ..meant
+        };
+        let refused = Plan::Refuse(Sense::InvalidField);
+        same(&rt, &plan(&longer, 2048), &refused, name);
+        // to another unit it means nothing
+        same(&rt, &unit(&rt, false).meant(order), &order, name);
+        let unknown = Plan::Refuse(Sense::InvalidCode);
+        same(&rt, &plan(&order, 2048), &unknown, name);
+    }
+}
+
+/// GET LBA STATUS past the end.
+const PAST_THE_END: &[&[u8]] = &[
+    b"\x9e\x12\0\0\0\0\0\0\x08\0\0\0\0\xff",
+    b"\x9e\x12\xff\xff\xff\xff\xff\xff\xff\xff\0\0\0\xff",
+];
+
+#[test]
+fn no_block_past_the_end_has_a_status(rt: HostRuntime) {
+    for first in PAST_THE_END {
+        let told = thin(&rt).outcome(rt.alloc(), &reads(first, 255), 2048);
+        let outcome = told.expect(&rt, "memory").expect(&rt, "an answer");
+        same(&rt, &outcome.sense, &Some(Sense::OutOfRange), first);
+        same(&rt, &outcome.residual, &Residual::Under(255), first);
+        // a unit that is not thin does not know it
+        let told = unit(&rt, false).outcome(rt.alloc(), &reads(first, 255), 2048);
+        same(&rt, &told.expect(&rt, "memory").is_none(), &true, first);
     }
 }

@@ -30,11 +30,10 @@ returns-in_err-outcome-clause-err g c =
     (disk c.execute.new.store) = (
       c.loop-order.order-index,
       c.loop-order.told.items,
+      failures c.loop-order.store,
       omega arith,
-      rw (
-        c.in_err-outcome.ensures.err,
-        c.in_err-outcome.ensures.err_failures,
-      ) c.loop-order.invariant.ran,
+      c.in_err-outcome.ensures.err_rises,
+      rw c.in_err-outcome.ensures.err c.loop-order.invariant.ran,
     ) in
     on_err _ ran
 
@@ -50,6 +49,8 @@ returns-in_err-push-clause-err g c =
     (disk c.execute.new.store) = (
       i + 1,
       c.loop-order.told.items ++ c.in_ok-outcome.outcome ∷ [],
+      failures c.execute.new.store,
+      omega arith,
       omega arith,
       ran_next g.S.BlockStore.protected orders i o (omega arith) c.loop-order-item.is _ _ _ _ _ _ _ c.loop-order.invariant.ran done,
     ) in
@@ -76,8 +77,9 @@ returns-clause-ok g c = rw (take_all c.loop-order.order-index c.args.orders.now 
 
 pub returns-in_err-outcome-clause-lasts : goal.returns-in_err-outcome-clause-lasts
 returns-in_err-outcome-clause-lasts g c = λ same settled.
-    let stayed = c.in_err-outcome.ensures.err_failures in
-    c.execute.ensures.lasts stayed (c.loop-order.invariant.lasts (omega (arith, stayed, same)) settled)
+    let before = ran_rises g.S.BlockStore.protected _ _ _ _ _ _ c.loop-order.invariant.ran in
+    let after = c.in_err-outcome.ensures.err_rises in
+    c.execute.ensures.lasts (omega (arith, before, after, same)) (c.loop-order.invariant.lasts (omega (arith, before, after, same)) settled)
 
 pub returns-in_err-push-clause-lasts : goal.returns-in_err-push-clause-lasts
 returns-in_err-push-clause-lasts g c = λ same settled.

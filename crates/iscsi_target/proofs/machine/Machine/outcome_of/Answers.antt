@@ -21,7 +21,7 @@ returns-in-Some-2-clause-ok g c =
     (told_leads g.S.BlockStore.protected c.in-Some.unit.now c.args.order disk failures c.in-Some-2.told c.requires.gives
     (sym c.in-Some-2.is ∙ c.in_ok-told.ensures.told
     ∙ ap (λ (n : ℕ). unit_outcome c.in-Some.unit.now n c.args.order) c.requires.blocks)
-    (subst (λ (o : Option Outcome). IfSome o (λ told. length told.bytes ≤ 544)) c.in-Some-2.is c.in_ok-told.ensures.few))
+    (subst (λ (o : Option Outcome). IfSome o (λ told. length told.bytes ≤ 664)) c.in-Some-2.is c.in_ok-told.ensures.few))
 
 pub returns-clause-ok : goal.returns-clause-ok
 returns-clause-ok g c =
