@@ -179,7 +179,7 @@ def refused(program, word, *words):
 
 def converted(program, server, image, room):
     """Copies a file system through `serve` onto an export, compares, and has it looked at behind the server's back."""
-    os.mkdir(f"{room}/files")
+    os.makedirs(f"{room}/files", exist_ok=True)
     noise(f"{room}/files/held", 3 * MIB)
     source, raw = f"{room}/source", ("-f", "raw")
     seen = [ran("mkfs.ext4", "-q", "-d", f"{room}/files", source, f"{BLOCKS // 2}k")]
@@ -363,17 +363,52 @@ def trickles(program, room):
     return (seen == [True, FAILED, True] and lines == [f"{service.word}: connection lost: the server does not answer"]) or (seen, lines)
 
 
+def sized(minimum, maximum, *words):
+    """nbdkit with an export that refuses a request of fewer or more bytes; `words` are its plugin and what that wants."""
+    sizes = (f"blocksize-minimum={minimum}", f"blocksize-preferred={max(minimum, min(maximum, 4096))}", f"blocksize-maximum={maximum}")
+    return nbdkit("--filter=blocksize-policy", *words, *sizes, "blocksize-error-policy=error")
+
+
+def in_parts(program, room):
+    """A server that refuses requests of more than 4 KiB, or of more than 64, takes a file system, and zeros by their length."""
+    want("mkfs.ext4", "e2fsck")
+    seen = []
+    for size in (4096, 65536):
+        server = sized(1, size, "file", noise(f"{room}/image", BLOCK * BLOCKS))
+        seen.append(converted(program, server, f"{room}/image", room))
+    with sized(1, 4096, "memory", "16M") as server, Service(program, server.word, "--thin") as service:
+        seen += qemu(service.url, "write -P 3 0 8M", "write -z 512 4M", "read -P 3 0 512", "read -P 0 512 4M", f"read -P 3 {4 * MIB + 512} 3M")
+        seen.append(service.lines())
+    return seen == [True] * 7 + [[]] or seen
+
+
+def wide_blocks(program, room):
+    """An export with blocks of 4 KiB is served with --read-only, each block of 512 bytes of it, in parts too."""
+    image, seen = f"{room}/image", []
+    with open(image, "wb") as file:
+        file.write(b"".join(bytes([k % 251]) * BLOCK for k in range(4096)))
+    reads = [f"read -P {k % 251} {k * BLOCK} {BLOCK}" for k in (0, 1, 7, 8, 250, 4095)]
+    for maximum in (4096, 65536, 32 * MIB):
+        with sized(4096, maximum, "-r", "file", image) as server, Service(program, server.word, "--read-only") as service:
+            told = ran("qemu-io", "-r", "-f", "raw", *[word for read in reads for word in ("-c", read)], service.url)[1]
+            seen.append(len(re.findall(r"(?m)^read \d+/\d+ bytes", told)) == len(reads) and "failed" not in told)
+            seen.append(ran("qemu-img", "compare", "-f", "raw", "-F", "raw", image, service.url)[0])
+            seen.append(service.lines())
+    return seen == [True, 0, []] * 3 or seen
+
+
 def sizes(program, room):
     """An export of no block, of no whole blocks, of another number, or of requests too long or too short, is refused."""
     rows = [
-        (("memory", "0"), (), "is empty"),
-        (("memory", "1000"), (), "is not whole blocks"),
-        (("memory", "1M"), ("--blocks", "7"), "has 2048 blocks, not 7"),
-        (("memory", "1M"), ("--size", "2M"), "has 2048 blocks, not 4096"),
-        (("--filter=blocksize-policy", "memory", "1M", "blocksize-minimum=4096"), (), "has blocks of more than 512 bytes, so that a write would have to read first"),
-        (("--filter=blocksize-policy", "memory", "64M", "blocksize-maximum=1M"), (), "takes no requests of 33554432 bytes"),
+        ((1, MIB, "0"), (), "is empty"),
+        ((1, MIB, "1000"), (), "is not whole blocks"),
+        ((1, MIB, "1M"), ("--blocks", "7"), "has 2048 blocks, not 7"),
+        ((1, MIB, "1M"), ("--size", "2M"), "has 2048 blocks, not 4096"),
+        ((4096, MIB, "1M"), (), "has blocks of more than 512 bytes, so that a write would have to read first"),
+        ((8192, MIB, "1M"), ("--read-only",), "has blocks of more than 4096 bytes"),
+        ((1, 2048, "1M"), (), "takes no requests of 4096 bytes"),
     ]
-    seen = [is_refused(program, nbdkit(*words), due, "disk", *more) for words, more, due in rows]
+    seen = [is_refused(program, sized(least, most, "memory", size), due, "disk", *more) for (least, most, size), more, due in rows]
     return all(one is True for one in seen) or seen
 
 
@@ -740,6 +775,8 @@ CASES = [
     gives_back,
     interrupted,
     says_goodbye,
+    in_parts,
+    wide_blocks,
     sizes,
     long_name,
     first_flush_fails,

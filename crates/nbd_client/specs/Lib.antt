@@ -4,5 +4,6 @@ pub mod Heard
 pub mod Judging
 pub mod Served
 pub mod Serving
+pub mod Sizes
 pub mod SocketLine
 pub mod inner

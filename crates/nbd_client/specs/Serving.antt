@@ -7,22 +7,25 @@ use Rattle.nbd_wire.specs.declared.request.Command.{Command}
 use Rattle.nbd_wire.specs.declared.request.Command.TheVariants.{Read, Write, Flush, WriteZeroes}
 use Rattle.nbd_wire.specs.declared.request.Request.{Request}
 use Rattle.nbd_wire.specs.Transmission.{request_bytes, reply_bytes}
+use Rattle.nbd_client.specs.declared.sizes.RequestSizes.{RequestSizes}
+use Rattle.nbd_client.specs.Sizes.{FitsSizes}
 
 -- A request is about whole blocks of an export, from block lba on, with the bytes that it writes. Those of
--- WRITE_ZEROES are 00, and none of them is sent.
-pub record IsPlaced (r : Request) (lba count : ℕ) (bytes : List ℕ) : Type 0 where
+-- WRITE_ZEROES are 00, and none of them is sent. It is one that the server takes.
+pub record IsPlaced (r : Request) (lba count : ℕ) (sizes : RequestSizes) (bytes : List ℕ) : Type 0 where
   pub place : r.offset ≡ 512 * lba
   pub whole : r.length % 512 ≡ 0
   pub inside : 512 * lba + r.length ≤ 512 * count
+  pub fits : FitsSizes r.offset r.length sizes
   pub content : r.command ≡ Write → length bytes ≡ r.length
   pub zeros : r.command ≡ WriteZeroes → (length bytes ≡ r.length) × AreZeros bytes
 
 -- These are the bytes of such a request, and those that it writes.
-pub record AreRequestBytes (r : Request) (lba count : ℕ) (head bytes : List ℕ) : Type 0 where
+pub record AreRequestBytes (r : Request) (lba count : ℕ) (sizes : RequestSizes) (head bytes : List ℕ) : Type 0 where
   pub spelled : head ≡ request_bytes r
   pub cookie : r.cookie < 2 ^ 64
   pub short : r.length < 2 ^ 32
-  pub placed : IsPlaced r lba count bytes
+  pub placed : IsPlaced r lba count sizes bytes
 
 -- No block changes.
 pub record KeepsBlocks (old : Disk) (kept : ℕ → List ℕ → Type 0) (new : Disk)

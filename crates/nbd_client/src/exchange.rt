@@ -15,13 +15,14 @@ pub(crate) fn exchange<L: Line>(
     lba: u64,
     bytes: &[u8],
 ) -> Result<[u8; 16], Lost>
-    requires asked { AreRequestBytes request.now lba (L.Line.disk line.old).count
+    requires asked { AreRequestBytes request.now lba (L.Line.disk line.old).count (L.Line.sizes line.old)
         (request_bytes request.now) bytes.now }
     ensures may { MayDo request.now.command lba bytes.now (L.Line.disk line.old)
         (L.Line.kept line.old) (L.Line.disk line.new) (L.Line.kept line.new) }
     ensures answers { IfOk result (λ head. L.Line.untold line.new ≡ L.Line.untold line.old
         → ServerReply request.now lba bytes.now (L.Line.disk line.old) (L.Line.disk line.new)
         (L.Line.kept line.new) (head ++ L.Line.pending line.new)) }
+    ensures sizes { L.Line.sizes line.new ≡ L.Line.sizes line.old }
     ensures long { IfOk result (λ head. length head ≡ 16) }
     ensures untold { UntoldRises (L.Line.disk line.old).tells (L.Line.untold line.old)
         (L.Line.untold line.new) }

@@ -3,7 +3,10 @@
 ghost use Rattle.std.specs.Prelude.{◌≡◌, ◌<◌, ◌≤◌, IfOk};
 ghost use Rattle.scsi_disk.specs.Disk.{most_blocks};
 ghost use Rattle.nbd_client.specs.Judging.{export_judged, has_flag};
+ghost use Rattle.nbd_client.specs.Sizes.{AreSizes};
 
+use crate::medium::LONGEST_REQUEST;
+use crate::sizes::RequestSizes;
 use nbd_wire::{BlockSizes, Export};
 use scsi_disk::MOST_BLOCKS;
 use thiserror::Error;
@@ -20,18 +23,21 @@ pub enum ExportFault {
     /// It has no byte.
     #[error("is empty")]
     Empty,
-    /// It has no whole number of blocks of 512 bytes.
+    /// It has no whole number of blocks of 512 bytes, or of 4,096 where the least request has more than 512.
     #[error("is not whole blocks")]
     NotWhole,
     /// It has more than 2^40 blocks.
     #[error("is too large")]
     TooLarge,
-    /// The least request has more than 512 bytes. To write a block, one would have to read what is around it
-    /// first.
+    /// The least request has more than 512 bytes, and it is to be written. To write a block, one would have to
+    /// read what is around it first.
     #[error("has blocks of more than 512 bytes, so that a write would have to read first")]
     NoBlock,
-    /// The greatest request has fewer than 33,554,432 bytes, which a command may have.
-    #[error("takes no requests of 33554432 bytes")]
+    /// The least request has more than 4,096 bytes.
+    #[error("has blocks of more than 4096 bytes")]
+    WideBlock,
+    /// The greatest request has fewer than 4,096 bytes.
+    #[error("takes no requests of 4096 bytes")]
     Small,
 }
 
@@ -40,6 +46,8 @@ pub enum ExportFault {
 pub struct Opened {
     /// How many blocks it has, 1 to 2^40.
     pub blocks: u64,
+    /// What requests it takes.
+    pub sizes: RequestSizes,
     /// It has FLUSH.
     pub flushes: bool,
     /// It has WRITE_ZEROES.
@@ -65,6 +73,7 @@ pub fn judge(written: bool, export: Export, sizes: BlockSizes) -> Result<Opened,
     ensures exact { result ≡ export_judged written export sizes }
     ensures some { IfOk result (λ opened. 0 < opened.blocks) }
     ensures few { IfOk result (λ opened. opened.blocks ≤ most_blocks) }
+    ensures sizes { IfOk result (λ opened. AreSizes opened.sizes opened.blocks) }
 {
     if written && has_flag(READ_ONLY, export) {
         return Err(ExportFault::ReadOnly);
@@ -83,14 +92,26 @@ pub fn judge(written: bool, export: Export, sizes: BlockSizes) -> Result<Opened,
     if blocks > MOST_BLOCKS {
         return Err(ExportFault::TooLarge);
     }
-    if sizes.minimum > 512 {
+    let wide = sizes.minimum > 512;
+    if written && wide {
         return Err(ExportFault::NoBlock);
     }
-    if sizes.maximum < 33_554_432 {
+    if sizes.minimum > 4096 {
+        return Err(ExportFault::WideBlock);
+    }
+    if wide && export.size % 4096 != 0 {
+        return Err(ExportFault::NotWhole);
+    }
+    if sizes.maximum < 4096 {
         return Err(ExportFault::Small);
     }
+    let most = sizes.maximum.min(LONGEST_REQUEST);
     Ok(Opened {
         blocks,
+        sizes: RequestSizes {
+            longest: most - most % 4096,
+            wide,
+        },
         flushes,
         write_zeroes: has_flag(SEND_WRITE_ZEROES, export),
     })

@@ -3,6 +3,7 @@
 ghost use Rattle.std.specs.Prelude.{◌≡◌, ◌<◌, ◌≤◌, length, Ok, IfErr, IfOk, OnOk};
 ghost use Rattle.scsi_disk.specs.Disk.{most_blocks};
 ghost use Rattle.std.specs.Io.KnownBytes.{Appends};
+ghost use Rattle.nbd_client.specs.Sizes.{AreSizes};
 ghost use Rattle.nbd_client.specs.Handshaking.{asked_first};
 ghost use Rattle.nbd_client.specs.Heard.{IsUnjudged, HandshakeJudges, HandshakeRefuses, export_after, sizes_after};
 ghost use Rattle.nbd_client.specs.inner.Heard.{GoAnswersSay, GoAnswerSays};
@@ -106,6 +107,7 @@ pub fn negotiate<R: Read, W: Write>(
         (Appends (W.contents writer.old) (W.contents writer.new) (asked_first name.now)) }
     ensures some { IfOk result (λ opened. 0 < opened.blocks) }
     ensures few { IfOk result (λ opened. opened.blocks ≤ most_blocks) }
+    ensures sizes { IfOk result (λ opened. AreSizes opened.sizes opened.blocks) }
     // The export is the one that the server's answers say, with the sizes that they say.
     ensures opened { IfOk result (λ opened.
         HandshakeJudges written (R.remaining reader.old) (R.remaining reader.new) (Ok opened)) }
@@ -138,7 +140,7 @@ fn answers<R: Read>(alloc: Global, reader: &mut R) -> Result<(Export, BlockSizes
     let mut sizes = BlockSizes {
         minimum: 1,
         preferred: 4096,
-        maximum: LONGEST_REQUEST as u32,
+        maximum: LONGEST_REQUEST,
     };
     for _ in 0..MOST_ANSWERS {
         match answer(alloc, reader)? {

@@ -8,6 +8,7 @@ mod handshake;
 mod line;
 mod medium;
 mod served;
+mod sizes;
 mod socket_line;
 mod timed;
 
@@ -17,5 +18,6 @@ pub use handshake::{HandshakeFault, negotiate};
 pub use line::Line;
 pub use medium::NbdMedium;
 pub use served::Served;
+pub use sizes::RequestSizes;
 pub use socket_line::SocketLine;
 pub use timed::Place;

@@ -5,8 +5,11 @@ ghost use Rattle.scsi_disk.specs.Disk.{Disk, IsDisk, most_blocks};
 ghost use Rattle.scsi_disk.specs.Lasting.{Within};
 ghost use Rattle.nbd_wire.specs.declared.request.Request.{Request as AnyRequest};
 ghost use Rattle.nbd_client.specs.Serving.{ServerReply, AreRequestBytes, MayDo, UntoldRises};
+ghost use Rattle.nbd_client.specs.Sizes.{AreSizes};
+ghost use Rattle.nbd_client.specs.declared.sizes.RequestSizes.{RequestSizes as AnySizes};
 
 use crate::fault::Lost;
+use crate::sizes::RequestSizes;
 
 /// A connection behind its handshake, to an export of whole blocks of 512 bytes.
 ///
@@ -25,21 +28,29 @@ pub trait Line {
     /// How often the server, or what lies between, did something else than it said.
     ghost untold: { Self → ℕ };
 
+    /// What requests the server takes.
+    ghost sizes: { Self → AnySizes };
+
     /// How many blocks the export has.
     fn blocks(&self) -> u64
         ensures { result ≡ (disk self.now).count };
 
+    /// What requests the server takes: always the same.
+    fn sizes(&self) -> RequestSizes
+        ensures { result ≡ sizes self.now };
+
     /// Sends the 28 bytes of a request, and those of a write behind them. The bytes that WRITE_ZEROES writes
-    /// are given, too, and none of them is sent.
+    /// are given, too, and none of them is sent. Nothing is known of a request that the server doesn't take.
     fn send(&mut self, head: &[u8], bytes: &[u8]) -> Result<(), Lost>
         ensures may { (r : AnyRequest) (lba : ℕ)
-            → AreRequestBytes r lba (disk self.old).count head.now bytes.now
+            → AreRequestBytes r lba (disk self.old).count (sizes self.old) head.now bytes.now
             → MayDo r.command lba bytes.now (disk self.old) (kept self.old)
             (disk self.new) (kept self.new) }
         ensures answers { OnOk result (untold self.new ≡ untold self.old → (r : AnyRequest) (lba : ℕ)
-            → AreRequestBytes r lba (disk self.old).count head.now bytes.now
+            → AreRequestBytes r lba (disk self.old).count (sizes self.old) head.now bytes.now
             → ServerReply r lba bytes.now (disk self.old) (disk self.new) (kept self.new)
             (pending self.new)) }
+        ensures sizes { sizes self.new ≡ sizes self.old }
         ensures untold { UntoldRises (disk self.old).tells (untold self.old) (untold self.new) };
 
     /// Reads as many bytes as `out` has room for.
@@ -50,6 +61,7 @@ pub trait Line {
             → pending self.new ≡ drop (length out.old) (pending self.old)) }
         ensures disk { disk self.new ≡ disk self.old }
         ensures kept { Within (kept self.old) (kept self.new) }
+        ensures sizes { sizes self.new ≡ sizes self.old }
         ensures untold { UntoldRises (disk self.old).tells (untold self.old) (untold self.new) };
 
     /// There is a block, and each has 512 bytes.
@@ -57,6 +69,9 @@ pub trait Line {
 
     /// There are at most 2^40.
     ghost few: { (s : Self) → (disk s).count ≤ most_blocks };
+
+    /// The longest request is one that has blocks, and the export has no part of one.
+    ghost fit: { (s : Self) → AreSizes (sizes s) (disk s).count };
 
     /// A server that ends leaves what it was given, so that is one of the outcomes.
     ghost stays: { (s : Self) (n : ℕ) → kept s n ((disk s).block n) };

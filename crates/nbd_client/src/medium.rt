@@ -1,24 +1,30 @@
 //! The blocks of an NBD server as a medium.
 
-ghost use Rattle.std.specs.Prelude.{◌≡◌, ◌↔◌, true, IsTrue, ◌+◌, ◌*◌, ◌%◌, ◌≤◌, length, OnOk, IfSome, IsSome, Some, Err};
+ghost use Rattle.std.specs.Prelude.{◌≡◌, ◌↔◌, true, false, IsTrue, ◌+◌, ◌*◌, ◌/◌, ◌%◌, ◌<◌, ◌≤◌, length, take, drop, OnOk, IfSome, IsSome, Some, Err};
+ghost use Rattle.scsi_disk.specs.Disk.{blocks_from, disk_written};
+ghost use Rattle.scsi_disk.specs.Lasting.{Within};
 ghost use Rattle.scsi_disk.specs.Sparse.{AreZeros};
 ghost use Rattle.nbd_wire.specs.declared.request.Command.TheVariants.{Write as IsWrite, WriteZeroes as IsWriteZeroes};
-ghost use Rattle.nbd_client.specs.Serving.{IsCommandDone, MayDo, UntoldRises};
+ghost use Rattle.nbd_client.specs.Serving.{IsCommandDone, MayDo, MayWrite, UntoldRises};
+ghost use Rattle.nbd_client.specs.Sizes.{FitsSizes};
 
 use crate::exchange::exchange;
 use crate::fault::{MediumFault, Report};
 use crate::line::Line;
+use crate::sizes::{run_length, span_of};
 use nbd_wire::{Command, Request, read_simple_reply};
 use scsi_disk::StoreFault;
 use scsi_file::Medium;
 
-/// The most bytes of a request: 65,536 blocks, the longest command of SCSI, and the most that the
-/// protocol lets a client send to any server ("Block size constraints").
-pub(crate) const LONGEST_REQUEST: usize = 33_554_432;
+/// The most bytes of a request: 65,536 blocks, and the most that the protocol lets a client send to any server
+/// ("Block size constraints").
+pub(crate) const LONGEST_REQUEST: u32 = 33_554_432;
 
 /// A medium whose blocks an NBD server keeps.
 ///
-/// One request is asked at a time, and none for 0 blocks. A request that the server refuses fails
+/// One request is asked at a time, and none for 0 blocks. What is longer than the server's longest request is
+/// done by several, one after another. Where the requests are wide, a read of fewer blocks reads those around
+/// them, and each write fails with `Device`. A request that the server refuses fails
 /// with `Device`, and the next one may do. The medium ends if the connection is lost, an answer is
 /// none, or a FLUSH is refused. The end is told once, nothing more is asked, and each call fails
 /// with `Device`. There is no new connection, since a request whose answer did not come may still be
@@ -80,6 +86,7 @@ impl<L: Line, R: Report> NbdMedium<L, R> {
     fn ask(&mut self, command: Command, lba: u64, size: u32, bytes: &[u8]) -> Result<(), AskFault>
         requires whole { size % 512 ≡ 0 }
         requires inside { 512 * lba + size ≤ 512 * (L.Line.disk self.old.line).count }
+        requires fits { FitsSizes (512 * lba) size (L.Line.sizes self.old.line) }
         requires bytes { command ≡ IsWrite → length bytes.now ≡ size }
         requires zeros { command ≡ IsWriteZeroes → (length bytes.now ≡ size) × AreZeros bytes.now }
         ensures may { MayDo command lba bytes.now
@@ -89,6 +96,7 @@ impl<L: Line, R: Report> NbdMedium<L, R> {
             → IsCommandDone command lba size bytes.now (L.Line.disk self.old.line)
             (L.Line.disk self.new.line) (L.Line.kept self.new.line)
             (L.Line.pending self.new.line)) }
+        ensures sizes { L.Line.sizes self.new.line ≡ L.Line.sizes self.old.line }
         ensures untold { UntoldRises (L.Line.disk self.old.line).tells (L.Line.untold self.old.line)
             (L.Line.untold self.new.line) }
         // Once it has ended it asks nothing.
@@ -134,6 +142,87 @@ impl<L: Line, R: Report> NbdMedium<L, R> {
         self.report.report(fault);
         AskFault::Ended
     }
+
+    // Reads bytes that the server has sent.
+    fn receive(&mut self, out: &mut [u8]) -> Result<(), AskFault>
+        ensures read { OnOk result (L.Line.untold self.new.line ≡ L.Line.untold self.old.line
+            → out.new ≡ take (length out.old) (L.Line.pending self.old.line)) }
+        ensures pending { OnOk result (L.Line.untold self.new.line ≡ L.Line.untold self.old.line
+            → L.Line.pending self.new.line ≡ drop (length out.old) (L.Line.pending self.old.line)) }
+        ensures disk { L.Line.disk self.new.line ≡ L.Line.disk self.old.line }
+        ensures kept { Within (L.Line.kept self.old.line) (L.Line.kept self.new.line) }
+        ensures sizes { L.Line.sizes self.new.line ≡ L.Line.sizes self.old.line }
+        ensures untold { UntoldRises (L.Line.disk self.old.line).tells (L.Line.untold self.old.line)
+            (L.Line.untold self.new.line) }
+    {
+        match self.line.receive(out) {
+            Ok(()) => Ok(()),
+            Err(lost) => Err(self.end(MediumFault::Lost(lost))),
+        }
+    }
+
+    // Passes over bytes that the server has sent.
+    fn pass_over(&mut self, count: usize) -> Result<(), AskFault>
+        requires few { count < 4096 }
+        ensures pending { OnOk result (L.Line.untold self.new.line ≡ L.Line.untold self.old.line
+            → L.Line.pending self.new.line ≡ drop count (L.Line.pending self.old.line)) }
+        ensures disk { L.Line.disk self.new.line ≡ L.Line.disk self.old.line }
+        ensures kept { Within (L.Line.kept self.old.line) (L.Line.kept self.new.line) }
+        ensures sizes { L.Line.sizes self.new.line ≡ L.Line.sizes self.old.line }
+        ensures untold { UntoldRises (L.Line.disk self.old.line).tells (L.Line.untold self.old.line)
+            (L.Line.untold self.new.line) }
+    {
+        if count == 0 {
+            return Ok(());
+        }
+        let mut bytes = [0; 4096];
+        self.receive(&mut bytes[..count])
+    }
+
+    // Reads blocks by one request.
+    fn read_run(&mut self, lba: u64, out: &mut [u8]) -> Result<(), AskFault>
+        requires whole { length out.old % 512 ≡ 0 }
+        requires inside { 512 * lba + length out.old ≤ 512 * (L.Line.disk self.old.line).count }
+        requires short { length out.old ≤ (L.Line.sizes self.old.line).longest }
+        requires wide { (L.Line.sizes self.old.line).wide ≡ true
+            → 512 * (lba % 8) + length out.old ≤ (L.Line.sizes self.old.line).longest }
+        ensures read { OnOk result (L.Line.untold self.new.line ≡ L.Line.untold self.old.line
+            → out.new ≡ blocks_from (L.Line.disk self.old.line) lba (length out.old / 512)) }
+        ensures disk { L.Line.disk self.new.line ≡ L.Line.disk self.old.line }
+        ensures kept { Within (L.Line.kept self.old.line) (L.Line.kept self.new.line) }
+        ensures sizes { L.Line.sizes self.new.line ≡ L.Line.sizes self.old.line }
+        ensures untold { UntoldRises (L.Line.disk self.old.line).tells (L.Line.untold self.old.line)
+            (L.Line.untold self.new.line) }
+    {
+        let count = self.line.blocks();
+        let span = span_of(self.line.sizes(), count, lba, out.len() as u32);
+        self.ask(Command::Read, span.first, span.size, &[])?;
+        self.pass_over(span.before)?;
+        self.receive(out)?;
+        self.pass_over(span.behind)
+    }
+
+    // Writes blocks by one request, of a server whose requests aren't wide.
+    fn write_run(&mut self, lba: u64, bytes: &[u8]) -> Result<(), AskFault>
+        requires whole { length bytes.now % 512 ≡ 0 }
+        requires inside { 512 * lba + length bytes.now ≤ 512 * (L.Line.disk self.old.line).count }
+        requires short { length bytes.now ≤ (L.Line.sizes self.old.line).longest }
+        requires narrow { (L.Line.sizes self.old.line).wide ≡ false }
+        ensures may { MayWrite lba bytes.now
+            (L.Line.disk self.old.line) (L.Line.kept self.old.line)
+            (L.Line.disk self.new.line) (L.Line.kept self.new.line) }
+        ensures done { OnOk result (L.Line.untold self.new.line ≡ L.Line.untold self.old.line
+            → L.Line.disk self.new.line ≡ disk_written lba bytes.now (L.Line.disk self.old.line)) }
+        ensures sizes { L.Line.sizes self.new.line ≡ L.Line.sizes self.old.line }
+        ensures untold { UntoldRises (L.Line.disk self.old.line).tells (L.Line.untold self.old.line)
+            (L.Line.untold self.new.line) }
+    {
+        let size = bytes.len() as u32;
+        if self.write_zeroes && are_zeros(bytes) {
+            return self.ask(Command::WriteZeroes, lba, size, bytes);
+        }
+        self.ask(Command::Write, lba, size, bytes)
+    }
 }
 
 impl<L: Line, R: Report + Drop> NbdMedium<L, R> {
@@ -176,37 +265,33 @@ impl<L: Line, R: Report> Medium for NbdMedium<L, R> {
         self.line.blocks()
     }
 
-    #[tactic(auto, using(crate::proofs::ServingLemmas::no_blocks))]
     fn read_at(&mut self, lba: u64, out: &mut [u8]) -> Result<(), StoreFault> {
-        if out.is_empty() {
-            return Ok(());
+        let sizes = self.line.sizes();
+        let blocks = out.len() / 512;
+        let mut done = 0;
+        while done < blocks {
+            let n = lba + done as u64;
+            let end = done + run_length(sizes, n, blocks - done);
+            self.read_run(n, &mut out[512 * done..512 * end])?;
+            done = end;
         }
-        let Some(size) = size_of(out) else {
-            return Err(StoreFault::Device);
-        };
-        self.ask(Command::Read, lba, size, &[])?;
-        match self.line.receive(out) {
-            Ok(()) => Ok(()),
-            Err(lost) => {
-                self.end(MediumFault::Lost(lost));
-                Err(StoreFault::Device)
-            }
-        }
+        Ok(())
     }
 
-    #[tactic(auto, using(crate::proofs::ServingLemmas::written_none))]
     fn write_at(&mut self, lba: u64, bytes: &[u8]) -> Result<(), StoreFault> {
-        if bytes.is_empty() {
-            return Ok(());
-        }
-        let Some(size) = size_of(bytes) else {
+        let sizes = self.line.sizes();
+        if sizes.wide {
+            // A write would have to read first.
             return Err(StoreFault::Device);
-        };
-        if self.write_zeroes && are_zeros(bytes) {
-            self.ask(Command::WriteZeroes, lba, size, bytes)?;
-            return Ok(());
         }
-        self.ask(Command::Write, lba, size, bytes)?;
+        let blocks = bytes.len() / 512;
+        let mut done = 0;
+        while done < blocks {
+            let n = lba + done as u64;
+            let end = done + run_length(sizes, n, blocks - done);
+            self.write_run(n, &bytes[512 * done..512 * end])?;
+            done = end;
+        }
         Ok(())
     }
 
@@ -227,14 +312,4 @@ pub(crate) fn are_zeros(bytes: &[u8]) -> bool
     ensures { IsTrue result ↔ AreZeros bytes.now }
 {
     bytes.iter().all(|byte| *byte == 0)
-}
-
-// The length of a request, if one has room for so many bytes.
-fn size_of(bytes: &[u8]) -> Option<u32>
-    ensures size { IfSome result (λ size. size ≡ length bytes.now) }
-{
-    if bytes.len() > LONGEST_REQUEST {
-        return None;
-    }
-    Some(bytes.len() as u32)
 }

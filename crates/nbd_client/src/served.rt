@@ -5,10 +5,12 @@ ghost use Rattle.scsi_disk.specs.Disk.{IsDisk, most_blocks};
 ghost use Rattle.nbd_wire.specs.declared.request.Command.TheVariants.{Write as IsWrite, WriteZeroes as IsWriteZeroes};
 ghost use Rattle.nbd_wire.specs.Transmission.{reply_bytes, request_at};
 ghost use Rattle.nbd_client.specs.Serving.{IsCommandDone, IsPlaced, MayDo, UntoldRises};
+ghost use Rattle.nbd_client.specs.Sizes.{AreSizes, FitsSizes};
 
 use crate::fault::Lost;
 use crate::line::Line;
-use crate::medium::are_zeros;
+use crate::medium::{LONGEST_REQUEST, are_zeros};
+use crate::sizes::RequestSizes;
 use nbd_wire::{Command, Request, SimpleReply, read_request, reply_bytes};
 use scsi_file::Medium;
 use std::alloc::{AllocError, Global};
@@ -19,8 +21,8 @@ const EIO: u32 = 5;
 /// A server in this process that keeps its blocks on a medium, for trying out what a client does
 /// without sockets. It shows too that all clauses of `Line` can be kept.
 ///
-/// It ends where it is asked for something else than whole blocks inside the medium, or where a sync
-/// of the medium fails.
+/// It ends where it is asked for something else than whole blocks inside the medium, by a request that it
+/// takes, or where a sync of the medium fails.
 #[derive(Drop)]
 pub struct Served<M: Medium> {
     alloc: Global,
@@ -28,6 +30,8 @@ pub struct Served<M: Medium> {
     // what was sent and not read
     sent: Vec<u8>,
     ended: bool,
+    sizes: RequestSizes,
+    ghost fit: { AreSizes sizes (M.Medium.seen medium).count },
     ghost sound: { IsDisk (M.Medium.seen medium) },
     ghost few: { (M.Medium.seen medium).count ≤ most_blocks },
     ghost works: { ended ≡ false → IsTrue (M.Medium.usable medium) },
@@ -36,7 +40,7 @@ pub struct Served<M: Medium> {
 impl<M: Medium> Served<M> {
     ghost use Rattle.nbd_client.specs.Served.{served_medium};
 
-    /// A server of the blocks of a medium.
+    /// A server of the blocks of a medium, which takes requests of up to 32 MiB.
     pub fn new(alloc: Global, medium: M) -> Served<M>
         requires usable { IsTrue (M.Medium.usable medium) }
         requires few { (M.Medium.seen medium).count ≤ most_blocks }
@@ -48,6 +52,24 @@ impl<M: Medium> Served<M> {
             medium,
             sent: Vec::new(alloc),
             ended: false,
+            sizes: RequestSizes {
+                longest: LONGEST_REQUEST,
+                wide: false,
+            },
+        }
+    }
+
+    /// The same server, which takes such requests alone.
+    pub fn taking(self, sizes: RequestSizes) -> Served<M>
+        requires sizes { AreSizes sizes (M.Medium.seen (served_medium self)).count }
+        ensures medium { served_medium result ≡ served_medium self }
+    {
+        Served {
+            alloc: self.alloc,
+            medium: self.medium,
+            sent: self.sent,
+            ended: self.ended,
+            sizes,
         }
     }
 
@@ -66,13 +88,16 @@ struct Asked {
     lba: u64,
 }
 
-// The request that bytes are, if it is about whole blocks of an export of `count` blocks.
-fn asked_in(head: &[u8], count: u64, bytes: &[u8]) -> Option<Asked>
+// The request that bytes are, if it is about whole blocks of an export of `count` blocks, and one that it takes.
+fn asked_in(head: &[u8], count: u64, sizes: RequestSizes, bytes: &[u8]) -> Option<Asked>
     requires few { count ≤ most_blocks }
     ensures asked { IfSome result (λ asked. (request_at head.now ≡ Ok asked.request)
-        × IsPlaced asked.request asked.lba count bytes.now) }
+        × IsPlaced asked.request asked.lba count sizes bytes.now) }
 {
     let request = request_in(head)?;
+    if !is_taken(request.offset, request.length, sizes) {
+        return None;
+    }
     let size = 512 * count;
     if request.offset % 512 != 0 || request.length % 512 != 0 {
         return None;
@@ -92,6 +117,16 @@ fn asked_in(head: &[u8], count: u64, bytes: &[u8]) -> Option<Asked>
         request,
         lba: request.offset / 512,
     })
+}
+
+// Whether a server takes such requests.
+fn is_taken(offset: u64, length: u32, sizes: RequestSizes) -> bool
+    ensures { result ≡ true → FitsSizes offset length sizes }
+{
+    if length > sizes.longest {
+        return false;
+    }
+    !sizes.wide || (offset % 4096 == 0 && length % 4096 == 0)
 }
 
 // The request that 28 bytes are.
@@ -215,10 +250,18 @@ impl<M: Medium> Line for Served<M> {
 
     ghost few = { λ s. s.few };
 
+    ghost sizes = { λ s. s.sizes };
+
+    ghost fit = { λ s. s.fit };
+
     ghost stays = { λ s n. M.Medium.stays s.medium n };
 
     fn blocks(&self) -> u64 {
         self.medium.blocks()
+    }
+
+    fn sizes(&self) -> RequestSizes {
+        self.sizes
     }
 
     fn send(&mut self, head: &[u8], bytes: &[u8]) -> Result<(), Lost> {
@@ -226,7 +269,7 @@ impl<M: Medium> Line for Served<M> {
         if self.ended {
             return Err(Lost::Closed);
         }
-        let Some(Asked { request, lba }) = asked_in(head, count, bytes) else {
+        let Some(Asked { request, lba }) = asked_in(head, count, self.sizes, bytes) else {
             return Err(Lost::Closed);
         };
         let (command, size) = (request.command, request.length);

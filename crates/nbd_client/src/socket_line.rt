@@ -5,11 +5,13 @@
 
 ghost use Rattle.std.specs.Prelude.{◌≡◌, ◌<◌, ◌≤◌, [], OnOk};
 ghost use Rattle.scsi_disk.specs.Disk.{most_blocks};
+ghost use Rattle.nbd_client.specs.Sizes.{AreSizes};
 
 use crate::fault::Lost;
 use crate::handshake::{HandshakeFault, negotiate};
 use crate::line::Line;
 use crate::served::request_in;
+use crate::sizes::RequestSizes;
 use crate::timed::{Place, Timed};
 use nbd_wire::{Command, DISCONNECT, LONGEST_NAME, SimpleReply, reply_bytes};
 use std::io::{Read, Write};
@@ -19,6 +21,7 @@ use std::io::{Read, Write};
 pub struct SocketLine {
     stream: Timed,
     blocks: u64,
+    sizes: RequestSizes,
     calls: u64,
     flushes: bool,
     write_zeroes: bool,
@@ -26,6 +29,7 @@ pub struct SocketLine {
     answer: Option<[u8; 16]>,
     ghost some: { 0 < blocks },
     ghost few: { blocks ≤ most_blocks },
+    ghost fit: { AreSizes sizes blocks },
 }
 
 impl SocketLine {
@@ -47,6 +51,7 @@ impl SocketLine {
         Ok(SocketLine {
             stream,
             blocks: opened.blocks,
+            sizes: opened.sizes,
             calls: 0,
             flushes: opened.flushes,
             write_zeroes: opened.write_zeroes,
@@ -64,6 +69,7 @@ impl SocketLine {
         ensures counted { OnOk result (self.old.calls < self.new.calls) }
         ensures kept { self.old.calls ≤ self.new.calls }
         ensures blocks { self.new.blocks ≡ self.old.blocks }
+        ensures sizes { self.new.sizes ≡ self.old.sizes }
     {
         if self.calls == u64::MAX {
             return Err(Lost::Failed);
@@ -78,6 +84,7 @@ impl Drop for SocketLine {
         let SocketLine {
             stream,
             blocks: _,
+            sizes: _,
             calls: _,
             flushes: _,
             write_zeroes: _,
@@ -103,10 +110,18 @@ impl Line for SocketLine {
 
     ghost few = { λ s. s.few };
 
+    ghost sizes = { λ s. s.sizes };
+
+    ghost fit = { λ s. s.fit };
+
     ghost stays = { λ s n. tt };
 
     fn blocks(&self) -> u64 {
         self.blocks
+    }
+
+    fn sizes(&self) -> RequestSizes {
+        self.sizes
     }
 
     fn send(&mut self, head: &[u8], bytes: &[u8]) -> Result<(), Lost> {

@@ -5,6 +5,7 @@ mod handshakes;
 mod messages;
 mod requests;
 mod servers;
+mod sizes;
 
 use std::alloc::Global;
 use std::process::Abort;

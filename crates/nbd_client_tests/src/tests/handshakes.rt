@@ -3,7 +3,7 @@
 use super::bytes_of;
 use crate::asserts::same;
 use iscsi_test_support::{SURE, Sink, Source, Steps};
-use nbd_client::{ExportFault, HandshakeFault, Lost, Opened, negotiate};
+use nbd_client::{ExportFault, HandshakeFault, Lost, Opened, RequestSizes, negotiate};
 use nbd_wire::{GreetingFault, InfoFault, OptionMagic};
 use std::alloc::Global;
 use std::process::Abort;
@@ -201,8 +201,12 @@ fn answers_without_an_end_are_given_up(rt: HostRuntime) {
     same(&rt, &answer, &Err(HandshakeFault::NoSize), &"65 answers");
 }
 
-/// How many blocks an export has, whether it has FLUSH, and whether it has WRITE_ZEROES; or why it isn't opened.
-type Due = Result<(u64, bool, bool), ExportFault>;
+/// How many blocks an export has, its longest request and whether its requests are wide, whether it has FLUSH, and
+/// whether it has WRITE_ZEROES; or why it isn't opened.
+type Due = Result<(u64, (u32, bool), bool, bool), ExportFault>;
+
+/// The longest request of an export that takes each of those that may be, in 512 bytes.
+const ANY: (u32, bool) = (33_554_432, false);
 
 /// What an export is said to be, size and flags, and the least and the greatest request; and what is
 /// made of it, if it is to be written, and if it is to be read alone.
@@ -210,38 +214,38 @@ const EXPORTS: &[(&str, &str, Due, Due)] = &[
     (
         "0000000000000200 0005",
         "00000200 02000000",
-        Ok((1, true, false)),
-        Ok((1, true, false)),
+        Ok((1, ANY, true, false)),
+        Ok((1, ANY, true, false)),
     ),
     (
         "0002000000000000 0045",
         "00000001 ffffffff",
-        Ok((1 << 40, true, true)),
-        Ok((1 << 40, true, true)),
+        Ok((1 << 40, ANY, true, true)),
+        Ok((1 << 40, ANY, true, true)),
     ),
     (
         "0000000001000000 0007",
         "00000001 02000000",
         Err(ExportFault::ReadOnly),
-        Ok((32_768, true, false)),
+        Ok((32_768, ANY, true, false)),
     ),
     (
         "0000000001000000 0043",
         "00000001 02000000",
         Err(ExportFault::ReadOnly),
-        Ok((32_768, false, true)),
+        Ok((32_768, ANY, false, true)),
     ),
     (
         "0000000001000000 0001",
         "00000001 02000000",
         Err(ExportFault::NoFlush),
-        Ok((32_768, false, false)),
+        Ok((32_768, ANY, false, false)),
     ),
     (
         "0000000001000000 0046",
         "00000001 02000000",
         Err(ExportFault::NoFlush),
-        Ok((32_768, false, false)),
+        Ok((32_768, ANY, false, false)),
     ),
     (
         "0000000000000000 0005",
@@ -265,11 +269,35 @@ const EXPORTS: &[(&str, &str, Due, Due)] = &[
         "0000000001000000 0005",
         "00001000 02000000",
         Err(ExportFault::NoBlock),
+        Ok((32_768, (33_554_432, true), true, false)),
+    ),
+    (
+        "0000000001000200 0005",
+        "00001000 02000000",
         Err(ExportFault::NoBlock),
+        Err(ExportFault::NotWhole),
+    ),
+    (
+        "0000000001000000 0005",
+        "00002000 02000000",
+        Err(ExportFault::NoBlock),
+        Err(ExportFault::WideBlock),
+    ),
+    (
+        "0000000001000000 0005",
+        "00000200 00001000",
+        Ok((32_768, (4096, false), true, false)),
+        Ok((32_768, (4096, false), true, false)),
     ),
     (
         "0000000001000000 0005",
         "00000001 01ffffff",
+        Ok((32_768, (33_550_336, false), true, false)),
+        Ok((32_768, (33_550_336, false), true, false)),
+    ),
+    (
+        "0000000001000000 0005",
+        "00000001 00000fff",
         Err(ExportFault::Small),
         Err(ExportFault::Small),
     ),
@@ -313,8 +341,9 @@ fn check_judged(
     let (mut reader, mut writer) = (Source::new(&said, SURE), Sink::new(alloc, SURE));
     let answer = negotiate(alloc, &mut reader, &mut writer, b"disk", written);
     let due = match due {
-        Ok((blocks, flushes, write_zeroes)) => Ok(Opened {
+        Ok((blocks, (longest, wide), flushes, write_zeroes)) => Ok(Opened {
             blocks,
+            sizes: RequestSizes { longest, wide },
             flushes,
             write_zeroes,
         }),

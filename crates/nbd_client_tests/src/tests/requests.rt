@@ -2,10 +2,11 @@
 
 ghost use Rattle.std.specs.Prelude.{◌≡◌, ◌<◌, ◌≤◌, [], OnOk};
 ghost use Rattle.scsi_disk.specs.Disk.{most_blocks};
+ghost use Rattle.nbd_client.specs.Sizes.{AreSizes};
 
 use super::bytes_of;
 use crate::asserts::same;
-use nbd_client::{Line, Lost, MediumFault, NbdMedium, Report};
+use nbd_client::{Line, Lost, MediumFault, NbdMedium, Report, RequestSizes};
 use nbd_wire::ReplyMagic;
 use scsi_disk::StoreFault;
 use scsi_file::Medium;
@@ -22,9 +23,11 @@ struct Scripted<'a> {
     /// How many bytes it was sent behind them.
     behind: usize,
     blocks: u64,
+    sizes: RequestSizes,
     calls: u64,
     ghost some: { 0 < blocks },
     ghost few: { blocks ≤ most_blocks },
+    ghost fit: { AreSizes sizes blocks },
 }
 
 impl<'a> Scripted<'a> {
@@ -34,6 +37,10 @@ impl<'a> Scripted<'a> {
             heads: Vec::new(alloc),
             behind: 0,
             blocks: 1 << 20,
+            sizes: RequestSizes {
+                longest: 1 << 25,
+                wide: false,
+            },
             calls: 0,
         }
     }
@@ -43,6 +50,7 @@ impl<'a> Scripted<'a> {
         ensures counted { OnOk result (self.old.calls < self.new.calls) }
         ensures kept { self.old.calls ≤ self.new.calls }
         ensures blocks { self.new.blocks ≡ self.old.blocks }
+        ensures sizes { self.new.sizes ≡ self.old.sizes }
     {
         if self.calls == u64::MAX {
             return Err(Lost::Failed);
@@ -68,10 +76,18 @@ impl Line for Scripted<'_> {
 
     ghost few = { λ s. s.few };
 
+    ghost sizes = { λ s. s.sizes };
+
+    ghost fit = { λ s. s.fit };
+
     ghost stays = { λ s n. tt };
 
     fn blocks(&self) -> u64 {
         self.blocks
+    }
+
+    fn sizes(&self) -> RequestSizes {
+        self.sizes
     }
 
     fn send(&mut self, head: &[u8], bytes: &[u8]) -> Result<(), Lost> {
@@ -363,27 +379,40 @@ fn zeros_are_asked_for_by_their_length(rt: HostRuntime) {
 }
 
 #[test]
-fn nothing_is_asked_for_no_block_or_too_many(rt: HostRuntime) {
+fn nothing_is_asked_for_no_block(rt: HostRuntime) {
     let alloc = rt.alloc();
     let mut told = Told {
         first: None,
         count: 0,
     };
     let mut medium = NbdMedium::new(Scripted::new(alloc, &[]), &mut told);
-    let mut bytes = Vec::new(alloc);
-    bytes.resize(33_554_944, 0).expect(&rt, "memory");
-    if medium.blocks() < 65_537 || bytes.len() != 33_554_944 {
-        panic!(&rt; "a short line");
-    }
-    same(
-        &rt,
-        &medium.read_at(0, &mut []),
-        &DONE,
-        &"a read of no block",
-    );
+    let none = medium.read_at(0, &mut []);
+    same(&rt, &none, &DONE, &"a read of no block");
     same(&rt, &medium.write_at(0, &[]), &DONE, &"a write of no block");
-    same(&rt, &medium.read_at(0, &mut bytes), &LOST, &"a long read");
-    same(&rt, &medium.write_at(0, &bytes), &LOST, &"a long write");
     same(&rt, &medium.fault(), &None, &"no end");
     same(&rt, &medium.into_line().calls, &0, &"no call");
+}
+
+#[test]
+fn a_long_request_is_asked_in_parts(rt: HostRuntime) {
+    let alloc = rt.alloc();
+    let said = said(&rt, alloc, WELL);
+    let mut line = Scripted::new(alloc, &said);
+    line.sizes.longest = 4096;
+    let mut told = Told {
+        first: None,
+        count: 0,
+    };
+    let mut medium = NbdMedium::new(line, &mut told).with_write_zeroes();
+    let mut blocks = [0; 8704];
+    blocks[0] = 1;
+    if medium.blocks() < 19 {
+        panic!(&rt; "a short line");
+    }
+    same(&rt, &medium.write_at(2, &blocks), &DONE, &"17 blocks");
+    let due = "25609513 0000 0001 0000000000000001 0000000000000400 00001000
+        25609513 0000 0006 0000000000000002 0000000000001400 00001000
+        25609513 0000 0006 0000000000000003 0000000000002400 00000200";
+    let line = medium.into_line();
+    same(&rt, &line.heads, &bytes_of(&rt, alloc, due), &"heads");
 }
