@@ -295,6 +295,51 @@ def sparse_file_system(program, room):
     return (all(status == 0 for status, _ in seen) and room_taken < size // 4096) or (seen, room_taken)
 
 
+def capacity(service):
+    """How many blocks a disk says it has."""
+    said = ran("iscsi-readcapacity16", service.url)[1]
+    found = re.search(r"RETURNED LOGICAL BLOCK ADDRESS:(\d+)", said)
+    return int(found[1]) + 1 if found else said
+
+
+def grown(image, size):
+    """Lets an image have so many bytes, as another program would."""
+    with open(image, "r+b") as file:
+        file.truncate(size)
+
+
+def grows(program, room):
+    """An image that grows while nobody is connected has its new size at the next login; while somebody is, the old one, with a line."""
+    want("iscsi-readcapacity16")
+    seen, lines = [], []
+    for number, words in enumerate(((), ("--write-back",), ("--read-only",))):
+        image = noise(f"{room}/image{number}", MIB)
+        with Service(program, image, *words) as service:
+            seen.append(capacity(service))
+            grown(image, 2 * MIB)
+            seen.append(capacity(service))
+            with open(f"{room}/held", "wb") as held:
+                session = subprocess.Popen(["qemu-io", "-r", "-f", "raw", service.url], stdin=subprocess.PIPE, stdout=held, stderr=held)
+            time.sleep(0.5)
+            grown(image, 3 * MIB)
+            seen.append(capacity(service))
+            session.communicate(b"read -P 0 1M 64k\nquit\n", timeout=SECONDS)
+            with open(f"{room}/held") as held:
+                seen.append("read 65536/65536" in held.read())
+            seen.append(capacity(service))
+            grown(image, 3 * MIB + 100)
+            seen.append(capacity(service))
+            if words != ("--read-only",):
+                seen.append(qemu(service.url, f"write -P 5 {3 * MIB - 4096} 4k", f"read -P 5 {3 * MIB - 4096} 4k"))
+            service.kill()
+            lines.append(service.process.communicate()[1].decode(errors="replace").splitlines())
+    due = [2048, 4096, 4096, True, 6144, 6144]
+    told = [[line for line in some if "has grown" in line] for some in lines]
+    ends = "the image has grown to 6144 blocks, and 4096 are served until nobody is connected"
+    is_told = all(len(some) == 1 and some[0].endswith(ends) for some in told)
+    return (seen == [*due, [True, True], *due, [True, True], *due] and is_told) or (seen, lines)
+
+
 def block_device(program, room):
     """A block device in place of a file."""
     want("losetup")
@@ -614,6 +659,7 @@ CASES = [
     large,
     holes,
     sparse_file_system,
+    grows,
     block_device,
     full,
     taken_away,

@@ -229,8 +229,8 @@ def fails_to_watch(program, error):
 
 def wants_more_descriptors(program):
     words = ["serve", "--port", "0", "--blocks", "8", "--at-once", "64"]
-    done = subprocess.run(["prlimit", "--nofile=70", "--", program, *words], stdin=subprocess.DEVNULL, capture_output=True)
-    line = b"--at-once 64 wants 71 descriptors, and the limit is 70\nnetwork failed\n"
+    done = subprocess.run(["prlimit", "--nofile=71", "--", program, *words], stdin=subprocess.DEVNULL, capture_output=True)
+    line = b"--at-once 64 wants 72 descriptors, and the limit is 71\nnetwork failed\n"
     return (done.stdout, done.stderr, done.returncode) == (b"", line, 4)
 
 
@@ -238,7 +238,7 @@ def has_few_descriptors(program):
     # Those that it is started with take what its slots want.
     given = [os.open("/dev/null", os.O_RDONLY) for _ in range(12)]
     before = ["prlimit", f"--nofile={max(given) + 20}", "--"]
-    with Service(program, "--blocks", "8", before=before, slots=max(given) + 13, descriptors=given) as service:
+    with Service(program, "--blocks", "8", before=before, slots=max(given) + 12, descriptors=given) as service:
         for descriptor in given:
             os.close(descriptor)
         strangers = []

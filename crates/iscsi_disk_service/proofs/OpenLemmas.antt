@@ -1,5 +1,5 @@
 -- Which images can be opened, and who may log in.
-use Rattle.std.proofs.Common.{◌≡◌, ◌∙◌, ap, refl, sym, Bool, ℕ, List, Option, Some, None, map, option_map}
+use Rattle.std.proofs.Common.{◌≡◌, ◌∙◌, ap, subst, refl, sym, Bool, ℕ, List, Option, Some, None, map, option_map}
 use Rattle.std.specs.Prelude.{is_some}
 use Rattle.iscsi_target.specs.Feed.{Store}
 use Rattle.iscsi_event_loop.specs.Running.{Served}
@@ -34,6 +34,12 @@ serves_asked words job access protected count before after is served = record {
   count = count;
   served = served;
 }
+
+-- so is a run behind others, at the same door
+pub run_asked : (words : List (List ℕ)) (job : ServeJob) (access : Access) (protected : Bool) (count : ℕ) (door : Door) (before after : Store)
+    → IsAsked words job access protected → Served protected count door before after → door ≡ door_of access → ServesAsked words job protected before after
+run_asked words job access protected count door before after is served same =
+    serves_asked words job access protected count before after is (subst (λ (d : Door). Served protected count d before after) same served)
 
 -- the names that were read are those that the words list
 pub lists_them : (words names : List (List ℕ)) → names ≡ said_names (serve_rows words) → some_names names ≡ listed_names words

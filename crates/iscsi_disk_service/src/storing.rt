@@ -1,6 +1,6 @@
 //! A disk, served over what it is kept in.
 
-ghost use Rattle.std.specs.Prelude.{◌≡◌, ◌<◌, ◌≤◌, false, map, option_map, true};
+ghost use Rattle.std.specs.Prelude.{◌≡◌, ◌<◌, ◌≤◌, IfOk, Ok, false, map, option_map, true};
 ghost use Rattle.scsi_disk.specs.Disk.{most_blocks};
 ghost use Rattle.iscsi_serve_words.specs.Said.{SaysJob};
 ghost use Rattle.iscsi_serve_words.specs.Services.{IsServeJob};
@@ -8,16 +8,19 @@ ghost use Rattle.iscsi_disk_service.specs.Disks.{EndsDisk, EndsStorage, disk_sta
 ghost use Rattle.iscsi_target.specs.Advances.{store_of};
 ghost use Rattle.iscsi_disk_service.specs.Doors.{ServesAsked, some_names};
 ghost use Rattle.iscsi_disk_service.specs.inner.Asked.{IsAsked};
+ghost use Rattle.iscsi_serving.specs.Access.{door_of};
+ghost use Rattle.iscsi_event_loop.specs.Serving.{IsEmpty};
+ghost use Rattle.iscsi_event_loop.specs.declared.server.running.RunEnd.TheVariants as ends;
 
 use crate::serial::own_serial;
-use iscsi_event_loop::{memory_store, serve_at_once, serve_in_turn};
+use iscsi_event_loop::{RunEnd, Server, memory_store, serve_at_once, serve_in_turn};
 use iscsi_secrets::{Secrets, SecretsFault};
 use iscsi_serve_words::{
     Image, ImageFault, NbdExport, NbdFault, NbdUse, ServeJob, Service, Storage, read_initiators,
 };
 use iscsi_serving::{Access, ServeFault};
 use scsi_disk::{BlockStore, ReadOnly, SparseStore};
-use scsi_file::{FileStore, Medium};
+use scsi_file::{FileStore, HostFile, Medium, OpenImage};
 use std::convert::AsStr;
 use std::io::{self, Write};
 
@@ -177,7 +180,7 @@ fn serve_written<'a, S: AsStr>(
             serve_memory(rt, words, job, served, blocks),
         ),
         Storage::Image(image) => match image.open(rt) {
-            Ok(store) => ended(job.storage, serve_medium(rt, words, job, served, store)),
+            Ok(store) => ended(job.storage, serve_image(rt, words, job, served, store)),
             Err(fault) => Err(DiskFault::Image(image, fault)),
         },
         Storage::Nbd(export) => match export.open(rt, use_of(&job.service)) {
@@ -204,7 +207,7 @@ fn serve_read_only<'a, S: AsStr>(
             ended(job.storage, serve_store(rt, words, job, served, &mut store))
         }
         Storage::Image(image) => match image.open_read_only(rt) {
-            Ok(mut store) => ended(job.storage, serve_store(rt, words, job, served, &mut store)),
+            Ok(store) => ended(job.storage, serve_read_image(rt, words, job, served, store)),
             Err(fault) => Err(DiskFault::Image(image, fault)),
         },
         Storage::Nbd(export) => match export.open(rt, NbdUse::ReadAlone) {
@@ -263,12 +266,136 @@ fn serve_medium<S: AsStr, M: Medium + Drop>(
     requires job { IsServeJob job }
     requires asked { IsAsked (map S.text words.now) job served.access false }
 {
-    let mut store = if has_cache(&job.service) {
+    let mut store = cached(&job.service, store);
+    serve_store(rt, words, job, served, &mut store)
+}
+
+// A store on a medium, with a write cache if one is asked for.
+fn cached<M: Medium + Drop>(service: &Service<'_>, store: FileStore<M>) -> FileStore<M> {
+    if has_cache(service) {
         store.with_write_back()
     } else {
         store
+    }
+}
+
+// Serves an image. Whenever nobody is connected and it has grown, a new store has all its blocks.
+fn serve_image<'a, S: AsStr>(
+    rt: &HostRuntime,
+    words: &[S],
+    job: ServeJob<'a>,
+    served: Serving<'a>,
+    store: FileStore<HostFile>,
+) -> Result<(), ServeFault>
+    requires job { IsServeJob job }
+    requires asked { IsAsked (map S.text words.now) job served.access false }
+{
+    let image = OpenImage::of(store.medium());
+    let mut server = opened(rt, job, served)?;
+    watch(&mut server, store.medium(), store.blocks());
+    let mut store = cached(&job.service, store);
+    server.announce(rt, false)?;
+    for _ in 0..u64::MAX {
+        match serve_run(rt, words, job, served, &mut server, &mut store)? {
+            RunEnd::Done => return Ok(()),
+            RunEnd::Grown => {
+                if let Some(grown) = grown(&image)? {
+                    store = cached(&job.service, grown);
+                }
+            }
+        }
+    }
+    Ok(())
+}
+
+// Serves an image in the same way, of which no block changes.
+fn serve_read_image<'a, S: AsStr>(
+    rt: &HostRuntime,
+    words: &[S],
+    job: ServeJob<'a>,
+    served: Serving<'a>,
+    store: FileStore<HostFile>,
+) -> Result<(), ServeFault>
+    requires job { IsServeJob job }
+    requires asked { IsAsked (map S.text words.now) job served.access true }
+{
+    let image = OpenImage::of(store.medium());
+    let mut server = opened(rt, job, served)?;
+    watch(&mut server, store.medium(), store.blocks());
+    let mut store = ReadOnly::new(store);
+    server.announce(rt, true)?;
+    for _ in 0..u64::MAX {
+        match serve_run(rt, words, job, served, &mut server, &mut store)? {
+            RunEnd::Done => return Ok(()),
+            RunEnd::Grown => {
+                if let Some(grown) = grown(&image)? {
+                    store = ReadOnly::new(grown);
+                }
+            }
+        }
+    }
+    Ok(())
+}
+
+// Looks whether the image of a medium grows, of which so many blocks are served.
+fn watch(server: &mut Server<'_>, medium: &HostFile, blocks: u64)
+    ensures same { server.new ≡ server.old }
+{
+    if let Some(image) = OpenImage::of(medium) {
+        server.watch(image, blocks);
+    }
+}
+
+// A new store over the open file of an image, all of which lasts; none where its size can't be read, so that the
+// old store goes on.
+fn grown(image: &Option<OpenImage>) -> Result<Option<FileStore<HostFile>>, ServeFault> {
+    let Some(medium) = image.as_ref().and_then(|image| image.medium()) else {
+        return Ok(None);
     };
-    serve_store(rt, words, job, served, &mut store)
+    match FileStore::new(medium) {
+        Ok(store) => Ok(Some(store)),
+        Err(_) => Err(ServeFault::Sync),
+    }
+}
+
+// A server that listens, and has no session, for those who may log in.
+fn opened<'a>(
+    rt: &HostRuntime,
+    job: ServeJob<'a>,
+    served: Serving<'a>,
+) -> Result<Server<'a>, ServeFault>
+    ensures empty { IfOk result (λ server. IsEmpty server.room.table) }
+    ensures door { IfOk result (λ server. server.room.door ≡ door_of served.entry.access) }
+{
+    match job.service {
+        Service::InTurn(options) => Server::open_in_turn(rt, options, served.access),
+        Service::AtOnce(options) => Server::open(rt, options, served.serial, served.access),
+    }
+}
+
+// A run of a server over a store, as the words and their job ask: who calls this has to have the access and the
+// store that they ask for.
+#[tactic(auto, using(crate::proofs::OpenLemmas::run_asked))]
+fn serve_run<S: AsStr, B: BlockStore>(
+    rt: &HostRuntime,
+    words: &[S],
+    job: ServeJob<'_>,
+    served: Serving<'_>,
+    server: &mut Server<'_>,
+    store: &mut B,
+) -> Result<RunEnd, ServeFault>
+    requires job { IsServeJob job }
+    requires asked { IsAsked (map S.text words.now) job served.access B.protected }
+    requires empty { IsEmpty server.old.room.table }
+    requires door { server.old.room.door ≡ door_of served.access }
+    // Whatever comes of it, it was a run of such a service.
+    ensures serves { ServesAsked (map S.text words.now) job.entry B.protected
+        (store_of (B.disk store.old) (B.failures store.old))
+        (store_of (B.disk store.new) (B.failures store.new)) }
+    ensures empty { result ≡ Ok ends.Grown → IsEmpty server.new.room.table }
+    ensures door { server.new.room.door ≡ door_of served.entry.access }
+{
+    server.run(rt, store)
 }
 
 // How an export is used that is written: a thin disk has it give room back.

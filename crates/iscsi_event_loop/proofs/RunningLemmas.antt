@@ -1,7 +1,7 @@
 -- What happens in the table of a service, one thing behind the other.
 use Rattle.std.proofs.Common.{◌≡◌, ◌<◌, ◌≤◌, ◌+◌, ◌-◌, ℕ, zero, suc, Bool, true, false, if◌then◌else◌, List, [], ◌∷◌, ◌++◌, length, Option, None, Some, refl, sym, ap, subst, ◌∙◌, arith}
-use Rattle.std.proofs.Common.{get_or, replicate, set}
-use Rattle.std.proofs.lemmas.Bool.{ltb-true, ltb-false}
+use Rattle.std.proofs.Common.{get_or, inl, inr, replicate, set}
+use Rattle.std.proofs.lemmas.Bool.{cases_lt, ltb-true, ltb-false}
 use Rattle.std.proofs.lemmas.List.{get_or_past, length-set, set-get_or}
 use Rattle.std.proofs.lemmas.List.Quantifiers.{position-Some}
 use mathlib.Core.Path.{fun_ext}
@@ -26,10 +26,11 @@ pub use Rattle.iscsi_serving.proofs.ExecutedLemmas.{none_executed}
 use Rattle.iscsi_event_loop.specs.declared.budget.Budget.{Budget}
 use Rattle.iscsi_event_loop.specs.Giving.{most_given}
 use Rattle.iscsi_event_loop.specs.inner.Giving.{GivesWithin}
+use Rattle.iscsi_event_loop.specs.Serving.{IsEmpty}
 use Rattle.iscsi_serving.specs.Access.{Door, IsAdmitted}
 use Rattle.iscsi_event_loop.specs.Admitting.{ComesBy}
 use Rattle.iscsi_event_loop.specs.Running.{Room, IsSameRoom, AreAdmitted, with_table}
-use Rattle.iscsi_event_loop.specs.Running.{InTurns, IsAmong, IsSlotEvent, OthersAreKept, RunsFew, RunsIdle, RunsInTurns, RunsWithin, Served, TurnOf, SlotTurns, most_taken, no_sessions, only_at_slot, taken_at, taken_by}
+use Rattle.iscsi_event_loop.specs.Running.{InTurns, IsAmong, IsSlotEvent, OthersAreKept, RunsFew, RunsIdle, RunsInTurns, RunsWithin, Served, TurnOf, SlotTurns, most_pdus, no_sessions, only_at_slot, taken_at, pdus_by}
 use Rattle.iscsi_event_loop.specs.inner.Running.{SlotRuns, RunsIdleAt, below}
 use Rattle.iscsi_event_loop.proofs.GivingLemmas.{comes_kept, goes_kept, none_gives, none_kept, same_kept, sent_gives, silent_gives, then_gives, then_kept, turn_gives, waits_less, waits_same}
 
@@ -317,7 +318,7 @@ changed_others slot old new P c = λ k ne. changed_other slot k old new (Some c.
 changed_at : (protected : Bool) (slot : ℕ) (had left : Budget) (old new : SessionTable) (before after : Store) (P : Slot → Slot → Type 0) (e : SlotEvent)
     → SlotChanges slot old new P
     → IsSlotEvent slot (length old.slots) e → SlotEventStep protected (machines old) before e (machines new) after
-    → ((k : ℕ) → taken_by k e + only_at_slot slot left.pdus k ≤ only_at_slot slot had.pdus k) → GivesWithin slot had.given left.given old (e ∷ []) new
+    → ((k : ℕ) → pdus_by k e + only_at_slot slot left.pdus k ≤ only_at_slot slot had.pdus k) → GivesWithin slot had.given left.given old (e ∷ []) new
     → SlotRuns protected slot had left old before new after
 unfolding SlotRuns
 changed_at protected slot had left old new before after P e c is h few gives = (
@@ -338,7 +339,7 @@ turn_at protected slot had left old new before after result some one same may c 
     let within : slot < length old.slots = some_within old.slots slot c.before c.was in
     changed_at protected slot had left old new before after _ (Takes h.turn) c
     (h.slot_is, subst (λ (k : ℕ). k < length old.slots) (sym h.slot_is) within, tt) h.is_turn
-    (λ k. subst (λ (n : ℕ). taken_by k (Takes h.turn) + only_at_slot slot n k ≤ only_at_slot slot had.pdus k) (sym one)
+    (λ k. subst (λ (n : ℕ). pdus_by k (Takes h.turn) + only_at_slot slot n k ≤ only_at_slot slot had.pdus k) (sym one)
     (subst (λ (s : ℕ). only_at_slot s 1 k + only_at_slot slot (had.pdus - 1) k ≤ only_at_slot slot had.pdus k) (sym h.slot_is)
     (only_less (nat_lt k slot) (nat_lt slot k) had.pdus some)))
     (subst (λ (n : ℕ). GivesWithin slot had.given n old (Takes h.turn ∷ []) new) (sym same)
@@ -451,14 +452,14 @@ turn_few protected slot most budget old new before after le p =
     few_idle protected (only_at_slot slot most) old (with_table p.0 old) new before after (at_few protected slot most budget old p.0 before after le p.1) p.2
 
 in_turns_few : (protected : Bool) (n : ℕ) (old new : Room) (before after : Store) → InTurns protected n old before new after
-    → RunsFew protected (below n most_taken) old before new after
+    → RunsFew protected (below n most_pdus) old before new after
 unfolding InTurns
 in_turns_few protected zero old new before after p =
-    subst (λ (t : Store). RunsFew protected (below 0 most_taken) old before new t) (sym p.1)
-    (idle_few protected (below 0 most_taken) old new new before before p.0 (none_few protected (below 0 most_taken) new before))
+    subst (λ (t : Store). RunsFew protected (below 0 most_pdus) old before new t) (sym p.1)
+    (idle_few protected (below 0 most_pdus) old new new before before p.0 (none_few protected (below 0 most_pdus) new before))
 in_turns_few protected (suc n) old new before after p =
-    then_few protected (below n most_taken) (only_at_slot n most_taken) (below (suc n) most_taken) old p.0 new before p.1 after (below_next n most_taken)
-    (in_turns_few protected n old p.0 before p.1 p.4) (turn_few protected n most_taken p.2 p.0 new p.1 after p.3.0 p.5)
+    then_few protected (below n most_pdus) (only_at_slot n most_pdus) (below (suc n) most_pdus) old p.0 new before p.1 after (below_next n most_pdus)
+    (in_turns_few protected n old p.0 before p.1 p.4) (turn_few protected n most_pdus p.2 p.0 new p.1 after p.3.0 p.5)
 
 below_few : (protected : Bool) (i n : ℕ) (old new : Room) (before after : Store) → RunsFew protected (below i n) old before new after
     → RunsFew protected (λ k. n) old before new after
@@ -477,7 +478,7 @@ unfolding InTurns
 none_in_turns protected room store = (none_idle room, refl)
 
 -- a slot more had its turn
-pub next_turns : (protected : Bool) (n : ℕ) (budget : Budget) (a b c : Room) (s t u : Store) → budget.pdus ≤ most_taken → budget.given ≤ most_given
+pub next_turns : (protected : Bool) (n : ℕ) (budget : Budget) (a b c : Room) (s t u : Store) → budget.pdus ≤ most_pdus → budget.given ≤ most_given
     → InTurns protected n a s b t → TurnOf protected n budget b t c u → InTurns protected (n + 1) a s c u
 unfolding InTurns
 next_turns protected n budget a b c s t u few much p q =
@@ -496,8 +497,8 @@ unfolding RunsInTurns
 all_turns protected n old new before after p = (n, p)
 
 pub all_few : (protected : Bool) (n : ℕ) (old new : Room) (before after : Store) → InTurns protected n old before new after
-    → RunsFew protected (λ k. most_taken) old before new after
-all_few protected n old new before after p = below_few protected n most_taken old new before after (in_turns_few protected n old new before after p)
+    → RunsFew protected (λ k. most_pdus) old before new after
+all_few protected n old new before after p = below_few protected n most_pdus old new before after (in_turns_few protected n old new before after p)
 
 pub none_turns : (protected : Bool) (room : Room) (store : Store) → RunsInTurns protected room store room store
 unfolding RunsInTurns
@@ -533,6 +534,38 @@ all_served protected count door old new before after many free same r = record {
   runs = subst (λ (x : Slots). SlotEventsRun protected x before r.1 (machines new.table) after)
       (fun_ext (λ k. ap (λ (h : SessionTable). machines h k) free ∙ ap machine_in (free_at count k))) r.3;
 }
+
+none_of : {A : Type 0} (o : Option A) → is_some o ≡ false → o ≡ None
+none_of None e = refl
+none_of (Some x) e = absurd (let h : true ≡ false = e in cc)
+
+-- slots that are free have no session
+pub free_empty : (table : SessionTable) (count : ℕ) → table ≡ free_slots count → IsEmpty table
+free_empty table count free slot lt = ap (λ (t : SessionTable). is_some (slot_at t slot)) free ∙ ap is_some (free_at count slot)
+
+empty_at : (table : SessionTable) → IsEmpty table → (k : ℕ) → slot_at table k ≡ None
+empty_at table empty k = elim (cases_lt k (length table.slots)) [
+  | inl lt ↦ none_of (slot_at table k) (empty k lt)
+  | inr ge ↦ get_or_past table.slots k None ge
+]
+
+-- a run from slots without a session on is one from free slots on
+pub empty_served : (protected : Bool) (old new : Room) (before after : Store) → RunsWithin protected old before new after → IsEmpty old.table
+    → Served protected (length old.table.slots) old.door before after
+unfolding RunsWithin
+empty_served protected old new before after r empty = record {
+  events = r.1;
+  few = r.2.0;
+  admitted = r.2.1;
+  slots = machines new.table;
+  runs = subst (λ (x : Slots). SlotEventsRun protected x before r.1 (machines new.table) after)
+      (fun_ext (λ k. ap machine_in (empty_at old.table empty k))) r.3;
+}
+
+-- a run keeps the slots, and who may come there
+pub runs_same : (protected : Bool) (old new : Room) (before after : Store) → RunsWithin protected old before new after → IsSameRoom old new
+unfolding RunsWithin
+runs_same protected old new before after r = r.0
 
 -- ---- a part of a run
 

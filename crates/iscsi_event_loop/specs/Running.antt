@@ -18,21 +18,21 @@ abbrev pub only_at_slot : ℕ → ℕ → ℕ → ℕ
 only_at_slot slot n k = if nat_lt k slot then 0 else if nat_lt slot k then 0 else n
 
 -- How many PDUs an event takes at a slot. A turn takes one, or a part of one.
-abbrev pub taken_by : ℕ → SlotEvent → ℕ
-taken_by k (Takes turn) = only_at_slot turn.slot 1 k
-taken_by k (Comes slot settings) = 0
-taken_by k (Syncs slot) = 0
-taken_by k (Ends slot) = 0
-taken_by k (Goes slot) = 0
+abbrev pub pdus_by : ℕ → SlotEvent → ℕ
+pdus_by k (Takes turn) = only_at_slot turn.slot 1 k
+pdus_by k (Comes slot settings) = 0
+pdus_by k (Syncs slot) = 0
+pdus_by k (Ends slot) = 0
+pdus_by k (Goes slot) = 0
 
 -- How many PDUs events take at a slot.
 abbrev pub taken_at : ℕ → List SlotEvent → ℕ
 taken_at k [] = 0
-taken_at k (e ∷ es) = taken_by k e + taken_at k es
+taken_at k (e ∷ es) = pdus_by k e + taken_at k es
 
 -- How many PDUs a turn of a slot takes at most (own rule).
-abbrev pub most_taken : ℕ
-most_taken = 8
+abbrev pub most_pdus : ℕ
+most_pdus = 8
 
 -- ---- in the whole table
 
@@ -116,7 +116,7 @@ TurnOf protected slot budget old before new after =
 
 -- A budget is no more than eight PDUs and 262,144 bytes.
 abbrev pub IsSmall : Budget → Type 0
-IsSmall budget = (budget.pdus ≤ most_taken) × (budget.given ≤ most_given)
+IsSmall budget = (budget.pdus ≤ most_pdus) × (budget.given ≤ most_given)
 
 -- Sessions come and go, and then each of the first n slots has such a turn, one after another.
 unfoldable pub InTurns : Bool → ℕ → Room → Store → Room → Store → Type 0

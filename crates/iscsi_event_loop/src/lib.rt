@@ -5,6 +5,7 @@ mod accepting;
 mod budget;
 mod configuration;
 mod connection;
+mod growth;
 pub mod laws;
 mod limited;
 mod lines;
@@ -27,5 +28,5 @@ pub use iscsi_options::{
 };
 pub use iscsi_serving::SessionEnd;
 pub use limited::LimitedStore;
-pub use server::Server;
+pub use server::{RunEnd, Server};
 pub use service::{memory_store, serve_at_once, serve_in_turn};

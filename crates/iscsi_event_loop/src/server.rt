@@ -9,24 +9,27 @@ ghost use Rattle.iscsi_serving.specs.declared.fault.ServeFault.TheVariants as se
 ghost use Rattle.std.specs.Option.{option_map};
 ghost use Rattle.iscsi_options.specs.Options.{stop_count};
 ghost use Rattle.iscsi_serving.specs.Access.{door_of};
-ghost use Rattle.iscsi_event_loop.specs.Running.{RunsFew, RunsInTurns, RunsWithin, most_taken};
+ghost use Rattle.iscsi_event_loop.specs.Running.{RunsFew, RunsInTurns, RunsWithin, most_pdus};
 ghost use Rattle.iscsi_event_loop.specs.Serving.{has_all, IsServiceDone, IsEmpty};
 
 mod admitting;
 mod ending;
+mod running;
 mod serving;
 mod waiting;
 
 use crate::accepting::Accepting;
+use crate::growth::Watched;
 use crate::lines::Lines;
 use crate::manner::Manner;
 use crate::peer::{Peer, no_peers};
-use crate::system::{listen, now};
+use crate::system::{OTHER_DESCRIPTORS, listen, most_descriptors, now};
 use iscsi_options::{Options, Stop};
 use iscsi_serving::{Access, ServeFault};
 use iscsi_sessions::SessionTable;
 use mio::net::TcpListener;
 use mio::{Events, Poll};
+pub use running::RunEnd;
 use scsi_disk::BlockStore;
 use std::alloc::{AllocError, Global};
 use std::marker::Model;
@@ -59,6 +62,8 @@ pub struct Server<'a> {
     accepted: u64,
     // how many turns were taken since the system was asked who is ready
     unasked: u32,
+    // the image, if it may grow
+    watched: Option<Watched>,
 }
 
 impl<'a> Model for Server<'a> {
@@ -81,8 +86,8 @@ impl<'a> Model for Server<'a> {
 
 impl<'a> Server<'a> {
     /// Listens, with all slots free, for those who may log in. The disk has this serial number, 1 to 16 bytes
-    /// of `!` to `~`, if it tells one. `Network` is returned where that fails, and `NoMemory` where memory
-    /// runs out.
+    /// of `!` to `~`, if it tells one. `Network` is returned where that fails, and, with a line, if there are more
+    /// slots than the process may have descriptors for; `NoMemory` where memory runs out.
     pub fn open(
         rt: &HostRuntime,
         options: Options<'a>,
@@ -92,12 +97,14 @@ impl<'a> Server<'a> {
         ensures slots { IfOk result (λ server. length server.room.table.slots ≡ options.entry.at_once) }
         ensures free { IfOk result (λ server.
             server.room.table ≡ free_slots options.entry.at_once) }
+        ensures empty { IfOk result (λ server. IsEmpty server.room.table) }
         ensures door { IfOk result (λ server. server.room.door ≡ door_of access.entry) }
         ensures counted { IfOk result (λ server. server.counted ≡ 0) }
         ensures most { IfOk result (λ server.
             server.most ≡ option_map stop_count options.entry.stop) }
         ensures ends { IfErr result EndsService }
     {
+        allow_slots(rt, options.at_once)?;
         Server::opened(rt, options, serial, access, Manner::AtOnce)
     }
 
@@ -112,6 +119,7 @@ impl<'a> Server<'a> {
         ensures slots { IfOk result (λ server. length server.room.table.slots ≡ 1) }
         ensures free { IfOk result (λ server.
             server.room.table ≡ free_slots 1) }
+        ensures empty { IfOk result (λ server. IsEmpty server.room.table) }
         ensures door { IfOk result (λ server. server.room.door ≡ door_of access.entry) }
         ensures counted { IfOk result (λ server. server.counted ≡ 0) }
         ensures most { IfOk result (λ server.
@@ -122,7 +130,8 @@ impl<'a> Server<'a> {
     }
 
     // Listens, with all slots free, for connections that are taken in this manner.
-    pub(crate) fn opened(
+    #[tactic(auto, using(crate::proofs::RunningLemmas::free_empty))]
+    fn opened(
         rt: &HostRuntime,
         options: Options<'a>,
         serial: &'a [u8],
@@ -132,6 +141,7 @@ impl<'a> Server<'a> {
         ensures slots { IfOk result (λ server. length server.room.table.slots ≡ options.entry.at_once) }
         ensures free { IfOk result (λ server.
             server.room.table ≡ free_slots options.entry.at_once) }
+        ensures empty { IfOk result (λ server. IsEmpty server.room.table) }
         ensures door { IfOk result (λ server. server.room.door ≡ door_of access.entry) }
         ensures counted { IfOk result (λ server. server.counted ≡ 0) }
         ensures most { IfOk result (λ server.
@@ -162,6 +172,7 @@ impl<'a> Server<'a> {
             arrivals,
             accepted: 0,
             unasked: 0,
+            watched: None,
         })
     }
 
@@ -238,7 +249,7 @@ impl<'a> Server<'a> {
             self.old.room (store_of (S.disk store.old) (S.failures store.old))
             self.new.room (store_of (S.disk store.new) (S.failures store.new)) }
         // Each slot takes eight PDUs at most: so much the others do between two turns of one.
-        ensures few { RunsFew S.protected (λ k. most_taken)
+        ensures few { RunsFew S.protected (λ k. most_pdus)
             self.old.room (store_of (S.disk store.old) (S.failures store.old))
             self.new.room (store_of (S.disk store.new) (S.failures store.new)) }
         // Each slot has one turn at most. All its writes but the last one give the peer 262,144 bytes
@@ -256,6 +267,28 @@ impl<'a> Server<'a> {
         ensures ends { IfErr result EndsService }
     {
         self.wait(now(rt)?)?;
+        self.act(rt, store)
+    }
+
+    // What a turn does behind its wait.
+    #[tactic(auto, using(crate::proofs::RunningLemmas::none_turns, crate::proofs::RunningLemmas::idle_turns, crate::proofs::RunningLemmas::none_few, crate::proofs::RunningLemmas::none_runs, crate::proofs::RunningLemmas::idle_few, crate::proofs::RunningLemmas::few_runs, crate::proofs::RunningLemmas::none_executed, crate::proofs::RunningLemmas::runs_executed))]
+    fn act<S: BlockStore>(&mut self, rt: &HostRuntime, store: &mut S) -> Result<(), ServeFault>
+        ensures runs { RunsWithin S.protected
+            self.old.room (store_of (S.disk store.old) (S.failures store.old))
+            self.new.room (store_of (S.disk store.new) (S.failures store.new)) }
+        ensures few { RunsFew S.protected (λ k. most_pdus)
+            self.old.room (store_of (S.disk store.old) (S.failures store.old))
+            self.new.room (store_of (S.disk store.new) (S.failures store.new)) }
+        ensures turns { RunsInTurns S.protected
+            self.old.room (store_of (S.disk store.old) (S.failures store.old))
+            self.new.room (store_of (S.disk store.new) (S.failures store.new)) }
+        ensures blocks { HasExecuted S.protected (S.disk store.old) (S.disk store.new) }
+        ensures slots { length self.new.room.table.slots ≡ length self.old.room.table.slots }
+        ensures most { self.new.most ≡ self.old.most }
+        ensures counted { self.old.counted ≤ self.new.counted }
+        ensures live { OnOk result (self.new.room.table.lost ≡ false) }
+        ensures ends { IfErr result EndsService }
+    {
         let now = now(rt)?;
         self.admit(rt, now);
         self.serve_peers(rt, store, now);
@@ -272,6 +305,22 @@ impl<'a> Server<'a> {
             return Err(ServeFault::Sync);
         }
         self.manner.goes_on()
+    }
+}
+
+// Refuses, with a line, more slots than the process may have descriptors for.
+fn allow_slots(rt: &HostRuntime, slots: u16) -> Result<(), ServeFault>
+    ensures ends { IfErr result EndsService }
+{
+    let wanted = u64::from(slots) + OTHER_DESCRIPTORS;
+    match most_descriptors() {
+        Some(most) if most < wanted => {
+            let _ = eprintln!(rt;
+                "--at-once {slots} wants {wanted} descriptors, and the limit is {most}"
+            );
+            Err(ServeFault::Network)
+        }
+        _ => Ok(()),
     }
 }
 

@@ -20,8 +20,8 @@ use std::time::Instant;
 pub const LISTENER: Token = Token(usize::MAX);
 
 /// How many descriptors a service has besides those of its slots: three streams, what tells of sockets,
-/// the listener, an image, and a connection for which another one makes room.
-pub const OTHER_DESCRIPTORS: u64 = 7;
+/// the listener, two of an image, and a connection for which another one makes room.
+pub const OTHER_DESCRIPTORS: u64 = 8;
 
 /// After how many seconds of silence the system asks a peer whether it is there.
 const SILENT: i32 = 60;

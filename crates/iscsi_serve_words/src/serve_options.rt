@@ -48,7 +48,7 @@ pub(crate) const UNIT: &[Word] = &[
         name: "thin",
         kind: WordKind::Flag,
         beside: None,
-        help: "Take WRITE SAME, as fstrim sends it (always so with a disk in memory)",
+        help: "Take UNMAP and WRITE SAME (always so with a disk in memory)",
     },
     Word {
         name: "write-back",

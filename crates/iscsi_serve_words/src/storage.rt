@@ -3,11 +3,10 @@
 ghost use Rattle.std.specs.Prelude.{◌≡◌, IfOk, IfErr};
 ghost use Rattle.scsi_file.specs.FileStore.{store_medium};
 ghost use Rattle.scsi_file.specs.HostFile.{file_blocks};
-ghost use Rattle.scsi_disk.specs.ReadOnly.{store_in};
 ghost use Rattle.iscsi_serve_words.specs.Storage.{CanBeOpened, HasAsked, HasAskedBlocks, IsOther, IsOtherImage, asked_by};
 
 use crate::nbd_storage::NbdExport;
-use scsi_disk::{BlockStore, ReadOnly};
+use scsi_disk::BlockStore;
 use scsi_file::{FileStore, HostFile, OpenFault};
 use std::fs;
 use std::rt::Files;
@@ -110,18 +109,15 @@ impl Image<'_> {
         }
     }
 
-    /// The image as a store that can't be written, which other processes may have so at the same time.
-    /// It is there, and has as many blocks as were asked for.
-    pub fn open_read_only(
-        &self,
-        rt: &HostRuntime,
-    ) -> Result<ReadOnly<FileStore<HostFile>>, ImageFault>
+    /// The image as a store, for reading alone, which other processes may have so at the same time. It is there, and
+    /// has as many blocks as were asked for. A write of it fails.
+    pub fn open_read_only(&self, rt: &HostRuntime) -> Result<FileStore<HostFile>, ImageFault>
         ensures blocks { IfOk result (λ store.
-            HasAsked self.now.origin (file_blocks (store_medium (store_in store)))) }
+            HasAsked self.now.origin (file_blocks (store_medium store))) }
         ensures other { IfErr result (IsOtherImage (asked_by self.now.origin)) }
     {
         let store = settled(HostFile::open_read_only(rt, self.path)?)?;
-        Ok(ReadOnly::new(sized(store, self.origin.blocks())?))
+        sized(store, self.origin.blocks())
     }
 }
 

@@ -76,6 +76,13 @@ impl<M: Medium + Drop> FileStore<M> {
 impl<M: Medium> FileStore<M> {
     ghost use Rattle.scsi_file.specs.FileStore.{store_medium, failed_by};
 
+    /// The medium.
+    pub fn medium(&self) -> &M
+        ensures { result.now ≡ store_medium self.now }
+    {
+        &self.medium
+    }
+
     /// The medium, as the store leaves it.
     pub fn into_medium(self) -> M
         ensures { result ≡ store_medium self }

@@ -151,25 +151,21 @@ impl HostFile {
         }
     }
 
-    // An image of `n` bytes.
-    fn of(file: File, bytes: u64) -> Result<HostFile, OpenFault>
+    /// An image of `n` bytes.
+    pub(crate) fn of(file: File, bytes: u64) -> Result<HostFile, OpenFault>
         ensures size { IfOk result (λ file. 512 * file_blocks file ≡ bytes) }
     {
-        if bytes == 0 {
-            return Err(OpenFault::Empty);
-        }
-        if bytes % 512 != 0 {
-            return Err(OpenFault::NotWhole);
-        }
-        let blocks = bytes / 512;
-        if blocks > MOST_BLOCKS {
-            return Err(OpenFault::TooLarge);
-        }
+        let blocks = blocks_in(bytes)?;
         Ok(HostFile {
             file,
             blocks,
             calls: 0,
         })
+    }
+
+    /// Another handle of its file; none if the system has none.
+    pub(crate) fn file_again(&self) -> Option<File> {
+        self.file.try_clone().ok()
     }
 
     // Whether the file ends before the image does, since somebody cut it. A write behind its end would
@@ -223,9 +219,28 @@ fn is_stream(rt: &HostRuntime, path: &str) -> bool {
     }
 }
 
+// How many blocks an image of `n` bytes has.
+pub(crate) fn blocks_in(bytes: u64) -> Result<u64, OpenFault>
+    ensures size { IfOk result (λ blocks. 512 * blocks ≡ bytes) }
+    ensures some { IfOk result (λ blocks. 0 < blocks) }
+    ensures few { IfOk result (λ blocks. blocks ≤ most_blocks) }
+{
+    if bytes == 0 {
+        return Err(OpenFault::Empty);
+    }
+    if bytes % 512 != 0 {
+        return Err(OpenFault::NotWhole);
+    }
+    let blocks = bytes / 512;
+    if blocks > MOST_BLOCKS {
+        return Err(OpenFault::TooLarge);
+    }
+    Ok(blocks)
+}
+
 // How many bytes an image has. The length that the system tells of a block device is 0, so there
 // the end is looked for.
-fn measure(mut file: &File) -> Result<u64, OpenFault> {
+pub(crate) fn measure(mut file: &File) -> Result<u64, OpenFault> {
     let Ok(about) = file.metadata() else {
         return Err(OpenFault::NotOpened);
     };

@@ -5,10 +5,12 @@ mod crash_memory;
 mod file_store;
 mod host_file;
 mod medium;
+mod open_image;
 mod stops_at;
 
 pub use crash_memory::CrashMemory;
 pub use file_store::FileStore;
 pub use host_file::{HostFile, OpenFault};
 pub use medium::Medium;
+pub use open_image::OpenImage;
 pub use stops_at::StopsAt;

@@ -85,6 +85,18 @@ impl<'a> Server<'a> {
         }
     }
 
+    // Tells at a login that the image has grown, if it has: the session has the blocks that it had before.
+    pub(super) fn tell_growth(&mut self, rt: &HostRuntime, slot: usize)
+        ensures same { self.new ≡ self.old }
+    {
+        if !self.table.is_served(slot) {
+            return;
+        }
+        if let Some(grown) = self.watched.as_ref().and_then(|watched| watched.grown()) {
+            self.tell(rt, slot, grown);
+        }
+    }
+
     // Tells that initiators of two names are logged in to a disk that can be written, if they are: each of them
     // may take the other's blocks for its own.
     pub(super) fn tell_other(&mut self, rt: &HostRuntime, slot: usize)

@@ -2,7 +2,7 @@
 
 ghost use Rattle.std.specs.Prelude.{◌≡◌, ◌≤◌, length};
 ghost use Rattle.iscsi_target.specs.Advances.{store_of};
-ghost use Rattle.iscsi_event_loop.specs.Running.{RunsFew, RunsIdle, RunsInTurns, TurnOf, most_taken};
+ghost use Rattle.iscsi_event_loop.specs.Running.{RunsFew, RunsIdle, RunsInTurns, TurnOf, most_pdus};
 
 use super::Server;
 use crate::budget::Budget;
@@ -25,7 +25,7 @@ impl<'a> Server<'a> {
         ensures turns { RunsInTurns S.protected
             self.old.room (store_of (S.disk store.old) (S.failures store.old))
             self.new.room (store_of (S.disk store.new) (S.failures store.new)) }
-        ensures few { RunsFew S.protected (λ k. most_taken)
+        ensures few { RunsFew S.protected (λ k. most_pdus)
             self.old.room (store_of (S.disk store.old) (S.failures store.old))
             self.new.room (store_of (S.disk store.new) (S.failures store.new)) }
         ensures slots { length self.new.room.table.slots ≡ length self.old.room.table.slots }
@@ -96,6 +96,7 @@ impl<'a> Server<'a> {
     {
         if is_login {
             self.tell_login(rt, slot);
+            self.tell_growth(rt, slot);
             self.end_older(rt, slot);
             self.tell_other(rt, slot);
             self.count_login(rt);

@@ -2,7 +2,7 @@
 
 use super::{read, same, spelled, write};
 use scsi_disk::{BlockStore, StoreFault};
-use scsi_file::{FileStore, HostFile, OpenFault};
+use scsi_file::{FileStore, HostFile, Medium, OpenFault, OpenImage};
 use std::os::unix::fs::PermissionsExt;
 use std::test::Fail;
 
@@ -161,5 +161,39 @@ fn a_write_behind_the_end_of_a_cut_image_fails(rt: HostRuntime) -> Result<(), Fa
     same(&rt, &whole, &Ok(()), &"while it is whole");
     same(&rt, &answer, &Err(StoreFault::Device), &"behind its end");
     same(&rt, &len, &1024, &"its length");
+    Ok(())
+}
+
+#[test]
+fn a_new_medium_has_what_the_image_grew_by(rt: HostRuntime) -> Result<(), Fail> {
+    let path = "grown.img";
+    let _ = std::fs::remove_file(&rt, path);
+    let Ok(first) = HostFile::create(&rt, path, 8) else {
+        return Err(Fail::from("not made"));
+    };
+    let Some(image) = OpenImage::of(&first) else {
+        return Err(Fail::from("no handle"));
+    };
+    let file = std::fs::File::options().write(true).open(&rt, path)?;
+    let mut seen = [None; 4];
+    for (bytes, blocks) in [4096, 4608, 4700, 1024].iter().zip(seen.iter_mut()) {
+        file.set_len(*bytes)?;
+        *blocks = image.blocks();
+    }
+    file.set_len(4608)?;
+    let second = image.medium().map(|medium| medium.blocks());
+    drop(image);
+    // The first medium has the lock, and as many blocks as before.
+    let fault = fault_of(&rt, path);
+    let _ = std::fs::remove_file(&rt, path);
+    same(
+        &rt,
+        &seen,
+        &[Some(8), Some(9), None, Some(2)],
+        &"its blocks",
+    );
+    same(&rt, &second, &Some(9), &"a new medium");
+    same(&rt, &first.blocks(), &8, &"the first medium");
+    same(&rt, &fault, &Some(OpenFault::InUse), &"the lock");
     Ok(())
 }
