@@ -150,8 +150,9 @@ def forms(checks, name, path, lines):
     noted = run(("show", "--capture", str(path), "--explain"))[1].decode().splitlines()
     objects = [json.loads(line) for line in run(("show", "--capture", str(path), "--json"))[1].decode().splitlines()]
     checks.check(f"{name}: --explain", [line for line in noted if line[:1] != " "] == lines, "its lines are not those without")
-    marks = [f"{each['connection']} {each['time']} {'>' if each['from'] == 'initiator' else '<'} {each['place']} {each['kind']}" for each in objects]
-    checks.check(f"{name}: --json", marks == [" ".join(line.split(" ")[:5]) for line in lines], "its objects are not those of the lines")
+    marks = [(str(each["connection"]), each["time"], ">" if each["from"] == "initiator" else "<", str(each["place"]), each["kind"]) for each in objects]
+    due = [(number, float(time), *rest) for number, time, *rest in (line.split(" ")[:5] for line in lines)]
+    checks.check(f"{name}: --json", marks == due, "its objects are not those of the lines")
 
 
 def interleaved(checks, name, path, found, in_order):

@@ -56,12 +56,12 @@ behind_family packet =
 
 -- The links that are read: Ethernet (1), where up to four tags stand between the addresses and the
 -- EtherType; Linux's cooked headers of version 1 (113) and 2 (276); loopback (0, 108); raw IP
--- (101, 228, 229).
+-- (101, 228, 229, and 12 and 14 as systems of BSD number it).
 unfoldable pub network_at : ℕ → List ℕ → Result (Option ℕ) PacketFault
 network_at link packet =
     if link == 1 then behind_tags 5 12 packet
     else if link == 113 then behind_cooked 14 16 packet
     else if link == 276 then behind_cooked 0 20 packet
     else if link == 0 || link == 108 then behind_family packet
-    else if link == 101 || (link == 228 || link == 229) then Ok (Some 0)
+    else if link == 101 || (link == 228 || (link == 229 || (link == 12 || link == 14))) then Ok (Some 0)
     else Err (Link link)

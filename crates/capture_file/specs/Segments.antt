@@ -9,7 +9,8 @@ use Rattle.capture_file.specs.declared.fault.PacketFault.TheVariants.{Cut}
 use Rattle.capture_file.specs.Numbers.{ordered_number}
 use Rattle.capture_file.specs.Layers.{onward}
 use Rattle.capture_file.specs.Links.{network_at}
-use Rattle.capture_file.specs.Internet.{Inside, inside}
+use Rattle.capture_file.specs.Internet.{Inside}
+use Rattle.capture_file.specs.Tunnels.{carried}
 
 -- A segment: its ends, the number of its first byte, the number of the byte that is awaited, four
 -- flags, the bytes that were captured, and how many were not.
@@ -77,7 +78,7 @@ tcp_segment c =
 abbrev pub segment_behind : Packet → ℕ → Result (Option Tcp) PacketFault
 segment_behind packet before =
     if nat_lt (length packet.bytes.now) before || nat_lt packet.original before then Err Cut
-    else onward tcp_segment (inside (packet.original - before) (drop before packet.bytes.now))
+    else onward tcp_segment (carried (packet.original - before) (drop before packet.bytes.now))
 
 -- The segment of a packet. The answer is None if the packet has another protocol, or if no receiver
 -- takes it. It is a fault for another link type, for a fragment, and for headers that were not captured.

@@ -12,6 +12,7 @@ mod packet;
 mod packet_blocks;
 mod segment;
 mod time_units;
+mod tunnel;
 
 pub use capture::Capture;
 pub use fault::{CaptureFault, PacketFault};

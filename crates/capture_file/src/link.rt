@@ -1,6 +1,6 @@
 //! What the header of a link says is inside (the registry of LINKTYPE values; IEEE 802.3, 802.1Q).
 
-ghost use Rattle.std.specs.Prelude.{◌≡◌, ◌+◌, ◌≤◌};
+ghost use Rattle.std.specs.Prelude.{◌≡◌, ◌+◌, ◌≤◌, length, IfOk, IfSome};
 ghost use Rattle.capture_file.specs.Links.{network_at, behind_tags, behind_cooked, behind_family, is_ip, is_vlan_tag};
 
 use crate::fault::PacketFault;
@@ -16,15 +16,16 @@ pub(crate) fn before_network(link: u16, packet: &[u8]) -> Result<Option<usize>, 
         113 => cooked(packet, 14, 16),
         276 => cooked(packet, 0, 20),
         0 | 108 => loopback(packet),
-        101 | 228 | 229 => Ok(Some(0)),
+        101 | 228 | 229 | 12 | 14 => Ok(Some(0)),
         _ => Err(PacketFault::Link(link)),
     }
 }
 
-// Ethernet (1), with up to four VLAN tags of 4 bytes.
+/// Ethernet (1), with up to four VLAN tags of 4 bytes.
 #[tactic(auto, using(crate::proofs::Headers::tags))]
-fn ethernet(packet: &[u8]) -> Result<Option<usize>, PacketFault>
-    ensures { result ≡ behind_tags 5 12 packet.now }
+pub(crate) fn ethernet(packet: &[u8]) -> Result<Option<usize>, PacketFault>
+    ensures is { result ≡ behind_tags 5 12 packet.now }
+    ensures within { IfOk result (λ before. IfSome before (λ n. n ≤ length packet.now)) }
 {
     let mut at: usize = 12;
     for _ in 0..5u8 {
@@ -43,9 +44,9 @@ fn ethernet(packet: &[u8]) -> Result<Option<usize>, PacketFault>
     Ok(None)
 }
 
-// The EtherTypes of IPv4 and IPv6.
+/// Whether that is the EtherType of IPv4 or IPv6.
 #[tactic(auto, unfolding(crate::specs::Links::is_ip))]
-fn is_ip(kind: u16) -> bool
+pub(crate) fn is_ip(kind: u16) -> bool
     ensures { result ≡ is_ip kind }
 {
     kind == 0x0800 || kind == 0x86dd

@@ -6,9 +6,10 @@ ghost use Rattle.capture_file.specs.Segments.{plain_segment, segment_in, tcp_seg
 
 use crate::fault::PacketFault;
 use crate::link::before_network;
-use crate::network::{Carried, Endpoint, tcp_inside};
+use crate::network::{Carried, Endpoint};
 use crate::numbers::{Order, u16_at, u32_at};
 use crate::packet::Packet;
+use crate::tunnel::carried;
 
 /// A TCP segment (RFC 9293, section 3.1).
 #[derive(Clone, Copy)]
@@ -35,7 +36,7 @@ pub struct Segment<'a> {
     pub missing: usize,
 }
 
-/// The TCP segment of a packet; `None` where it has none that a receiver takes: another protocol,
+/// The TCP segment of a packet, itself or in a tunnel of GRE or VXLAN; `None` where it has none that a receiver takes: another protocol,
 /// or lengths that cannot be. Checksums are not looked at, since a card may fill them in later.
 ///
 /// `Link` comes for a link type that is not read, and `Cut` if the capture does not have all
@@ -51,7 +52,7 @@ pub fn segment_of<'a>(packet: Packet<'a>) -> Result<Option<Segment<'a>>, PacketF
     if before > packet.bytes.len() || before > original {
         return Err(PacketFault::Cut);
     }
-    let Some(carried) = tcp_inside(&packet.bytes[before..], original - before)? else {
+    let Some(carried) = carried(&packet.bytes[before..], original - before)? else {
         return Ok(None);
     };
     tcp(carried)

@@ -129,6 +129,7 @@ cut_then faults.NotPermitted P Q g h = tt
 cut_then faults.Directory P Q g h = tt
 cut_then (faults.Reads a) P Q g h = tt
 cut_then faults.Empty P Q g h = tt
+cut_then faults.Gzip P Q g h = tt
 cut_then faults.NoSession P Q g h = tt
 cut_then faults.Write P Q g h = tt
 cut_then (faults.Format a) P Q g h = tt
@@ -145,6 +146,7 @@ cut_then (faults.Stream a b) P Q g h = tt
 cut_then (faults.Protocol a b) P Q g h = tt
 cut_then (faults.Begun a) P Q g h = tt
 cut_then (faults.Assumed a b c d) P Q g h = tt
+cut_then (faults.Digest a b c d e) P Q g h = tt
 cut_then (faults.NoConnection a) P Q g h = tt
 
 pub one_cut : {T : Type 0} (list : List Connection) (number : ℕ) (heard : Heard) (wanted : Wanted)

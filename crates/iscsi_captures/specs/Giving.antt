@@ -82,6 +82,7 @@ IsFaultOf number left (faults.Stream connection fault) = ⊥
 IsFaultOf number left (faults.Protocol connection rule) = ⊥
 IsFaultOf number left faults.NoSession = ⊥
 IsFaultOf number left (faults.Assumed connection end offset packet) = ⊥
+IsFaultOf number left (faults.Digest connection end part offset packet) = ⊥
 IsFaultOf number left (faults.Truncated at) = IsAtEnd left
 IsFaultOf number left faults.Empty = IsAtEnd left
 IsFaultOf number left (faults.NoConnection connection) = (connection ≡ number) × IsAtEnd left

@@ -12,6 +12,15 @@ use std::alloc::{AllocError, AllocFailed};
 use std::error::Error;
 use std::fmt::{self, Debug, Display, Formatter, Write};
 
+/// A part of a PDU that a digest is for.
+#[derive(Clone, Copy, Debug, PartialEq, Eq)]
+pub enum Summed {
+    /// The header.
+    Header,
+    /// The data segment.
+    Data,
+}
+
 /// Why a job over a capture stops. `at` is the number of file bytes before a record or block, and
 /// packets count from 1.
 #[derive(Clone, Copy, PartialEq, Eq)]
@@ -38,6 +47,8 @@ pub enum CapturesFault {
     Format {
         at: u64,
     },
+    /// The file is compressed with gzip.
+    Gzip,
     /// A record or block has a length that cannot be, or has a packet and is longer than 1 MiB.
     Length {
         at: u64,
@@ -104,6 +115,15 @@ pub enum CapturesFault {
         offset: u64,
         packet: u64,
     },
+    /// The digest of a part of a PDU is not its CRC32C. The PDU begins at this byte of the end's
+    /// stream, and its part was whole with this packet.
+    Digest {
+        connection: usize,
+        end: End,
+        part: Summed,
+        offset: u64,
+        packet: u64,
+    },
     /// The capture has no connection that begins with a login request.
     NoSession,
     /// The capture has no connection with this number.
@@ -141,6 +161,7 @@ impl CapturesFault {
             CapturesFault::Directory => "is a directory",
             CapturesFault::Reads { .. } => "not at its end after 16777216 reads",
             CapturesFault::Empty => "capture: empty",
+            CapturesFault::Gzip => "capture: compressed with gzip",
             CapturesFault::NoSession => "capture: no iSCSI connection",
             CapturesFault::Write => "write failed",
             CapturesFault::Format { .. } => "capture: unknown format at ",
@@ -161,6 +182,7 @@ impl CapturesFault {
                 end: End::Target,
                 ..
             } => "target assumed from byte ",
+            CapturesFault::Digest { end, part, .. } => digest_words(*end, *part),
             CapturesFault::NoConnection { .. } => "no connection ",
             CapturesFault::Link { .. }
             | CapturesFault::Stream { .. }
@@ -176,6 +198,7 @@ impl CapturesFault {
             | CapturesFault::Long { connection }
             | CapturesFault::Reads { connection }
             | CapturesFault::Assumed { connection, .. }
+            | CapturesFault::Digest { connection, .. }
             | CapturesFault::Protocol { connection, .. } => Some(*connection),
             _ => None,
         }
@@ -192,6 +215,7 @@ impl CapturesFault {
             | CapturesFault::Cut { at, .. } => Some(*at),
             CapturesFault::Gap { offset, .. }
             | CapturesFault::Conflict { offset, .. }
+            | CapturesFault::Digest { offset, .. }
             | CapturesFault::Assumed { offset, .. } => Some(*offset),
             CapturesFault::Protocol { rule, .. } => Some(*rule as u64),
             CapturesFault::NoConnection { connection } => Some(*connection as u64),
@@ -206,6 +230,7 @@ impl CapturesFault {
             | CapturesFault::Cut { packet, .. }
             | CapturesFault::Gap { packet, .. }
             | CapturesFault::Conflict { packet, .. }
+            | CapturesFault::Digest { packet, .. }
             | CapturesFault::Assumed { packet, .. } => Some(*packet),
             _ => None,
         }
@@ -219,6 +244,7 @@ impl CapturesFault {
             CapturesFault::Cut { .. } => "cut",
             CapturesFault::Begun { .. } => "begun",
             CapturesFault::Assumed { .. } => "assumed",
+            CapturesFault::Digest { .. } => "digest",
             CapturesFault::Stream { .. } => "stream",
             _ => "end",
         }
@@ -229,6 +255,7 @@ impl CapturesFault {
         match self {
             CapturesFault::Gap { offset, .. }
             | CapturesFault::Conflict { offset, .. }
+            | CapturesFault::Digest { offset, .. }
             | CapturesFault::Assumed { offset, .. } => Some(*offset),
             _ => None,
         }
@@ -259,6 +286,16 @@ impl CapturesFault {
             Some(packet) => write!(f, " (packet {packet})"),
             None => Ok(()),
         }
+    }
+}
+
+// The words of a digest that is wrong, up to its place.
+fn digest_words(end: End, part: Summed) -> &'static str {
+    match (end, part) {
+        (End::Initiator, Summed::Header) => "wrong header digest from initiator at ",
+        (End::Initiator, Summed::Data) => "wrong data digest from initiator at ",
+        (End::Target, Summed::Header) => "wrong header digest from target at ",
+        (End::Target, Summed::Data) => "wrong data digest from target at ",
     }
 }
 

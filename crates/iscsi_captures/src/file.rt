@@ -70,10 +70,11 @@ impl CaptureFile {
 
     /// Reads on to the next packet, or passes over something else.
     ///
-    /// `Format`, `Length`, `Interface` and `NoMemory` come as in `Capture::step`. `Truncated` comes
-    /// if the file ends within a record or block, with the place where that begins, and `Empty` if
-    /// it has no byte. `Directory` comes if it is one, and `Read` if a read fails for another reason. After a fault the same call may be made again, and nothing is said of what it
-    /// returns.
+    /// `Format`, `Length`, `Interface` and `NoMemory` come as in `Capture::step`, but `Gzip` in place
+    /// of `Format` for a file that is compressed so. `Truncated` comes if the file ends within a
+    /// record or block, with the place where that begins, and `Empty` if it has no byte. `Directory`
+    /// comes if it is one, and `Read` if a read fails for another reason. After a fault the same call
+    /// may be made again, and nothing is said of what it returns.
     pub fn step<R: Read>(&mut self, file: &mut R) -> Result<Stood<'_>, CapturesFault>
         ensures reads { WasRead (R.remaining file.old) (R.remaining file.new) }
         ensures end { IfOk result (IsEndOf (R.remaining file.new)) }
@@ -128,6 +129,11 @@ impl CaptureFile {
         Some(self.window.at())
     }
 
+    // Whether the bytes at hand are the first of a file, and of gzip (RFC 1952).
+    fn is_gzip(&self) -> bool {
+        self.window.at() == 0 && self.window.bytes().starts_with(&[0x1f, 0x8b])
+    }
+
     // Passes over bytes without a packet, as far as they are at hand.
     fn pass(&mut self) {
         let count = self.window.give_up(self.skip.min(SKIP) as usize);
@@ -147,9 +153,10 @@ impl CaptureFile {
             return Ok(Stood::Other);
         }
         let at = self.window.at();
+        let is_gzip = self.is_gzip();
         self.needed = 1;
         match self.capture.step(self.window.bytes()) {
-            Err(fault) => Err(file_fault(fault, at)),
+            Err(fault) => Err(file_fault(fault, at, is_gzip)),
             Ok(Step::More(needed)) => {
                 self.needed = needed;
                 Ok(Stood::Other)
@@ -172,12 +179,13 @@ impl CaptureFile {
     }
 }
 
-// The fault of a file at this offset.
-fn file_fault(fault: CaptureFault, at: u64) -> CapturesFault
+// The fault of a file at this offset, which may begin as one of gzip.
+fn file_fault(fault: CaptureFault, at: u64, is_gzip: bool) -> CapturesFault
     ensures { (left : Option (List ℕ)) → IsFileFault left result }
 {
     match fault {
         CaptureFault::NoMemory => CapturesFault::NoMemory,
+        CaptureFault::Format if is_gzip => CapturesFault::Gzip,
         CaptureFault::Format => CapturesFault::Format { at },
         CaptureFault::Length => CapturesFault::Length { at },
         CaptureFault::Interface => CapturesFault::Interface { at },

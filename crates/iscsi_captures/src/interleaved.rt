@@ -8,13 +8,15 @@ use crate::fault::CapturesFault;
 use crate::file::{CaptureFile, Numbered, Stood};
 use crate::moment::nanoseconds_of;
 use crate::passed::PassedOver;
-use crate::scene::Scene;
+use crate::scene::{Look, Scene};
 use crate::talk::{Standing, Talk, has_port};
+use crate::times::Times;
 use crate::told::Told;
 use capture_connections::{Connections, heard_of};
 use capture_file::Segment;
 use iscsi_explain::Form;
 use iscsi_stream::write_fully;
+use jiff::tz::TimeZone;
 use std::alloc::{AllocError, Global};
 use std::io::{Read, Write};
 
@@ -28,6 +30,10 @@ pub struct Showing<'a> {
     pub form: Form,
     /// The number of the only connection that is shown.
     pub only: Option<usize>,
+    /// What stands in a line for the time of its PDU.
+    pub times: Times,
+    /// The time zone of `Times::Local`.
+    pub zone: &'a TimeZone<'a>,
     /// The name of the capture, as remarks have it.
     pub name: &'a str,
 }
@@ -77,6 +83,8 @@ struct Stage<'a> {
     connections: Connections,
     talks: Vec<Talk>,
     passed: PassedOver,
+    // when the first packet was captured, in nanoseconds from 1970 on
+    first: Option<u64>,
     // the last remark, which was not written yet
     fault: Option<CapturesFault>,
     fresh: Vec<u8>,
@@ -91,6 +99,7 @@ impl<'a> Stage<'a> {
             connections: Connections::new(alloc),
             talks: Vec::new(alloc),
             passed: PassedOver::new(),
+            first: None,
             fault: None,
             fresh: Vec::new(alloc),
             told: Told::new(alloc),
@@ -174,6 +183,9 @@ impl<'a> Stage<'a> {
 
     // Takes a packet. One with no segment that is read is passed over.
     fn hear(&mut self, packet: Numbered<'_>) -> Result<(), CapturesFault> {
+        if self.first.is_none() {
+            self.first = Some(nanoseconds_of(&packet.packet));
+        }
         match packet.segment() {
             Ok(Some(segment)) => self.hear_segment(&packet, &segment),
             Ok(None) => Ok(()),
@@ -195,15 +207,24 @@ impl<'a> Stage<'a> {
         let number = self.connections.take(heard, &mut self.fresh)?;
         self.connections.keep_within();
         self.meet(number, packet)?;
+        let look = self.look(nanoseconds_of(&packet.packet));
         let Some(connection) = self.connections.list().get(number) else {
             return Ok(());
         };
         let asked = self.showing.only.is_some() || has_port(connection);
-        let form = self.showing.form;
-        let scene = Scene::new(form, number, packet, &heard, segment.missing, asked);
+        let scene = Scene::new(look, number, packet, &heard, segment.missing, asked);
         match self.talks.get_mut(number) {
             Some(talk) => talk.hear(scene, connection, heard.bytes, &self.fresh, &mut self.told),
             None => Ok(()),
+        }
+    }
+
+    // How PDUs are shown that are whole at a time, in nanoseconds from 1970 on.
+    fn look(&self, now: u64) -> Look {
+        let first = self.first.unwrap_or(now);
+        Look {
+            form: self.showing.form,
+            clock: self.showing.times.clock(self.showing.zone, first, now),
         }
     }
 

@@ -3,6 +3,7 @@
 
 mod beginning;
 mod captured;
+mod digests;
 mod fault;
 mod file;
 mod filters;
@@ -13,15 +14,18 @@ mod passed;
 mod pdus;
 mod scene;
 mod search;
+mod sum;
 mod talk;
+mod times;
 mod told;
 mod voice;
 mod walk;
 mod window;
 
 pub use captured::{Captured, End, Wanted};
-pub use fault::CapturesFault;
+pub use fault::{CapturesFault, Summed};
 pub use file::{CaptureFile, Numbered, Stood};
 pub use filters::{normalise_captured, show_captured, tell_captured};
 pub use interleaved::{Showing, show_capture};
 pub use listing::list_connections;
+pub use times::Times;

@@ -5,11 +5,24 @@ ghost use Rattle.iscsi_stream.specs.Stream.{Message, longest_segment};
 ghost use Rattle.iscsi_stream.specs.Framing.{opening_framing};
 ghost use Rattle.iscsi_explain.specs.Showing.{AppendsSome, PassesEntries};
 
-use crate::search::{Numbers, Search, numbers_of};
-use crate::walk::Walk;
+use crate::digests::{Digests, Offers};
+use crate::fault::Summed;
+use crate::search::{Found, Numbers, Search, numbers_of};
+use crate::walk::{Run, Walk};
 use iscsi_explain::{Manner, Origin, Requests, Stamp, pass_on};
 use iscsi_stream::{Framer, LONGEST_SEGMENT, StreamFault, ToolFault};
 use std::alloc::{AllocError, Global};
+
+/// How many bytes of a login's text are looked at.
+const LONGEST_TEXT: usize = 65_536;
+
+/// A digest that is wrong.
+#[derive(Clone, Copy, Drop)]
+pub(crate) struct WrongDigest {
+    pub(crate) part: Summed,
+    /// Where its PDU begins in the direction.
+    pub(crate) offset: u64,
+}
 
 /// What is read of one direction.
 #[derive(Drop)]
@@ -17,6 +30,14 @@ pub(crate) struct Reading {
     alloc: Global,
     framer: Framer,
     walk: Walk,
+    // the digests, once the login is over
+    known: Option<Digests>,
+    // what this end and the other one said of them
+    offers: Offers,
+    heard: Offers,
+    // the text of the login PDU that is begun
+    text: Vec<u8>,
+    wrong: Vec<WrongDigest>,
     // where the next PDU is looked for, while its place is not known
     search: Search,
     is_searching: bool,
@@ -37,7 +58,12 @@ impl Reading {
         Reading {
             alloc,
             framer: Framer::new(alloc, LONGEST_SEGMENT),
-            walk: Walk::new(),
+            walk: Walk::new(Digests::NONE, false),
+            known: None,
+            offers: Offers::NONE,
+            heard: Offers::NONE,
+            text: Vec::new(alloc),
+            wrong: Vec::new(alloc),
             search: Search::new(alloc),
             is_searching: false,
             at_start: true,
@@ -46,6 +72,21 @@ impl Reading {
             missing: 0,
             at: 0,
         }
+    }
+
+    /// What this end said of digests.
+    pub(crate) fn offers(&self) -> Offers {
+        self.offers
+    }
+
+    /// What the other end said of them.
+    pub(crate) fn hears(&mut self, offers: Offers) {
+        self.heard = offers;
+    }
+
+    /// The digests that were wrong since this was asked last.
+    pub(crate) fn wrong_digests(&mut self) -> Vec<WrongDigest> {
+        std::mem::replace(&mut self.wrong, Vec::new(self.alloc))
     }
 
     /// How many bytes of the direction were taken or are missing.
@@ -85,46 +126,55 @@ impl Reading {
         origin: Origin,
         other: Option<Numbers>,
         bytes: &[u8],
-    ) -> Result<Option<usize>, AllocError> {
+    ) -> Result<Option<Found>, AllocError> {
         self.search.take(bytes)?;
         self.at = self.at.saturating_add(bytes.len() as u64);
         let start = self.at.saturating_sub(self.search.len() as u64);
         if self.at_start && self.search.begins_with_login(origin) {
             self.from = start;
             self.assumed = false;
-            return Ok(Some(0));
+            self.known = None;
+            return Ok(Some(Found {
+                place: 0,
+                digests: Digests::NONE,
+                is_open: false,
+            }));
         }
-        let Some(place) = self.search.find(origin, other)? else {
+        let Some(found) = self.search.find(origin, other, self.known)? else {
             if self.search.shorten()? > 0 {
                 self.at_start = false;
             }
             return Ok(None);
         };
-        self.from = start.saturating_add(place as u64);
+        self.from = start.saturating_add(found.place as u64);
         self.assumed = true;
-        Ok(Some(place))
+        Ok(Some(found))
     }
 
     /// Reads on where a PDU was found: appends the PDUs that are whole in what is held.
-    #[tactic(auto, using(crate::proofs::Shown::some_none, crate::proofs::Shown::some_passed))]
+    #[tactic(auto, using(crate::proofs::Shown::some_none, crate::proofs::Shown::some_passed, crate::proofs::Shown::some_then))]
     pub(crate) fn begin(
         &mut self,
         manner: Manner,
         requests: &mut Requests,
-        place: usize,
+        found: Found,
         out: &mut Vec<u8>,
     ) -> Result<(), ToolFault>
         ensures appends { AppendsSome manner.form out.old.items out.new.items }
     {
         let search = std::mem::replace(&mut self.search, Search::new(self.alloc));
-        let rest = search.from(place);
-        self.walk = Walk::new();
-        self.walk.take(rest);
+        let rest = search.from(found.place);
+        self.walk = Walk::new(found.digests, found.is_open);
         self.is_searching = false;
         self.at_start = false;
         self.missing = 0;
-        let manner = self.marked(manner);
-        begin_stream(self.alloc, manner, requests, &mut self.framer, rest, out)
+        if self.assumed && found.digests.are_none() {
+            self.walk.take(rest);
+            let manner = self.marked(manner);
+            return begin_stream(self.alloc, manner, requests, &mut self.framer, rest, out);
+        }
+        self.framer = Framer::new(self.alloc, LONGEST_SEGMENT);
+        self.pass_runs(manner, requests, rest, true, out)
     }
 
     /// Reads more bytes, where the place of the next PDU is known: appends those that are whole.
@@ -139,15 +189,15 @@ impl Reading {
         ensures appends { AppendsSome manner.form out.old.items out.new.items }
     {
         if self.missing == 0 {
-            return self.pass(manner, requests, bytes, out);
+            return self.pass(manner, requests, bytes, true, out);
         }
         let left = self.walk.left().min(bytes.len());
-        self.pass(manner, requests, &bytes[..left], out)?;
+        self.pass(manner, requests, &bytes[..left], true, out)?;
         if self.walk.left() > 0 {
             return Ok(());
         }
         self.missing = 0;
-        self.pass(manner, requests, &bytes[left..], out)
+        self.pass(manner, requests, &bytes[left..], true, out)
     }
 
     // Passes bytes to the framer.
@@ -157,14 +207,117 @@ impl Reading {
         manner: Manner,
         requests: &mut Requests,
         bytes: &[u8],
+        is_known: bool,
         out: &mut Vec<u8>,
     ) -> Result<(), ToolFault>
         ensures appends { AppendsSome manner.form out.old.items out.new.items }
     {
         self.at = self.at.saturating_add(bytes.len() as u64);
-        self.walk.take(bytes);
+        if !self.has_sums() {
+            self.walk.take(bytes);
+            let manner = self.marked(manner);
+            return pass_on(self.alloc, manner, requests, &mut self.framer, bytes, out);
+        }
+        self.pass_runs(manner, requests, bytes, is_known, out)
+    }
+
+    // Whether a PDU may have digests, or still tell of them: not behind a login without, nor behind
+    // a place that was assumed without.
+    fn has_sums(&self) -> bool {
+        !self.walk.digests().are_none() || (self.known.is_none() && !self.assumed)
+    }
+
+    // Passes bytes to the framer run by run, without their sums.
+    #[tactic(auto, using(crate::proofs::Shown::some_none, crate::proofs::Shown::some_then))]
+    fn pass_runs(
+        &mut self,
+        manner: Manner,
+        requests: &mut Requests,
+        bytes: &[u8],
+        is_known: bool,
+        out: &mut Vec<u8>,
+    ) -> Result<(), ToolFault>
+        ensures appends { AppendsSome manner.form out.old.items out.new.items }
+    {
+        let mut rest = bytes;
+        for turn in 0..bytes.len() {
+            if rest.is_empty() {
+                return Ok(());
+            }
+            let len = self.pass_run(manner, requests, rest, is_known, out)?;
+            rest = rest.get(len..).unwrap_or(&[]);
+        }
+        Ok(())
+    }
+
+    // Passes the first of some bytes to the framer, as far as they are of one part of a PDU, and
+    // says how many these are. A sum is not passed.
+    #[tactic(auto, using(crate::proofs::Shown::some_none, crate::proofs::Shown::some_passed))]
+    fn pass_run(
+        &mut self,
+        manner: Manner,
+        requests: &mut Requests,
+        bytes: &[u8],
+        is_known: bool,
+        out: &mut Vec<u8>,
+    ) -> Result<usize, ToolFault>
+        ensures appends { AppendsSome manner.form out.old.items out.new.items }
+    {
+        let run = self.walk_run(bytes, is_known)?;
+        if !run.is_plain {
+            return Ok(run.len);
+        }
         let manner = self.marked(manner);
-        pass_on(self.alloc, manner, requests, &mut self.framer, bytes, out)
+        let held = self.walk.held();
+        let plain = if run.is_held {
+            held.as_slice()
+        } else {
+            bytes.get(..run.len).unwrap_or(&[])
+        };
+        pass_on(self.alloc, manner, requests, &mut self.framer, plain, out)?;
+        Ok(run.len)
+    }
+
+    // Goes over the first of some bytes, and notes what they say of digests.
+    fn walk_run(&mut self, bytes: &[u8], is_known: bool) -> Result<Run, AllocError> {
+        if self.known.is_none() && !self.assumed {
+            self.walk.agree(self.offers.agreed(self.heard));
+        }
+        let is_text = self.walk.is_in_segment() && self.walk.is_login();
+        let run = self.walk.run(bytes, is_known);
+        if is_text {
+            self.take_text(bytes.get(..run.len).unwrap_or(&[]))?;
+        }
+        if let Some(is_header) = run.wrong {
+            let part = if is_header {
+                Summed::Header
+            } else {
+                Summed::Data
+            };
+            let offset = self.from.saturating_add(self.walk.begun());
+            self.wrong.push(WrongDigest { part, offset })?;
+        }
+        if self.known.is_none() && self.walk.is_past_login() {
+            self.known = Some(self.walk.digests());
+        }
+        Ok(run)
+    }
+
+    // Takes bytes of the text of a login PDU, and reads it where it ends.
+    fn take_text(&mut self, bytes: &[u8]) -> Result<(), AllocError> {
+        if self.text.len() <= LONGEST_TEXT {
+            self.text.extend_from_slice(bytes)?;
+        }
+        if self.walk.is_between() {
+            self.offers.take(&self.text);
+            self.text.clear();
+        }
+        Ok(())
+    }
+
+    // How many bytes stand before the framer's first, and how many of sums behind that.
+    fn before(&self) -> u64 {
+        self.from.saturating_add(self.walk.sums_before())
     }
 
     /// Passes over bytes that are missing. Where all of them lie in the segment that is begun, 0
@@ -181,7 +334,8 @@ impl Reading {
     {
         let count = count as usize;
         if !self.is_searching && count <= self.walk.left() {
-            self.missing = self.missing.saturating_add(count as u64);
+            let lost = count.min(self.walk.segment_left());
+            self.missing = self.missing.saturating_add(lost as u64);
             return self.fill(manner, requests, count, out);
         }
         self.at = self.at.saturating_add(count as u64);
@@ -202,7 +356,7 @@ impl Reading {
         ensures appends { AppendsSome manner.form out.old.items out.new.items }
     {
         let zeros = vec![in self.alloc; 0u8; count]?;
-        self.pass(manner, requests, &zeros, out)?;
+        self.pass(manner, requests, &zeros, false, out)?;
         if self.walk.left() == 0 {
             self.missing = 0;
         }
@@ -215,7 +369,7 @@ impl Reading {
     {
         let stamp = match manner.stamp {
             Some(stamp) => Some(Stamp {
-                from: self.from,
+                from: self.before(),
                 assumed: self.assumed,
                 missing: self.missing,
                 ..stamp
@@ -232,13 +386,13 @@ impl Reading {
     pub(crate) fn moved(&self, fault: StreamFault) -> StreamFault {
         match fault {
             StreamFault::Head(head, place) => {
-                StreamFault::Head(head, place.saturating_add(self.from))
+                StreamFault::Head(head, place.saturating_add(self.before()))
             }
             StreamFault::OverLimit(place) => StreamFault::OverLimit(place.saturating_add(
-                self.from,
+                self.before(),
             )),
             StreamFault::Truncated(place) => StreamFault::Truncated(place.saturating_add(
-                self.from,
+                self.before(),
             )),
             fault => fault,
         }

@@ -4,14 +4,23 @@ use crate::captured::End;
 use crate::fault::CapturesFault;
 use crate::file::Numbered;
 use crate::moment::{is_precise, nanoseconds_of};
+use crate::pdus::WrongDigest;
 use crate::voice::Speaker;
 use capture_connections::{Heard, Said};
-use iscsi_explain::{Form, Manner, Origin, Stamp};
+use iscsi_explain::{Clock, Form, Manner, Origin, Stamp};
 
-/// A segment of a connection, and the form in which PDUs are shown.
+/// How PDUs are shown that are whole with a segment.
+#[derive(Clone, Copy)]
+pub(crate) struct Look {
+    pub(crate) form: Form,
+    pub(crate) clock: Clock,
+}
+
+/// A segment of a connection, and how PDUs are shown that are whole with it.
 #[derive(Clone, Copy)]
 pub(crate) struct Scene {
     pub(crate) form: Form,
+    clock: Clock,
     pub(crate) number: usize,
     pub(crate) said: Said,
     /// How many of its bytes were not captured.
@@ -27,7 +36,7 @@ pub(crate) struct Scene {
 impl Scene {
     /// The segment of a packet, in a connection of this number.
     pub(crate) fn new(
-        form: Form,
+        look: Look,
         number: usize,
         packet: &Numbered<'_>,
         heard: &Heard<'_>,
@@ -36,7 +45,8 @@ impl Scene {
     ) -> Scene {
         let missing = if heard.is_cut { missing } else { 0 };
         Scene {
-            form,
+            form: look.form,
+            clock: look.clock,
             number,
             said: heard.said,
             missing: missing.min(u32::MAX as usize) as u32,
@@ -59,6 +69,8 @@ impl Scene {
                 epoch: self.nanoseconds,
                 nanoseconds: self.nanoseconds.saturating_sub(speaker.began),
                 precise: self.precise,
+                clock: self.clock,
+                asked: None,
                 since_request: None,
                 from: 0,
                 assumed: false,
@@ -79,12 +91,28 @@ impl Scene {
     pub(crate) fn assumed(&self, origin: Origin, offset: u64) -> CapturesFault {
         CapturesFault::Assumed {
             connection: self.number,
-            end: match origin {
-                Origin::Initiator => End::Initiator,
-                Origin::Target => End::Target,
-            },
+            end: end_of(origin),
             offset,
             packet: self.packet,
         }
+    }
+
+    /// That a digest of the PDU at an offset is wrong.
+    pub(crate) fn digest(&self, origin: Origin, wrong: WrongDigest) -> CapturesFault {
+        CapturesFault::Digest {
+            connection: self.number,
+            end: end_of(origin),
+            part: wrong.part,
+            offset: wrong.offset,
+            packet: self.packet,
+        }
+    }
+}
+
+// The end that has an origin.
+fn end_of(origin: Origin) -> End {
+    match origin {
+        Origin::Initiator => End::Initiator,
+        Origin::Target => End::Target,
     }
 }

@@ -1,5 +1,7 @@
 //! Where a PDU begins in bytes whose beginning is missing.
 
+use crate::digests::Digests;
+use crate::sum::Sum;
 use iscsi_explain::Origin;
 use iscsi_pdu::{HEADER_LEN, pad, read_head};
 use std::alloc::{AllocError, Global};
@@ -28,6 +30,15 @@ impl Numbers {
     fn are_zero(&self) -> bool {
         self.command.unwrap_or(0) == 0 && self.status.unwrap_or(0) == 0
     }
+}
+
+/// A place at which PDUs begin, and the digests that they have.
+#[derive(Clone, Copy)]
+pub(crate) struct Found {
+    pub(crate) place: usize,
+    pub(crate) digests: Digests,
+    /// Whether segments may have a sum, too, which no segment has told yet.
+    pub(crate) is_open: bool,
 }
 
 /// Whether a PDU begins at a place.
@@ -96,40 +107,81 @@ impl Search {
     }
 
     /// The first place found at which three headers in a row agree, and agree with the numbers of
-    /// the other end, where those are known.
+    /// the other end, where those are known. They have the digests that are known, or any.
     pub(crate) fn find(
         &mut self,
         origin: Origin,
         other: Option<Numbers>,
-    ) -> Result<Option<usize>, AllocError> {
+        known: Option<Digests>,
+    ) -> Result<Option<Found>, AllocError> {
         let places = std::mem::replace(&mut self.places, Vec::new(self.alloc));
         for place in places {
-            if self.is_found(place, origin, other)? {
-                return Ok(Some(place));
+            let found = self.found(place, origin, other, known)?;
+            if found.is_some() {
+                return Ok(found);
             }
         }
         let end = self.held.len().saturating_sub(HEADER_LEN - 1);
         for place in self.seen..end {
-            if self.is_found(place, origin, other)? {
-                return Ok(Some(place));
+            let found = self.found(place, origin, other, known)?;
+            if found.is_some() {
+                return Ok(found);
             }
         }
         self.seen = self.seen.max(end);
         Ok(None)
     }
 
-    // Whether a PDU begins at a place. One that is open is kept.
-    fn is_found(
+    // The PDUs that begin at a place, if some do. A place that is open is kept.
+    fn found(
         &mut self,
         place: usize,
         origin: Origin,
         other: Option<Numbers>,
-    ) -> Result<bool, AllocError> {
-        let chance = chance_at(&self.held, place, origin, other);
-        if chance == Chance::Open && self.places.len() < MOST_PLACES {
+        known: Option<Digests>,
+    ) -> Result<Option<Found>, AllocError> {
+        let mut is_open = false;
+        if !may_begin(&self.held, place, origin) {
+            return Ok(None);
+        }
+        for digests in Digests::ALL {
+            if known.is_some() && known != Some(digests) {
+                continue;
+            }
+            match chance_at(&self.held, place, origin, other, digests) {
+                Chance::Yes => return Ok(Some(self.settled(place, origin, digests, known))),
+                Chance::Open => is_open = true,
+                Chance::No => {}
+            }
+        }
+        if is_open && self.places.len() < MOST_PLACES {
             self.places.push(place)?;
         }
-        Ok(chance == Chance::Yes)
+        Ok(None)
+    }
+
+    // PDUs with these digests at a place. If none of the three tells whether segments have a sum, that
+    // is open.
+    fn settled(
+        &self,
+        place: usize,
+        origin: Origin,
+        digests: Digests,
+        known: Option<Digests>,
+    ) -> Found {
+        let alone = Digests {
+            header: true,
+            data: false,
+        };
+        let is_open = known.is_none()
+            && digests.header
+            && digests.data
+            && chance_at(&self.held, place, origin, None, alone) == Chance::Yes;
+        Found {
+            place,
+            digests: if is_open { alone } else { digests },
+            is_open,
+        }
     }
 
     /// Lets the first half of the bytes go, if too many are held, and says how many.
@@ -152,17 +204,35 @@ impl Search {
     }
 }
 
+// Whether the bytes at a place can be a header of this end.
+fn may_begin(held: &[u8], place: usize, origin: Origin) -> bool {
+    match header_at(held, place) {
+        Some(header) => is_of(header, origin),
+        None => false,
+    }
+}
+
 // Whether a PDU begins at a place, of one end's bytes.
-fn chance_at(held: &[u8], place: usize, origin: Origin, other: Option<Numbers>) -> Chance {
+fn chance_at(
+    held: &[u8],
+    place: usize,
+    origin: Origin,
+    other: Option<Numbers>,
+    digests: Digests,
+) -> Chance {
     let mut place = place;
     let mut before: Option<&[u8; 48]> = None;
     for _ in 0..IN_A_ROW {
         let Some(header) = header_at(held, place) else {
             return Chance::Open;
         };
-        let Some((numbers, len)) = part_of(header, origin) else {
+        let Some((numbers, len)) = part_of(header, origin, digests) else {
             return Chance::No;
         };
+        match sum_chance(held, place, header, digests) {
+            Chance::Yes => {}
+            chance => return chance,
+        }
         if !is_near(Some(numbers), other) || !follows(before, header, origin) {
             return Chance::No;
         }
@@ -177,8 +247,21 @@ fn header_at(held: &[u8], place: usize) -> Option<&[u8; 48]> {
     held.get(place..)?.first_chunk()
 }
 
-// What a header has for the search, if it is one of this end: its numbers, and the length of its PDU.
-fn part_of(header: &[u8; 48], origin: Origin) -> Option<(Numbers, usize)> {
+// Whether the sum of a header is right, where it has one.
+fn sum_chance(held: &[u8], place: usize, header: &[u8; 48], digests: Digests) -> Chance {
+    if !digests.header {
+        return Chance::Yes;
+    }
+    match held.get(place.saturating_add(HEADER_LEN)..) {
+        Some([a, b, c, d, ..]) if [*a, *b, *c, *d] == Sum::of(header) => Chance::Yes,
+        Some([_, _, _, _, ..]) => Chance::No,
+        _ => Chance::Open,
+    }
+}
+
+// What a header has for the search, if it is one of this end: its numbers, and the length of its PDU
+// with these digests.
+fn part_of(header: &[u8; 48], origin: Origin, digests: Digests) -> Option<(Numbers, usize)> {
     if !is_of(header, origin) {
         return None;
     }
@@ -193,7 +276,11 @@ fn part_of(header: &[u8; 48], origin: Origin) -> Option<(Numbers, usize)> {
         return None;
     }
     let segment = (len as usize).saturating_add(pad(len) as usize);
-    Some((numbers, segment.saturating_add(HEADER_LEN)))
+    let sums = digests.len(segment);
+    Some((
+        numbers,
+        segment.saturating_add(sums).saturating_add(HEADER_LEN),
+    ))
 }
 
 // Whether the first four bytes can be those of a header of this end: reserved bits are 0, and those

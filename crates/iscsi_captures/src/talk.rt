@@ -172,16 +172,17 @@ impl Talk {
         } else {
             (Origin::Target, Origin::Initiator)
         };
-        let numbers = match side {
-            Side::Lower => self.upper.numbers(other),
-            Side::Upper => self.lower.numbers(other),
+        let peer = match side {
+            Side::Lower => &self.upper,
+            Side::Upper => &self.lower,
         };
         Speaker {
             origin,
             began: self.began,
             late: starts_late(connection.half(side)),
             is_begun: self.is_begun,
-            other: numbers,
+            other: peer.numbers(other),
+            offers: peer.offers(),
         }
     }
 

@@ -2,6 +2,7 @@
 //! same things.
 
 use crate::captured::stop_fault;
+use crate::digests::Offers;
 use crate::fault::CapturesFault;
 use crate::pdus::Reading;
 use crate::scene::Scene;
@@ -30,6 +31,8 @@ pub(crate) struct Speaker {
     pub(crate) is_begun: bool,
     /// The numbers of the other end's last header.
     pub(crate) other: Option<Numbers>,
+    /// What the other end said of digests.
+    pub(crate) offers: Offers,
 }
 
 /// What one end said. It is followed by its direction as long as that has no gap. Behind one it is
@@ -71,6 +74,11 @@ impl Voice {
     /// The numbers of the last header.
     pub(crate) fn numbers(&self, origin: Origin) -> Option<Numbers> {
         self.reading.numbers(origin)
+    }
+
+    /// What the end said of digests.
+    pub(crate) fn offers(&self) -> Offers {
+        self.reading.offers()
     }
 
     /// Whether segments wait, or lack bytes.
@@ -133,17 +141,18 @@ impl Voice {
             }
         }
         let manner = scene.manner(speaker);
+        self.reading.hears(speaker.offers);
         if !self.reading.is_searching() {
             let said = self.reading.read(manner, requests, bytes, &mut told.out);
             return self.tell_said(speaker, scene, said, told);
         }
-        let Some(place) = self.reading.look(speaker.origin, speaker.other, bytes)? else {
+        let Some(found) = self.reading.look(speaker.origin, speaker.other, bytes)? else {
             return Ok(());
         };
         if let Some(offset) = self.reading.assumed_from() {
             self.remark(speaker, scene, scene.assumed(speaker.origin, offset), told)?;
         }
-        let said = self.reading.begin(manner, requests, place, &mut told.out);
+        let said = self.reading.begin(manner, requests, found, &mut told.out);
         self.tell_said(speaker, scene, said, told)
     }
 
@@ -155,6 +164,9 @@ impl Voice {
         said: Result<(), ToolFault>,
         told: &mut Told,
     ) -> Result<(), CapturesFault> {
+        for wrong in self.reading.wrong_digests() {
+            self.remark(speaker, scene, scene.digest(speaker.origin, wrong), told)?;
+        }
         match said {
             Ok(()) => Ok(()),
             Err(ToolFault::Stream(fault)) => {

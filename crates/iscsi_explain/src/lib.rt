@@ -4,6 +4,7 @@
 mod commands;
 mod form;
 mod iscsi_words;
+mod meaning;
 mod notes;
 mod objects;
 mod remarks;
@@ -16,6 +17,6 @@ mod writing;
 pub use form::{Form, write_pdu};
 pub use notes::notes_of;
 pub use remarks::{Remark, write_remark};
-pub use requests::Requests;
-pub use stamp::{Origin, Stamp};
+pub use requests::{Asked, Requests};
+pub use stamp::{Clock, Origin, Stamp};
 pub use stream::{Manner, pass_on, show_in_form};

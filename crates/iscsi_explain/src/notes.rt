@@ -1,6 +1,6 @@
 //! What is told under the line of a PDU.
 
-use crate::commands::command_words;
+use crate::commands::Asking;
 use crate::iscsi_words::{
     event_words, function_words, login_words, logout_response_words, logout_words, reject_words,
     stage_words, task_response_words,
@@ -33,14 +33,21 @@ pub(crate) fn all_notes(
     let Some(stamp) = stamp else {
         return notes_of(alloc, pdu);
     };
-    let bytes = if stamp.missing > 0 { &[] } else { pdu.bytes };
     let known = Pdu {
         head: pdu.head,
-        bytes,
+        bytes: known_bytes(Some(stamp), pdu),
     };
     let mut notes = notes_of(alloc, &known)?;
     add_elapsed(alloc, &stamp, &mut notes)?;
     Ok(notes)
+}
+
+/// The segment of a PDU; nothing where bytes of it are missing.
+pub(crate) fn known_bytes<'a>(stamp: Option<Stamp>, pdu: &Pdu<'a>) -> &'a [u8] {
+    match stamp {
+        Some(stamp) if stamp.missing > 0 => &[],
+        _ => pdu.bytes,
+    }
 }
 
 // Appends how long the request took, if this is its response.
@@ -74,7 +81,7 @@ fn add_notes(alloc: Global, pdu: &Pdu<'_>, notes: &mut Vec<String>) -> Result<()
 
 // Appends what a command asks for.
 fn command_note(alloc: Global, cdb: &Cdb, notes: &mut Vec<String>) -> Result<(), AllocError> {
-    let note = command_words(alloc, cdb)?;
+    let note = Asking::of(cdb).words(alloc)?;
     Ok(notes.push(note)?)
 }
 
@@ -174,8 +181,8 @@ fn key_notes(alloc: Global, segment: &[u8], notes: &mut Vec<String>) -> Result<(
     Ok(())
 }
 
-// Bytes as text that can be printed.
-fn spelled(alloc: Global, bytes: &[u8]) -> Result<String, AllocError> {
+/// Bytes as text that can be printed.
+pub(crate) fn spelled(alloc: Global, bytes: &[u8]) -> Result<String, AllocError> {
     let mut text = String::with_capacity(alloc, bytes.len())?;
     for byte in bytes {
         if (0x20..=0x7e).contains(byte) && *byte != b'\\' {

@@ -4,6 +4,7 @@ ghost use Rattle.std.specs.Prelude.{IfOk};
 ghost use Rattle.iscsi_pdu.specs.Meaning.{HeadFits};
 ghost use Rattle.iscsi_explain.specs.Forms.{IsObject};
 
+use crate::meaning::{put_lun, put_meaning};
 use crate::notes::all_notes;
 use crate::remarks::Remark;
 use crate::stamp::{Origin, Stamp, seconds};
@@ -11,11 +12,13 @@ use iscsi_pdu::Pdu;
 use iscsi_stream::show_line;
 use serde_json::{Map, Value};
 use std::alloc::{AllocError, Global};
+use std::num::nearest_u64_to_f64;
 
 /// The object of a PDU: its place, its kind, and each field of its line by the line's name. A value
-/// of up to four bytes is a number; `lun`, `isid` and `cdb` are the line's digits as a string, and
-/// so is a place of 2^53 or more. A PDU of a capture has its connection, its origin, its packet and
-/// its times as strings of seconds, too. With notes they are an array of strings, `explain`.
+/// of up to four bytes is a number, and so is the number of a logical unit; `isid` and `cdb` are
+/// the line's digits as a string, and so is a number of 2^53 or more. What scripts look for stands
+/// beside them: commands, statuses, sense data and keys. A PDU of a capture has its connection, its
+/// origin, its packet and its times, too. With notes they are an array of strings, `explain`.
 pub(crate) fn object_of(
     alloc: Global,
     explained: bool,
@@ -43,6 +46,7 @@ fn put_members(
     requires { HeadFits pdu.now.head }
 {
     put_line(alloc, place, pdu, map)?;
+    put_meaning(alloc, stamp, pdu, map)?;
     if let Some(stamp) = stamp {
         put_stamp(alloc, &stamp, map)?;
         put_captured(alloc, &stamp, pdu.bytes.len(), map)?;
@@ -69,8 +73,8 @@ fn put_line(
     put_number(alloc, map, "place", place)
 }
 
-// Puts a member.
-fn put(
+/// Puts a member.
+pub(crate) fn put(
     alloc: Global,
     map: &mut Map<String, Value>,
     name: &str,
@@ -81,8 +85,8 @@ fn put(
     Ok(())
 }
 
-// Puts a text.
-fn put_text(
+/// Puts a text.
+pub(crate) fn put_text(
     alloc: Global,
     map: &mut Map<String, Value>,
     name: &str,
@@ -92,8 +96,8 @@ fn put_text(
     put(alloc, map, name, Value::String(text))
 }
 
-// Puts a number that a reader keeps exactly, or its digits.
-fn put_number(
+/// Puts a number that a reader keeps exactly, or its digits.
+pub(crate) fn put_number(
     alloc: Global,
     map: &mut Map<String, Value>,
     name: &str,
@@ -122,7 +126,8 @@ fn put_field(alloc: Global, word: &str, map: &mut Map<String, Value>) -> Result<
     let (name, digits) = word.split_once('=').unwrap_or((word, ""));
     match name {
         "data" => put_number(alloc, map, name, value_of(digits.as_bytes(), 10)),
-        "lun" | "isid" | "cdb" => put_text(alloc, map, name, digits),
+        "lun" => put_lun(alloc, value_of(digits.as_bytes(), 16), map),
+        "isid" | "cdb" => put_text(alloc, map, name, digits),
         _ => put_number(alloc, map, name, value_of(digits.as_bytes(), 16)),
     }
 }
@@ -175,24 +180,26 @@ fn put_stamp(alloc: Global, stamp: &Stamp, map: &mut Map<String, Value>) -> Resu
     put_number(alloc, map, "connection", stamp.connection as u64)?;
     put_origin(alloc, stamp.origin, map)?;
     put_number(alloc, map, "packet", stamp.packet)?;
-    put_time(alloc, map, "epoch", stamp.epoch, stamp.precise)?;
-    put_time(alloc, map, "time", stamp.nanoseconds, stamp.precise)?;
+    let epoch = seconds(alloc, stamp.epoch, stamp.precise)?;
+    put(alloc, map, "epoch", Value::String(epoch))?;
+    put(
+        alloc,
+        map,
+        "time",
+        seconds_value(stamp.nanoseconds, stamp.precise),
+    )?;
     match stamp.since_request {
-        Some(since) => put_time(alloc, map, "after", since, stamp.precise),
+        Some(since) => put(alloc, map, "after", seconds_value(since, stamp.precise)),
         None => Ok(()),
     }
 }
 
-// Puts a time in seconds.
-fn put_time(
-    alloc: Global,
-    map: &mut Map<String, Value>,
-    name: &str,
-    nanoseconds: u64,
-    precise: bool,
-) -> Result<(), AllocError> {
-    let time = seconds(alloc, nanoseconds, precise)?;
-    put(alloc, map, name, Value::String(time))
+// A time in seconds, as a number. Those of 9,007,199 seconds and more are rounded.
+fn seconds_value(nanoseconds: u64, precise: bool) -> Value {
+    if precise {
+        return Value::from(nearest_u64_to_f64(nanoseconds) / 1_000_000_000.0);
+    }
+    Value::from(nearest_u64_to_f64(nanoseconds / 1_000) / 1_000_000.0)
 }
 
 // Puts the notes.

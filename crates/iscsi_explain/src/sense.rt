@@ -82,8 +82,8 @@ pub(crate) fn sense_words(alloc: Global, segment: &[u8]) -> Result<Option<String
     Ok(Some(words))
 }
 
-// The key of sense data, the additional code, and its qualifier.
-fn sense_of(segment: &[u8]) -> Option<(u8, u8, u8)> {
+/// The key of sense data, the additional code, and its qualifier.
+pub(crate) fn sense_of(segment: &[u8]) -> Option<(u8, u8, u8)> {
     match segment.get(2).copied() {
         Some(0x70 | 0x71) if segment.len() >= 16 => {
             Some((segment[4] % 16, segment[14], segment[15]))

@@ -8,6 +8,7 @@ ghost use Rattle.iscsi_explain.specs.Showing.{AreEntries, PassesEntries, Appends
 use crate::form::{Form, write_pdu};
 use crate::requests::Requests;
 use crate::stamp::Stamp;
+use iscsi_pdu::Head;
 use iscsi_stream::{Framer, LONGEST_SEGMENT, PIECE, Reads, ToolFault, write_fully};
 use std::alloc::{AllocError, Global};
 use std::io::{Read, Write};
@@ -97,6 +98,14 @@ pub fn pass_on(
     Ok(())
 }
 
+// What a capture says of a PDU. A line alone tells nothing of requests.
+fn stamp_of(manner: Manner, requests: &mut Requests, head: &Head) -> Option<Stamp> {
+    match manner.form {
+        Form::Line => manner.stamp,
+        _ => requests.stamped(manner.stamp, head),
+    }
+}
+
 // Appends the PDU that is ready, if one is, and gives it up.
 fn append_ready(
     alloc: Global,
@@ -113,7 +122,7 @@ fn append_ready(
     let Some(pdu) = framer.pdu() else {
         return Ok(());
     };
-    let stamp = requests.stamped(manner.stamp, &pdu.head);
+    let stamp = stamp_of(manner, requests, &pdu.head);
     let place = framer.place().saturating_add(manner.from());
     write_pdu(alloc, manner.form, stamp, place, &pdu, out)?;
     framer.take();

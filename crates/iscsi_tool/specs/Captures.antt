@@ -50,7 +50,7 @@ AnswersCaptured blocks ends written = WritesNothing ends written
 -- are not stated.
 abbrev pub WritesCapture : CaptureWork → CaptureOutcome → List ℕ → Type 0
 WritesCapture ListAll ends written = Unit {0}
-WritesCapture (ShowAll form only) ends written = Unit {0}
+WritesCapture (ShowAll form only times) ends written = Unit {0}
 WritesCapture (Show wanted) ends written = ShowsCaptured ends written
 WritesCapture (Tell wanted form) ends written = TellsCaptured form ends written
 WritesCapture (Normalise wanted) ends written = NormalisesCaptured ends written

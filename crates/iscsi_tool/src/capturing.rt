@@ -9,6 +9,7 @@ ghost use Rattle.iscsi_tool.specs.Captures.{AnswersCaptured, NormalisesCaptured,
 ghost use Rattle.iscsi_tool.specs.inner.Capturing.{not_opened, not_read};
 
 use crate::answering::answer;
+use crate::local_zone::LocalZone;
 use iscsi_captures::{
     Captured, CapturesFault, End, Showing, Wanted, list_connections, normalise_captured,
     show_capture, show_captured, tell_captured,
@@ -74,9 +75,17 @@ fn capture_from<R: Read, W: Write>(
     let alloc = rt.alloc();
     match job.work {
         CaptureWork::List => list_connections(alloc, source, w),
-        CaptureWork::ShowAll { form, only } => {
+        CaptureWork::ShowAll { form, only, times } => {
             let name = job.blamed(CapturesFault::NoSession).unwrap_or(job.file);
-            let showing = Showing { form, only, name };
+            let local = LocalZone::read(rt, times);
+            let zone = local.zone();
+            let showing = Showing {
+                form,
+                only,
+                times,
+                zone: &zone,
+                name,
+            };
             show_capture(alloc, showing, source, w, &mut rt.stderr())
         }
         CaptureWork::Tell(wanted, form) => tell_from(alloc, source, wanted, form, w),

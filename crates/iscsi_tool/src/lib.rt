@@ -6,6 +6,7 @@ mod capture_comparing;
 mod capturing;
 mod filtering;
 mod hex_writer;
+mod local_zone;
 mod running;
 mod telling;
 

@@ -88,8 +88,18 @@ impl Outcome<'_> {
 // Writes the line of a job over a capture that stopped.
 fn tell_capture<E: Write>(job: CaptureJob<'_>, fault: CapturesFault, w: &mut E) -> io::Result<()> {
     match job.blamed(fault) {
-        Some(name) => writeln!(w, "{name}: {fault}"),
-        None => writeln!(w, "{fault}"),
+        Some(name) => writeln!(w, "{name}: {fault}")?,
+        None => writeln!(w, "{fault}")?,
+    }
+    match (fault, job.typed()) {
+        (CapturesFault::Gzip, Some(typed)) => {
+            let file = job.file;
+            writeln!(
+                w,
+                "put - for the file: gzip -dc {file} | ./lanthovur {typed}"
+            )
+        }
+        _ => Ok(()),
     }
 }
 

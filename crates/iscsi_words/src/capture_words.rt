@@ -8,7 +8,7 @@ use crate::commands::{answer_row, compare_row, normalise_row, show_row};
 use crate::telling::form_of;
 use crate::words::Job;
 use clap::ArgMatches;
-use iscsi_captures::{CapturesFault, End, Wanted};
+use iscsi_captures::{CapturesFault, End, Times, Wanted};
 use iscsi_comparison::Sameness;
 use iscsi_explain::Form;
 use iscsi_options::number_of;
@@ -27,6 +27,8 @@ pub enum CaptureWork {
         form: Form,
         /// The number of the only connection that is shown.
         only: Option<usize>,
+        /// What stands in a line for the time of its PDU.
+        times: Times,
     },
     /// Writes a line for each PDU of one direction.
     Show(Wanted),
@@ -61,6 +63,20 @@ impl CaptureJob<'_> {
             _ => Some(named(self.file)),
         }
     }
+
+    /// The command with `-` for its file, as it begins; none where that is its file.
+    pub fn typed(&self) -> Option<&'static str> {
+        if self.file == STDIN {
+            return None;
+        }
+        Some(match self.work {
+            CaptureWork::List => "connections -",
+            CaptureWork::ShowAll { .. } | CaptureWork::Show(_) | CaptureWork::Tell(..) =>
+                "show --capture -",
+            CaptureWork::Normalise(_) => "normalise --capture -",
+            CaptureWork::Answer { .. } => "answer --capture -",
+        })
+    }
 }
 
 const CAPTURE: Word = Word {
@@ -83,6 +99,14 @@ const END: Word = Word {
     beside: None,
     help: "End whose bytes are read: initiator or target",
 };
+
+/// The word of a program that shows times.
+pub(crate) const TIMES: &[Word] = &[Word {
+    name: "time",
+    kind: WordKind::Value("CLOCK"),
+    beside: Some("capture"),
+    help: "Print each packet's number and time: utc, local or relative",
+}];
 
 /// The words of a program that may read a capture.
 pub(crate) const DIRECTION: &[Word] = &[CAPTURE, CONNECTION, END];
@@ -128,18 +152,38 @@ pub(crate) fn asks_for_capture(asked: &ArgMatches<'_>) -> bool {
 pub(crate) fn shown_job<'a>(alloc: Global, asked: &ArgMatches<'a>) -> Result<Job<'a>, LineFault>
     ensures job { IfOk result IsOtherJob }
 {
-    match (asked.get_str("capture"), shown_work(asked)) {
+    let word = asked.get_str("time");
+    let Some(times) = times_of(word) else {
+        return Err(show_row().bad_value(alloc, word.unwrap_or(""), BAD_TIME));
+    };
+    match (asked.get_str("capture"), shown_work(asked, times)) {
         (Some(file), Some(work)) if !asked.get_flag("hex") => capture_job(file, work),
         _ => Err(show_row().refusal(alloc, BAD_SHOWN)),
     }
 }
 
-// What is shown of a capture.
-fn shown_work(asked: &ArgMatches<'_>) -> Option<CaptureWork>
+// What stands in the lines for times, as a word says.
+fn times_of(word: Option<&str>) -> Option<Times> {
+    match word {
+        None => Some(Times::Connection),
+        Some("relative") => Some(Times::Relative),
+        Some("utc") => Some(Times::Utc),
+        Some("local") => Some(Times::Local),
+        Some(_) => None,
+    }
+}
+
+const BAD_TIME: &str = "is no clock: '--time <CLOCK>' takes utc, local or relative";
+
+// What is shown of a capture. The lines of one direction have no times.
+fn shown_work(asked: &ArgMatches<'_>, times: Times) -> Option<CaptureWork>
     ensures work { IfSome result CanWork }
 {
     let form = form_of(asked);
     if asked.get_str("from").is_some() {
+        if times != Times::Connection {
+            return None;
+        }
         let wanted = wanted_of(asked)?;
         return Some(match form {
             Form::Line => CaptureWork::Show(wanted),
@@ -150,12 +194,13 @@ fn shown_work(asked: &ArgMatches<'_>) -> Option<CaptureWork>
         Some(digits) => Some(connection_number(digits)?),
         None => None,
     };
-    Some(CaptureWork::ShowAll { form, only })
+    Some(CaptureWork::ShowAll { form, only, times })
 }
 
 const BAD_SHOWN: &str =
     "a capture is shown with '--capture <FILE>', '--capture <FILE> --connection \
-    <K>' or '--capture <FILE> --connection <K> --from initiator|target', and without '--hex'";
+    <K>' or '--capture <FILE> --connection <K> --from initiator|target', and without '--hex'. With \
+    '--from' there is no '--time'";
 
 /// The job of normalising one direction of a capture.
 pub(crate) fn normalised_job<'a>(

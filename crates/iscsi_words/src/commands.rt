@@ -1,6 +1,6 @@
 //! The commands but `serve`, as rows: what their help says, and their words.
 
-use crate::capture_words::{DIRECTION, INITIATOR, TWO_CAPTURES};
+use crate::capture_words::{DIRECTION, INITIATOR, TIMES, TWO_CAPTURES};
 use crate::examples;
 use crate::telling::FORMS;
 use iscsi_serve_words::{CommandRow, SIZE, Word, WordKind};
@@ -19,7 +19,7 @@ const SHOW: &CommandRow = &CommandRow {
     about: "Print one line for each PDU of a stream",
     usage: None,
     examples: Some(examples::SHOW),
-    words: &[HEX, FORMS, DIRECTION],
+    words: &[HEX, FORMS, DIRECTION, TIMES],
 };
 
 const TEXT: &[Word] = &[Word {

@@ -4,8 +4,9 @@ use super::bytes_of;
 use super::captures::WHOLE;
 use super::interleaved::{LOGIN_LINE, PING_LINE};
 use crate::asserts::same;
-use iscsi_captures::{Showing, show_capture};
+use iscsi_captures::{Showing, Times, show_capture};
 use iscsi_explain::Form;
+use jiff::tz::TimeZone;
 use std::alloc::Global;
 use std::cell::Cell;
 use std::io::{self, Read, Write};
@@ -105,6 +106,8 @@ fn is_shown_at_once(rt: &impl Abort, alloc: Global, file: &[u8], ends: &[usize])
     let showing = Showing {
         form: Form::Line,
         only: None,
+        times: Times::Connection,
+        zone: &TimeZone::UTC,
         name: "a",
     };
     let result = show_capture(alloc, showing, &mut pipe, &mut seen, &mut lines);

@@ -20,6 +20,13 @@ const IP_6: &str =
 const IP_6_LONG: &str =
     "60000000 00390040 20010db8 00000000 00000000 00000001 20010db8 00000000 00000000 00000002 \
      2b000104 00000000 2c000000 00000000 3c000000 00000009 06000104 00000000";
+/// An Ethernet header of IPv4.
+const ETHERNET: &str = "02000000 00020200 00000001 0800";
+/// Outer packets of GRE, from 10.0.0.1 to 10.0.0.2, and of IPv6.
+const GRE_4: &str = "45000049 00010000 402f0000 0a000001 0a000002";
+
+const GRE_6: &str =
+    "60000000 00432f40 20010db8 00000000 00000000 0000000a 20010db8 00000000 00000000 0000000b";
 /// Sequence number 11223344, acknowledged 55667788, flags PSH and ACK, and five bytes.
 const TCP: &str = "8f3c0cbc 11223344 55667788 50180200 00000000 68656c6c 6f";
 
@@ -105,6 +112,67 @@ const ROWS: &[Row] = &[
     ("raw IPv6", 229, &[IP_6], true),
     ("an option of IPv4", 101, &[IP_4_OPTION], false),
     ("extension headers of IPv6", 101, &[IP_6_LONG], true),
+    ("raw IP of BSD", 12, &[IP_4], false),
+    ("raw IP of OpenBSD", 14, &[IP_6], true),
+    // The length of an outer packet of GRE is not looked at.
+    ("IP in GRE", 101, &[GRE_4, "00000800", IP_4], false),
+    (
+        "IPv6 in GRE with a checksum, a key and a number",
+        101,
+        &[GRE_4, "b00086dd 00000000 00000007 00000009", IP_6],
+        true,
+    ),
+    (
+        "Ethernet in GRE over IPv6",
+        101,
+        &[GRE_6, "20006558 00000007", ETHERNET, IP_4],
+        false,
+    ),
+    (
+        "ERSPAN without a header",
+        101,
+        &[GRE_4, "000088be", ETHERNET, IP_4],
+        false,
+    ),
+    (
+        "ERSPAN with one",
+        101,
+        &[GRE_4, "100088be 00000001 10000001 00000000", ETHERNET, IP_4],
+        false,
+    ),
+    (
+        "ERSPAN of the third kind",
+        101,
+        &[
+            GRE_4,
+            "100022eb 00000001 20000001 00000000 00000000",
+            ETHERNET,
+            IP_4,
+        ],
+        false,
+    ),
+    (
+        "the same with eight bytes more",
+        101,
+        &[
+            GRE_4,
+            "100022eb 00000001 20000001 00000000 00000001 0000000000000000",
+            ETHERNET,
+            IP_4,
+        ],
+        false,
+    ),
+    (
+        "VXLAN",
+        1,
+        &[
+            ETHERNET,
+            "45000067 00014000 40110000 0a000001 0a000002 c00012b5 00530000 08000000 00000500",
+            ETHERNET,
+            IP_4,
+        ],
+        false,
+    ),
 ];
 
 /// The row's packet, with what follows its network header.
@@ -221,6 +289,29 @@ const OTHERS: &[Other] = &[
         101,
         &["4500002d 00014000 40110000 c0000201 c0000202"],
         Ok(()),
+    ),
+    (
+        "UDP to another port",
+        101,
+        &["4500002d 00014000 40110000 c0000201 c0000202 c00012b6 00000000 08000000 00000500"],
+        Ok(()),
+    ),
+    ("ARP in GRE", 101, &[GRE_4, "00000806", IP_4], Ok(())),
+    (
+        "GRE of another version",
+        101,
+        &[GRE_4, "00010800", IP_4],
+        Ok(()),
+    ),
+    (
+        "a fragment of GRE",
+        101,
+        &[
+            "45000049 00012000 402f0000 0a000001 0a000002",
+            "00000800",
+            IP_4,
+        ],
+        Err(PacketFault::Fragment),
     ),
     (
         "a header of IPv4 shorter than 20 bytes",

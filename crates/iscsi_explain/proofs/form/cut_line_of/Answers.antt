@@ -1,4 +1,3 @@
-use Rattle.std.proofs.Common.{ℕ, List, ◌++◌, ap, ◌∙◌}
 use Rattle.iscsi_explain.proofs.Lining.{cut_line}
 use Rattle.iscsi_explain.proofs.form.cut_line_of.Goals as goal
 
