@@ -22,6 +22,10 @@ WORDS = {
 }
 
 
+# The line of a request in a job, whose first line names the form.
+REQUEST = r"^(?!job 2$)[a-z].*"
+
+
 def command_of(line):
     """The name of the command that a line of a job asks."""
     words = line.split()
@@ -53,8 +57,8 @@ def kind_of(request, was, now):
     if before == after:
         names = ("another residual count", "other sense data", "other data")
         pairs = zip(names, parts_of(was), parts_of(now))
-        # Data beside a CHECK CONDITION are shown, and not compared.
-        others = [name for name, one, other in pairs if one != other and not (name == names[2] and before.startswith("check"))]
+        # Data beside a status other than GOOD are shown, and not compared.
+        others = [name for name, one, other in pairs if one != other and not (name == names[2] and before != "good")]
         after += f" with {' and '.join(others) or 'other words'}"
     return f"{command_of(request)}: {before}, now {after}"
 
@@ -71,6 +75,6 @@ def ending(job, told):
     found = re.search(r"request ([0-9]+): (.*)", fault)
     if not found:
         return f"the replay ends: {fault}"
-    requests = re.findall(r"^[a-z].*", job, re.M)
+    requests = re.findall(REQUEST, job, re.M)
     at, why = int(found[1]), re.sub(r" \(before .*| at [0-9.:]+$", "", found[2])
     return f"{command_of(requests[at - 1]) if at <= len(requests) else 'a request'}: the replay ends: {why}"

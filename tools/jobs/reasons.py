@@ -11,8 +11,6 @@ SERVE_LACKS = (
 ISTGT_LACKS = ("GET LBA STATUS", "ORWRITE", "PREFETCH(10)", "PREFETCH(16)", "REPORT SUPPORTED OPERATION CODES")
 BESIDE = "in the recording another session was beside this one; here they are done one after another"
 OWN = "each target tells its own names, numbers, limits and pages"
-# What this program itself does wrong.
-FAULT = "a fault of this program: "
 
 # Families, targets, a pattern for the whole kind, and the reason. The first row that fits has the reason.
 ANY = ".*"
@@ -29,11 +27,6 @@ ROWS = [
     ("MultipathIO", EACH, r"READ\(10\): good, now good with other data", BESIDE),
     (SIDE_BY_SIDE, ("tgt", "istgt"), r"PERSISTENT RESERVE IN: check 6/(2a/04|29/00), now good", BESIDE),
     (SIDE_BY_SIDE, ("tgt", "istgt"), r"PERSISTENT RESERVE IN: good, now good with .*", f"{BESIDE}: other keys are there, and other generations"),
-    # What this program's own jobs and replays do not say.
-    ("iSCSIResiduals", ("tgt",), r"(READ|WRITE|WRITE AND VERIFY)\((10|12|16)\): good, now good with another residual count",
-     f"{FAULT}a job has no word for a READ or a WRITE with an expected length of 0; as `none` it has neither R nor W, and no residual count"),
-    (SIDE_BY_SIDE, ("istgt",), r"READ\(10\): status 18, now status 18 with other data",
-     f"{FAULT}data beside a status other than GOOD mean nothing, and are compared; tgt sends what lay in its memory"),
     # serve.
     ("iSCSIResiduals", ("serve",), r"(WRITE|WRITE AND VERIFY)\((10|12|16)\): good, now check 5/24/00",
      "another expected length than that of the blocks is refused"),

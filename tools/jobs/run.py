@@ -86,7 +86,7 @@ def jobs_of(program, room, family):
             made = run(program, "job", "--capture", capture, "--connection", line.split()[0])
             jobs.append(Path(room) / f"job{len(jobs)}")
             jobs[-1].write_text(made.stdout)
-            requests += len(re.findall(r"^[a-z]", made.stdout, re.M))
+            requests += len(re.findall(kinds.REQUEST, made.stdout, re.M))
             if made.returncode:
                 faults.append(f"job of connection {line.split()[0]}: status {made.returncode}: {made.stderr.strip()}")
     return jobs, requests, faults or ([] if jobs else ["no session was recorded"])

@@ -37,6 +37,8 @@ PROGRAM = TOP / "crates/lanthovur/out/lanthovur"
 SIZE = 8 << 20
 SECONDS = 300
 NAME = "iqn.2026-01.example:disk"
+# The line of a request in a job, whose first line names the form.
+REQUEST = r"^(?!job 2$)[a-z]"
 
 # ---- targets
 
@@ -248,7 +250,7 @@ def jobs_of(cases, kind, title, command):
         path.write_text(ran.stdout)
         if ran.returncode or not ran.stdout:
             problems.append(f"job: status {ran.returncode}: {ran.stderr.strip()}")
-        if len(re.findall(r"^  was ", ran.stdout, re.M)) != len(re.findall(r"^[a-z]", ran.stdout, re.M)):
+        if len(re.findall(r"^  was ", ran.stdout, re.M)) != len(re.findall(REQUEST, ran.stdout, re.M)):
             problems.append("a request has no outcome")
         jobs.append(path)
     return jobs, problems or ([] if jobs else ["no session was recorded"])
@@ -274,7 +276,7 @@ def live(cases):
                 cases.skip(name, f"no {lacking[0]}")
                 continue
             jobs, problems = jobs_of(cases, kind, title, command)
-            cases.say(f"job: {name}, {sum(len(job.read_text().splitlines()) // 2 for job in jobs)} requests", problems)
+            cases.say(f"job: {name}, {sum(len(re.findall(REQUEST, job.read_text(), re.M)) for job in jobs)} requests", problems)
             for other in TARGETS.values():
                 if lacking := missing(*other.wants):
                     cases.skip(f"replay of {name} to {other.title}", f"no {lacking[0]}")
@@ -283,7 +285,7 @@ def live(cases):
                 differ = [line for ran in rans for line in ran.stdout.splitlines()]
                 failed = [ran.stderr.strip() for ran in rans if ran.returncode not in (0, 1) or "login" in ran.stderr]
                 if other is kind:
-                    failed += [line for line in differ if not re.fullmatch(r"0 of \d+ differ, \d+ passed over", line)]
+                    failed += [line for line in differ if not re.fullmatch(r"0 of \d+ differ, \d+ passed over|(recorded|now): median .*", line)]
                 cases.say(f"replay of {name} to {other.title}: {'; '.join(line for line in differ if ' of ' in line and 'differ' in line)}", failed)
                 if other is not kind:
                     for line in differ:

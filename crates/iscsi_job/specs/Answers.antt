@@ -64,6 +64,8 @@ item_on_text item h bytes =
 abbrev pub item_answered_by : Head → Asked → Item → List ℕ → AnsweredItem
 item_answered_by (heads.DataIn h) (asked.Command lun cdb moves.In n) item bytes =
     item_on_data item n h bytes
+item_answered_by (heads.DataIn h) (asked.Command lun cdb moves.Nothing n) item bytes =
+    item_on_data item n h bytes
 item_answered_by (heads.ScsiResponse h) (asked.Command lun cdb way n) item bytes =
     on_sense (sense_of bytes) item h
 item_answered_by (heads.NopIn h) asked.Ping item bytes =

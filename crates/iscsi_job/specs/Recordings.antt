@@ -1,15 +1,14 @@
 -- What a PDU makes of a recording: of its requests, and of the uses of their tags (RFC 7143, section 11).
-use Rattle.std.specs.Prelude.{◌≡◌, ℕ, zero, suc, Bool, true, false, not, ◌==◌, if◌then◌else◌, List, [], ◌∷◌, ◌++◌, length, Option, Some, None, slice_get, slice_set}
+use Rattle.std.specs.Prelude.{◌≡◌, ℕ, ◌+◌, ◌-◌, Bool, true, false, not, ◌==◌, nat_le, if◌then◌else◌, List, [], ◌∷◌, ◌++◌, length, Option, Some, None, slice_get, slice_set}
 use Rattle.iscsi_pdu.specs.Fields.{reserved_tag}
 use Rattle.iscsi_pdu.specs.declared.head.Head.{Head}
 use Rattle.iscsi_pdu.specs.declared.head.Head.TheVariants as heads
 use Rattle.iscsi_tasks.specs.Numbering.{acknowledged, next_after}
 use Rattle.iscsi_tasks.specs.Tasks.{answered_request, latest_request, next_of, uses_after, uses_of}
+use Rattle.iscsi_tasks.specs.Uses.{uses_without}
 use Rattle.iscsi_tasks.specs.declared.tasks.Tasks.{Tasks}
 use Rattle.iscsi_tasks.specs.declared.uses.Use.{Use}
 use Rattle.iscsi_pdu.specs.declared.serial.Serial.{Serial}
-use Rattle.iscsi_job.specs.declared.fault.Which.{Which}
-use Rattle.iscsi_job.specs.declared.fault.Which.TheVariants as ends
 use Rattle.iscsi_job.specs.declared.fault.Reason.{Reason}
 use Rattle.iscsi_job.specs.declared.fault.Reason.TheVariants as reason
 use Rattle.iscsi_job.specs.declared.item.Ended.{Ended}
@@ -17,7 +16,8 @@ use Rattle.iscsi_job.specs.Answers.{AnsweredItem, item_answered, refuses}
 use Rattle.iscsi_job.specs.Jobs.{Item, NotedRequest}
 use Rattle.iscsi_job.specs.Requests.{asked_item, gives, said_by}
 use Rattle.iscsi_job.specs.declared.item.Asked.{Asked}
-use Rattle.iscsi_job.specs.declared.recording.Recording.{Recording}
+use Rattle.iscsi_job.specs.declared.recording.At.{At}
+use Rattle.iscsi_job.specs.declared.state.Recording.{Recording}
 use Rattle.iscsi_job.specs.declared.requests.Heard.{Heard}
 use Rattle.iscsi_job.specs.declared.requests.Heard.TheVariants as heard
 
@@ -86,29 +86,37 @@ noted_unrefused None noted index head bytes =
     if is_answer head then noted_answered noted index head bytes
     else record { noted = noted; refusal = None }
 
-abbrev pub noted_heard : Tasks → List NotedRequest → Head → List ℕ → AnsweredNoted
-noted_heard tasks noted head bytes =
-    noted_unrefused (kind_refusal head) noted (answered_request tasks head) head bytes
+-- which of the requests that are held one is, if it was not taken out
+abbrev pub slot : ℕ → Option ℕ → Option ℕ
+slot given None = None
+slot given (Some request) = if nat_le given request then Some (request - given) else None
+
+abbrev pub noted_heard : ℕ → Tasks → List NotedRequest → Head → List ℕ → AnsweredNoted
+noted_heard given tasks noted head bytes =
+    noted_unrefused (kind_refusal head) noted (slot given (answered_request tasks head)) head bytes
 
 -- the uses of tags after a PDU of the target
 pub record TasksHear (old : Tasks) (head : Head) (new : Tasks) : Type 0 where
   pub uses : (tag : ℕ) → uses_of new tag ≡ uses_after old head tag
   pub next : next_of new ≡ next_after (next_of old) head
 
--- A recording: its requests, and the uses of their tags.
+-- A recording: how many requests were taken out of it, those that are held, and the uses of tags.
 pub record Recorded : Type 0 where
+  pub given : ℕ
   pub noted : List NotedRequest
   pub tasks : Tasks
 
 -- what a recording has noted
 abbrev pub recorded : Recording → Recorded
-recorded recording = record { noted = recording.noted.items; tasks = recording.tasks }
+recorded recording =
+    record { given = recording.given; noted = recording.noted.items; tasks = recording.tasks }
 
 -- A PDU of the target is heard, and has a place in a job but for this reason.
 pub record AnswerStep (old : Recorded) (head : Head) (bytes : List ℕ) (refusal : Option Reason)
     (new : Recorded) : Type 0 where
-  pub noted : new.noted ≡ (noted_heard old.tasks old.noted head bytes).noted
-  pub why : refusal ≡ (noted_heard old.tasks old.noted head bytes).refusal
+  pub given : new.given ≡ old.given
+  pub noted : new.noted ≡ (noted_heard old.given old.tasks old.noted head bytes).noted
+  pub why : refusal ≡ (noted_heard old.given old.tasks old.noted head bytes).refusal
   pub tasks : TasksHear old.tasks head new.tasks
 
 -- the uses of tags behind one more use of a tag
@@ -117,16 +125,18 @@ pub record TasksBegin (old : Tasks) (tag : ℕ) (begun : Use) (new : Tasks) : Ty
   pub next : next_of new ≡ next_of old
 
 -- a request that is noted anew: its tag, its place, and the number of its PDU
-abbrev pub noted_request : ℕ → ℕ × ℕ → Asked → List ℕ → NotedRequest
+abbrev pub noted_request : ℕ → At → Asked → List ℕ → NotedRequest
 noted_request tag at asked bytes =
-    record { tag = tag; place = at.0; pdu = at.1; item = asked_item asked bytes }
+    record { tag = tag; place = at.place; pdu = at.pdu; item = asked_item asked bytes }
 
 -- A PDU asks something, and the recording has one request more, and one use of its tag.
-pub record BeginsRequest (old : Recorded) (at : ℕ × ℕ) (tag : ℕ) (asked : Asked) (known : Serial)
+pub record BeginsRequest (old : Recorded) (at : At) (tag : ℕ) (asked : Asked) (known : Serial)
     (bytes : List ℕ) (refusal : Option Reason) (new : Recorded) : Type 0 where
   pub why : refusal ≡ None
+  pub given : new.given ≡ old.given
   pub noted : new.noted ≡ old.noted ++ noted_request tag at asked bytes ∷ []
-  pub tasks : TasksBegin old.tasks tag (record { request = length old.noted; known = known }) new.tasks
+  pub tasks : TasksBegin old.tasks tag
+      (record { request = old.given + length old.noted; known = known }) new.tasks
 
 -- A PDU changes nothing of a recording, and has no place in a job for this reason, if there is one.
 pub record ChangesNothing (old : Recorded) (why : Option Reason) (refusal : Option Reason)
@@ -155,19 +165,20 @@ noted_given noted (Some index) offset bytes =
 pub record GivesData (old : Recorded) (tag : ℕ) (offset : ℕ) (bytes : List ℕ) (refusal : Option Reason)
     (new : Recorded) : Type 0 where
   pub noted : new.noted
-      ≡ (noted_given old.noted (latest_request (uses_of old.tasks tag)) offset bytes).noted
+      ≡ (noted_given old.noted (slot old.given (latest_request (uses_of old.tasks tag))) offset bytes).noted
   pub why : refusal
-      ≡ (noted_given old.noted (latest_request (uses_of old.tasks tag)) offset bytes).refusal
+      ≡ (noted_given old.noted (slot old.given (latest_request (uses_of old.tasks tag))) offset bytes).refusal
+  pub given : new.given ≡ old.given
   pub tasks : new.tasks ≡ old.tasks
 
 -- what a request with a tag makes of a recording; its PDU has an ExpStatSN
-abbrev pub AsksKnown : Option Serial → Recorded → ℕ × ℕ → ℕ → Asked → List ℕ → Option Reason → Recorded → Type 0
+abbrev pub AsksKnown : Option Serial → Recorded → At → ℕ → Asked → List ℕ → Option Reason → Recorded → Type 0
 AsksKnown None old at tag asked bytes refusal new = ChangesNothing old (Some reason.Kind) refusal new
 AsksKnown (Some known) old at tag asked bytes refusal new =
     BeginsRequest old at tag asked known bytes refusal new
 
 -- what a PDU of the initiator makes of a recording, by what it says
-abbrev pub SaidStep : Heard → Option Serial → Recorded → ℕ × ℕ → List ℕ → Option Reason → Recorded → Type 0
+abbrev pub SaidStep : Heard → Option Serial → Recorded → At → List ℕ → Option Reason → Recorded → Type 0
 SaidStep (heard.Asks tag asked) known old at bytes refusal new =
     AsksKnown known old at tag asked bytes refusal new
 SaidStep (heard.Gives tag offset) known old at bytes refusal new =
@@ -176,25 +187,23 @@ SaidStep heard.Nothing known old at bytes refusal new = ChangesNothing old None 
 SaidStep (heard.Refuses why) known old at bytes refusal new = ChangesNothing old (Some why) refusal new
 
 -- A PDU of the initiator is heard, at a place, with a number.
-abbrev pub AskStep : Recorded → ℕ × ℕ → Head → List ℕ → Option Reason → Recorded → Type 0
+abbrev pub AskStep : Recorded → At → Head → List ℕ → Option Reason → Recorded → Type 0
 AskStep old at head bytes refusal new =
     SaidStep (said_by head bytes) (acknowledged head) old at bytes refusal new
 
--- From one recording to the next a PDU of an end is heard, or the requests are as they were: there was
--- no PDU, or memory ran out.
-pub data HearsPdu (which : Which) (old new : Recorded) : Type 0 where
-  kept : new.noted ≡ old.noted → HearsPdu which old new
-  asked : which ≡ ends.Initiator → (at : ℕ × ℕ) (head : Head) (bytes : List ℕ) (refusal : Option Reason)
-      → AskStep old at head bytes refusal new → HearsPdu which old new
-  answered : which ≡ ends.Target → (head : Head) (bytes : List ℕ) (refusal : Option Reason)
-      → AnswerStep old head bytes refusal new → HearsPdu which old new
+-- the uses of tags behind a request that was taken out
+pub record TasksForget (old : Tasks) (tag : ℕ) (request : ℕ) (new : Tasks) : Type 0 where
+  pub uses : (t : ℕ) → uses_of new t
+      ≡ (if t == tag then uses_without request (uses_of old t) else uses_of old t)
+  pub next : next_of new ≡ next_of old
 
--- From one recording to the next so many steps were taken.
-abbrev pub HearsPdus : Which → ℕ → Recorded → Recorded → Type 0
-HearsPdus which zero old new = new ≡ old
-HearsPdus which (suc n) old new =
-    (between : Recorded) × HearsPdus which n old between × HearsPdu which between new
+-- the first request was taken out, and no answer belongs to it from now on
+pub record GivesNoted (old : Recorded) (noted : NotedRequest) (new : Recorded) : Type 0 where
+  pub first : old.noted ≡ noted ∷ new.noted
+  pub given : new.given ≡ old.given + 1
+  pub tasks : TasksForget old.tasks noted.tag old.given new.tasks
 
--- From one recording to the next some PDUs of an end were heard, in turn.
-abbrev pub HearsSome : Which → Recorded → Recorded → Type 0
-HearsSome which old new = (count : ℕ) × HearsPdus which count old new
+-- The first request was taken out, or there was none.
+abbrev pub GivesFront : Recorded → Option NotedRequest → Recorded → Type 0
+GivesFront old None new = (old.noted ≡ []) × (new ≡ old)
+GivesFront old (Some noted) new = GivesNoted old noted new

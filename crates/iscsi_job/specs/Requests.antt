@@ -10,14 +10,15 @@ use Rattle.iscsi_job.specs.declared.fault.Reason.{Reason}
 use Rattle.iscsi_job.specs.declared.fault.Reason.TheVariants as reason
 use Rattle.iscsi_job.specs.declared.item.Asked.{Asked}
 use Rattle.iscsi_job.specs.declared.item.Asked.TheVariants as asked
+use Rattle.iscsi_job.specs.declared.item.Moves.{Moves}
 use Rattle.iscsi_job.specs.declared.item.Moves.TheVariants as moves
 use Rattle.iscsi_job.specs.declared.requests.Heard.{Heard}
 use Rattle.iscsi_job.specs.declared.requests.Heard.TheVariants as heard
 use Rattle.iscsi_job.specs.Jobs.{Item}
 
--- which way the data of a command go: bit W says to the target, if it sends any
-abbrev pub is_out : ScsiCommand → Bool
-is_out h = h.write && nat_lt 0 h.expected_data_transfer_length
+-- which way the data of a command go: bit W says to the target, and bit R from it
+abbrev pub way : ScsiCommand → Moves
+way h = if h.write then moves.Out else (if h.read then moves.In else moves.Nothing)
 
 -- how many bytes a command expects either way; none without R and W
 abbrev pub expected : ScsiCommand → ℕ
@@ -28,9 +29,9 @@ expected h = if h.read || h.write then h.expected_data_transfer_length else 0
 abbrev pub commanded : ScsiCommand → List ℕ → Heard
 commanded h bytes =
     if h.read && h.write then heard.Refuses reason.Bidirectional
-    else (if nat_lt (if is_out h then expected h else 0) (length bytes) then heard.Refuses reason.Order
+    else (if nat_lt (if h.write then expected h else 0) (length bytes) then heard.Refuses reason.Order
     else heard.Asks h.initiator_task_tag
-    (asked.Command h.lun (canonical h.cdb) (if is_out h then moves.Out else moves.In) (expected h)))
+    (asked.Command h.lun (canonical h.cdb) (way h) (expected h)))
 
 -- A text asks by one PDU (section 11.10; own rule).
 abbrev pub texted : TextRequest → Heard

@@ -1,6 +1,6 @@
 //! What the PDUs of a target answer.
 
-ghost use Rattle.std.specs.Prelude.{◌≡◌, ◌++◌, IfOk, OnOk, OnErr, None, Some};
+ghost use Rattle.std.specs.Prelude.{◌≡◌, ◌++◌, length, IfOk, OnOk, OnErr, None, Some};
 ghost use Rattle.std.specs.Option.{option_map};
 ghost use Rattle.iscsi_initiator.specs.Full.{residual, sense_of};
 ghost use Rattle.iscsi_job.specs.declared.item.Ended.TheVariants.{Ping as IsPing};
@@ -9,38 +9,43 @@ ghost use Rattle.iscsi_job.specs.Recordings.{answered_once, is_answer, kind_refu
 
 use crate::fault::Reason;
 use crate::item::{Asked, Ended, Item, Moves};
-use crate::recording::Noted;
+use crate::recording::{Noted, slot};
 use iscsi_pdu::{DataIn, Head, RESERVED_TAG, ScsiResponse, TextResponse};
 use iscsi_tasks::Tasks;
 use scsi_cdb::Residual;
 use std::alloc::AllocError;
+use std::collections::VecDeque;
 
 /// Notes what a PDU of the target answers, or says why it has no place in a job. If memory runs out,
 /// nothing is noted of it.
 pub(crate) fn take(
-    noted: &mut Vec<Noted>,
+    given: usize,
+    noted: &mut VecDeque<Noted>,
     tasks: &mut Tasks,
+    now: u64,
     head: &Head,
     bytes: &[u8],
 ) -> Result<Option<Reason>, AllocError>
     ensures refusal { IfOk result (λ refusal.
-        refusal ≡ (noted_heard tasks.old noted.old.items head.now bytes.now).refusal) }
+        refusal ≡ (noted_heard given tasks.old noted.old.items head.now bytes.now).refusal) }
     ensures noted { OnOk result (noted.new.items
-        ≡ (noted_heard tasks.old noted.old.items head.now bytes.now).noted) }
+        ≡ (noted_heard given tasks.old noted.old.items head.now bytes.now).noted) }
     ensures err { OnErr result (noted.new.items ≡ noted.old.items) }
+    ensures length { length noted.new.items ≡ length noted.old.items }
     ensures tasks { TasksHear tasks.old head.now tasks.new }
 {
-    let found = tasks.hear(head);
+    let found = slot(given, tasks.hear(head));
     match kind_refusal(head) {
         Some(reason) => Ok(Some(reason)),
-        None => answer_if_any(noted, found, head, bytes),
+        None => answer_if_any(noted, found, now, head, bytes),
     }
 }
 
 // Notes what a PDU answers, if it is an answer.
 fn answer_if_any(
-    noted: &mut Vec<Noted>,
+    noted: &mut VecDeque<Noted>,
     found: Option<usize>,
+    now: u64,
     head: &Head,
     bytes: &[u8],
 ) -> Result<Option<Reason>, AllocError>
@@ -49,9 +54,10 @@ fn answer_if_any(
     ensures noted { OnOk result (noted.new.items
         ≡ (noted_unrefused None noted.old.items found head.now bytes.now).noted) }
     ensures err { OnErr result (noted.new.items ≡ noted.old.items) }
+    ensures length { length noted.new.items ≡ length noted.old.items }
 {
     if is_answer(head) {
-        answer(noted, found, head, bytes)
+        answer(noted, found, now, head, bytes)
     } else {
         Ok(None)
     }
@@ -93,8 +99,9 @@ fn is_answer(head: &Head) -> bool
 
 // Notes what a PDU answers to the request with this index, which is still without an answer.
 fn answer(
-    noted: &mut Vec<Noted>,
+    noted: &mut VecDeque<Noted>,
     index: Option<usize>,
+    now: u64,
     head: &Head,
     bytes: &[u8],
 ) -> Result<Option<Reason>, AllocError>
@@ -103,6 +110,7 @@ fn answer(
     ensures noted { OnOk result (noted.new.items
         ≡ (noted_answered noted.old.items index head.now bytes.now).noted) }
     ensures err { OnErr result (noted.new.items ≡ noted.old.items) }
+    ensures length { length noted.new.items ≡ length noted.old.items }
 {
     let Some(index) = index else {
         return Ok(Some(Reason::Unasked));
@@ -110,6 +118,7 @@ fn answer(
     let Some(found) = noted.get_mut(index) else {
         return Ok(Some(Reason::Unasked));
     };
+    found.answered = now;
     answered_once(&mut found.item, head, bytes)
 }
 
@@ -137,7 +146,7 @@ fn answered(item: &mut Item, head: &Head, bytes: &[u8]) -> Result<Option<Reason>
         (
             Head::DataIn(head),
             Asked::Command {
-                moves: Moves::In,
+                moves: Moves::In | Moves::Nothing,
                 expected,
                 ..
             },

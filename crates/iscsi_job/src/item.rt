@@ -2,7 +2,7 @@
 
 ghost use Rattle.std.specs.Prelude.{◌≡◌, IfOk, IfSome};
 ghost use Rattle.std.specs.Option.{option_map};
-ghost use Rattle.iscsi_job.specs.Jobs.{lacks_data};
+ghost use Rattle.iscsi_job.specs.Jobs.{DoneAs, lacks_data, moves_no_bytes, request_again};
 
 use iscsi_initiator::{Done, Request};
 use scsi_cdb::{Bytes, Residual};
@@ -12,9 +12,11 @@ use std::marker::Model;
 /// Which way a command's data go, by the bits R and W of its PDU (RFC 7143, section 11.3.1).
 #[derive(Clone, Copy, PartialEq, Eq)]
 pub enum Moves {
-    /// From the target, or none at all.
+    /// No way: neither bit is set.
+    Nothing,
+    /// From the target: bit R is set, even if no byte is expected.
     In,
-    /// To the target.
+    /// To the target: bit W is set, even if no byte is expected.
     Out,
 }
 
@@ -134,19 +136,30 @@ impl Item {
         }
     }
 
-    /// The request that an initiator is asked for to do it again; none for task management, and for a
-    /// write that lacks data.
-    pub fn request(&self, alloc: Global) -> Result<Option<Request>, AllocError> {
-        if self.lacks_data() {
+    /// Whether it is a command that moves data, and expects none: bit R or W is set, and the length is 0.
+    pub fn moves_no_bytes(&self) -> bool
+        ensures value { result ≡ moves_no_bytes self.now.asked }
+    {
+        match self.asked {
+            Asked::Command {
+                moves: Moves::In | Moves::Out,
+                expected,
+                ..
+            } => expected == 0,
+            _ => false,
+        }
+    }
+
+    /// The request that an initiator is asked for to do it again. There is none for task management, for
+    /// a write that lacks data, and for a command that moves data and expects none: an initiator sets
+    /// neither R nor W where there are no bytes.
+    pub fn request(&self, alloc: Global) -> Result<Option<Request>, AllocError>
+        ensures value { IfOk result (λ request. request ≡ request_again self.now) }
+    {
+        if self.lacks_data() || self.moves_no_bytes() {
             return Ok(None);
         }
         match self.asked {
-            Asked::Command {
-                lun,
-                cdb,
-                moves: Moves::In,
-                expected,
-            } => Ok(Some(Request::In { lun, cdb, expected })),
             Asked::Command {
                 lun,
                 cdb,
@@ -157,6 +170,12 @@ impl Item {
                 cdb,
                 bytes: self.sent_again(alloc)?,
             })),
+            Asked::Command {
+                lun,
+                cdb,
+                expected,
+                ..
+            } => Ok(Some(Request::In { lun, cdb, expected })),
             Asked::Ping => Ok(Some(Request::Ping {
                 bytes: self.sent_again(alloc)?,
             })),
@@ -177,7 +196,9 @@ impl Item {
 }
 
 /// The outcome that an initiator gave for a request.
-pub fn outcome_of(done: &Done) -> Outcome<'_> {
+pub fn outcome_of(done: &Done) -> Outcome<'_>
+    ensures is { DoneAs done.now result }
+{
     match done {
         Done::Command {
             response,

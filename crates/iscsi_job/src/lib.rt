@@ -5,10 +5,13 @@
 mod answers;
 mod fault;
 mod item;
-mod pdus;
+mod recorder;
 mod recording;
 mod requests;
+mod state;
 
 pub use fault::{JobFault, Reason, Which};
 pub use item::{Asked, Ended, Item, Moves, Outcome, outcome_of};
-pub use recording::{Noted, Recording};
+pub use recorder::{MOST_DATA, MOST_HELD, Recorder};
+pub use recording::{At, Noted};
+pub use state::Recording;

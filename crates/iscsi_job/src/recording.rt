@@ -1,22 +1,33 @@
-//! The recording of a session, out of which its job is found.
+//! The requests of a session, PDU by PDU of both its ends.
 
-ghost use Rattle.std.specs.Prelude.{◌≡◌, ℕ, [], IfOk, None, OnErr, OnOk};
+ghost use Rattle.std.specs.Prelude.{◌≡◌, ◌≤◌, ◌-◌, ◌+◌, ◌^◌, ◌<◌, ℕ, [], IfOk, None, Some, OnErr, OnOk, length, option_map, slice_get};
 ghost use Rattle.iscsi_pdu.specs.Meaning.{HeadFits};
 ghost use Rattle.iscsi_tasks.specs.Numbering.{acknowledged};
-ghost use Rattle.iscsi_tasks.specs.Tasks.{next_of, uses_of};
-ghost use Rattle.iscsi_job.specs.declared.fault.Which.TheVariants.{Initiator, Target};
-ghost use Rattle.iscsi_job.specs.Recordings.{AnswerStep, AsksKnown, AskStep, GivesData, HearsPdu, HearsSome, noted_given, recorded};
+ghost use Rattle.iscsi_tasks.specs.Tasks.{is_known_at, next_of, uses_of};
+ghost use Rattle.iscsi_tasks.specs.Numbering.{stands_at};
+ghost use Rattle.iscsi_job.specs.Recordings.{AnswerStep, AsksKnown, AskStep, GivesData, GivesFront, noted_given, recorded, slot};
 
 use crate::answers;
-use crate::fault::{JobFault, Reason, Which};
+use crate::fault::{JobFault, Reason};
 use crate::item::{Asked, Item};
-use crate::pdus::Pdus;
 use crate::requests::{Heard, give, note, said_by};
-use iscsi_pdu::Head;
+use crate::state::Recording;
+use iscsi_pdu::{Head, Serial};
 use iscsi_tasks::{Tasks, Use, acknowledged};
 use std::alloc::{AllocError, Global};
-use std::io::Read;
+use std::collections::VecDeque;
 use std::marker::Model;
+
+/// Where a PDU of the initiator stands, and when it was sent.
+#[derive(Clone, Copy)]
+pub struct At {
+    /// The number of the initiator's bytes before it.
+    pub place: u64,
+    /// Its number, from 1.
+    pub pdu: u64,
+    /// When it was sent, in nanoseconds; 0 where that is not known.
+    pub now: u64,
+}
 
 /// A request of a recording, with its tag.
 #[derive(Drop)]
@@ -29,6 +40,10 @@ pub struct Noted {
     pub pdu: u64,
     /// The request, and what came of it so far.
     pub item: Item,
+    /// When it was sent, in nanoseconds; 0 where that is not known.
+    pub sent: u64,
+    /// When the last PDU that answers it came; 0 where none did, or that is not known.
+    pub answered: u64,
 }
 
 impl Model for Noted {
@@ -39,114 +54,58 @@ impl Model for Noted {
     ghost view = { λ n. record { tag = n.tag; place = n.place; pdu = n.pdu; item = n.item } };
 }
 
-/// The requests of a recorded session, in the order of the initiator's stream.
-#[derive(Drop)]
-pub struct Recording {
-    alloc: Global,
-    noted: Vec<Noted>,
-    tasks: Tasks,
-}
-
 impl Recording {
-    /// A recording of which nothing was read. It takes no memory.
+    /// A recording of which nothing was heard. It takes no memory.
     pub fn new(alloc: Global) -> Recording
+        ensures given { (recorded result).given ≡ 0 }
         ensures noted { (recorded result).noted ≡ [] }
         ensures uses { (tag : ℕ) → uses_of (recorded result).tasks tag ≡ [] }
         ensures next { next_of (recorded result).tasks ≡ None }
     {
         Recording {
             alloc,
-            noted: Vec::new(alloc),
+            given: 0,
+            noted: VecDeque::new(alloc),
             tasks: Tasks::new(alloc),
         }
     }
 
-    /// The requests so far, with what came of them.
-    pub fn noted(&self) -> &[Noted]
-        ensures { result.now ≡ (recorded self.now).noted }
+    /// How many requests are held.
+    pub fn held(&self) -> usize
+        ensures { result ≡ length (recorded self.now).noted }
     {
-        &self.noted
+        self.noted.len()
     }
 
-    /// Reads the initiator's stream to its end: login PDUs are passed over, and each request is noted
-    /// with its data.
-    ///
-    /// A fault comes behind the requests of all PDUs before it.
-    pub fn ask<R: Read>(&mut self, r: &mut R) -> Result<(), JobFault>
-        ensures hears { HearsSome Initiator (recorded self.old) (recorded self.new) }
+    /// The first request that is held, with what came of it so far.
+    pub fn front(&self) -> Option<&Noted>
+        ensures { option_map (λ noted. noted.now) result ≡ slice_get (recorded self.now).noted 0 }
     {
-        let mut pdus = Pdus::new(self.alloc, Which::Initiator);
-        self.read(&mut pdus, true, r)
+        self.noted.front()
     }
 
-    /// Reads the target's stream to its end, and notes what came of each request. `whole` says whether
-    /// the initiator's stream was read to its end: if it was not, answers to requests that were not
-    /// read are passed over.
-    ///
-    /// A fault comes behind the answers of all PDUs before it.
-    pub fn answer<R: Read>(&mut self, whole: bool, r: &mut R) -> Result<(), JobFault>
-        ensures hears { HearsSome Target (recorded self.old) (recorded self.new) }
+    /// Takes the first request that is held out. No later PDU says anything of it.
+    pub fn take_front(&mut self) -> Option<Noted>
+        ensures gives { GivesFront (recorded self.old) result (recorded self.new) }
     {
-        let mut pdus = Pdus::new(self.alloc, Which::Target);
-        self.read(&mut pdus, whole, r)
+        let noted = self.noted.pop_front()?;
+        self.tasks.forget(noted.tag, self.given);
+        self.given += 1;
+        Some(noted)
     }
 
-    // Reads a stream to its end.
-    fn read<R: Read>(&mut self, pdus: &mut Pdus, whole: bool, r: &mut R) -> Result<(), JobFault>
-        ensures hears { HearsSome pdus.old.which (recorded self.old) (recorded self.new) }
+    /// Whether the initiator had received a PDU of the target, which was not heard yet, when it sent one
+    /// with this ExpStatSN.
+    pub fn is_known(&self, head: &Head, known: Serial) -> bool
+        ensures value { result
+            ≡ is_known_at known (stands_at (next_of (recorded self.now).tasks) head.now) }
     {
-        for _ in 0..u64::MAX {
-            if !pdus.advance(r)? {
-                return Ok(());
-            }
-            self.take(pdus, whole)?;
-        }
-        Err(JobFault::Read(pdus.which))
+        self.tasks.is_known(head, known)
     }
 
-    // Takes the PDU that is ready.
-    fn take(&mut self, pdus: &Pdus, whole: bool) -> Result<(), JobFault>
-        ensures hears { HearsPdu pdus.now.which (recorded self.old) (recorded self.new) }
-    {
-        let (which, place, number) = (pdus.which, pdus.framer.place(), pdus.number);
-        let Some(pdu) = pdus.framer.pdu() else {
-            return Ok(());
-        };
-        let said = self.hear(which, (place, number), &pdu.head, pdu.bytes)?;
-        match said {
-            None => Ok(()),
-            Some(Reason::Unasked) if !whole => Ok(()),
-            Some(reason) => Err(refused(which, reason, place, number)),
-        }
-    }
-
-    // Hears a PDU of an end, or says why it has no place in a job.
-    fn hear(
-        &mut self,
-        which: Which,
-        at: (u64, u64),
-        head: &Head,
-        bytes: &[u8],
-    ) -> Result<Option<Reason>, JobFault>
-        requires fits { HeadFits head.now }
-        ensures hears { HearsPdu which (recorded self.old) (recorded self.new) }
-    {
-        if at.1 == 1 && !is_login(which, head) {
-            return Ok(Some(Reason::Late));
-        }
-        match which {
-            Which::Initiator => self.take_request(at, head, bytes),
-            Which::Target => self.take_answer(head, bytes),
-        }
-    }
-
-    // Notes what a PDU of the initiator asks, or says why it has no place in a job.
-    fn take_request(
-        &mut self,
-        at: (u64, u64),
-        head: &Head,
-        bytes: &[u8],
-    ) -> Result<Option<Reason>, JobFault>
+    /// Hears a PDU of the initiator: notes what it asks, or says why it has no place in a job. After a
+    /// fault the requests are as they were.
+    pub fn ask(&mut self, at: At, head: &Head, bytes: &[u8]) -> Result<Option<Reason>, JobFault>
         requires fits { HeadFits head.now }
         ensures step { IfOk result (λ refusal.
             AskStep (recorded self.old) at head.now bytes.now refusal (recorded self.new)) }
@@ -163,7 +122,7 @@ impl Recording {
     // Notes a request, and that it uses its tag from now on.
     fn begin(
         &mut self,
-        at: (u64, u64),
+        at: At,
         tag: u32,
         asked: Asked,
         head: &Head,
@@ -176,7 +135,10 @@ impl Recording {
         let Some(known) = acknowledged(head) else {
             return Ok(Some(Reason::Kind));
         };
-        let request = self.noted.len();
+        let request = self.given + self.noted.len();
+        if request == usize::MAX {
+            return Err(JobFault::NoMemory);
+        }
         self.tasks.begin(tag, Use { request, known })?;
         note(self.alloc, &mut self.noted, at, tag, asked, bytes)?;
         Ok(None)
@@ -188,23 +150,46 @@ impl Recording {
             GivesData (recorded self.old) tag offset bytes.now refusal (recorded self.new)) }
         ensures err { OnErr result ((recorded self.new).noted ≡ (recorded self.old).noted) }
     {
-        let latest = self.tasks.latest(tag);
+        let latest = slot(self.given, self.tasks.latest(tag));
         give_to(&mut self.noted, latest, offset, bytes)
     }
 
-    // Notes what a PDU of the target answers, or says why it has no place in a job.
-    fn take_answer(&mut self, head: &Head, bytes: &[u8]) -> Result<Option<Reason>, JobFault>
+    /// Hears a PDU of the target that came at this time: notes what it answers, or says why it has no
+    /// place in a job. If memory runs out, nothing is noted of it.
+    pub fn answer(
+        &mut self,
+        now: u64,
+        head: &Head,
+        bytes: &[u8],
+    ) -> Result<Option<Reason>, AllocError>
         ensures step { IfOk result (λ refusal.
             AnswerStep (recorded self.old) head.now bytes.now refusal (recorded self.new)) }
         ensures err { OnErr result ((recorded self.new).noted ≡ (recorded self.old).noted) }
     {
-        Ok(answers::take(&mut self.noted, &mut self.tasks, head, bytes)?)
+        answers::take(
+            self.given,
+            &mut self.noted,
+            &mut self.tasks,
+            now,
+            head,
+            bytes,
+        )
+    }
+}
+
+// Which of the requests that are held one is, if it was not taken out.
+pub(crate) fn slot(given: usize, request: Option<usize>) -> Option<usize>
+    ensures value { result ≡ slot given request }
+{
+    match request {
+        Some(request) if request >= given => Some(request - given),
+        _ => None,
     }
 }
 
 // Gives bytes to the request with an index.
 fn give_to(
-    noted: &mut Vec<Noted>,
+    noted: &mut VecDeque<Noted>,
     index: Option<usize>,
     offset: u32,
     bytes: &[u8],
@@ -222,22 +207,4 @@ fn give_to(
         return Ok(Some(Reason::Unasked));
     };
     give(&mut found.item, offset, bytes)
-}
-
-// The fault of a PDU that has no place in a job.
-fn refused(which: Which, reason: Reason, place: u64, pdu: u64) -> JobFault {
-    JobFault::Refused {
-        which,
-        reason,
-        place,
-        pdu,
-    }
-}
-
-// Whether a PDU is of a login, as the first one of an end is.
-fn is_login(which: Which, head: &Head) -> bool {
-    match which {
-        Which::Initiator => matches!(head, Head::LoginRequest(_)),
-        Which::Target => matches!(head, Head::LoginResponse(_)),
-    }
 }

@@ -3,13 +3,14 @@
 ghost use Rattle.std.specs.Prelude.{◌≡◌, ◌++◌, ◌∷◌, [], None, Ok, IfOk, IsSome, OnOk, OnErr};
 ghost use Rattle.scsi_cdb.specs.Blocks.{CdbFits as FitsTable};
 ghost use Rattle.iscsi_pdu.specs.Meaning.{HeadFits};
-ghost use Rattle.iscsi_job.specs.Requests.{asked_item, commanded, gives, said_by, texted};
+ghost use Rattle.iscsi_job.specs.Requests.{asked_item, commanded, gives, said_by, texted, way};
 
 use crate::fault::{JobFault, Reason};
 use crate::item::{Asked, Item, Moves};
-use crate::recording::Noted;
+use crate::recording::{At, Noted};
 use iscsi_pdu::{Head, RESERVED_TAG, ScsiCommand, TextRequest};
 use std::alloc::{AllocError, Global};
+use std::collections::VecDeque;
 
 /// What a PDU of the initiator says of a job.
 #[derive(Clone, Copy)]
@@ -59,18 +60,30 @@ fn commanded(head: &ScsiCommand, bytes: &[u8]) -> Heard
     }
     let length = head.expected_data_transfer_length;
     let expected = if head.read || head.write { length } else { 0 };
-    let is_out = head.write && length > 0;
-    let most = if is_out { expected } else { 0 };
+    let most = if head.write { expected } else { 0 };
     if bytes.len() > most as usize {
         return Heard::Refuses(Reason::Order);
     }
     let asked = Asked::Command {
         lun: head.lun,
         cdb: head.cdb.write(),
-        moves: if is_out { Moves::Out } else { Moves::In },
+        moves: way(head),
         expected,
     };
     Heard::Asks(head.initiator_task_tag, asked)
+}
+
+// Which way the data of a command go.
+fn way(head: &ScsiCommand) -> Moves
+    ensures value { result ≡ way head.now }
+{
+    if head.write {
+        Moves::Out
+    } else if head.read {
+        Moves::In
+    } else {
+        Moves::Nothing
+    }
 }
 
 // What a text says.
@@ -84,25 +97,24 @@ fn texted(head: &TextRequest) -> Heard
     }
 }
 
-/// Notes a request with the bytes that its PDU has, behind those that stand there. `at` is the place
-/// and the number of the PDU. If memory runs out, nothing is noted.
+/// Notes a request with the bytes that its PDU has, behind those that stand there. `at` is where
+/// the PDU stands. If memory runs out, nothing is noted.
 pub(crate) fn note(
     alloc: Global,
-    noted: &mut Vec<Noted>,
-    at: (u64, u64),
+    noted: &mut VecDeque<Noted>,
+    at: At,
     tag: u32,
     asked: Asked,
     bytes: &[u8],
 ) -> Result<(), JobFault>
     ensures ok { OnOk result (noted.new.items ≡ noted.old.items ++ record {
       tag = tag;
-      place = at.0;
-      pdu = at.1;
+      place = at.place;
+      pdu = at.pdu;
       item = asked_item asked bytes.now;
     } ∷ []) }
     ensures err { OnErr result (noted.new.items ≡ noted.old.items) }
 {
-    let (place, pdu) = at;
     let item = Item {
         asked,
         sent: bytes.to_vec(alloc)?,
@@ -110,11 +122,13 @@ pub(crate) fn note(
         sense: Vec::new(alloc),
         received: Vec::new(alloc),
     };
-    noted.push(Noted {
+    noted.push_back(Noted {
         tag,
-        place,
-        pdu,
+        place: at.place,
+        pdu: at.pdu,
         item,
+        sent: at.now,
+        answered: 0,
     })?;
     Ok(())
 }

@@ -2,6 +2,8 @@
 
 ghost use Rattle.std.specs.Prelude.{◌≡◌};
 ghost use Rattle.iscsi_job_text.specs.declared.fault.LineFault.TheVariants as line;
+ghost use Rattle.iscsi_job_text.specs.declared.fault.TextFault.TheVariants as text;
+ghost use Rattle.iscsi_job_text.specs.declared.fault.WriteFault.TheVariants as writing;
 
 use std::alloc::{AllocError, AllocFailed};
 use std::fmt::{self, Debug, Display, Formatter, Write};
@@ -31,6 +33,8 @@ pub enum LineReason {
     Words,
     /// The line is not UTF-8.
     Utf8,
+    /// The first line names a form that is not read.
+    Form,
 }
 
 impl Display for LineReason {
@@ -46,6 +50,7 @@ impl Display for LineReason {
             LineReason::Outcome => "no outcome",
             LineReason::Words => "too many words",
             LineReason::Utf8 => "not UTF-8",
+            LineReason::Form => "unknown form",
         };
         f.write_str(text)
     }
@@ -57,12 +62,12 @@ pub enum TextFault {
     /// Memory ran out.
     #[error("memory")]
     NoMemory,
-    /// A read failed, or 16,777,216 of them did not reach the end.
+    /// A read failed.
     #[error("read failed")]
     Read,
-    /// The text has more than 1,073,741,824 bytes.
-    #[error("over 1073741824 bytes")]
-    TooLong,
+    /// The line with this number, from 1, has more than 1,073,741,824 bytes.
+    #[error("line {0}: over 1073741824 bytes")]
+    TooLong(u64),
     /// A line is refused.
     #[error("line {line}: {reason}")]
     Line {
@@ -76,6 +81,39 @@ pub enum TextFault {
 impl Debug for TextFault {
     fn fmt<W: Write>(&self, f: &mut Formatter<W>) -> fmt::Result {
         write!(f, "TextFault({self})")
+    }
+}
+
+impl From<AllocError> for TextFault {
+    ghost from_gives = { λ _ fault. fault ≡ text.NoMemory };
+
+    fn from(_error: AllocError) -> TextFault {
+        TextFault::NoMemory
+    }
+}
+
+/// Why a request is not written.
+#[derive(Clone, Copy, Error)]
+pub enum WriteFault {
+    /// Memory ran out.
+    #[error("memory")]
+    NoMemory,
+    /// No text has it.
+    #[error("no text has the request")]
+    Unsaid,
+}
+
+impl Debug for WriteFault {
+    fn fmt<W: Write>(&self, f: &mut Formatter<W>) -> fmt::Result {
+        write!(f, "WriteFault({self})")
+    }
+}
+
+impl From<AllocError> for WriteFault {
+    ghost from_gives = { λ _ fault. fault ≡ writing.NoMemory };
+
+    fn from(_error: AllocError) -> WriteFault {
+        WriteFault::NoMemory
     }
 }
 

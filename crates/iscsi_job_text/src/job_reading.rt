@@ -1,104 +1,210 @@
-//! The job that a text is.
+//! The job that a text is, read as it goes.
 
+ghost use Rattle.std.specs.Prelude.{◌≡◌, ◌≤◌, ◌+◌, length, IfOk};
+
+use crate::entry::Entry;
+use crate::entry_reading::{begun_by, take_line};
+use crate::entry_writing::FORM;
 use crate::fault::{LineFault, LineReason, TextFault};
-use crate::outcome_reading::take_outcome;
-use crate::request_reading::request_of;
-use iscsi_job::Item;
-use iscsi_stream::{ToolFault, read_within};
-use std::alloc::Global;
-use std::io::Read;
+use crate::words::Words;
+use std::alloc::{AllocError, Global};
+use std::io::{self, ErrorKind, Read};
 
-/// The longest text of a job, in bytes (own rule).
-pub const LONGEST_JOB: usize = 1_073_741_824;
+/// How many bytes are read at a time.
+const PIECE: usize = 4096;
 
-/// The requests of the lines that were read so far.
+/// The longest line of a job, in bytes (own rule).
+pub const LONGEST_LINE: usize = 1_073_741_824;
+
+/// A job that is read request by request. It holds a request and a line at a time.
 #[derive(Drop)]
-struct Reading {
+pub struct JobReader {
     alloc: Global,
-    items: Vec<Item>,
-    // Whether the next line may be the outcome of the last request.
-    takes_outcome: bool,
+    piece: [u8; PIECE],
+    // the bytes of the piece that were not looked at yet
+    from: usize,
+    to: usize,
+    line: Vec<u8>,
+    // how many lines were taken
+    lines: u64,
+    // the last request, to which lines may still be added
+    pending: Option<Entry>,
+    // whether the pending request has an outcome
+    has_outcome: bool,
+    ghost order: { from ≤ to },
+    ghost within: { to ≤ 4096 },
 }
 
-/// Reads the text of a job to its end and returns the job.
-///
-/// A line that begins with no blank is a request, and one that begins with a blank the outcome of the
-/// request above. What stands behind a `#` is a comment, and empty lines are passed over. Returns
-/// `Line` with the first line, counted from 1, that is refused.
-pub fn read_job<R: Read>(alloc: Global, r: &mut R) -> Result<Vec<Item>, TextFault> {
-    let text = match read_within(alloc, r, LONGEST_JOB) {
-        Ok(text) => text,
-        Err(ToolFault::NoMemory) => return Err(TextFault::NoMemory),
-        Err(_) => return Err(TextFault::Read),
-    };
-    if text.len() > LONGEST_JOB {
-        return Err(TextFault::TooLong);
+impl JobReader {
+    /// A job of which nothing was read. It takes no memory.
+    pub fn new(alloc: Global) -> JobReader {
+        JobReader {
+            alloc,
+            piece: [0; PIECE],
+            from: 0,
+            to: 0,
+            line: Vec::new(alloc),
+            lines: 0,
+            pending: None,
+            has_outcome: false,
+        }
     }
-    items_of(alloc, &text)
-}
 
-// The requests of the lines.
-fn items_of(alloc: Global, text: &[u8]) -> Result<Vec<Item>, TextFault> {
-    let mut reading = Reading {
-        alloc,
-        items: Vec::new(alloc),
-        takes_outcome: false,
-    };
-    reading.take_all(text)?;
-    Ok(reading.items)
-}
-
-impl Reading {
-    // Takes the lines of a text.
-    fn take_all(&mut self, text: &[u8]) -> Result<(), TextFault> {
-        let mut number: u64 = 0;
-        for line in text.split(|byte| *byte == b'\n') {
-            number = number.saturating_add(1);
-            if let Err(fault) = self.take(line) {
-                return Err(fault.at(number));
+    /// Reads on to the end of the next request, and returns it; nothing at the end of the text.
+    ///
+    /// A line that begins with no blank is a request. One that begins with a blank is the time or the
+    /// outcome of the request above. What stands behind a `#` is a comment, and empty lines are passed
+    /// over. The first line may name the form. Returns `Line` with the first line, counted from 1, that is
+    /// refused, and `TooLong` with one of more than 1,073,741,824 bytes.
+    pub fn next<R: Read>(&mut self, r: &mut R) -> Result<Option<Entry>, TextFault> {
+        for _ in 0..u64::MAX {
+            let is_more = self.read_line(r)?;
+            let line = self.lines;
+            match self.take(is_more) {
+                Ok(Some(entry)) => return Ok(Some(entry)),
+                Ok(None) if is_more => {}
+                Ok(None) => return Ok(None),
+                Err(fault) => return Err(fault.at(line)),
             }
         }
-        Ok(())
+        Err(TextFault::Read)
     }
 
-    // Takes a line: a request, the outcome of the last one, or nothing.
-    fn take(&mut self, line: &[u8]) -> Result<(), LineFault> {
-        let Ok(line) = std::str::from_utf8(line) else {
-            return Err(LineFault::Refused(LineReason::Utf8));
-        };
-        let line = match line.split_once('#') {
-            Some((front, _)) => front,
-            None => line,
-        };
-        if line.trim().is_empty() {
-            Ok(())
-        } else if line.starts_with(' ') || line.starts_with('\t') {
-            self.take_outcome(line)
-        } else {
-            self.take_request(line)
+    // Reads the next line, and says whether there is one.
+    fn read_line<R: Read>(&mut self, r: &mut R) -> Result<bool, TextFault> {
+        self.line.clear();
+        for _ in 0..u64::MAX {
+            if self.take_piece()? {
+                self.lines = self.lines.saturating_add(1);
+                return Ok(true);
+            }
+            if !self.fill(r)? {
+                let is_some = !self.line.is_empty();
+                self.lines = self.lines.saturating_add(u64::from(is_some));
+                return Ok(is_some);
+            }
+        }
+        Err(TextFault::Read)
+    }
+
+    // Appends what stands in the piece up to a line end, and says whether one does. Blanks are spaces
+    // from here on.
+    fn take_piece(&mut self) -> Result<bool, TextFault> {
+        let (count, is_end) = take_part(&mut self.line, &self.piece, self.from, self.to)?;
+        self.from += count;
+        if is_end && self.from < self.to {
+            self.from += 1;
+        }
+        if self.line.len() > LONGEST_LINE {
+            return Err(TextFault::TooLong(self.lines.saturating_add(1)));
+        }
+        Ok(is_end)
+    }
+
+    // Reads the next piece, and says whether there is one.
+    fn fill<R: Read>(&mut self, r: &mut R) -> Result<bool, TextFault> {
+        match read_some(r, &mut self.piece) {
+            Ok(count) => {
+                self.from = 0;
+                self.to = count;
+                Ok(count > 0)
+            }
+            Err(_) => Err(TextFault::Read),
         }
     }
 
-    fn take_request(&mut self, line: &str) -> Result<(), LineFault> {
-        let (asked, sent) = request_of(self.alloc, line)?;
-        self.items.push(Item {
-            asked,
-            sent,
-            ended: None,
-            sense: Vec::new(self.alloc),
-            received: Vec::new(self.alloc),
-        })?;
-        self.takes_outcome = true;
-        Ok(())
+    // Takes the line that was read, or the end of the text. Returns a request to which no line is added
+    // any more.
+    fn take(&mut self, is_more: bool) -> Result<Option<Entry>, LineFault> {
+        if !is_more {
+            return Ok(self.pending.take());
+        }
+        let number = self.lines;
+        let Ok(_) = std::str::from_utf8(&self.line) else {
+            return Err(LineFault::Refused(LineReason::Utf8));
+        };
+        for byte in self.line.iter_mut() {
+            if *byte == b'\t' || *byte == b'\r' {
+                *byte = b' ';
+            }
+        }
+        if Words::of(&self.line).is_empty() {
+            return Ok(None);
+        }
+        if self.line.first() == Some(&b' ') {
+            return self.add();
+        }
+        if number == 1 && names_form(&self.line)? {
+            return Ok(None);
+        }
+        let entry = begun_by(self.alloc, &self.line)?;
+        self.has_outcome = false;
+        Ok(self.pending.replace(entry))
     }
 
-    fn take_outcome(&mut self, line: &str) -> Result<(), LineFault> {
-        match self.items.last_mut() {
-            Some(item) if self.takes_outcome => {
-                self.takes_outcome = false;
-                take_outcome(self.alloc, item, line)
+    // Adds a line to the pending request. Nothing stands behind an outcome.
+    fn add(&mut self) -> Result<Option<Entry>, LineFault> {
+        match &mut self.pending {
+            Some(entry) if !self.has_outcome => {
+                let is_time = entry.time.is_some();
+                take_line(self.alloc, entry, &self.line)?;
+                self.has_outcome = is_time || entry.time.is_none();
+                Ok(None)
             }
             _ => Err(LineFault::Refused(LineReason::Stray)),
         }
     }
+}
+
+// Appends what stands in a part of a piece up to a line end. Says how many bytes that are, and whether a
+// line end stands behind them.
+fn take_part(
+    line: &mut Vec<u8>,
+    piece: &[u8],
+    from: usize,
+    to: usize,
+) -> Result<(usize, bool), AllocError>
+    requires order { from ≤ to }
+    requires within { to ≤ length piece.now }
+    ensures bound { IfOk result (λ part. from + part.0 ≤ to) }
+{
+    let rest = &piece[from..to];
+    match rest.iter().position(|byte| *byte == b'\n') {
+        Some(end) => {
+            line.extend_from_slice(&rest[..end])?;
+            Ok((end, true))
+        }
+        None => {
+            line.extend_from_slice(rest)?;
+            Ok((rest.len(), false))
+        }
+    }
+}
+
+// Whether a line names the form of the text.
+fn names_form(line: &[u8]) -> Result<bool, LineReason> {
+    let mut words = Words::of(line);
+    if !words.take_if(b"job") {
+        return Ok(false);
+    }
+    if words.number(u64::MAX)? != FORM {
+        return Err(LineReason::Form);
+    }
+    words.end()?;
+    Ok(true)
+}
+
+/// Reads some bytes, and says how many; 0 at the end. A read that a signal interrupts goes on.
+pub fn read_some<R: Read>(r: &mut R, buffer: &mut [u8]) -> io::Result<usize>
+    ensures within { IfOk result (λ n. n ≤ length buffer.new) }
+    ensures length { length buffer.new ≡ length buffer.old }
+{
+    for _ in 0..u64::MAX {
+        match r.read(buffer) {
+            Ok(count) => return Ok(count),
+            Err(error) if error.kind() == ErrorKind::Interrupted => {}
+            Err(error) => return Err(error),
+        }
+    }
+    Err(ErrorKind::Interrupted.into())
 }

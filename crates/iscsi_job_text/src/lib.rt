@@ -1,6 +1,9 @@
-//! The job of a recorded session as text: its lines, read and written.
+//! The job of a recorded session as text: its lines, read and written as they go.
 #![tactic(auto)]
 
+mod entry;
+mod entry_reading;
+mod entry_writing;
 mod fault;
 mod job_reading;
 mod outcome_reading;
@@ -10,8 +13,10 @@ mod request_writing;
 mod scripts;
 mod words;
 
-pub use fault::{LineReason, TextFault};
-pub use job_reading::{LONGEST_JOB, read_job};
+pub use entry::{Entry, LONGEST_SHOWN, Stored, Time};
+pub use entry_writing::{FORM, write_entry};
+pub use fault::{LineReason, TextFault, WriteFault};
+pub use job_reading::{JobReader, LONGEST_LINE, read_some};
 pub use outcome_writing::{write_outcome, write_outcome_from};
-pub use request_writing::{write_item, write_request};
+pub use request_writing::write_request;
 pub use words::number_of;

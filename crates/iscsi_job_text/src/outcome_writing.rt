@@ -1,5 +1,6 @@
 //! The line of an outcome, written.
 
+use crate::entry::Stored;
 use iscsi_job::{Ended, Outcome};
 use scsi_cdb::Residual;
 use std::alloc::{AllocError, Global};
@@ -17,13 +18,24 @@ pub fn write_outcome(
     outcome: Option<Outcome<'_>>,
     text: &mut String,
 ) -> Result<(), AllocError> {
+    write_ending(alloc, word, outcome, None, text)?;
+    text.push_str("\n")
+}
+
+/// Appends the line of an outcome whose data may stand in the file of data, without its line end.
+pub(crate) fn write_ending(
+    alloc: Global,
+    word: &str,
+    outcome: Option<Outcome<'_>>,
+    stored: Option<Stored>,
+    text: &mut String,
+) -> Result<(), AllocError> {
     let Some(outcome) = outcome else {
-        return writeln!(text, "  {word} unanswered");
+        return write!(text, "  {word} unanswered");
     };
     write!(text, "  {word} ")?;
     write_end(alloc, outcome, text)?;
-    write_data(alloc, outcome, text)?;
-    text.push_str("\n")
+    write_data(alloc, outcome, stored, text)
 }
 
 /// Appends the same line, but of data of more than 64 bytes it shows their number and 16 of them, from
@@ -96,21 +108,41 @@ fn write_residual(residual: Residual, text: &mut String) -> Result<(), AllocErro
 }
 
 // Appends the data of an outcome.
-fn write_data(alloc: Global, outcome: Outcome<'_>, text: &mut String) -> Result<(), AllocError> {
+fn write_data(
+    alloc: Global,
+    outcome: Outcome<'_>,
+    stored: Option<Stored>,
+    text: &mut String,
+) -> Result<(), AllocError> {
     let word = match outcome.ended {
         Ended::Command { .. } => " data ",
         Ended::Ping | Ended::Text | Ended::Closed | Ended::Task(_) => " ",
     };
-    write_hex(alloc, word, outcome.data, text)
+    write_payload(alloc, word, outcome.data, stored, text)
 }
 
-/// Appends a word, and bytes as hex; nothing if there are no bytes.
-pub(crate) fn write_hex(
+/// Appends a word, and bytes as hex or where they stand; nothing if there are no bytes.
+pub(crate) fn write_payload(
     alloc: Global,
     word: &str,
     bytes: &[u8],
+    stored: Option<Stored>,
     text: &mut String,
 ) -> Result<(), AllocError> {
+    let Some(stored) = stored else {
+        return write_hex(alloc, word, bytes, text);
+    };
+    let Stored {
+        offset,
+        length,
+        hash,
+    } = stored;
+    write!(text, "{word}at {offset} {length}")?;
+    write_hex(alloc, " ", &hash, text)
+}
+
+// Appends a word, and bytes as hex; nothing if there are no bytes.
+fn write_hex(alloc: Global, word: &str, bytes: &[u8], text: &mut String) -> Result<(), AllocError> {
     if bytes.is_empty() {
         return Ok(());
     }

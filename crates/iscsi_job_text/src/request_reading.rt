@@ -2,12 +2,21 @@
 
 use crate::fault::{LineFault, LineReason};
 use crate::scripts::{blocks_of_one_byte, without_data};
-use crate::words::Words;
+use crate::words::{Payload, Words};
 use iscsi_job::{Asked, Moves};
 use std::alloc::Global;
 
+// The names of requests.
+const COMMAND: &[u8] = b"command";
+
+const WRITE: &[u8] = b"write";
+
+const PING: &[u8] = b"ping";
+
+const TEXT: &[u8] = b"text";
+
 /// What the line of a request asks, and the bytes that it sends.
-pub(crate) fn request_of(alloc: Global, line: &str) -> Result<(Asked, Vec<u8>), LineFault> {
+pub(crate) fn request_of(alloc: Global, line: &[u8]) -> Result<(Asked, Payload), LineFault> {
     let mut words = Words::of(line);
     let request = request_in(alloc, &mut words)?;
     words.end()?;
@@ -15,14 +24,23 @@ pub(crate) fn request_of(alloc: Global, line: &str) -> Result<(Asked, Vec<u8>), 
 }
 
 // The request that begins with the next word.
-fn request_in(alloc: Global, words: &mut Words<'_>) -> Result<(Asked, Vec<u8>), LineFault> {
-    match words.take() {
-        Some("command") => command(alloc, words),
-        Some("write") => blocks_of_one_byte(alloc, words),
-        Some("ping") => with_bytes(alloc, Asked::Ping, words),
-        Some("text") => with_bytes(alloc, Asked::Text, words),
-        Some(name) => without_bytes(alloc, name, words),
-        None => Err(LineFault::Refused(LineReason::Request)),
+fn request_in(alloc: Global, words: &mut Words<'_>) -> Result<(Asked, Payload), LineFault> {
+    let Some(name) = words.take() else {
+        return Err(LineFault::Refused(LineReason::Request));
+    };
+    if name == COMMAND {
+        command(alloc, words)
+    } else if name == WRITE {
+        let (asked, bytes) = blocks_of_one_byte(alloc, words)?;
+        let stored = None;
+        Ok((asked, Payload { bytes, stored }))
+    } else if name == PING {
+        with_bytes(alloc, Asked::Ping, words)
+    } else if name == TEXT {
+        with_bytes(alloc, Asked::Text, words)
+    } else {
+        let asked = without_data(name, words)?;
+        Ok((asked, Payload::none(alloc)))
     }
 }
 
@@ -31,24 +49,15 @@ fn with_bytes(
     alloc: Global,
     asked: Asked,
     words: &mut Words<'_>,
-) -> Result<(Asked, Vec<u8>), LineFault> {
-    let sent = words.bytes_if_any(alloc)?;
+) -> Result<(Asked, Payload), LineFault> {
+    let sent = words.payload_before(alloc, b"")?;
     Ok((asked, sent))
 }
 
-fn without_bytes(
-    alloc: Global,
-    name: &str,
-    words: &mut Words<'_>,
-) -> Result<(Asked, Vec<u8>), LineFault> {
-    let asked = without_data(name, words)?;
-    Ok((asked, Vec::new(alloc)))
-}
-
 // A command with its descriptor block.
-fn command(alloc: Global, words: &mut Words<'_>) -> Result<(Asked, Vec<u8>), LineFault> {
+fn command(alloc: Global, words: &mut Words<'_>) -> Result<(Asked, Payload), LineFault> {
     let lun = words.lun()?;
-    let cdb = words.block()?;
+    let cdb = words.block(alloc)?;
     let (moves, expected, sent) = moved(alloc, words)?;
     let asked = Asked::Command {
         lun,
@@ -60,23 +69,22 @@ fn command(alloc: Global, words: &mut Words<'_>) -> Result<(Asked, Vec<u8>), Lin
 }
 
 // Which way the data of a command go, how many bytes are expected, and those that are sent.
-fn moved(alloc: Global, words: &mut Words<'_>) -> Result<(Moves, u32, Vec<u8>), LineFault> {
-    match words.take() {
-        Some("none") => Ok((Moves::In, 0, Vec::new(alloc))),
-        Some("in") => moved_in(alloc, words),
-        Some("out") => moved_out(alloc, words),
-        _ => Err(LineFault::Refused(LineReason::Direction)),
+fn moved(alloc: Global, words: &mut Words<'_>) -> Result<(Moves, u32, Payload), LineFault> {
+    if words.take_if(b"none") {
+        Ok((Moves::Nothing, 0, Payload::none(alloc)))
+    } else if words.take_if(b"in") {
+        let expected = words.number(u64::from(u32::MAX))? as u32;
+        Ok((Moves::In, expected, Payload::none(alloc)))
+    } else if words.take_if(b"out") {
+        moved_out(alloc, words)
+    } else {
+        Err(LineFault::Refused(LineReason::Direction))
     }
 }
 
-fn moved_in(alloc: Global, words: &mut Words<'_>) -> Result<(Moves, u32, Vec<u8>), LineFault> {
-    let expected = words.number(u64::from(u32::MAX))? as u32;
-    Ok((Moves::In, expected, Vec::new(alloc)))
-}
-
-fn moved_out(alloc: Global, words: &mut Words<'_>) -> Result<(Moves, u32, Vec<u8>), LineFault> {
-    let sent = words.bytes_before(alloc, "of")?;
-    let expected = expected_of(sent.len(), words)?;
+fn moved_out(alloc: Global, words: &mut Words<'_>) -> Result<(Moves, u32, Payload), LineFault> {
+    let sent = words.payload_before(alloc, b"of")?;
+    let expected = expected_of(sent.length(), words)?;
     Ok((Moves::Out, expected, sent))
 }
 
@@ -85,13 +93,9 @@ fn expected_of(sent: usize, words: &mut Words<'_>) -> Result<u32, LineReason> {
     let Ok(sent) = u32::try_from(sent) else {
         return Err(LineReason::Hex);
     };
-    if !words.take_if("of") {
-        return Ok(sent);
-    }
-    let expected = words.number(u64::from(u32::MAX))? as u32;
-    if expected > sent {
-        Ok(expected)
-    } else {
-        Err(LineReason::Number)
+    match words.number_behind(b"of", u64::from(u32::MAX))? {
+        None => Ok(sent),
+        Some(expected) if expected > u64::from(sent) => Ok(expected as u32),
+        Some(_) => Err(LineReason::Number),
     }
 }

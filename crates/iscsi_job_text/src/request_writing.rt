@@ -3,52 +3,62 @@
 
 ghost use Rattle.std.specs.Prelude.{◌≤◌};
 
+use crate::entry::Stored;
 use crate::fault::LineFault;
-use crate::outcome_writing::{write_hex, write_outcome};
+use crate::outcome_writing::write_payload;
 use crate::request_reading::request_of;
 use iscsi_job::{Asked, Item, Moves};
 use scsi_cdb::{Cdb, Transfer10, Transfer16};
 use std::alloc::{AllocError, Global};
 
-/// Appends the lines of a request and of its outcome. If memory runs out, a part of them may stand
-/// there.
-pub fn write_item(alloc: Global, item: &Item, text: &mut String) -> Result<(), AllocError> {
-    write_request(alloc, item, text)?;
-    text.push_str("\n")?;
-    write_outcome(alloc, "was", item.outcome(), text)
-}
-
 /// Appends the line of a request, without its line end. If memory runs out, a part of it may stand
 /// there.
 pub fn write_request(alloc: Global, item: &Item, text: &mut String) -> Result<(), AllocError> {
+    write_asking(alloc, item, None, text)
+}
+
+/// Appends the line of a request whose data may stand in the file of data, without its line end.
+pub(crate) fn write_asking(
+    alloc: Global,
+    item: &Item,
+    stored: Option<Stored>,
+    text: &mut String,
+) -> Result<(), AllocError> {
     match item.asked {
-        Asked::Command { lun, cdb, .. } => write_asked(alloc, item, lun, &cdb, text),
-        Asked::Ping => write_sent(alloc, "ping", item, text),
-        Asked::Text => write_sent(alloc, "text", item, text),
+        Asked::Command { lun, cdb, .. } => write_asked(alloc, item, stored, lun, &cdb, text),
+        Asked::Ping => write_sent(alloc, "ping", item, stored, text),
+        Asked::Text => write_sent(alloc, "text", item, stored, text),
         Asked::Logout => text.push_str("logout"),
         Asked::Task(function) => write!(text, "task {function:02x}"),
     }
 }
 
 // Appends a word, and the bytes that are sent with it.
-fn write_sent(alloc: Global, word: &str, item: &Item, text: &mut String) -> Result<(), AllocError> {
+fn write_sent(
+    alloc: Global,
+    word: &str,
+    item: &Item,
+    stored: Option<Stored>,
+    text: &mut String,
+) -> Result<(), AllocError> {
     text.push_str(word)?;
-    write_hex(alloc, " ", &item.sent, text)
+    write_payload(alloc, " ", &item.sent, stored, text)
 }
 
 // Appends the line of a command: that of a script, if one means the same.
 fn write_asked(
     alloc: Global,
     item: &Item,
+    stored: Option<Stored>,
     lun: u64,
     cdb: &[u8; 16],
     text: &mut String,
 ) -> Result<(), AllocError> {
     let mut line = String::new(alloc);
-    if is_script_line(alloc, item, lun, cdb, &mut line)? {
+    if stored.is_none() && is_script_line(alloc, item, lun, cdb, &mut line)? {
         text.push_str(line.as_str())
     } else {
-        write_command(alloc, item, lun, cdb, text)
+        write_command(alloc, item, stored, lun, cdb, text)
     }
 }
 
@@ -119,8 +129,10 @@ fn write_pair(name: &str, first: u64, second: u64, line: &mut String) -> Result<
 
 // Whether a line means this request.
 fn means(alloc: Global, line: &str, item: &Item) -> Result<bool, AllocError> {
-    match request_of(alloc, line) {
-        Ok((asked, sent)) => Ok(asked == item.asked && sent.as_slice() == item.sent.as_slice()),
+    match request_of(alloc, line.as_bytes()) {
+        Ok((asked, sent)) => Ok(
+            asked == item.asked && sent.bytes.as_slice() == item.sent.as_slice(),
+        ),
         Err(LineFault::Refused(_)) => Ok(false),
         Err(LineFault::NoMemory) => Err(AllocError),
     }
@@ -138,6 +150,7 @@ fn unit_of(lun: u64) -> Option<u8> {
 fn write_command(
     alloc: Global,
     item: &Item,
+    stored: Option<Stored>,
     lun: u64,
     cdb: &[u8; 16],
     text: &mut String,
@@ -146,32 +159,50 @@ fn write_command(
         Some(unit) => write!(text, "command {unit}")?,
         None => write!(text, "command {lun:016x}")?,
     }
-    write_hex(alloc, " ", shown_block(cdb), text)?;
-    write_moved(alloc, item, text)
+    write_payload(alloc, " ", shown_block(cdb), None, text)?;
+    write_moved(alloc, item, stored, text)
 }
 
 // Appends which way the data of a command go, and what is sent.
-fn write_moved(alloc: Global, item: &Item, text: &mut String) -> Result<(), AllocError> {
+fn write_moved(
+    alloc: Global,
+    item: &Item,
+    stored: Option<Stored>,
+    text: &mut String,
+) -> Result<(), AllocError> {
     match item.asked {
         Asked::Command {
             moves: Moves::In,
             expected,
             ..
-        } if expected > 0 => write!(text, " in {expected}"),
+        } => write!(text, " in {expected}"),
         Asked::Command {
             moves: Moves::Out,
             expected,
             ..
         } => {
             text.push_str(" out")?;
-            write_hex(alloc, " ", &item.sent, text)?;
-            if item.lacks_data() {
-                write!(text, " of {expected}")
-            } else {
-                Ok(())
-            }
+            write_payload(alloc, " ", &item.sent, stored, text)?;
+            write_length(sent_bytes(item, stored), expected as usize, text)
         }
         _ => text.push_str(" none"),
+    }
+}
+
+// How many bytes were sent.
+fn sent_bytes(item: &Item, stored: Option<Stored>) -> usize {
+    match stored {
+        Some(stored) => stored.length as usize,
+        None => item.sent.len(),
+    }
+}
+
+// Appends how many bytes were to be sent, if these are fewer.
+fn write_length(sent: usize, expected: usize, text: &mut String) -> Result<(), AllocError> {
+    if sent < expected {
+        write!(text, " of {expected}")
+    } else {
+        Ok(())
     }
 }
 

@@ -8,40 +8,56 @@ use iscsi_job::{Asked, Moves};
 use scsi_cdb::Cdb;
 use std::alloc::Global;
 
+// The names of requests.
+const TUR: &[u8] = b"tur";
+
+const INQUIRY: &[u8] = b"inquiry";
+
+const CAPACITY: &[u8] = b"capacity";
+
+const CAPACITY_16: &[u8] = b"capacity16";
+
+const LUNS: &[u8] = b"luns";
+
+const READ: &[u8] = b"read";
+
+const SYNC: &[u8] = b"sync";
+
+const LOGOUT: &[u8] = b"logout";
+
+const TASK: &[u8] = b"task";
+
 /// The most blocks of one transfer.
 const LONGEST_TRANSFER: u64 = 8192;
 
 /// What a request with this name asks, which sends no bytes.
-pub(crate) fn without_data(name: &str, words: &mut Words<'_>) -> Result<Asked, LineReason> {
-    match name {
-        "tur" => test_unit_ready(words),
-        "inquiry" => inquiry(words),
-        "capacity" => Ok(capacity()),
-        "capacity16" => Ok(capacity16()),
-        "luns" => Ok(luns()),
-        "read" => read(words),
-        "sync" => sync(words),
-        "logout" => Ok(Asked::Logout),
-        "task" => Ok(Asked::Task(words.byte()?)),
-        _ => Err(LineReason::Request),
+pub(crate) fn without_data(name: &[u8], words: &mut Words<'_>) -> Result<Asked, LineReason> {
+    if name == TUR {
+        test_unit_ready(words)
+    } else if name == INQUIRY {
+        inquiry(words)
+    } else if name == CAPACITY {
+        Ok(data_in(0, Cdb::Capacity10 { control: 0 }, 8))
+    } else if name == CAPACITY_16 {
+        Ok(data_in(0, Cdb::long_capacity(32), 32))
+    } else if name == LUNS {
+        Ok(data_in(0, Cdb::unit_list(16), 16))
+    } else if name == READ {
+        read(words)
+    } else if name == SYNC {
+        sync(words)
+    } else if name == LOGOUT {
+        Ok(Asked::Logout)
+    } else if name == TASK {
+        Ok(Asked::Task(words.byte()?))
+    } else {
+        Err(LineReason::Request)
     }
 }
 
 fn test_unit_ready(words: &mut Words<'_>) -> Result<Asked, LineReason> {
     let unit = words.number(255)? as u8;
     Ok(data_in(unit, Cdb::TestUnitReady { control: 0 }, 0))
-}
-
-fn capacity() -> Asked {
-    data_in(0, Cdb::Capacity10 { control: 0 }, 8)
-}
-
-fn capacity16() -> Asked {
-    data_in(0, Cdb::long_capacity(32), 32)
-}
-
-fn luns() -> Asked {
-    data_in(0, Cdb::unit_list(16), 16)
 }
 
 fn inquiry(words: &mut Words<'_>) -> Result<Asked, LineReason> {
@@ -78,7 +94,11 @@ fn write_of(address: u64, blocks: u16) -> Asked {
     Asked::Command {
         lun: 0,
         cdb: Cdb::writing(address, blocks).write(),
-        moves: Moves::Out,
+        moves: if blocks > 0 {
+            Moves::Out
+        } else {
+            Moves::Nothing
+        },
         expected: 512 * u32::from(blocks),
     }
 }
@@ -90,7 +110,11 @@ fn data_in(unit: u8, cdb: Cdb, expected: u32) -> Asked
     Asked::Command {
         lun: u64::from(unit) << 48,
         cdb: cdb.write(),
-        moves: Moves::In,
+        moves: if expected > 0 {
+            Moves::In
+        } else {
+            Moves::Nothing
+        },
         expected,
     }
 }

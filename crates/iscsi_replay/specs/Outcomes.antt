@@ -1,5 +1,5 @@
 -- When two outcomes of a request are the same, and which is a unit attention.
-use Rattle.std.specs.Prelude.{◌≡◌, ℕ, Bool, false, ◌==◌, ◌||◌, ◌&&◌, ◌%◌, if◌then◌else◌, List, [], ◌∷◌}
+use Rattle.std.specs.Prelude.{◌≡◌, ℕ, Bool, false, not, ◌==◌, ◌||◌, ◌&&◌, ◌%◌, if◌then◌else◌, List, [], ◌∷◌}
 use Rattle.scsi_cdb.specs.declared.residual.Residual.TheVariants as residual
 use Rattle.iscsi_job.specs.declared.item.Ended.{Ended}
 use Rattle.iscsi_job.specs.declared.item.Ended.TheVariants as ended
@@ -14,15 +14,15 @@ without_residual end = end
 abbrev pub compared_end : Bool → Ended → Ended
 compared_end ignores_data end = if ignores_data then without_residual end else end
 
--- A command ended with CHECK CONDITION (SAM-5, section 5.3.1).
-abbrev pub is_check_condition : Ended → Bool
-is_check_condition (ended.Command response status _) = (response == 0) && (status == 2)
-is_check_condition _ = false
+-- A command did not end with status GOOD (SAM-5, section 5.3.1).
+abbrev pub has_failed : Ended → Bool
+has_failed (ended.Command response status _) = not ((response == 0) && (status == 0))
+has_failed _ = false
 
--- What is compared of the data that came with an ending; none beside a CHECK CONDITION.
+-- What is compared of the data that came with an ending; none beside a status other than GOOD.
 abbrev pub compared_data : Bool → Ended → List ℕ → List ℕ
 compared_data ignores_data end bytes =
-    if ignores_data || is_check_condition end then [] else bytes
+    if ignores_data || has_failed end then [] else bytes
 
 -- Two outcomes are the same: how the request ended, the sense and the data. If data are left out, those
 -- and the residual count may differ.

@@ -23,6 +23,7 @@ is_harmless [] = false
 abbrev pub may_write : Asked → Bool
 may_write (asked.Command lun cdb moves.Out n) = true
 may_write (asked.Command lun cdb moves.In n) = not (is_harmless cdb)
+may_write (asked.Command lun cdb moves.Nothing n) = not (is_harmless cdb)
 may_write _ = false
 
 -- The data of a command with this operation code are left out: those of all commands are, or those of

@@ -1,7 +1,7 @@
 //! Whether two outcomes of a request are the same.
 
 ghost use Rattle.std.specs.Prelude.{◌≡◌, ◌↔◌, true};
-ghost use Rattle.iscsi_replay.specs.Outcomes.{AreSame, compared_data, compared_end, is_check_condition, is_unit_attention_end, sense_key, without_residual};
+ghost use Rattle.iscsi_replay.specs.Outcomes.{AreSame, compared_data, compared_end, has_failed, is_unit_attention_end, sense_key, without_residual};
 ghost use Rattle.iscsi_replay.specs.inner.Outcomes.{is_good_end};
 
 use iscsi_job::{Ended, Outcome};
@@ -11,8 +11,8 @@ use scsi_cdb::Residual;
 const CHECK_CONDITION: u8 = 2;
 
 /// Whether a recorded outcome and a live one are the same. If data are ignored, those and the
-/// residual count are left out. Data beside a CHECK CONDITION are never compared: they say nothing
-/// (SAM-5, section 5.3.1), and some targets send what lay in memory.
+/// residual count are left out. Data beside a status other than GOOD are never compared: they say
+/// nothing (SAM-5, section 5.3.1), and some targets send what lay in memory.
 pub fn are_same(recorded: Outcome<'_>, live: Outcome<'_>, ignores_data: bool) -> bool
     ensures same { (result ≡ true) ↔ AreSame ignores_data recorded.entry live.entry }
 {
@@ -53,23 +53,23 @@ fn without_residual(ended: Ended) -> Ended
 fn compared_data<'a>(outcome: Outcome<'a>, ignores_data: bool) -> &'a [u8]
     ensures { result.now ≡ compared_data ignores_data outcome.entry.ended outcome.entry.«data».now }
 {
-    if ignores_data || is_check_condition(outcome.ended) {
+    if ignores_data || has_failed(outcome.ended) {
         &[]
     } else {
         outcome.data
     }
 }
 
-// Whether a command ended with CHECK CONDITION.
-fn is_check_condition(ended: Ended) -> bool
-    ensures { result ≡ is_check_condition ended }
+// Whether a command did not end with status GOOD.
+fn has_failed(ended: Ended) -> bool
+    ensures { result ≡ has_failed ended }
 {
     match ended {
         Ended::Command {
             response,
             status,
             ..
-        } => response == 0 && status == CHECK_CONDITION,
+        } => !(response == 0 && status == 0),
         Ended::Ping | Ended::Text | Ended::Closed | Ended::Task(_) => false,
     }
 }
@@ -122,7 +122,7 @@ fn byte_at(sense: &[u8], index: usize) -> u8 {
 }
 
 // The sense key that sense data have.
-fn sense_key(sense: &[u8]) -> u8
+pub(crate) fn sense_key(sense: &[u8]) -> u8
     ensures { result ≡ sense_key sense.now }
 {
     let [code, second, third, ..] = sense else {

@@ -91,6 +91,29 @@ impl<P: Peer> Live<P> {
         }
     }
 
+    // Asks for nothing for this many nanoseconds, and answers the pings of the target.
+    pub(crate) fn rest(&mut self, nanoseconds: u64) -> Result<(), LiveFault> {
+        if let Err(lost) = self.peer.rest(nanoseconds) {
+            return Err(LiveFault::Lost(lost, self.place));
+        }
+        for _ in 0..u64::MAX {
+            match self.hear() {
+                Ok(()) => {}
+                Err(LiveFault::Lost(Lost::Late, _)) => return Ok(()),
+                Err(fault) => return Err(fault),
+            }
+        }
+        Err(LiveFault::Lost(Lost::Failed, self.place))
+    }
+
+    // How many nanoseconds passed since the connection was made.
+    pub(crate) fn now(&mut self) -> Result<u64, LiveFault> {
+        match self.peer.now() {
+            Ok(now) => Ok(now),
+            Err(lost) => Err(LiveFault::Lost(lost, self.place)),
+        }
+    }
+
     // Whether requests can still be done.
     pub(crate) fn is_open(&self) -> bool {
         self.initiator.phase() == Phase::Full

@@ -12,6 +12,13 @@ pub trait Peer: Drop {
     /// Begins a request, or the login: the time that one waits for the other end counts from now on.
     fn begin(&mut self) -> Result<(), Lost>;
 
+    /// Begins a rest of this many nanoseconds: `receive` waits no longer than that in all, and returns
+    /// `Late` then.
+    fn rest(&mut self, nanoseconds: u64) -> Result<(), Lost>;
+
+    /// How many nanoseconds passed since the connection was made.
+    fn now(&mut self) -> Result<u64, Lost>;
+
     /// Sends all of the bytes.
     fn send(&mut self, bytes: &[u8]) -> Result<(), Lost>;
 
@@ -26,8 +33,12 @@ pub trait Peer: Drop {
 pub struct Tcp<'a> {
     rt: &'a HostRuntime,
     stream: TcpStream,
+    // how long a request may take
     wait: Duration,
+    // how long one waits from `begun` on
+    limit: Duration,
     begun: Instant,
+    made: Instant,
 }
 
 impl<'a> Tcp<'a> {
@@ -37,18 +48,22 @@ impl<'a> Tcp<'a> {
         let stream = TcpStream::connect(rt, (host, port))?;
         // A request is not to wait for the one before it to be acknowledged.
         stream.set_nodelay(true)?;
+        let wait = Duration::from_secs(u64::from(seconds));
+        let made = Instant::now(rt)?;
         Ok(Tcp {
             rt,
             stream,
-            wait: Duration::from_secs(u64::from(seconds)),
-            begun: Instant::now(rt)?,
+            wait,
+            limit: wait,
+            begun: made,
+            made,
         })
     }
 
     // How long one still waits. Returns `Late` if that time is over.
     fn time_left(&self) -> Result<Duration, Lost> {
         let taken = self.begun.elapsed(self.rt)?;
-        match self.wait.checked_sub(taken) {
+        match self.limit.checked_sub(taken) {
             Some(left) if !left.is_zero() => Ok(left),
             _ => Err(Lost::Late),
         }
@@ -70,8 +85,20 @@ impl<'a> Tcp<'a> {
 
 impl Peer for Tcp<'_> {
     fn begin(&mut self) -> Result<(), Lost> {
+        self.limit = self.wait;
         self.begun = Instant::now(self.rt)?;
         Ok(())
+    }
+
+    fn rest(&mut self, nanoseconds: u64) -> Result<(), Lost> {
+        self.limit = Duration::from_nanos(nanoseconds);
+        self.begun = Instant::now(self.rt)?;
+        Ok(())
+    }
+
+    fn now(&mut self) -> Result<u64, Lost> {
+        let passed = self.made.elapsed(self.rt)?;
+        Ok(u64::try_from(passed.as_nanos()).unwrap_or(u64::MAX))
     }
 
     fn send(&mut self, bytes: &[u8]) -> Result<(), Lost> {

@@ -1,13 +1,15 @@
 //! A job, done again request by request. One file, since its steps share one state.
 
 use crate::comparing::{additional_sense, are_same, is_good, is_unit_attention};
+use crate::delays::Delays;
 use crate::fault::ReplayFault;
 use crate::ignoring::Ignored;
+use crate::kinds::{Kinds, kind_of};
 use crate::live::Live;
 use crate::peer::Peer;
 use iscsi_initiator::{Done, Request};
 use iscsi_job::{Asked, Item, Outcome, outcome_of};
-use iscsi_job_text::{write_outcome_from, write_request};
+use iscsi_job_text::{Time, write_outcome_from, write_request};
 use iscsi_stream::write_fully;
 use std::alloc::{AllocError, Global};
 use std::io::Write;
@@ -23,6 +25,8 @@ pub struct Plan {
     pub unit: Option<u8>,
     /// How many unit attentions of the live target may be passed over.
     pub attentions: u32,
+    /// Whether a request is not sent earlier than it was in the recording, counted from the first one.
+    pub timing: bool,
 }
 
 /// How many requests were done, of how many the outcome differs, and how many were passed over.
@@ -32,134 +36,231 @@ pub struct Tally {
     pub done: u64,
     /// Of these, those with an outcome that differs from the recorded one.
     pub differ: u64,
-    /// Task management and writes that lack data, which are not done again.
+    /// Requests that an initiator can't be asked for: task management, writes that lack data, and commands
+    /// that move data and expect none. They are not done again.
     pub passed: u64,
     /// Unit attentions that were passed over: the command was done again behind each.
     pub attentions: u64,
 }
 
-// How far a job was done.
-#[derive(Clone, Copy)]
-struct Place {
-    // The number of the last request, from 1.
+/// A job that is done again request by request, and what came of it so far.
+#[derive(Drop)]
+pub struct Replaying {
+    alloc: Global,
+    plan: Plan,
+    tally: Tally,
+    // the number of the last request, from 1
     number: u64,
-    // Whether the first command that a unit attention may answer is still to come.
+    // whether the first command that a unit attention may answer is still to come
     is_due: bool,
+    // when the first request with a time was sent, now and in the recording
+    began: Option<(u64, u64)>,
+    kinds: Kinds,
+    recorded: Delays,
+    live: Delays,
 }
 
 // A request of a job.
 #[derive(Clone, Copy)]
 struct Step<'a> {
+    alloc: Global,
     // Its number, from 1.
     number: u64,
     item: &'a Item,
-    plan: Plan,
+    plan: &'a Plan,
     // Whether it is the first command that a unit attention may answer.
     is_first: bool,
 }
 
 // What doing a request again showed.
-#[derive(Clone, Copy)]
+#[derive(Drop)]
 enum Shown {
     // It was not done.
     Nothing,
     // A unit attention came in place of its outcome.
     Attention,
-    // Nothing that differs.
+    // Nothing that differs, in this many nanoseconds.
+    Same(u64),
+    // Another outcome than the recorded one, of this kind, in this many nanoseconds.
+    Other(String, u64),
+}
+
+// How an outcome is judged.
+#[derive(Clone, Copy, PartialEq, Eq)]
+enum Judged {
+    Attention,
     Same,
-    // Another outcome than the recorded one.
     Other,
 }
 
-/// Logs in, does the requests of a job one at a time, in their order, and ends the session. Lines on
-/// differences go to `w`, and what is told beside them to `errors`.
-///
-/// Without `all` it stops behind the first request whose outcome differs. As many unit attentions as the
-/// plan says are passed over where none was recorded: each is told, and the command is done again. If the
-/// recorded first command met one, and the live one is done with status GOOD, that is told, too, and is
-/// no difference: of its data nothing was recorded. Neither is one that the live command meets with
-/// another sense.
-/// Task management, and a write of which not all data were recorded, are told and passed over.
-pub fn replay<P: Peer, W: Write, E: Write>(
-    alloc: Global,
-    items: &[Item],
-    plan: Plan,
-    live: &mut Live<P>,
-    w: &mut W,
-    errors: &mut E,
-) -> Result<Tally, ReplayFault> {
-    if let Err(fault) = live.log_in() {
-        return Err(ReplayFault::login(fault));
-    }
-    let tally = redo_all(alloc, items, plan, live, w, errors)?;
-    take_leave(live);
-    Ok(tally)
-}
-
-// Does the requests of a job, one at a time, in their order.
-fn redo_all<P: Peer, W: Write, E: Write>(
-    alloc: Global,
-    items: &[Item],
-    plan: Plan,
-    live: &mut Live<P>,
-    w: &mut W,
-    errors: &mut E,
-) -> Result<Tally, ReplayFault> {
-    let mut tally = Tally {
-        done: 0,
-        differ: 0,
-        passed: 0,
-        attentions: 0,
-    };
-    let mut place = Place {
-        number: 0,
-        is_due: true,
-    };
-    for item in items {
-        let step = place.step(item, plan);
-        step.carry_out(alloc, live, w, errors, &mut tally)?;
-        if tally.differ > 0 && !plan.all {
-            break;
+impl Replaying {
+    /// Logs in, for a job that is done again so.
+    pub fn begin<P: Peer>(
+        alloc: Global,
+        plan: Plan,
+        live: &mut Live<P>,
+    ) -> Result<Replaying, ReplayFault> {
+        if let Err(fault) = live.log_in() {
+            return Err(ReplayFault::login(fault));
         }
+        Ok(Replaying {
+            alloc,
+            plan,
+            tally: Tally {
+                done: 0,
+                differ: 0,
+                passed: 0,
+                attentions: 0,
+            },
+            number: 0,
+            is_due: true,
+            began: None,
+            kinds: Kinds::new(alloc),
+            recorded: Delays::new(alloc)?,
+            live: Delays::new(alloc)?,
+        })
     }
-    Ok(tally)
-}
 
-impl Place {
-    // The next request, with its number.
-    fn step<'a>(&mut self, item: &'a Item, plan: Plan) -> Step<'a> {
+    /// Does the next request of the job, and says whether one goes on. Lines on differences go to `w`, and
+    /// what is told beside them to `errors`.
+    ///
+    /// Without `all` it stops behind the first request whose outcome differs. As many unit attentions as the
+    /// plan says are passed over where none was recorded: each is told, and the command is done again. If the
+    /// recorded first command met one, and the live one is done with status GOOD, that is told, too, and is
+    /// no difference: of its data nothing was recorded. Neither is one that the live command meets with
+    /// another sense. What an initiator can't be asked for is told and passed over.
+    pub fn redo<P: Peer, W: Write, E: Write>(
+        &mut self,
+        live: &mut Live<P>,
+        item: &Item,
+        time: Option<Time>,
+        w: &mut W,
+        errors: &mut E,
+    ) -> Result<bool, ReplayFault> {
         self.number = self.number.saturating_add(1);
+        if let (true, Some(time)) = (self.plan.timing, time) {
+            self.wait(live, time)?;
+        }
         let is_first = self.is_due && may_meet_attention(item);
         self.is_due = self.is_due && !is_first;
-        Step {
-            number: self.number,
-            item,
-            plan,
-            is_first,
-        }
-    }
-}
-
-impl Tally {
-    // Counts a request.
-    fn count(&mut self, shown: Shown) {
-        match shown {
-            Shown::Nothing => self.passed = self.passed.saturating_add(1),
-            Shown::Attention => self.attentions = self.attentions.saturating_add(1),
-            Shown::Same => self.done = self.done.saturating_add(1),
-            Shown::Other => {
-                self.done = self.done.saturating_add(1);
-                self.differ = self.differ.saturating_add(1);
+        let most = u64::from(self.plan.attentions);
+        for _ in 0..=most {
+            let passes = self.tally.attentions < most;
+            let step = Step {
+                alloc: self.alloc,
+                number: self.number,
+                item,
+                plan: &self.plan,
+                is_first,
+            };
+            let shown = step.attempt(live, w, errors, passes)?;
+            if self.count(shown, time)? {
+                break;
             }
         }
+        Ok(self.tally.differ == 0 || self.plan.all)
+    }
+
+    /// How many requests were done, and what came of them.
+    pub fn tally(&self) -> Tally {
+        self.tally
+    }
+
+    /// Ends the session, if the job did not. What comes of that is no part of the job.
+    pub fn end<P: Peer>(&self, live: &mut Live<P>) {
+        if live.is_open() {
+            let _ = live.perform(Request::Logout);
+        }
+    }
+
+    /// Appends a summary: how many requests differ, and how many were passed over; how often each kind of
+    /// difference came; the median and the 99th percentile of the times that requests took, in the recording
+    /// if the job has times, and now.
+    pub fn write_summary(&self, text: &mut String) -> Result<(), AllocError> {
+        let Tally {
+            done,
+            differ,
+            passed,
+            ..
+        } = self.tally;
+        writeln!(text, "{differ} of {done} differ, {passed} passed over")?;
+        self.kinds.write(text)?;
+        write_delays("recorded", &self.recorded, text)?;
+        write_delays("now", &self.live, text)
+    }
+
+    // Waits until as much time has passed since the first request as in the recording.
+    fn wait<P: Peer>(&mut self, live: &mut Live<P>, time: Time) -> Result<(), ReplayFault> {
+        let number = self.number;
+        let now = match live.now() {
+            Ok(now) => now,
+            Err(fault) => return Err(fault.at(number)),
+        };
+        let Some((began, first)) = self.began else {
+            self.began = Some((now, time.sent));
+            return Ok(());
+        };
+        let due = began.saturating_add(time.sent.saturating_sub(first));
+        if due <= now {
+            return Ok(());
+        }
+        match live.rest(due - now) {
+            Ok(()) => Ok(()),
+            Err(fault) => Err(fault.at(number)),
+        }
+    }
+
+    // Counts what a request showed, and says whether it is over with it.
+    fn count(&mut self, shown: Shown, time: Option<Time>) -> Result<bool, AllocError> {
+        match shown {
+            Shown::Nothing => self.tally.passed = self.tally.passed.saturating_add(1),
+            Shown::Attention => {
+                self.tally.attentions = self.tally.attentions.saturating_add(1);
+                return Ok(false);
+            }
+            Shown::Same(took) => self.count_done(took, time),
+            Shown::Other(kind, took) => {
+                self.count_done(took, time);
+                self.tally.differ = self.tally.differ.saturating_add(1);
+                self.kinds.add(kind)?;
+            }
+        }
+        Ok(true)
+    }
+
+    // Counts a request that was done.
+    fn count_done(&mut self, took: u64, time: Option<Time>) {
+        self.tally.done = self.tally.done.saturating_add(1);
+        self.live.add(took);
+        if let Some(
+            Time {
+                took: Some(recorded),
+                ..
+            },
+        ) = time
+        {
+            self.recorded.add(recorded);
+        }
     }
 }
 
-// Ends the session, if the job did not. What comes of that is no part of the job.
-fn take_leave<P: Peer>(live: &mut Live<P>) {
-    if live.is_open() {
-        let _ = live.perform(Request::Logout);
-    }
+// Appends the line of the times that requests took, in milliseconds; nothing if there is none.
+fn write_delays(name: &str, delays: &Delays, text: &mut String) -> Result<(), AllocError> {
+    let (Some(median), Some(most)) = (delays.percentile(50), delays.percentile(99)) else {
+        return Ok(());
+    };
+    write!(text, "{name}: median ")?;
+    write_milliseconds(median, text)?;
+    text.push_str(", 99th percentile ")?;
+    write_milliseconds(most, text)?;
+    text.push_str("\n")
+}
+
+// Appends a time in milliseconds, to the microsecond.
+fn write_milliseconds(nanoseconds: u64, text: &mut String) -> Result<(), AllocError> {
+    let microseconds = nanoseconds / 1000;
+    let (whole, part) = (microseconds / 1000, microseconds % 1000);
+    write!(text, "{whole}.{part:03} ms")
 }
 
 // Whether the request is a command that a unit attention may answer: all but INQUIRY, REPORT LUNS and
@@ -172,43 +273,28 @@ fn may_meet_attention(item: &Item) -> bool {
 }
 
 impl Step<'_> {
-    // Does the request again, and once more behind each unit attention that may be passed over. It is
-    // counted, and its lines are written if its outcome differs.
-    fn carry_out<P: Peer, W: Write, E: Write>(
-        &self,
-        alloc: Global,
-        live: &mut Live<P>,
-        w: &mut W,
-        errors: &mut E,
-        tally: &mut Tally,
-    ) -> Result<(), ReplayFault> {
-        let most = u64::from(self.plan.attentions);
-        for _ in 0..=most {
-            let passes = tally.attentions < most;
-            let shown = self.attempt(alloc, live, w, errors, passes)?;
-            tally.count(shown);
-            if !matches!(shown, Shown::Attention) {
-                return Ok(());
-            }
-        }
-        Ok(())
-    }
-
     // Does the request once. `passes` says whether a unit attention is passed over, not compared.
     fn attempt<P: Peer, W: Write, E: Write>(
         &self,
-        alloc: Global,
         live: &mut Live<P>,
         w: &mut W,
         errors: &mut E,
         passes: bool,
     ) -> Result<Shown, ReplayFault> {
-        match self.perform(alloc, live)? {
-            Some(done) => self.show(alloc, outcome_of(&done), w, errors, passes),
-            None => {
-                self.tell(self.passed_over(), errors);
-                Ok(Shown::Nothing)
-            }
+        let began = self.now(live)?;
+        let Some(done) = self.perform(live)? else {
+            self.tell(self.passed_over(), errors);
+            return Ok(Shown::Nothing);
+        };
+        let took = self.now(live)?.saturating_sub(began);
+        self.show(outcome_of(&done), took, w, errors, passes)
+    }
+
+    // How many nanoseconds passed since the connection was made.
+    fn now<P: Peer>(&self, live: &mut Live<P>) -> Result<u64, ReplayFault> {
+        match live.now() {
+            Ok(now) => Ok(now),
+            Err(fault) => Err(fault.at(self.number)),
         }
     }
 
@@ -216,18 +302,16 @@ impl Step<'_> {
     fn passed_over(&self) -> &'static str {
         if self.item.lacks_data() {
             "not all data of the write, passed over"
+        } else if self.item.moves_no_bytes() {
+            "a command that moves data and expects none, passed over"
         } else {
             "task management, passed over"
         }
     }
 
     // Does the request once; nothing of one that is passed over.
-    fn perform<P: Peer>(
-        &self,
-        alloc: Global,
-        live: &mut Live<P>,
-    ) -> Result<Option<Done>, ReplayFault> {
-        let Some(mut request) = self.item.request(alloc)? else {
+    fn perform<P: Peer>(&self, live: &mut Live<P>) -> Result<Option<Done>, ReplayFault> {
+        let Some(mut request) = self.item.request(self.alloc)? else {
             return Ok(None);
         };
         if let Some(unit) = self.plan.unit {
@@ -239,24 +323,35 @@ impl Step<'_> {
         }
     }
 
-    // What an outcome shows. The lines of one that differs are written.
+    // What an outcome shows that took this long. The lines of one that differs are written.
     fn show<W: Write, E: Write>(
         &self,
-        alloc: Global,
         live: Outcome<'_>,
+        took: u64,
         w: &mut W,
         errors: &mut E,
         passes: bool,
     ) -> Result<Shown, ReplayFault> {
-        let shown = self.judged(live, errors, passes);
-        if matches!(shown, Shown::Other) {
-            self.write_lines(alloc, live, w)?;
+        match self.judged(live, errors, passes) {
+            Judged::Attention => Ok(Shown::Attention),
+            Judged::Same => Ok(Shown::Same(took)),
+            Judged::Other => {
+                self.write_lines(live, w)?;
+                Ok(Shown::Other(self.kind(live)?, took))
+            }
         }
-        Ok(shown)
+    }
+
+    // The kind of an outcome that differs.
+    fn kind(&self, live: Outcome<'_>) -> Result<String, AllocError> {
+        match self.item.outcome() {
+            Some(recorded) => kind_of(self.alloc, self.item, recorded, live),
+            None => Ok(String::new(self.alloc)),
+        }
     }
 
     // What an outcome shows, with what is told of it. If nothing was recorded, nothing differs.
-    fn judged<E: Write>(&self, live: Outcome<'_>, errors: &mut E, passes: bool) -> Shown {
+    fn judged<E: Write>(&self, live: Outcome<'_>, errors: &mut E, passes: bool) -> Judged {
         let Some(recorded) = self.item.outcome() else {
             return self.unrecorded(live, errors, passes);
         };
@@ -274,23 +369,23 @@ impl Step<'_> {
     }
 
     // What an outcome shows of which nothing was recorded.
-    fn unrecorded<E: Write>(&self, live: Outcome<'_>, errors: &mut E, passes: bool) -> Shown {
+    fn unrecorded<E: Write>(&self, live: Outcome<'_>, errors: &mut E, passes: bool) -> Judged {
         if passes && is_unit_attention(live) {
             self.pass_over(live, errors)
         } else {
-            Shown::Same
+            Judged::Same
         }
     }
 
     // Tells which unit attention is passed over. If that fails, nothing changes.
-    fn pass_over<E: Write>(&self, live: Outcome<'_>, errors: &mut E) -> Shown {
+    fn pass_over<E: Write>(&self, live: Outcome<'_>, errors: &mut E) -> Judged {
         let number = self.number;
         let (code, qualifier) = additional_sense(live.sense);
         let _ = writeln!(
             errors,
             "request {number}: unit attention {code:02x}/{qualifier:02x}, passed over"
         );
-        Shown::Attention
+        Judged::Attention
     }
 
     // What an outcome shows where a unit attention was recorded in front. A command that was done in
@@ -300,31 +395,31 @@ impl Step<'_> {
         recorded: Outcome<'_>,
         live: Outcome<'_>,
         errors: &mut E,
-    ) -> Shown {
-        let shown = self.compared(recorded, live);
-        if matches!(shown, Shown::Same) {
-            return shown;
+    ) -> Judged {
+        let judged = self.compared(recorded, live);
+        if judged == Judged::Same {
+            return judged;
         }
         if is_good(live) {
             self.tell(
                 "the recorded unit attention did not come; the command was done (data not compared)",
                 errors,
             );
-            Shown::Same
+            Judged::Same
         } else if is_unit_attention(live) {
             self.tell("unit attention, as recorded (sense differs)", errors);
-            Shown::Same
+            Judged::Same
         } else {
-            shown
+            judged
         }
     }
 
     // What an outcome shows beside the recorded one.
-    fn compared(&self, recorded: Outcome<'_>, live: Outcome<'_>) -> Shown {
+    fn compared(&self, recorded: Outcome<'_>, live: Outcome<'_>) -> Judged {
         if are_same(recorded, live, self.ignores_data()) {
-            Shown::Same
+            Judged::Same
         } else {
-            Shown::Other
+            Judged::Other
         }
     }
 
@@ -344,26 +439,17 @@ impl Step<'_> {
     }
 
     // Writes the lines of the request.
-    fn write_lines<W: Write>(
-        &self,
-        alloc: Global,
-        live: Outcome<'_>,
-        w: &mut W,
-    ) -> Result<(), ReplayFault> {
-        let mut text = String::new(alloc);
-        self.write_difference(alloc, live, &mut text)?;
+    fn write_lines<W: Write>(&self, live: Outcome<'_>, w: &mut W) -> Result<(), ReplayFault> {
+        let mut text = String::new(self.alloc);
+        self.write_difference(live, &mut text)?;
         match write_fully(w, text.as_bytes()) {
             Ok(()) => Ok(()),
             Err(_) => Err(ReplayFault::Write),
         }
     }
 
-    fn write_difference(
-        &self,
-        alloc: Global,
-        live: Outcome<'_>,
-        text: &mut String,
-    ) -> Result<(), AllocError> {
+    fn write_difference(&self, live: Outcome<'_>, text: &mut String) -> Result<(), AllocError> {
+        let alloc = self.alloc;
         let number = self.number;
         write!(text, "request {number}: ")?;
         write_request(alloc, self.item, text)?;

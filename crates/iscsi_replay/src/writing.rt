@@ -1,6 +1,6 @@
 //! Requests that may change a target.
 
-ghost use Rattle.std.specs.Prelude.{◌≡◌, ◌↔◌, false, All, IsTrue};
+ghost use Rattle.std.specs.Prelude.{◌≡◌};
 ghost use Rattle.iscsi_replay.specs.Rules.{is_harmless, may_write};
 
 use iscsi_job::{Asked, Item, Moves};
@@ -27,18 +27,6 @@ pub fn writes(item: &Item) -> bool
         Asked::Command { cdb, .. } => !is_harmless(cdb),
         Asked::Ping | Asked::Text | Asked::Logout | Asked::Task(_) => false,
     }
-}
-
-/// Whether no request of a job writes.
-pub fn writes_nothing(items: &[Item]) -> bool
-    ensures value { IsTrue result ↔ All (λ item. may_write item.asked ≡ false) items.now }
-{
-    items.iter().all(|item| !writes(item))
-}
-
-/// The index of the first request that writes, to name it.
-pub fn first_write(items: &[Item]) -> Option<usize> {
-    items.iter().position(|item| writes(item))
 }
 
 // Whether the command of a descriptor block is known to be harmless.

@@ -8,14 +8,15 @@ pub const PROGRAM: &str = "\nRecorded sessions:\n  \
 /// The page of `job`.
 pub(crate) const JOB: &str =
     "Print the job of a recorded session: each request with its outcome\n\n\
-    Usage: lanthovur job <INITIATOR> <TARGET>\n       \
-    lanthovur job --capture <FILE> --connection <K>\n\n\
+    Usage: lanthovur job [--data <FILE>] <INITIATOR> <TARGET>\n       \
+    lanthovur job [--data <FILE>] --capture <FILE> --connection <K>\n\n\
     Arguments:\n  \
     <INITIATOR>        File with the bytes from the initiator\n  \
     <TARGET>           File with the bytes from the target\n\n\
     Options:\n      \
-    --capture <FILE>   Read a capture file (pcap or pcapng) instead\n      \
-    --connection <K>   Connection to read, by its number in the list of 'connections'\n  \
+    --capture <FILE>   Read a capture file (pcap or pcapng) instead; - is standard input\n      \
+    --connection <K>   Connection to read, by its number in the list of 'connections'\n      \
+    --data <FILE>      Put data of over 512 bytes into a file\n  \
     -h, --help         Print help\n";
 
 /// The page of `replay`.
@@ -29,8 +30,10 @@ pub(crate) const REPLAY: &str =
     --name <IQN>             Target's name (default iqn.2026-01.example:disk)\n      \
     --initiator-name <IQN>   Initiator's name (default iqn.2026-01.example:host)\n      \
     --isid <HEX>             ISID, 12 hex digits (default a random one)\n      \
+    --data <FILE>            File with the data that 'job --data' put there\n      \
+    --timing                 Send no request earlier than recorded, counted from the first\n      \
     --lun <N>                Send each command to unit N, 0 to 255, instead of the recorded one\n      \
-    --all                    Go on behind a difference, and print their number at the end\n      \
+    --all                    Go on behind a difference, and print a summary at the end\n      \
     --ignore <COMMAND>       Let the data of a command differ: inquiry, report-luns, mode-sense, an\n                             \
     operation code in hex, or data for all; may be repeated\n      \
     --writes                 Let the job change the target\n      \

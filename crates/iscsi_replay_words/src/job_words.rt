@@ -13,18 +13,29 @@ pub(crate) enum Source<'a> {
     Capture(&'a str, usize),
 }
 
+/// What the words of `job` ask for.
+#[derive(Clone, Copy)]
+pub(crate) struct JobAsked<'a> {
+    /// Where the session stands.
+    pub(crate) source: Source<'a>,
+    /// The file for data of over 512 bytes.
+    pub(crate) data: Option<&'a str>,
+}
+
 // The words that were read so far.
 #[derive(Clone, Copy)]
 struct Said<'a> {
+    data: Option<&'a str>,
     first: Option<&'a str>,
     second: Option<&'a str>,
     capture: Option<&'a str>,
     connection: Option<&'a str>,
 }
 
-/// Where the session stands that the words behind `job` name.
-pub(crate) fn source_of<'a, S: AsStr>(words: &'a [S]) -> Result<Source<'a>, Refusal<'a>> {
+/// What the words behind `job` ask for.
+pub(crate) fn job_of<'a, S: AsStr>(words: &'a [S]) -> Result<JobAsked<'a>, Refusal<'a>> {
     let mut said = Said {
+        data: None,
         first: None,
         second: None,
         capture: None,
@@ -34,11 +45,23 @@ pub(crate) fn source_of<'a, S: AsStr>(words: &'a [S]) -> Result<Source<'a>, Refu
     while let Some(word) = words.next() {
         match word.as_str() {
             "--capture" => said.capture = text_of(words.next()),
+            "--data" => said.data = Some(file_of(words.next())?),
             "--connection" => said.connection = text_of(words.next()),
             word => said.take(word)?,
         }
     }
-    said.source()
+    Ok(JobAsked {
+        source: said.source()?,
+        data: said.data,
+    })
+}
+
+// The name of a file of data.
+fn file_of<'a, S: AsStr>(word: Option<&'a S>) -> Result<&'a str, Refusal<'a>> {
+    match text_of(word) {
+        Some(name) => Ok(name),
+        None => Err(Refusal::Wrong("a value is missing behind", "--data")),
+    }
 }
 
 impl<'a> Said<'a> {

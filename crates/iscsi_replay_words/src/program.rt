@@ -2,7 +2,7 @@
 
 use crate::ending::Ending;
 use crate::help;
-use crate::job_words::source_of;
+use crate::job_words::job_of;
 use crate::jobs::write_job;
 use crate::replay_words::replay_of;
 use crate::replays::run_replay;
@@ -42,8 +42,8 @@ fn ended<E: Write>(ending: Ending, errors: &mut E) -> u8 {
 
 // How the words behind `job` end.
 fn job_ending<S: AsStr, W: Write>(rt: &HostRuntime, words: &[S], w: &mut W) -> Ending {
-    match source_of(words) {
-        Ok(source) => write_job(rt, source, w),
+    match job_of(words) {
+        Ok(asked) => write_job(rt, asked, w),
         Err(refusal) => refusal.ending(rt.alloc(), "job", help::JOB),
     }
 }

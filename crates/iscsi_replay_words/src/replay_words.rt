@@ -38,6 +38,8 @@ pub(crate) struct Replay<'a> {
     pub(crate) isid: Option<[u8; 6]>,
     /// How the job is done again.
     pub(crate) plan: Plan,
+    /// The file of data.
+    pub(crate) data: Option<&'a str>,
     /// Whether the job may write.
     pub(crate) writes: bool,
     /// The longest time for a request, in seconds, at least 1.
@@ -53,6 +55,7 @@ struct Said<'a> {
     initiator: &'a str,
     isid: Option<[u8; 6]>,
     plan: Plan,
+    data: Option<&'a str>,
     writes: bool,
     seconds: u32,
 }
@@ -85,7 +88,9 @@ fn nothing_said<'a>() -> Said<'a> {
             all: false,
             unit: None,
             attentions: ATTENTIONS,
+            timing: false,
         },
+        data: None,
         writes: false,
         seconds: SECONDS,
     }
@@ -98,6 +103,7 @@ fn takes_value(option: &str) -> bool {
             | "--name"
             | "--initiator-name"
             | "--isid"
+            | "--data"
             | "--lun"
             | "--attentions"
             | "--ignore"
@@ -111,6 +117,7 @@ impl<'a> Said<'a> {
         match word {
             "-h" | "--help" => return Err(Refusal::Help),
             "--all" => self.plan.all = true,
+            "--timing" => self.plan.timing = true,
             "--writes" => self.writes = true,
             _ => return self.take_file(word),
         }
@@ -157,6 +164,10 @@ impl<'a> Said<'a> {
                 self.isid = <[u8; 6]>::from_hex(value).ok();
                 self.isid.is_some()
             }
+            "--data" => {
+                self.data = Some(value);
+                true
+            }
             "--ignore" => ignore(&mut self.plan.ignored, value),
             "--lun" => {
                 self.plan.unit = unit_of(value);
@@ -196,6 +207,7 @@ impl<'a> Said<'a> {
             initiator: self.initiator,
             isid: self.isid,
             plan: self.plan,
+            data: self.data,
             writes: self.writes,
             seconds: self.seconds,
         })

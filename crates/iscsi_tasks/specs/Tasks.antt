@@ -1,6 +1,7 @@
 -- The uses of all tags of a session, and the next StatSN.
-use Rattle.std.specs.Prelude.{ℕ, nat_eq, ◌==◌, if◌then◌else◌, List, [], ◌∷◌, Option, Some, None}
+use Rattle.std.specs.Prelude.{ℕ, Bool, true, nat_eq, ◌==◌, if◌then◌else◌, List, [], ◌∷◌, Option, Some, None}
 use Rattle.std.specs.HashMap.{get}
+use Rattle.iscsi_pdu.specs.Serial.{is_before}
 use Rattle.iscsi_pdu.specs.declared.serial.Serial.{Serial}
 use Rattle.iscsi_pdu.specs.declared.head.Head.{Head}
 use Rattle.iscsi_tasks.specs.Numbering.{answered_tag, stands_at}
@@ -46,6 +47,12 @@ answered_request tasks head =
 abbrev pub uses_behind : Option Serial → Option ℕ → ℕ → List Use → List Use
 uses_behind at None tag uses = uses
 uses_behind at (Some answered) tag uses = if tag == answered then uses_at at uses else uses
+
+-- The initiator had received a PDU of the target when it sent one with this ExpStatSN: that is behind
+-- the StatSN at which the PDU stands. A PDU that stands at none was received.
+abbrev pub is_known_at : Serial → Option Serial → Bool
+is_known_at known None = true
+is_known_at known (Some at) = is_before at known
 
 -- the uses of a tag after a PDU of the target
 abbrev pub uses_after : Tasks → Head → ℕ → List Use

@@ -2,8 +2,8 @@
 
 ghost use Rattle.std.specs.Prelude.{◌≡◌, ◌++◌, ◌==◌, ◌∷◌, [], ℕ, if◌then◌else◌, None, OnOk, OnErr};
 ghost use Rattle.iscsi_tasks.specs.Numbering.{next_after, stands_at};
-ghost use Rattle.iscsi_tasks.specs.Tasks.{answered_request, first_request, latest_request, next_of, uses_after, uses_of};
-ghost use Rattle.iscsi_tasks.specs.Uses.{uses_at};
+ghost use Rattle.iscsi_tasks.specs.Tasks.{answered_request, first_request, is_known_at, latest_request, next_of, uses_after, uses_of};
+ghost use Rattle.iscsi_tasks.specs.Uses.{uses_at, uses_without};
 
 use crate::numbering::{answered_tag, next_after, stands_at};
 use crate::uses::{Use, Uses};
@@ -68,6 +68,33 @@ impl Tasks {
             Some(tag) => self.answer(tag, at),
             None => None,
         }
+    }
+
+    /// Whether the initiator had received a PDU of the target, which was not heard yet, when it sent one
+    /// with this ExpStatSN.
+    pub fn is_known(&self, head: &Head, known: Serial) -> bool
+        ensures value { result ≡ is_known_at known (stands_at (next_of self.now) head.now) }
+    {
+        match stands_at(self.next, head) {
+            Some(at) => at.before(known),
+            None => true,
+        }
+    }
+
+    /// Forgets the use of a tag by a request, if an answer to the tag would belong to that one now. No
+    /// later answer belongs to it then.
+    pub fn forget(&mut self, tag: u32, request: usize)
+        ensures uses { (t : ℕ) → uses_of self.new t ≡ (if t == tag
+            then uses_without request (uses_of self.old t) else uses_of self.old t) }
+        ensures next { next_of self.new ≡ next_of self.old }
+    {
+        let Some(uses) = self.uses.get_mut(&tag) else {
+            return;
+        };
+        if uses.current().request != request || uses.pass_on() {
+            return;
+        }
+        self.uses.remove(&tag);
     }
 
     // Moves a tag on to the use that an answer at this StatSN belongs to, and returns its request.

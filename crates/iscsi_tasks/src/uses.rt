@@ -1,6 +1,6 @@
 //! The uses of one tag.
 
-ghost use Rattle.std.specs.Prelude.{◌≡◌, ◌++◌, ◌∷◌, [], false, MatchOption, OnOk, OnErr};
+ghost use Rattle.std.specs.Prelude.{◌≡◌, ◌++◌, ◌∷◌, [], true, false, MatchOption, OnOk, OnErr};
 ghost use Rattle.iscsi_pdu.specs.Serial.{is_before};
 ghost use Rattle.iscsi_tasks.specs.Uses.{latest_from, uses_at, uses_from};
 
@@ -62,6 +62,21 @@ impl Uses {
         ensures value { result ≡ self.now.current }
     {
         self.current
+    }
+
+    /// Gives up the current use for the next one, and says whether there is a next one.
+    pub(crate) fn pass_on(&mut self) -> bool
+        ensures moved { result ≡ true
+            → self.old.later.items ≡ self.new.current ∷ self.new.later.items }
+        ensures last { result ≡ false → self.old.later.items ≡ [] }
+    {
+        match self.later.pop_front() {
+            Some(next) => {
+                self.current = next;
+                true
+            }
+            None => false,
+        }
     }
 
     /// Moves on to the use that an answer at this StatSN belongs to.

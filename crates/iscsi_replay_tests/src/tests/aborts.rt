@@ -2,6 +2,7 @@
 //! the tables of RFC 7143, section 11. The answer to the login has StatSN 1, so the next one has 2.
 
 use crate::asserts::same;
+use crate::tests::recordings::First;
 use crate::tests::texts::text_of;
 use std::alloc::Global;
 use std::process::Abort;
@@ -84,6 +85,16 @@ const ROWS: &[Row] = &[
             command 0 2a000000000200000100 out 5b5b5b5b5c5c5c5c\n  was good\n",
     },
     Row {
+        name: "a read and a write of no bytes, which bits R and W say",
+        dialogue: "I> @login\nT> @answer\n\
+            I> 01c10000 00000000 00000000 00000000 00000010 00000000 00000001 00000002 28000000 00010000 01000000 00000000\n\
+            T> 21840000 00000000 00000000 00000000 00000010 00000000 00000002 00000002 00000009 00000000 00000000 00000200\n\
+            I> 01a10000 00000000 00000000 00000000 00000011 00000000 00000002 00000003 2a000000 00010000 01000000 00000000\n\
+            T> 21840000 00000000 00000000 00000000 00000011 00000000 00000003 00000003 0000000a 00000000 00000000 00000200\n",
+        due: "command 0 28000000000100000100 in 0\n  was good over 512\n\
+            command 0 2a000000000100000100 out\n  was good over 512\n",
+    },
+    Row {
         name: "a write is refused before its data are asked for",
         dialogue: "I> @login\nT> @answer\n\
             I> 01a10000 00000000 00000000 00000000 00000012 00000008 00000001 00000002 2a00ffff ffff0000 01000000 00000000\n\
@@ -93,8 +104,15 @@ const ROWS: &[Row] = &[
 ];
 
 fn check_row(rt: &impl Abort, alloc: Global, row: &Row) {
-    let text = text_of(rt, alloc, row.dialogue);
-    same(rt, &text.as_str(), &row.due, &row.name);
+    for first in [
+        First::Initiator,
+        First::Target,
+        First::Both(1),
+        First::Both(64),
+    ] {
+        let text = text_of(rt, alloc, row.dialogue, first);
+        same(rt, &text.as_str(), &row.due, &row.name);
+    }
 }
 
 #[test]

@@ -1,11 +1,12 @@
 //! Jobs that are done again at a target whose bytes are known. One file, since they share that target.
 
 use crate::asserts::{same, same_bytes};
-use iscsi_job::{Ended, Item, Outcome};
-use iscsi_job_text::read_job;
+use crate::tests::texts::read_all;
+use iscsi_job::{Ended, Outcome};
+use iscsi_job_text::{Entry, Time};
 use iscsi_replay::{
-    Account, Ignored, Live, Lost, Peer, Plan, ReplayFault, Tally, are_same, first_write,
-    is_unit_attention, replay,
+    Account, Ignored, Live, Lost, Peer, Plan, ReplayFault, Replaying, are_same, is_unit_attention,
+    writes,
 };
 use iscsi_test_support::{SESSION, marked};
 use scsi_cdb::Residual;
@@ -19,11 +20,26 @@ pub(crate) struct Told {
     pub(crate) from: usize,
     // How often it still takes what is sent.
     pub(crate) takes: u32,
+    pub(crate) now: u64,
+    pub(crate) rests: bool,
 }
 
 impl Peer for Told {
     fn begin(&mut self) -> Result<(), Lost> {
         Ok(())
+    }
+
+    // It says nothing meanwhile.
+    fn rest(&mut self, nanoseconds: u64) -> Result<(), Lost> {
+        self.now = self.now.saturating_add(nanoseconds);
+        self.rests = true;
+        Ok(())
+    }
+
+    // Each look at the clock is 1 ms later.
+    fn now(&mut self) -> Result<u64, Lost> {
+        self.now = self.now.saturating_add(1_000_000);
+        Ok(self.now)
     }
 
     fn send(&mut self, _bytes: &[u8]) -> Result<(), Lost> {
@@ -33,6 +49,10 @@ impl Peer for Told {
 
     // One PDU's header at a time, so that answers come behind their requests.
     fn receive(&mut self, out: &mut [u8]) -> Result<usize, Lost> {
+        if self.rests {
+            self.rests = false;
+            return Err(Lost::Late);
+        }
         let Some(rest) = self.bytes.get(self.from..) else {
             return Err(Lost::Failed);
         };
@@ -69,9 +89,9 @@ fn spelled(rt: &impl Abort, alloc: Global, text: &str) -> Vec<u8> {
     out
 }
 
-fn items_of(rt: &impl Abort, alloc: Global, text: &str) -> Vec<Item> {
+fn items_of(rt: &impl Abort, alloc: Global, text: &str) -> Vec<Entry> {
     let text = spelled(rt, alloc, text);
-    read_job(alloc, &mut text.as_slice()).expect(rt, "a job")
+    read_all(alloc, &text).expect(rt, "a job")
 }
 
 /// A job, what of the target's bytes is another, and what is written and told.
@@ -212,16 +232,17 @@ pub(crate) struct Output {
 /// Does a job again at a target.
 pub(crate) fn replayed(
     alloc: Global,
-    items: &[Item],
+    items: &[Entry],
     peer: Told,
     all: bool,
     output: &mut Output,
-) -> Result<Tally, ReplayFault> {
+) -> Result<Replaying, ReplayFault> {
     let plan = Plan {
         ignored: Ignored::NONE,
         all,
         unit: None,
         attentions: 1,
+        timing: false,
     };
     replayed_so(alloc, items, peer, plan, output)
 }
@@ -229,22 +250,23 @@ pub(crate) fn replayed(
 // Does a job again at a target, by a plan.
 fn replayed_so(
     alloc: Global,
-    items: &[Item],
+    items: &[Entry],
     peer: Told,
     plan: Plan,
     output: &mut Output,
-) -> Result<Tally, ReplayFault> {
+) -> Result<Replaying, ReplayFault> {
     let Ok(mut live) = Live::new(alloc, ACCOUNT, peer) else {
         return Err(ReplayFault::NoMemory);
     };
-    replay(
-        alloc,
-        items,
-        plan,
-        &mut live,
-        &mut output.written,
-        &mut output.told,
-    )
+    let mut replaying = Replaying::begin(alloc, plan, &mut live)?;
+    for entry in items {
+        let (w, errors) = (&mut output.written, &mut output.told);
+        if !replaying.redo(&mut live, &entry.item, entry.time, w, errors)? {
+            break;
+        }
+    }
+    replaying.end(&mut live);
+    Ok(replaying)
 }
 
 fn check_row(rt: &impl Abort, alloc: Global, row: &Row) {
@@ -252,6 +274,8 @@ fn check_row(rt: &impl Abort, alloc: Global, row: &Row) {
         bytes: answers(rt, alloc, row.was, row.is),
         from: 0,
         takes: u32::MAX,
+        now: 0,
+        rests: false,
     };
     let items = items_of(rt, alloc, row.job);
     let mut output = Output {
@@ -323,7 +347,7 @@ const PAIRS: &[Pair] = &[
         recorded: (8, &[], &[1]),
         live: (8, &[], &[2]),
         ignores_data: false,
-        due: false,
+        due: true,
     },
 ];
 
@@ -399,6 +423,8 @@ fn check_attentions(rt: &impl Abort, alloc: Global, row: &AttentionRow) {
         bytes: attentive(rt, alloc),
         from: 0,
         takes: u32::MAX,
+        now: 0,
+        rests: false,
     };
     let items = items_of(rt, alloc, "tur 0\n was good\ntur 0\n was good\n");
     let mut output = Output {
@@ -410,11 +436,17 @@ fn check_attentions(rt: &impl Abort, alloc: Global, row: &AttentionRow) {
         all: false,
         unit: None,
         attentions: row.attentions,
+        timing: false,
     };
-    let tally = replayed_so(alloc, &items, peer, plan, &mut output).expect(rt, "a tally");
+    let replaying = replayed_so(alloc, &items, peer, plan, &mut output).expect(rt, "a replay");
     same_bytes(rt, &output.written, row.written.as_bytes(), &row.attentions);
     same_bytes(rt, &output.told, row.told.as_bytes(), &row.attentions);
-    same(rt, &tally.attentions, &row.passed, &row.attentions);
+    same(
+        rt,
+        &replaying.tally().attentions,
+        &row.passed,
+        &row.attentions,
+    );
 }
 
 #[test]
@@ -494,6 +526,8 @@ fn check_lost(rt: &impl Abort, alloc: Global, row: &LostRow) {
         bytes,
         from: 0,
         takes: row.takes,
+        now: 0,
+        rests: false,
     };
     let items = items_of(rt, alloc, JOB);
     let mut output = Output {
@@ -501,7 +535,7 @@ fn check_lost(rt: &impl Abort, alloc: Global, row: &LostRow) {
         told: Vec::new(alloc),
     };
     let line = match replayed(alloc, &items, peer, false, &mut output) {
-        Ok(_) => String::new(alloc),
+        Ok(_replaying) => String::new(alloc),
         Err(fault) => format!(in alloc; "{fault}").expect(rt, "a line"),
     };
     same(rt, &line.as_str(), &row.due, &row.due);
@@ -552,7 +586,8 @@ const WRITES: &[(&str, Option<usize>)] = &[
 fn jobs_that_write(rt: HostRuntime) {
     for (text, due) in WRITES {
         let items = items_of(&rt, rt.alloc(), text);
-        same(&rt, &first_write(&items), due, text);
+        let first = items.iter().position(|entry| writes(&entry.item));
+        same(&rt, &first, due, text);
     }
 }
 
@@ -591,4 +626,50 @@ fn unit_attentions(rt: HostRuntime) {
         };
         same(&rt, &is_unit_attention(outcome), due, sense);
     }
+}
+
+/// A job with times: the ping was sent at 5 s and took 2 ms, the write was sent at 7 s and took 4 ms.
+const TIMED: &str = "ping 616263\n time 5000000000 took 2000000\n was ping 616263\n\
+    write 0 4 5a\n time 7000000000 took 4000000\n was status 08\n";
+
+/// What is told of it: the clock goes 1 ms on between a request and its outcome. The times are the least of
+/// their classes: 244 * 2^13, 244 * 2^14 and 244 * 2^12 ns.
+const SUMMARY: &str = "1 of 2 differ, 0 passed over\n\
+    1 times WRITE(10): status 08, now good\n\
+    recorded: median 1.998 ms, 99th percentile 3.997 ms\n\
+    now: median 0.999 ms, 99th percentile 0.999 ms\n";
+
+#[test]
+fn a_job_with_times(rt: HostRuntime) {
+    let items = items_of(&rt, rt.alloc(), TIMED);
+    let sent: Option<Time> = items.first().and_then(|entry| entry.time);
+    let due = Some(Time {
+        sent: 5_000_000_000,
+        took: Some(2_000_000),
+    });
+    same(&rt, &(sent == due), &true, &"time");
+    let peer = Told {
+        bytes: answers(&rt, rt.alloc(), "", ""),
+        from: 0,
+        takes: u32::MAX,
+        now: 0,
+        rests: false,
+    };
+    let mut output = Output {
+        written: Vec::new(rt.alloc()),
+        told: Vec::new(rt.alloc()),
+    };
+    let plan = Plan {
+        ignored: Ignored::NONE,
+        all: true,
+        unit: None,
+        attentions: 0,
+        timing: true,
+    };
+    let replaying = replayed_so(rt.alloc(), &items, peer, plan, &mut output).expect(
+        &rt, "a replay",
+    );
+    let mut text = String::new(rt.alloc());
+    replaying.write_summary(&mut text).expect(&rt, "a summary");
+    same(&rt, &text.as_str(), &SUMMARY, &"summary");
 }

@@ -3,8 +3,8 @@
 
 use crate::asserts::{same, same_bytes};
 use crate::tests::live::{Output, Told, answers, replayed};
-use iscsi_job::Item;
-use iscsi_job_text::{TextFault, read_job, write_item};
+use crate::tests::texts::read_all;
+use iscsi_job_text::{Entry, TextFault, WriteFault, write_entry};
 use std::alloc::Global;
 use std::process::Abort;
 
@@ -17,22 +17,23 @@ const TEXT: &str = "write 0 1 5a\n  was status 02 sense 700005\n\
     logout\n  was closed\n";
 
 // The job of the text, read once more where memory ran out.
-fn read_at_last(rt: &impl Abort, alloc: Global) -> Vec<Item> {
-    match read_job(alloc, &mut TEXT.as_bytes()) {
+fn read_at_last(rt: &impl Abort, alloc: Global) -> Vec<Entry> {
+    match read_all(alloc, TEXT.as_bytes()) {
         Ok(items) => items,
         Err(fault) => {
             same(rt, &matches!(fault, TextFault::NoMemory), &true, &"fault");
-            read_job(alloc, &mut TEXT.as_bytes()).expect(rt, "once more")
+            read_all(alloc, TEXT.as_bytes()).expect(rt, "once more")
         }
     }
 }
 
 // Appends the lines of a request, once more where memory ran out.
-fn write_at_last(rt: &impl Abort, alloc: Global, item: &Item, text: &mut String) {
+fn write_at_last(rt: &impl Abort, alloc: Global, entry: &Entry, text: &mut String) {
     let mut lines = String::new(alloc);
-    if write_item(alloc, item, &mut lines).is_err() {
+    if let Err(fault) = write_entry(alloc, entry, &mut lines) {
+        same(rt, &matches!(fault, WriteFault::NoMemory), &true, &"fault");
         lines = String::new(alloc);
-        write_item(alloc, item, &mut lines).expect(rt, "once more");
+        write_entry(alloc, entry, &mut lines).expect(rt, "once more");
     }
     if text.push_str(lines.as_str()).is_err() {
         text.push_str(lines.as_str()).expect(rt, "once more");
@@ -42,8 +43,8 @@ fn write_at_last(rt: &impl Abort, alloc: Global, item: &Item, text: &mut String)
 #[test]
 fn refused_memory_changes_no_job(rt: HostRuntime) {
     let mut text = String::new(rt.alloc());
-    for item in read_at_last(&rt, rt.alloc()).iter() {
-        write_at_last(&rt, rt.alloc(), item, &mut text);
+    for entry in read_at_last(&rt, rt.alloc()).iter() {
+        write_at_last(&rt, rt.alloc(), entry, &mut text);
     }
     same(&rt, &text.as_str(), &TEXT, &"text");
 }
@@ -56,11 +57,13 @@ const DIFFERS: &str = "request 2: write 0 4 5a\n  was status 08\n  now good\n";
 
 #[test]
 fn refused_memory_hides_no_difference(rt: HostRuntime) {
-    let items = read_job(rt.alloc(), &mut OTHER.as_bytes()).expect(&rt, "a job");
+    let items = read_all(rt.alloc(), OTHER.as_bytes()).expect(&rt, "a job");
     let peer = Told {
         bytes: answers(&rt, rt.alloc(), "", ""),
         from: 0,
         takes: u32::MAX,
+        now: 0,
+        rests: false,
     };
     // Room for what is written, so that no memory is asked for it.
     let mut output = Output {

@@ -2,7 +2,7 @@
 //! RFC 7143, section 11.
 
 use crate::asserts::same;
-use iscsi_job::{Asked, Ended, JobFault, Moves, Recording};
+use iscsi_job::{Asked, Ended, JobFault, Moves, Noted, Recorder, Which};
 use iscsi_test_support::{SESSION, marked};
 use scsi_cdb::Residual;
 use std::alloc::Global;
@@ -104,22 +104,103 @@ const ROWS: &[Row] = &[
     },
 ];
 
-/// What a recording of a dialogue has, and its first fault.
+/// Which end is heard first.
+#[derive(Clone, Copy)]
+pub(crate) enum First {
+    Initiator,
+    Target,
+    // Both in turn, by pieces of so many bytes.
+    Both(usize),
+}
+
+/// The requests of a dialogue, with what came of them, and its first fault.
 pub(crate) fn recorded(
     rt: &impl Abort,
     alloc: Global,
     dialogue: &str,
-) -> (Recording, Result<(), JobFault>) {
+    first: First,
+) -> (Vec<Noted>, Result<(), JobFault>) {
     let initiator = marked(alloc, dialogue, "I> ").expect(rt, "lines of the initiator");
     let target = marked(alloc, dialogue, "T> ").expect(rt, "lines of the target");
-    let mut recording = Recording::new(alloc);
-    let asked = recording.ask(&mut initiator.as_slice());
-    let answered = recording.answer(asked.is_ok(), &mut target.as_slice());
-    (recording, asked.and(answered))
+    let mut recorder = Recorder::new(alloc);
+    match first {
+        First::Initiator => {
+            hear(rt, &mut recorder, Which::Initiator, &initiator);
+            hear(rt, &mut recorder, Which::Target, &target);
+        }
+        First::Target => {
+            hear(rt, &mut recorder, Which::Target, &target);
+            hear(rt, &mut recorder, Which::Initiator, &initiator);
+        }
+        First::Both(count) => {
+            hear_both(rt, &mut recorder, count, &initiator, &target);
+        }
+    }
+    let mut all = Vec::new(alloc);
+    for _ in 0..u64::MAX {
+        let Some(noted) = recorder.take_next() else {
+            break;
+        };
+        all.push(noted).expect(rt, "room");
+    }
+    let fault = recorder
+        .fault(Which::Initiator)
+        .or(recorder.fault(Which::Target));
+    let said = match fault {
+        Some(fault) => Err(fault),
+        None => Ok(()),
+    };
+    (all, said)
+}
+
+// All of an end.
+fn hear(rt: &impl Abort, recorder: &mut Recorder, which: Which, bytes: &[u8]) {
+    recorder.hear(which, 0, bytes).expect(rt, "memory");
+    recorder.end(which, None).expect(rt, "memory");
+}
+
+// Both ends in turn.
+fn hear_both(
+    rt: &impl Abort,
+    recorder: &mut Recorder,
+    count: usize,
+    initiator: &[u8],
+    target: &[u8],
+) {
+    let mut asked = 0;
+    let mut answered = 0;
+    for _ in 0..u64::MAX {
+        let Some(which) = recorder.wants() else {
+            break;
+        };
+        match which {
+            Which::Initiator => asked = hear_piece(rt, recorder, which, initiator, asked, count),
+            Which::Target => answered = hear_piece(rt, recorder, which, target, answered, count),
+        }
+    }
+}
+
+// A piece of an end from a place on, or its end. Gives the place behind it.
+fn hear_piece(
+    rt: &impl Abort,
+    recorder: &mut Recorder,
+    which: Which,
+    bytes: &[u8],
+    at: usize,
+    count: usize,
+) -> usize {
+    let rest = bytes.get(at..).unwrap_or(b"");
+    let piece = &rest[..rest.len().min(count)];
+    if piece.is_empty() {
+        recorder.end(which, None).expect(rt, "memory");
+    } else {
+        recorder.hear(which, 0, piece).expect(rt, "memory");
+    }
+    at.saturating_add(piece.len())
 }
 
 fn check_row(rt: &impl Abort, alloc: Global, row: &Row) {
-    let (_, said) = recorded(rt, alloc, row.dialogue);
+    let (_, said) = recorded(rt, alloc, row.dialogue, First::Initiator);
     let line = match said {
         Ok(()) => String::new(alloc),
         Err(fault) => format!(in alloc; "{fault}").expect(rt, "a line"),
@@ -168,10 +249,10 @@ const ASKED: &[(Asked, Ended)] = &[
 
 #[test]
 fn a_session_of_both_ends(rt: HostRuntime) {
-    let (recording, said) = recorded(&rt, rt.alloc(), SESSION);
+    let (requests, said) = recorded(&rt, rt.alloc(), SESSION, First::Both(1));
     said.expect(&rt, "a job");
-    same(&rt, &recording.noted().len(), &ASKED.len(), &"requests");
-    for (noted, due) in recording.noted().iter().zip(ASKED) {
+    same(&rt, &requests.len(), &ASKED.len(), &"requests");
+    for (noted, due) in requests.iter().zip(ASKED) {
         let is_due = noted.item.asked == due.0 && noted.item.ended == Some(due.1);
         same(&rt, &is_due, &true, &noted.tag);
     }

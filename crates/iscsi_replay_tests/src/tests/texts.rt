@@ -2,8 +2,9 @@
 //! refused.
 
 use crate::asserts::same;
-use crate::tests::recordings::recorded;
-use iscsi_job_text::{read_job, write_item};
+use crate::tests::recordings::{First, recorded};
+use iscsi_job::{Asked, Item};
+use iscsi_job_text::{Entry, JobReader, TextFault, WriteFault, write_entry};
 use std::alloc::Global;
 use std::process::Abort;
 
@@ -47,30 +48,48 @@ const JOB: &str = "tur 0\n  was status 02 sense 700006000000000a0000000029000000
     tur 0\n  was unanswered\n";
 
 /// The text of a recorded session.
-pub(crate) fn text_of(rt: &impl Abort, alloc: Global, dialogue: &str) -> String {
-    let (recording, said) = recorded(rt, alloc, dialogue);
+pub(crate) fn text_of(rt: &impl Abort, alloc: Global, dialogue: &str, first: First) -> String {
+    let (requests, said) = recorded(rt, alloc, dialogue, first);
     said.expect(rt, "a job");
     let mut text = String::new(alloc);
-    for noted in recording.noted() {
-        write_item(alloc, &noted.item, &mut text).expect(rt, "lines");
+    for noted in requests {
+        let entry = Entry {
+            item: noted.item,
+            sent: None,
+            received: None,
+            time: None,
+        };
+        write_entry(alloc, &entry, &mut text).expect(rt, "lines");
     }
     text
 }
 
+/// The requests of a text.
+pub(crate) fn read_all(alloc: Global, mut text: &[u8]) -> Result<Vec<Entry>, TextFault> {
+    let mut reader = JobReader::new(alloc);
+    let mut all = Vec::new(alloc);
+    for _ in 0..u64::MAX {
+        let Some(entry) = reader.next(&mut text)? else {
+            break;
+        };
+        if all.push(entry).is_err() {
+            return Err(TextFault::NoMemory);
+        }
+    }
+    Ok(all)
+}
+
 #[test]
 fn the_job_of_a_session(rt: HostRuntime) {
-    let text = text_of(&rt, rt.alloc(), DIALOGUE);
+    let text = text_of(&rt, rt.alloc(), DIALOGUE, First::Both(7));
     same(&rt, &text.as_str(), &JOB, &"job");
 }
 
 // The text of the job that a text is.
 fn written_again(rt: &impl Abort, alloc: Global, text: &str) -> String {
     let mut again = String::new(alloc);
-    for item in read_job(alloc, &mut text.as_bytes())
-        .expect(rt, "a job")
-        .iter()
-    {
-        write_item(alloc, item, &mut again).expect(rt, "lines");
+    for entry in read_all(alloc, text.as_bytes()).expect(rt, "a job").iter() {
+        write_entry(alloc, entry, &mut again).expect(rt, "lines");
     }
     again
 }
@@ -92,6 +111,11 @@ const KEPT: &[&str] = &[
     "tur 255\n  was response 01 status 02 sense 70 over 4294967295 data 00\n",
     "command 0 88000000000000000000000000010000 in 512\n  was unanswered\n",
     "command 0 2a000000000000000100 out\n  was unanswered\n",
+    "command 0 28000000000000000000 in 0\n  was good over 512\n",
+    "tur 0\n  time 0 took 18446744073709551615\n  was good\n",
+    "tur 0\n  time 5\n  was unanswered\n",
+    "command 0 2a000000000000000200 out at 0 1024 000102030405060708090a0b0c0d0e0f101112131415161718191a1b1c1d1e1f\n  was good\n",
+    "read 0 2\n  was good data at 18446744073709551615 1024 000102030405060708090a0b0c0d0e0f101112131415161718191a1b1c1d1e1f\n",
     "command 0 2a000000000000000100 out of 4294967295\n  was unanswered\n",
     "command 0 2a000000000000000100 out 5a5b of 3\n  was status 02\n",
     "command 0 12008000ff0000000000000000000001 in 4294967295\n  was unanswered\n",
@@ -111,6 +135,11 @@ fn texts_that_are_kept(rt: HostRuntime) {
 /// Texts that mean others: comments, blanks, short blocks and upper case.
 const MEANT: &[(&str, &str)] = &[
     ("", ""),
+    (
+        "job 2\n# TEST UNIT READY\ntur 0\r\n\twas good\n",
+        "tur 0\n  was good\n",
+    ),
+    ("job  2 # the form\n", ""),
     ("# all of it\n\n   # nothing\n", ""),
     (
         "tur 0 # ready?\n\twas   good # yes\n",
@@ -147,6 +176,17 @@ fn texts_that_mean_others(rt: HostRuntime) {
 /// Texts that are none, and the line of their fault.
 const REFUSED: &[(&str, &str)] = &[
     ("tur", "line 1: no number"),
+    ("job 3\n", "line 1: unknown form"),
+    ("job\n", "line 1: no number"),
+    ("tur 0\njob 2\n", "line 2: no request"),
+    ("tur 0\n time\n", "line 2: no number"),
+    ("tur 0\n time 0 1\n", "line 2: too many words"),
+    (
+        "tur 0\n was good\n time 0\n",
+        "line 3: outcome of no request",
+    ),
+    ("ping at 0 1 00\n", "line 1: no hex"),
+    ("ping at 0\n", "line 1: no number"),
     ("tur 256", "line 1: no number"),
     ("tur +1", "line 1: no number"),
     ("tur 0 0", "line 1: too many words"),
@@ -202,7 +242,7 @@ const REFUSED: &[(&str, &str)] = &[
 ];
 
 fn check_refused(rt: &impl Abort, alloc: Global, text: &str, due: &str) {
-    let line = match read_job(alloc, &mut text.as_bytes()) {
+    let line = match read_all(alloc, text.as_bytes()) {
         Ok(_) => String::new(alloc),
         Err(fault) => format!(in alloc; "{fault}").expect(rt, "a line"),
     };
@@ -213,5 +253,37 @@ fn check_refused(rt: &impl Abort, alloc: Global, text: &str, due: &str) {
 fn texts_that_are_refused(rt: HostRuntime) {
     for (text, due) in REFUSED {
         check_refused(&rt, rt.alloc(), text, due);
+    }
+}
+
+// A request that asks this, with a byte that is sent.
+fn sends_a_byte(rt: &impl Abort, alloc: Global, asked: Asked) -> Entry {
+    Entry {
+        item: Item {
+            asked,
+            sent: Vec::from_array(alloc, [0x5a]).expect(rt, "a byte"),
+            ended: None,
+            sense: Vec::new(alloc),
+            received: Vec::new(alloc),
+        },
+        sent: None,
+        received: None,
+        time: None,
+    }
+}
+
+#[test]
+fn requests_that_no_text_has(rt: HostRuntime) {
+    for asked in [Asked::Logout, Asked::Task(1)] {
+        let mut text = String::new(rt.alloc());
+        let entry = sends_a_byte(&rt, rt.alloc(), asked);
+        let said = write_entry(rt.alloc(), &entry, &mut text);
+        same(
+            &rt,
+            &matches!(said, Err(WriteFault::Unsaid)),
+            &true,
+            &"refused",
+        );
+        same(&rt, &text.as_str(), &"", &"text");
     }
 }
