@@ -73,6 +73,7 @@ SCRIPTS = [
     Script("floods", "strangers/floods.py", "a minute", 20),
     Script("replay", "replay/run.py", "minutes", 30, unproved=UNPROVED),
     Script("jobs", "jobs/run.py", "an hour", 180),
+    Script("jobs, long", "jobs/long.py", "minutes", 30, unproved=UNPROVED),
     Script("replay, memory", "replay/memory.py", "minutes", 30, r"[0-9]+ allocations refused, 0 runs ended wrongly", UNPROVED),
     Script("many_sessions", "many_sessions/run.py", "minutes", 30, unproved=UNPROVED),
     Script("lasting", "lasting/run.py", "minutes", 60, unproved=UNPROVED),

@@ -1,8 +1,0 @@
-use Rattle.iscsi_target.specs.Advances.{store_of}
-use Rattle.iscsi_event_loop.specs.Running.{RunsWithin}
-use Rattle.iscsi_event_loop.proofs.service.serve_all.Given as goal
-
-abbrev pub invariant-loop : goal.invariant-loop
-invariant-loop g l = RunsWithin g.S.BlockStore.protected
-    l.fn.server.room (store_of (g.S.BlockStore.disk l.fn.store) (g.S.BlockStore.failures l.fn.store))
-    l.server.room (store_of (g.S.BlockStore.disk l.store) (g.S.BlockStore.failures l.store))
