@@ -104,6 +104,7 @@ fed_some first done s old new given before more a t =
       agrees = t.agrees;
       same_first = t.same_first;
       same_limit = t.same_limit;
+      within = t.within;
     })
 
 -- a segment with bytes opens a stream

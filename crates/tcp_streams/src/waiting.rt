@@ -3,7 +3,7 @@
 ghost use Rattle.std.specs.Prelude.{◌≡◌, ◌≤◌, ◌<◌, ◌+◌, ◌-◌, ◌^◌, ◌++◌, [], ◌∷◌, length, drop, min, slice_index_or, IsTrue, IfSome, IfNone, IfErr, OnOk, OnErr, ◌⊎◌, ℕ, List};
 ghost use Rattle.std.specs.List.{All, AllByRecursion, Contains};
 ghost use Rattle.tcp_streams.specs.Pieces.{Piece, Clash, NoClash};
-ghost use Rattle.tcp_streams.specs.Reassembly.{held};
+ghost use Rattle.tcp_streams.specs.Reassembly.{held, KeepsToLimit};
 ghost use Rattle.tcp_streams.specs.declared.fault.SegmentFault.{SegmentFault};
 ghost use Rattle.tcp_streams.specs.Parts.{pieces_of, piece_of};
 ghost use Rattle.tcp_streams.specs.inner.Inside.{piece, DrainsWaiting, TakesPiece, AreLater, PieceFails, LiesIn, LiesInSome};
@@ -46,6 +46,8 @@ pub(crate) fn take_piece(
     ensures agrees { OnOk result (AllByRecursion
         (NoClash (piece fresh.entry.offset fresh.entry.bytes.now))
         (pieces_of waiting.old.items)) }
+    ensures within { OnOk result (KeepsToLimit limit (pieces_of waiting.old.items)
+        → KeepsToLimit limit (pieces_of waiting.new.items)) }
     ensures limit { count.new ≤ 2 ^ 63 }
     ensures err { IfErr result (PieceFails count.old (pieces_of waiting.old.items) limit
         (piece fresh.entry.offset fresh.entry.bytes.now)) }
@@ -178,7 +180,8 @@ pub(crate) fn drain(
     requires { count.old ≤ 2 ^ 63 }
     ensures drained { OnOk result ((more : List ℕ) × (out.new.items ≡ out.old.items ++ more)
         × DrainsWaiting count.old (pieces_of waiting.old.items)
-        count.new (pieces_of waiting.new.items) more) }
+        count.new (pieces_of waiting.new.items) more
+        × held (pieces_of waiting.new.items) ≤ held (pieces_of waiting.old.items)) }
     ensures later { OnOk result (All (λ part. count.new < part.offset) waiting.new.items) }
     ensures limit { count.new ≤ 2 ^ 63 }
     ensures fault { IfErr result (λ e. (e ≡ SegmentFault.NoMemory) ⊎ (e ≡ SegmentFault.Long)) }
@@ -210,6 +213,8 @@ pub(crate) fn hold(
     requires { count < offset }
     ensures held { OnOk result (pieces_of waiting.new.items
         ≡ pieces_of waiting.old.items ++ piece offset bytes.now ∷ []) }
+    ensures within { OnOk result (min (held (pieces_of waiting.old.items)
+        + (length bytes.now + 64)) (2 ^ 64 - 1) ≤ limit) }
     ensures err { IfErr result (PieceFails count (pieces_of waiting.old.items) limit
         (piece offset bytes.now)) }
 {
