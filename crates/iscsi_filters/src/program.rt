@@ -1,10 +1,8 @@
 //! A program of these filters alone: the words that it takes, and its run.
 
-ghost use Rattle.std.specs.Prelude.{◌≡◌, [], ℕ, List, Option, Some, true};
+ghost use Rattle.std.specs.Prelude.{◌≡◌, ℕ, List, map};
 ghost use Rattle.std.specs.Io.KnownBytes.{Appends, Consumes};
-ghost use Rattle.iscsi_filters.specs.declared.program.StreamFilter.{StreamFilter};
-ghost use Rattle.iscsi_filters.specs.declared.work.StreamWork.TheVariants.{Normalise};
-ghost use Rattle.iscsi_filters.specs.Program.{AsksForFilter, RunsFilter};
+ghost use Rattle.iscsi_filters.specs.Program.{RunsFilter, filter_asked, filter_named, filter_with, of_hex, of_text};
 
 use crate::work::{StreamWork, run_work, status};
 use std::alloc::Global;
@@ -28,7 +26,7 @@ impl StreamFilter {
     // The filter that words ask for: `show` or `normalise`, and behind it `--hex` and, to normalise, `--text`,
     // each at most once. No words ask for the canonical form of hex text.
     fn of<S: AsStr>(words: &[S]) -> Option<StreamFilter>
-        ensures unasked { words.now ≡ [] → result ≡ Some (record { work = Normalise; hex = true }) }
+        ensures asked { result ≡ filter_asked (map S.text words.now) }
     {
         let Some((first, options)) = words.split_first() else {
             return Some(StreamFilter {
@@ -36,28 +34,60 @@ impl StreamFilter {
                 hex: true,
             });
         };
-        let work = match first.as_str() {
-            "show" => StreamWork::Show,
-            "normalise" => StreamWork::Normalise,
-            _ => return None,
-        };
-        let mut filter = StreamFilter { work, hex: false };
-        for option in options {
-            filter = filter.with(option.as_str())?;
-        }
-        Some(filter)
+        options.iter().fold(
+            named(first.as_str()),
+            |filter, option| with(filter, option.as_str()),
+        )
     }
 
-    // The filter with one more option.
-    fn with(self, option: &str) -> Option<StreamFilter> {
-        match (option, self.work, self.hex) {
-            ("--hex", work, false) => Some(StreamFilter { work, hex: true }),
-            ("--text", StreamWork::Normalise, hex) => Some(StreamFilter {
+    // The filter, of hex text.
+    fn of_hex(self) -> Option<StreamFilter>
+        ensures hex { result ≡ of_hex self }
+    {
+        if self.hex {
+            return None;
+        }
+        Some(StreamFilter {
+            work: self.work,
+            hex: true,
+        })
+    }
+
+    // The filter, of a text in place of a stream.
+    fn of_text(self) -> Option<StreamFilter>
+        ensures text { result ≡ of_text self self.work }
+    {
+        match self.work {
+            StreamWork::Normalise => Some(StreamFilter {
                 work: StreamWork::Text,
-                hex,
+                hex: self.hex,
             }),
             _ => None,
         }
+    }
+}
+
+// The filter of bytes that the first word names.
+fn named(word: &str) -> Option<StreamFilter>
+    ensures named { result ≡ filter_named word.now }
+{
+    let work = match word {
+        "show" => StreamWork::Show,
+        "normalise" => StreamWork::Normalise,
+        _ => return None,
+    };
+    Some(StreamFilter { work, hex: false })
+}
+
+// The filter with one word more.
+fn with(filter: Option<StreamFilter>, word: &str) -> Option<StreamFilter>
+    ensures with { result ≡ filter_with filter word.now }
+{
+    let filter = filter?;
+    match word {
+        "--hex" => filter.of_hex(),
+        "--text" => filter.of_text(),
+        _ => None,
     }
 }
 
@@ -69,7 +99,6 @@ impl StreamFilter {
 /// - 4 for reading and writing.
 ///
 /// The line of a fault goes to the third stream; a write there that fails changes nothing.
-#[tactic(auto, using(crate::proofs::Untouched::reads_nothing, crate::proofs::Untouched::writes_nothing))]
 pub fn run_filter_words<S: AsStr, R: Read, W: Write, E: Write>(
     alloc: Global,
     words: &[S],
@@ -77,21 +106,40 @@ pub fn run_filter_words<S: AsStr, R: Read, W: Write, E: Write>(
     w: &mut W,
     errors: &mut E,
 ) -> u8
-    ensures runs { (asked : Option StreamFilter) × (read : List ℕ) × (written : List ℕ)
+    ensures runs { (read : List ℕ) × (written : List ℕ)
         × Consumes (R.remaining r.old) (R.remaining r.new) read
         × Appends (W.contents w.old) (W.contents w.new) written
-        × AsksForFilter words.now asked × RunsFilter asked result read written }
+        × RunsFilter (filter_asked (map S.text words.now)) result read written }
 {
-    let Some(filter) = StreamFilter::of(words) else {
-        let _ = errors.write_all(USAGE.as_bytes());
-        return 2;
-    };
-    match run_work(alloc, filter.work, filter.hex, r, w) {
-        Ok(()) => 0,
-        Err(fault) => {
-            let _ = writeln!(errors, "{fault}");
-            status(&fault)
+    run_asked(alloc, StreamFilter::of(words), r, w, errors)
+}
+
+// Runs the filter that was asked for; without one a line says what can be asked.
+#[tactic(auto, using(crate::proofs::Untouched::reads_nothing, crate::proofs::Untouched::writes_nothing))]
+fn run_asked<R: Read, W: Write, E: Write>(
+    alloc: Global,
+    asked: Option<StreamFilter>,
+    r: &mut R,
+    w: &mut W,
+    errors: &mut E,
+) -> u8
+    ensures runs { (read : List ℕ) × (written : List ℕ)
+        × Consumes (R.remaining r.old) (R.remaining r.new) read
+        × Appends (W.contents w.old) (W.contents w.new) written
+        × RunsFilter asked result read written }
+{
+    match asked {
+        None => {
+            let _ = errors.write_all(USAGE.as_bytes());
+            2
         }
+        Some(filter) => match run_work(alloc, filter.work, filter.hex, r, w) {
+            Ok(()) => 0,
+            Err(fault) => {
+                let _ = writeln!(errors, "{fault}");
+                status(&fault)
+            }
+        },
     }
 }
 
