@@ -38,6 +38,8 @@ import reach
 CRATES = TOP / "crates"
 # Names that stand for others: crates/NAME/src/THING.rt.
 DEFINITION = re.compile(r"^(?:(?:abbrev|unfoldable|foldable) )?pub (?:(?:record|data) )?(?!mod |use )(\S+)", re.M)
+# `do` asks for an operator of this name, and each type of steps has its own.
+OF_DO = "◌>>=◌"
 PLACEHOLDER = re.compile(r"\b(NAME|KIND|THING|MODULE|TYPE|CRATE|NN|F)\b")
 # Pages of the toolchain, which `rt doc` leads to.
 TOOLCHAIN = {"FIRST_PROOFS.md", "CONTRACTS.md", "GUIDELINES.md", "CONTRACT_STYLE.md"}
@@ -377,13 +379,13 @@ PLAIN = [
 
 
 def check_names():
-    """No two definitions of the repository have one name."""
+    """No two definitions of the repository have one name, but for the operator of `do`."""
     places = {}
     for path in sorted(CRATES.glob("*/specs/**/*.antt")):
         for name in DEFINITION.findall(read(path)):
             places.setdefault(name, []).append(str(path.relative_to(CRATES)))
     for name, paths in places.items():
-        look(len(paths) == 1, paths[-1], f"{name} is a definition of {paths[0]}, too")
+        look(len(paths) == 1 or name == OF_DO, paths[-1], f"{name} is a definition of {paths[0]}, too")
 
 
 def words_in(text):

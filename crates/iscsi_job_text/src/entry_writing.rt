@@ -1,23 +1,21 @@
 //! The lines of a request and of what came of it, written.
 
+ghost use Rattle.std.specs.Prelude.{◌≡◌, ◌++◌, true, List, ℕ, Some, IfOk, OnOk, string_bytes};
+ghost use Rattle.std.specs.List.{list_all};
+ghost use Rattle.iscsi_job_text.specs.Entries.{AskTheSame, GaveTheSame, Says, blank_of, entry_of_lines, is_plain_byte, said, text_lines};
+ghost use Rattle.iscsi_job_text.specs.Pendings.{pending_held};
+
 use crate::entry::{Entry, Time};
-use crate::entry_reading::{begun_by, take_line};
-use crate::fault::{LineFault, WriteFault};
+use crate::entry_reading::Pending;
+use crate::fault::{LineFault, LineReason, WriteFault};
 use crate::outcome_writing::write_ending;
 use crate::request_writing::write_asking;
+use crate::words::parted;
 use iscsi_job::Item;
 use std::alloc::Global;
 
 /// The number of the form that texts of jobs have.
 pub const FORM: u64 = 2;
-
-/// The lines of a request, without their ends.
-#[derive(Drop)]
-struct Lines {
-    request: String,
-    time: String,
-    outcome: String,
-}
 
 /// Appends the lines of a request, of its time and of its outcome.
 ///
@@ -25,44 +23,37 @@ struct Lines {
 /// has: one that sends bytes and is of no kind that does, or an outcome of another kind of request. Data that
 /// came of a request without an outcome are left out. After
 /// a fault the text is as it was, or has a part of the lines.
-pub fn write_entry(alloc: Global, entry: &Entry, text: &mut String) -> Result<(), WriteFault> {
+pub fn write_entry(alloc: Global, entry: &Entry, text: &mut String) -> Result<(), WriteFault>
+    // The text grows by lines that mean the request, and say all that is to be said of it.
+    ensures says { OnOk result ((lines : List ℕ)
+        × (string_bytes text.new ≡ string_bytes text.old ++ lines) × Says lines entry.now) }
+{
     let lines = lines_of(alloc, entry)?;
-    let again = read_back(alloc, &lines)?;
-    if !is_same(&again, entry) {
+    if !says(alloc, lines.as_bytes(), entry)? {
         return Err(WriteFault::Unsaid);
     }
-    text.push_str(lines.request.as_str())?;
-    text.push_str("\n")?;
-    if entry.time.is_some() {
-        text.push_str(lines.time.as_str())?;
-        text.push_str("\n")?;
-    }
-    text.push_str(lines.outcome.as_str())?;
-    text.push_str("\n")?;
+    text.push_str(lines.as_str())?;
     Ok(())
 }
 
-// The lines of a request.
-fn lines_of(alloc: Global, entry: &Entry) -> Result<Lines, WriteFault> {
-    let mut request = String::new(alloc);
-    write_asking(alloc, &entry.item, entry.sent, &mut request)?;
-    let mut time = String::new(alloc);
+// The lines of a request, each with its end.
+fn lines_of(alloc: Global, entry: &Entry) -> Result<String, WriteFault> {
+    let mut lines = String::new(alloc);
+    write_asking(alloc, &entry.item, entry.sent, &mut lines)?;
+    lines.push_str("\n")?;
     if let Some(said) = entry.time {
-        write_time(said, &mut time)?;
+        write_time(said, &mut lines)?;
+        lines.push_str("\n")?;
     }
-    let mut outcome = String::new(alloc);
     write_ending(
         alloc,
         "was",
         entry.item.outcome(),
         entry.received,
-        &mut outcome,
+        &mut lines,
     )?;
-    Ok(Lines {
-        request,
-        time,
-        outcome,
-    })
+    lines.push_str("\n")?;
+    Ok(lines)
 }
 
 // Appends the line of a time.
@@ -75,41 +66,77 @@ fn write_time(time: Time, text: &mut String) -> Result<(), WriteFault> {
     Ok(())
 }
 
-// What the lines mean.
-fn read_back(alloc: Global, lines: &Lines) -> Result<Entry, WriteFault> {
-    match meaning_of(alloc, lines) {
-        Ok(entry) => Ok(entry),
+// Whether lines mean a request, and say all of it.
+#[tactic(auto, using(crate::proofs::EntryLemmas::plain_lines))]
+fn says(alloc: Global, lines: &[u8], entry: &Entry) -> Result<bool, WriteFault>
+    ensures { IfOk result (λ same. same ≡ true → Says lines.now entry.now) }
+{
+    if !is_plain(lines) {
+        return Ok(false);
+    }
+    match read_back(alloc, lines) {
+        Ok(again) => Ok(is_same(&again.entry, entry)),
         Err(LineFault::NoMemory) => Err(WriteFault::NoMemory),
-        Err(LineFault::Refused(_)) => Err(WriteFault::Unsaid),
+        Err(LineFault::Refused(_)) => Ok(false),
     }
 }
 
-fn meaning_of(alloc: Global, lines: &Lines) -> Result<Entry, LineFault> {
-    let mut entry = begun_by(alloc, lines.request.as_bytes())?;
-    if !lines.time.is_empty() {
-        take_line(alloc, &mut entry, lines.time.as_bytes())?;
+// Whether all blanks of a text are spaces.
+fn is_plain(text: &[u8]) -> bool
+    ensures { result ≡ list_all is_plain_byte text.now }
+{
+    text.iter().all(|byte| *byte != b'\t' && *byte != b'\r')
+}
+
+// What the lines of a request mean.
+#[tactic(auto, using(crate::proofs::EntryLemmas::no_line))]
+fn read_back(alloc: Global, text: &[u8]) -> Result<Pending, LineFault>
+    ensures { IfOk result (λ found.
+        entry_of_lines (text_lines text.now) ≡ Some (pending_held found)) }
+{
+    if text.is_empty() {
+        return Err(LineFault::Refused(LineReason::Request));
     }
-    take_line(alloc, &mut entry, lines.outcome.as_bytes())?;
-    Ok(entry)
+    let (first, mut rest) = parted(text, b'\n');
+    let mut pending = Pending::begun_by(alloc, first)?;
+    while rest.len() > 0 {
+        let (line, more) = parted(rest, b'\n');
+        pending.add(alloc, line)?;
+        rest = more;
+    }
+    Ok(pending)
 }
 
 // Whether two requests, and what a text says of them, are the same.
-fn is_same(one: &Entry, other: &Entry) -> bool {
-    is_same_request(&one.item, &other.item)
-        && one.sent == other.sent
-        && one.time == other.time
-        && (one.item.ended.is_none() || has_same_bytes(one, other))
+#[tactic(auto, using(crate::proofs::EntryLemmas::same_unanswered, crate::proofs::EntryLemmas::same_answered))]
+fn is_same(one: &Entry, other: &Entry) -> bool
+    ensures { result ≡ true → said one.now ≡ said other.now }
+{
+    asks_the_same(one, other) && (one.item.ended.is_none() || gave_the_same(one, other))
+}
+
+// Whether two requests ask the same, and ended alike, with the same times and places.
+fn asks_the_same(one: &Entry, other: &Entry) -> bool
+    ensures { result ≡ true → AskTheSame one.now other.now }
+{
+    is_same_request(&one.item, &other.item) && one.sent == other.sent && one.time == other.time
 }
 
 // Whether two requests ask the same, and ended alike.
-fn is_same_request(one: &Item, other: &Item) -> bool {
+fn is_same_request(one: &Item, other: &Item) -> bool
+    ensures asked { result ≡ true → one.now.asked ≡ other.now.asked }
+    ensures sent { result ≡ true → one.now.sent ≡ other.now.sent }
+    ensures ended { result ≡ true → one.now.ended ≡ other.now.ended }
+{
     one.asked == other.asked
         && one.sent.as_slice() == other.sent.as_slice()
         && one.ended == other.ended
 }
 
 // Whether the same came of two requests that have ended.
-fn has_same_bytes(one: &Entry, other: &Entry) -> bool {
+fn gave_the_same(one: &Entry, other: &Entry) -> bool
+    ensures { result ≡ true → GaveTheSame one.now other.now }
+{
     one.item.sense.as_slice() == other.item.sense.as_slice()
         && one.item.received.as_slice() == other.item.received.as_slice()
         && one.received == other.received

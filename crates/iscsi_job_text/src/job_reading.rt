@@ -1,9 +1,14 @@
 //! The job that a text is, read as it goes.
 
-ghost use Rattle.std.specs.Prelude.{◌≡◌, ◌≤◌, ◌+◌, length, IfOk};
+ghost use Rattle.std.specs.Prelude.{◌≡◌, ◌≤◌, ◌+◌, ◌==◌, ◌++◌, true, false, Ok, Some, None, length, map, option_map, slice_range, IfOk, IfErr, IsSome, OnOk, OnErr};
+ghost use Rattle.iscsi_job_text.specs.Words.{line_words};
+ghost use Rattle.iscsi_job_text.specs.Entries.{begun_pending, blank_of};
+ghost use Rattle.iscsi_job_text.specs.Taking.{begins_behind, form_by, goes_on, is_indented, line_added, taken};
+ghost use Rattle.iscsi_job_text.specs.Faults.{RefusesOnly};
+ghost use Rattle.iscsi_job_text.specs.Pendings.{pending_held};
 
 use crate::entry::Entry;
-use crate::entry_reading::{begun_by, take_line};
+use crate::entry_reading::Pending;
 use crate::entry_writing::FORM;
 use crate::fault::{LineFault, LineReason, TextFault};
 use crate::words::Words;
@@ -28,9 +33,7 @@ pub struct JobReader {
     // how many lines were taken
     lines: u64,
     // the last request, to which lines may still be added
-    pending: Option<Entry>,
-    // whether the pending request has an outcome
-    has_outcome: bool,
+    pending: Option<Pending>,
     ghost order: { from ≤ to },
     ghost within: { to ≤ 4096 },
 }
@@ -46,7 +49,6 @@ impl JobReader {
             line: Vec::new(alloc),
             lines: 0,
             pending: None,
-            has_outcome: false,
         }
     }
 
@@ -115,45 +117,128 @@ impl JobReader {
 
     // Takes the line that was read, or the end of the text. Returns a request to which no line is added
     // any more.
-    fn take(&mut self, is_more: bool) -> Result<Option<Entry>, LineFault> {
+    fn take(&mut self, is_more: bool) -> Result<Option<Entry>, LineFault>
+        ensures reads { is_more ≡ true → IfOk result (λ found.
+            taken (self.old.lines == 1) (option_map pending_held self.old.pending)
+            (map blank_of self.old.line.items)
+            ≡ Some (record {
+              finished = found;
+              pending = option_map pending_held self.new.pending;
+            })) }
+        ensures ends { is_more ≡ false → result
+            ≡ Ok (option_map (λ it. it.entry) self.old.pending) }
+        ensures empty { is_more ≡ false → self.new.pending ≡ None }
+    {
         if !is_more {
-            return Ok(self.pending.take());
+            return Ok(entry_of(self.pending.take()));
         }
-        let number = self.lines;
         let Ok(_) = std::str::from_utf8(&self.line) else {
             return Err(LineFault::Refused(LineReason::Utf8));
         };
-        for byte in self.line.iter_mut() {
-            if *byte == b'\t' || *byte == b'\r' {
-                *byte = b' ';
-            }
-        }
-        if Words::of(&self.line).is_empty() {
-            return Ok(None);
-        }
-        if self.line.first() == Some(&b' ') {
-            return self.add();
-        }
-        if number == 1 && names_form(&self.line)? {
-            return Ok(None);
-        }
-        let entry = begun_by(self.alloc, &self.line)?;
-        self.has_outcome = false;
-        Ok(self.pending.replace(entry))
+        make_plain(&mut self.line);
+        take_line(self.alloc, self.lines == 1, &mut self.pending, &self.line)
     }
+}
 
-    // Adds a line to the pending request. Nothing stands behind an outcome.
-    fn add(&mut self) -> Result<Option<Entry>, LineFault> {
-        match &mut self.pending {
-            Some(entry) if !self.has_outcome => {
-                let is_time = entry.time.is_some();
-                take_line(self.alloc, entry, &self.line)?;
-                self.has_outcome = is_time || entry.time.is_none();
-                Ok(None)
-            }
-            _ => Err(LineFault::Refused(LineReason::Stray)),
-        }
+// The request, with no line more.
+fn entry_of(pending: Option<Pending>) -> Option<Entry>
+    ensures { result ≡ option_map (λ it. it.entry) pending }
+{
+    match pending {
+        Some(pending) => Some(pending.entry),
+        None => None,
     }
+}
+
+// Makes the blanks of a line spaces.
+fn make_plain(line: &mut [u8])
+    ensures { line.new ≡ map blank_of line.old }
+{
+    for at in 0..line.len() {
+        line[at] = plain_byte(line[at]);
+    }
+}
+
+// A space in place of another blank.
+fn plain_byte(byte: u8) -> u8
+    ensures { result ≡ blank_of byte }
+{
+    if byte == b'\t' || byte == b'\r' {
+        b' '
+    } else {
+        byte
+    }
+}
+
+// Takes a line, of which the blanks are spaces. Returns the request before if another one begins.
+fn take_line(
+    alloc: Global,
+    is_first: bool,
+    pending: &mut Option<Pending>,
+    line: &[u8],
+) -> Result<Option<Entry>, LineFault>
+    ensures reads { IfOk result (λ found.
+        taken is_first (option_map pending_held pending.old) line.now
+        ≡ Some (record {
+          finished = found;
+          pending = option_map pending_held pending.new;
+        })) }
+    ensures refuses { IfErr result (RefusesOnly
+        (taken is_first (option_map pending_held pending.old) line.now)) }
+{
+    if Words::of(line).is_empty() {
+        return Ok(None);
+    }
+    if is_indented(line) {
+        add(alloc, pending, line)?;
+        return Ok(None);
+    }
+    if is_first && names_form(line)? {
+        return Ok(None);
+    }
+    begin(alloc, pending, line)
+}
+
+// Whether a line begins with a blank.
+fn is_indented(line: &[u8]) -> bool
+    ensures { result ≡ is_indented line.now }
+{
+    match line {
+        [byte, ..] => *byte == b' ',
+        [] => false,
+    }
+}
+
+// Adds a line to the pending request.
+fn add(alloc: Global, pending: &mut Option<Pending>, line: &[u8]) -> Result<(), LineFault>
+    ensures reads { OnOk result (line_added (option_map pending_held pending.old) line.now
+        ≡ option_map pending_held pending.new) }
+    ensures some { OnOk result (IsSome pending.new) }
+    ensures refuses { IfErr result (RefusesOnly
+        (line_added (option_map pending_held pending.old) line.now)) }
+{
+    match pending {
+        Some(pending) => pending.add(alloc, line),
+        None => Err(LineFault::Refused(LineReason::Stray)),
+    }
+}
+
+// Begins a request. Returns the one before.
+fn begin(
+    alloc: Global,
+    pending: &mut Option<Pending>,
+    line: &[u8],
+) -> Result<Option<Entry>, LineFault>
+    ensures reads { IfOk result (λ found.
+        option_map (begins_behind (option_map pending_held pending.old)) (begun_pending line.now)
+        ≡ Some (record {
+          finished = found;
+          pending = option_map pending_held pending.new;
+        })) }
+    ensures refuses { IfErr result (RefusesOnly (begun_pending line.now)) }
+{
+    let begun = Pending::begun_by(alloc, line)?;
+    Ok(entry_of(pending.replace(begun)))
 }
 
 // Appends what stands in a part of a piece up to a line end. Says how many bytes that are, and whether a
@@ -167,6 +252,8 @@ fn take_part(
     requires order { from ≤ to }
     requires within { to ≤ length piece.now }
     ensures bound { IfOk result (λ part. from + part.0 ≤ to) }
+    ensures taken { IfOk result (λ part.
+        line.new.items ≡ line.old.items ++ slice_range piece.now from (from + part.0)) }
 {
     let rest = &piece[from..to];
     match rest.iter().position(|byte| *byte == b'\n') {
@@ -182,7 +269,10 @@ fn take_part(
 }
 
 // Whether a line names the form of the text.
-fn names_form(line: &[u8]) -> Result<bool, LineReason> {
+fn names_form(line: &[u8]) -> Result<bool, LineReason>
+    ensures reads { IfOk result (λ found. form_by (line_words line.now) ≡ Some found) }
+    ensures refuses { OnErr result (form_by (line_words line.now) ≡ None) }
+{
     let mut words = Words::of(line);
     if !words.take_if(b"job") {
         return Ok(false);

@@ -1,5 +1,11 @@
 //! The line of an outcome, read.
 
+ghost use Rattle.std.specs.Prelude.{◌≡◌, None, [], IfOk, IfErr, OnErr};
+ghost use Rattle.iscsi_job_text.specs.Requests.{whole_line};
+ghost use Rattle.iscsi_job_text.specs.Outcomes.{unanswered, bare, answer_named, closed_said, task_ended, command_ended, response_and_status, statuses, residual_said, ended_said, outcome_in};
+ghost use Rattle.iscsi_job_text.specs.Faults.{RefusesOnly};
+ghost use Rattle.iscsi_job_text.specs.Came.{outcome_held};
+
 use crate::fault::{LineFault, LineReason};
 use crate::words::{Payload, Words};
 use iscsi_job::{Asked, Ended};
@@ -20,22 +26,48 @@ pub(crate) fn outcome_of(
     alloc: Global,
     asked: Asked,
     words: &mut Words<'_>,
-) -> Result<Came, LineFault> {
-    let came = if words.take_if(b"unanswered") || words.take_if(b"none") {
-        Came {
-            ended: None,
-            sense: Vec::new(alloc),
-            received: Payload::none(alloc),
-        }
-    } else {
-        ended(alloc, asked, words)?
-    };
+) -> Result<Came, LineFault>
+    ensures reads { IfOk result (λ found.
+        whole_line (outcome_in asked words.old) ≡ Some (outcome_held found)) }
+    ensures refuses { IfErr result (RefusesOnly (whole_line (outcome_in asked words.old))) }
+{
+    let came = outcome_in(alloc, asked, words)?;
     words.end()?;
     Ok(came)
 }
 
+// What came of a request; words may be left.
+fn outcome_in(alloc: Global, asked: Asked, words: &mut Words<'_>) -> Result<Came, LineFault>
+    ensures reads { IfOk result (λ found.
+        outcome_in asked words.old ≡ Some (outcome_held found, words.new)) }
+    ensures refuses { IfErr result (RefusesOnly (outcome_in asked words.old)) }
+{
+    if words.take_if(b"unanswered") {
+        return Ok(unanswered(alloc));
+    }
+    if words.take_if(b"none") {
+        return Ok(unanswered(alloc));
+    }
+    ended(alloc, asked, words)
+}
+
+// No answer.
+fn unanswered(alloc: Global) -> Came
+    ensures { outcome_held result ≡ unanswered }
+{
+    Came {
+        ended: None,
+        sense: Vec::new(alloc),
+        received: Payload::none(alloc),
+    }
+}
+
 // How a request ended, with what came.
-fn ended(alloc: Global, asked: Asked, words: &mut Words<'_>) -> Result<Came, LineFault> {
+fn ended(alloc: Global, asked: Asked, words: &mut Words<'_>) -> Result<Came, LineFault>
+    ensures reads { IfOk result (λ found.
+        ended_said asked words.old ≡ Some (outcome_held found, words.new)) }
+    ensures refuses { IfErr result (RefusesOnly (ended_said asked words.old)) }
+{
     match asked {
         Asked::Command { .. } => command_ended(alloc, words),
         Asked::Ping => answered(alloc, b"ping", Ended::Ping, words),
@@ -51,7 +83,11 @@ fn answered(
     word: &[u8],
     ended: Ended,
     words: &mut Words<'_>,
-) -> Result<Came, LineFault> {
+) -> Result<Came, LineFault>
+    ensures reads { IfOk result (λ found.
+        answer_named word.now ended words.old ≡ Some (outcome_held found, words.new)) }
+    ensures refuses { IfErr result (RefusesOnly (answer_named word.now ended words.old)) }
+{
     if !words.take_if(word) {
         return Err(LineFault::Refused(LineReason::Stray));
     }
@@ -64,7 +100,9 @@ fn answered(
 }
 
 // The ending without bytes.
-fn bare(alloc: Global, ended: Ended) -> Came {
+fn bare(alloc: Global, ended: Ended) -> Came
+    ensures { outcome_held result ≡ bare ended }
+{
     Came {
         ended: Some(ended),
         sense: Vec::new(alloc),
@@ -72,7 +110,11 @@ fn bare(alloc: Global, ended: Ended) -> Came {
     }
 }
 
-fn closed(alloc: Global, words: &mut Words<'_>) -> Result<Came, LineFault> {
+fn closed(alloc: Global, words: &mut Words<'_>) -> Result<Came, LineFault>
+    ensures reads { IfOk result (λ found.
+        closed_said words.old ≡ Some (outcome_held found, words.new)) }
+    ensures refuses { IfErr result (RefusesOnly (closed_said words.old)) }
+{
     if words.take_if(b"closed") {
         Ok(bare(alloc, Ended::Closed))
     } else {
@@ -80,7 +122,11 @@ fn closed(alloc: Global, words: &mut Words<'_>) -> Result<Came, LineFault> {
     }
 }
 
-fn task_ended(alloc: Global, words: &mut Words<'_>) -> Result<Came, LineFault> {
+fn task_ended(alloc: Global, words: &mut Words<'_>) -> Result<Came, LineFault>
+    ensures reads { IfOk result (λ found.
+        task_ended words.old ≡ Some (outcome_held found, words.new)) }
+    ensures refuses { IfErr result (RefusesOnly (task_ended words.old)) }
+{
     match words.byte_behind(b"done")? {
         Some(response) => Ok(bare(alloc, Ended::Task(response))),
         None => Err(LineFault::Refused(LineReason::Stray)),
@@ -88,7 +134,11 @@ fn task_ended(alloc: Global, words: &mut Words<'_>) -> Result<Came, LineFault> {
 }
 
 // How a command ended, with its sense and its data.
-fn command_ended(alloc: Global, words: &mut Words<'_>) -> Result<Came, LineFault> {
+fn command_ended(alloc: Global, words: &mut Words<'_>) -> Result<Came, LineFault>
+    ensures reads { IfOk result (λ found.
+        command_ended words.old ≡ Some (outcome_held found, words.new)) }
+    ensures refuses { IfErr result (RefusesOnly (command_ended words.old)) }
+{
     let (response, status) = response_and_status(words)?;
     let sense = words.bytes_behind(alloc, b"sense")?;
     let residual = residual(words)?;
@@ -106,17 +156,40 @@ fn command_ended(alloc: Global, words: &mut Words<'_>) -> Result<Came, LineFault
 }
 
 // A response and a status, of which one may be missing; it is 00 then.
-fn response_and_status(words: &mut Words<'_>) -> Result<(u8, u8), LineReason> {
+fn response_and_status(words: &mut Words<'_>) -> Result<(u8, u8), LineReason>
+    ensures reads { IfOk result (λ found. response_and_status words.old ≡ Some (found, words.new)) }
+    ensures refuses { OnErr result (response_and_status words.old ≡ None) }
+{
     let response = words.byte_behind(b"response")?;
     let status = words.byte_behind(b"status")?;
-    let is_good = status.is_none() && words.take_if(b"good");
-    if response.is_none() && status.is_none() && !is_good {
-        return Err(LineReason::Outcome);
-    }
-    Ok((response.unwrap_or(0), status.unwrap_or(0)))
+    statuses(response, status, words)
 }
 
-fn residual(words: &mut Words<'_>) -> Result<Residual, LineReason> {
+// A response and a status, where `good` may stand in place of the status.
+fn statuses(
+    response: Option<u8>,
+    status: Option<u8>,
+    words: &mut Words<'_>,
+) -> Result<(u8, u8), LineReason>
+    ensures reads { IfOk result (λ found.
+        statuses response status words.old ≡ Some (found, words.new)) }
+    ensures refuses { OnErr result (statuses response status words.old ≡ None) }
+{
+    if let Some(status) = status {
+        return Ok((response.unwrap_or(0), status));
+    }
+    let is_good = words.take_if(b"good");
+    match response {
+        Some(response) => Ok((response, 0)),
+        None if is_good => Ok((0, 0)),
+        None => Err(LineReason::Outcome),
+    }
+}
+
+fn residual(words: &mut Words<'_>) -> Result<Residual, LineReason>
+    ensures reads { IfOk result (λ found. residual_said words.old ≡ Some (found, words.new)) }
+    ensures refuses { OnErr result (residual_said words.old ≡ None) }
+{
     if let Some(bytes) = words.number_behind(b"under", u64::from(u32::MAX))? {
         return Ok(Residual::Under(bytes as u32));
     }

@@ -1,5 +1,10 @@
 //! The line of a request, read.
 
+ghost use Rattle.std.specs.Prelude.{◌≡◌, None, [], IfOk, IfErr, OnErr};
+ghost use Rattle.iscsi_job_text.specs.Requests.{request_of, request_in, bytes_request, command, moved_said, moved_out, expected_of};
+ghost use Rattle.iscsi_job_text.specs.Faults.{RefusesOnly};
+ghost use Rattle.iscsi_job_text.specs.Payloads.{contents};
+
 use crate::fault::{LineFault, LineReason};
 use crate::scripts::{blocks_of_one_byte, without_data};
 use crate::words::{Payload, Words};
@@ -16,7 +21,11 @@ const PING: &[u8] = b"ping";
 const TEXT: &[u8] = b"text";
 
 /// What the line of a request asks, and the bytes that it sends.
-pub(crate) fn request_of(alloc: Global, line: &[u8]) -> Result<(Asked, Payload), LineFault> {
+pub(crate) fn request_of(alloc: Global, line: &[u8]) -> Result<(Asked, Payload), LineFault>
+    ensures reads { IfOk result (λ found.
+        request_of line.now ≡ Some (found.0, contents found.1)) }
+    ensures refuses { IfErr result (RefusesOnly (request_of line.now)) }
+{
     let mut words = Words::of(line);
     let request = request_in(alloc, &mut words)?;
     words.end()?;
@@ -24,7 +33,11 @@ pub(crate) fn request_of(alloc: Global, line: &[u8]) -> Result<(Asked, Payload),
 }
 
 // The request that begins with the next word.
-fn request_in(alloc: Global, words: &mut Words<'_>) -> Result<(Asked, Payload), LineFault> {
+fn request_in(alloc: Global, words: &mut Words<'_>) -> Result<(Asked, Payload), LineFault>
+    ensures reads { IfOk result (λ found.
+        request_in words.old ≡ Some ((found.0, contents found.1), words.new)) }
+    ensures refuses { IfErr result (RefusesOnly (request_in words.old)) }
+{
     let Some(name) = words.take() else {
         return Err(LineFault::Refused(LineReason::Request));
     };
@@ -49,13 +62,21 @@ fn with_bytes(
     alloc: Global,
     asked: Asked,
     words: &mut Words<'_>,
-) -> Result<(Asked, Payload), LineFault> {
+) -> Result<(Asked, Payload), LineFault>
+    ensures reads { IfOk result (λ found.
+        bytes_request asked words.old ≡ Some ((found.0, contents found.1), words.new)) }
+    ensures refuses { IfErr result (RefusesOnly (bytes_request asked words.old)) }
+{
     let sent = words.payload_before(alloc, b"")?;
     Ok((asked, sent))
 }
 
 // A command with its descriptor block.
-fn command(alloc: Global, words: &mut Words<'_>) -> Result<(Asked, Payload), LineFault> {
+fn command(alloc: Global, words: &mut Words<'_>) -> Result<(Asked, Payload), LineFault>
+    ensures reads { IfOk result (λ found.
+        command words.old ≡ Some ((found.0, contents found.1), words.new)) }
+    ensures refuses { IfErr result (RefusesOnly (command words.old)) }
+{
     let lun = words.lun()?;
     let cdb = words.block(alloc)?;
     let (moves, expected, sent) = moved(alloc, words)?;
@@ -69,7 +90,11 @@ fn command(alloc: Global, words: &mut Words<'_>) -> Result<(Asked, Payload), Lin
 }
 
 // Which way the data of a command go, how many bytes are expected, and those that are sent.
-fn moved(alloc: Global, words: &mut Words<'_>) -> Result<(Moves, u32, Payload), LineFault> {
+fn moved(alloc: Global, words: &mut Words<'_>) -> Result<(Moves, u32, Payload), LineFault>
+    ensures reads { IfOk result (λ found.
+        moved_said words.old ≡ Some ((found.0, found.1, contents found.2), words.new)) }
+    ensures refuses { IfErr result (RefusesOnly (moved_said words.old)) }
+{
     if words.take_if(b"none") {
         Ok((Moves::Nothing, 0, Payload::none(alloc)))
     } else if words.take_if(b"in") {
@@ -82,14 +107,21 @@ fn moved(alloc: Global, words: &mut Words<'_>) -> Result<(Moves, u32, Payload), 
     }
 }
 
-fn moved_out(alloc: Global, words: &mut Words<'_>) -> Result<(Moves, u32, Payload), LineFault> {
+fn moved_out(alloc: Global, words: &mut Words<'_>) -> Result<(Moves, u32, Payload), LineFault>
+    ensures reads { IfOk result (λ found.
+        moved_out words.old ≡ Some ((found.0, found.1, contents found.2), words.new)) }
+    ensures refuses { IfErr result (RefusesOnly (moved_out words.old)) }
+{
     let sent = words.payload_before(alloc, b"of")?;
     let expected = expected_of(sent.length(), words)?;
     Ok((Moves::Out, expected, sent))
 }
 
 // How many bytes a command that sent so many was to send: more than those if `of` stands there.
-fn expected_of(sent: usize, words: &mut Words<'_>) -> Result<u32, LineReason> {
+fn expected_of(sent: usize, words: &mut Words<'_>) -> Result<u32, LineReason>
+    ensures reads { IfOk result (λ found. expected_of sent words.old ≡ Some (found, words.new)) }
+    ensures refuses { OnErr result (expected_of sent words.old ≡ None) }
+{
     let Ok(sent) = u32::try_from(sent) else {
         return Err(LineReason::Hex);
     };

@@ -1,0 +1,9 @@
+pub mod Words
+pub mod Faults
+pub mod Payloads
+pub mod Requests
+pub mod Outcomes
+pub mod Came
+pub mod Entries
+pub mod Pendings
+pub mod Taking
