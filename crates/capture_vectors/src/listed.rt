@@ -1,15 +1,16 @@
 //! The lines of connections that a capture is said to have.
 
 use crate::row::Row;
-use iscsi_captures::{CapturesFault, list_connections};
+use iscsi_captures::{CaptureFile, CapturesFault, list_connections};
 use std::alloc::{AllocError, Global};
 
 /// The lines of a capture's connections, as far as it has them. Where every packet lacks headers, which
 /// is told, there are none.
 pub fn lines_of(alloc: Global, file: &[u8]) -> Result<String, AllocError> {
+    let mut capture = CaptureFile::new(alloc)?;
     let mut source = file;
     let mut lines = Vec::new(alloc);
-    match list_connections(alloc, &mut source, &mut lines) {
+    match list_connections(alloc, &mut capture, &mut source, &mut lines) {
         Ok(()) | Err(CapturesFault::Cut { .. }) => String::from_utf8_lossy(alloc, &lines),
         Err(fault) => format!(in alloc; "{fault}"),
     }

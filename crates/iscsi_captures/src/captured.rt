@@ -16,6 +16,7 @@ ghost use Rattle.iscsi_captures.specs.inner.Meant.{IsFor};
 ghost use Rattle.capture_connections.specs.declared.ends.Side.{Side};
 
 use crate::beginning::{answers_before, is_headless, sends_before};
+use crate::digest_filter::DigestFilter;
 use crate::fault::CapturesFault;
 use crate::file::{CaptureFile, Numbered, Stood};
 use crate::passed::PassedOver;
@@ -51,6 +52,8 @@ pub struct Captured<'a, R: Read> {
     connections: Connections,
     wanted: Wanted,
     passed: PassedOver,
+    // what the other end says of digests
+    other: DigestFilter,
     out: Vec<u8>,
     given: usize,
     ended: bool,
@@ -82,12 +85,26 @@ impl<'a, R: Read> Captured<'a, R> {
     ) -> Result<Captured<'a, R>, AllocError>
         ensures new { IfOk result (λ captured. captured ≡ unread wanted (R.remaining source.old)) }
     {
+        Captured::of_files(alloc, 1, source, wanted)
+    }
+
+    /// The same of a recording of several files, of which each begins where the one before ends: a
+    /// read that gives nothing ends one.
+    pub fn of_files(
+        alloc: Global,
+        files: usize,
+        source: &'a mut R,
+        wanted: Wanted,
+    ) -> Result<Captured<'a, R>, AllocError>
+        ensures new { IfOk result (λ captured. captured ≡ unread wanted (R.remaining source.old)) }
+    {
         Ok(Captured {
             source,
-            file: CaptureFile::new(alloc)?,
+            file: CaptureFile::of_files(alloc, files)?,
             connections: Connections::new(alloc),
             wanted,
             passed: PassedOver::new(),
+            other: DigestFilter::new(alloc),
             out: Vec::new(alloc),
             given: 0,
             ended: false,
@@ -100,6 +117,21 @@ impl<'a, R: Read> Captured<'a, R> {
         ensures { result ≡ self.now.fault }
     {
         self.fault
+    }
+
+    /// The number of the file, from 0, that a fault is told of.
+    pub fn file_of(&self, fault: &CapturesFault) -> usize {
+        self.file.file_of(fault)
+    }
+
+    /// The number of the last packet that was read.
+    pub(crate) fn packet(&self) -> u64 {
+        self.file.packets()
+    }
+
+    /// What the other end said of digests so far.
+    pub(crate) fn other(&self) -> &DigestFilter {
+        &self.other
     }
 
     /// Which direction it is.
@@ -146,6 +178,7 @@ impl<'a, R: Read> Captured<'a, R> {
                 &mut self.connections,
                 self.wanted,
                 &mut self.passed,
+                &mut self.other,
                 &mut self.out,
             ) {
                 Ok(more) => self.ended = !more,
@@ -182,6 +215,7 @@ fn step<R: Read>(
     connections: &mut Connections,
     wanted: Wanted,
     passed: &mut PassedOver,
+    other: &mut DigestFilter,
     out: &mut Vec<u8>,
 ) -> Result<bool, CapturesFault>
     ensures reads { WasRead (R.remaining source.old) (R.remaining source.new) }
@@ -195,7 +229,7 @@ fn step<R: Read>(
     match file.step(source)? {
         Stood::Other => Ok(true),
         Stood::Packet(packet) => {
-            hear(connections, packet, wanted, passed, out)?;
+            hear(connections, packet, wanted, passed, other, out)?;
             Ok(true)
         }
         Stood::End => {
@@ -212,6 +246,7 @@ fn hear(
     packet: Numbered<'_>,
     wanted: Wanted,
     passed: &mut PassedOver,
+    other: &mut DigestFilter,
     out: &mut Vec<u8>,
 ) -> Result<(), CapturesFault>
     ensures ok { OnOk result (AddsSome wanted connections.old connections.new out.new.items) }
@@ -228,7 +263,7 @@ fn hear(
         }
     };
     let heard = heard_of(&segment, packet.number);
-    hear_segment(connections, &heard, packet.at, wanted, out)
+    hear_segment(connections, &heard, packet.at, wanted, other, out)
 }
 
 // Takes a segment, and leaves in `out` what it adds to the direction that is wanted; nothing else
@@ -239,6 +274,7 @@ fn hear_segment(
     heard: &Heard<'_>,
     at: u64,
     wanted: Wanted,
+    other: &mut DigestFilter,
     out: &mut Vec<u8>,
 ) -> Result<(), CapturesFault>
     requires { length heard.now.bytes.now < 2 ^ 32 }
@@ -259,6 +295,7 @@ fn hear_segment(
     match is_wanted(connections.list(), number, heard, at, wanted) {
         Ok(true) => Ok(()),
         Ok(false) => {
+            overhear(other, number == wanted.connection, out.as_slice());
             out.clear();
             Ok(())
         }
@@ -267,6 +304,13 @@ fn hear_segment(
             out.clear();
             Err(fault)
         }
+    }
+}
+
+// Takes bytes for what the other end says of digests, if they are of the connection that is wanted.
+fn overhear(other: &mut DigestFilter, is_wanted: bool, bytes: &[u8]) {
+    if is_wanted {
+        other.listen(bytes);
     }
 }
 

@@ -223,8 +223,16 @@ impl CapturesFault {
         }
     }
 
+    /// The packet that it names.
+    pub(crate) fn packet(&self) -> Option<u64> {
+        match self {
+            CapturesFault::Link { packet, .. } => Some(*packet),
+            fault => fault.last_packet(),
+        }
+    }
+
     // The packet that is named at the end.
-    fn packet(&self) -> Option<u64> {
+    fn last_packet(&self) -> Option<u64> {
         match self {
             CapturesFault::Fragment { packet, .. }
             | CapturesFault::Cut { packet, .. }
@@ -269,7 +277,7 @@ impl CapturesFault {
             connection: Some(connection as u64),
             origin,
             place: self.offset(),
-            packet: self.packet(),
+            packet: self.last_packet(),
         }
     }
 
@@ -282,7 +290,7 @@ impl CapturesFault {
         if let Some(number) = self.number() {
             write!(f, "{number}")?;
         }
-        match self.packet() {
+        match self.last_packet() {
             Some(packet) => write!(f, " (packet {packet})"),
             None => Ok(()),
         }

@@ -33,9 +33,11 @@ pub enum Stood<'a> {
 }
 
 /// A capture file that is read from its beginning, through a buffer of 4 MiB. Nothing is read again,
-/// so it may be the standard input.
+/// so it may be the standard input. Or several files of one recording, of which each begins where the
+/// one before ends: a read that gives nothing ends one. Numbers of packets go on over all of them.
 #[derive(Drop)]
 pub struct CaptureFile {
+    alloc: Global,
     window: Window,
     capture: Capture,
     packets: u64,
@@ -44,6 +46,10 @@ pub struct CaptureFile {
     // where the block begins that is passed over
     skipped: u64,
     needed: usize,
+    // how many files follow the one that is read
+    following: usize,
+    // how many packets were read at the end of each file before it
+    ends: Vec<u64>,
 }
 
 /// How many bytes that are passed over are given up at once.
@@ -52,7 +58,14 @@ const SKIP: u64 = 1_048_576;
 impl CaptureFile {
     /// A file of which nothing was read. It takes the memory of its buffer.
     pub fn new(alloc: Global) -> Result<CaptureFile, AllocError> {
+        CaptureFile::of_files(alloc, 1)
+    }
+
+    /// This number of files, of which nothing was read. It takes the memory of its buffer, and later
+    /// eight bytes for each file that has ended.
+    pub fn of_files(alloc: Global, files: usize) -> Result<CaptureFile, AllocError> {
         Ok(CaptureFile {
+            alloc,
             window: Window::new(alloc)?,
             capture: Capture::new(alloc),
             packets: 0,
@@ -60,7 +73,23 @@ impl CaptureFile {
             skip: 0,
             skipped: 0,
             needed: 1,
+            following: files.saturating_sub(1),
+            ends: Vec::new(alloc),
         })
+    }
+
+    /// The number of the file, from 0, that a fault is told of: the one that has the fault's packet.
+    /// Of a fault without a packet it is the one that was read last.
+    pub fn file_of(&self, fault: &CapturesFault) -> usize {
+        let last = self.ends.len();
+        match fault.packet() {
+            Some(packet) => self
+                .ends
+                .iter()
+                .position(|end| packet <= *end)
+                .unwrap_or(last),
+            None => last,
+        }
     }
 
     /// How many packets were read.
@@ -73,7 +102,8 @@ impl CaptureFile {
     /// `Format`, `Length`, `Interface` and `NoMemory` come as in `Capture::step`, but `Gzip` in place
     /// of `Format` for a file that is compressed so. `Truncated` comes if the file ends within a
     /// record or block, with the place where that begins, and `Empty` if it has no byte. `Directory`
-    /// comes if it is one, and `Read` if a read fails for another reason. After a fault the same call
+    /// comes if it is one, and `Read` if a read fails for another reason. `NoMemory` comes, too, where
+    /// there is none to begin a further file. After a fault the same call
     /// may be made again, and nothing is said of what it returns.
     pub fn step<R: Read>(&mut self, file: &mut R) -> Result<Stood<'_>, CapturesFault>
         ensures reads { WasRead (R.remaining file.old) (R.remaining file.new) }
@@ -92,8 +122,8 @@ impl CaptureFile {
     }
 
     /// Reads on until the bytes of the next step are at hand, as often as that needs, and the last
-    /// read may wait for long. Returns `false` if the file has ended. The faults are `Empty`,
-    /// `Truncated`, `Directory` and `Read`, as in `step`.
+    /// read may wait for long. Returns `false` if the last file has ended. The faults are `Empty`,
+    /// `Truncated`, `Directory`, `Read` and `NoMemory`, as in `step`.
     pub(crate) fn read_on<R: Read>(&mut self, file: &mut R) -> Result<bool, CapturesFault>
         ensures reads { WasRead (R.remaining file.old) (R.remaining file.new) }
         ensures end { IfOk result (λ more. more ≡ false → IsAtEnd (R.remaining file.new)) }
@@ -107,9 +137,22 @@ impl CaptureFile {
             Ok(false) => match self.begun() {
                 Some(at) => Err(CapturesFault::Truncated { at }),
                 None if self.window.at() == 0 => Err(CapturesFault::Empty),
-                None => Ok(false),
+                None => Ok(self.begin_next()?),
             },
         }
+    }
+
+    // Begins the next file, if there is one, and says whether there is.
+    fn begin_next(&mut self) -> Result<bool, AllocError> {
+        if self.following == 0 {
+            return Ok(false);
+        }
+        self.ends.push(self.packets)?;
+        self.following = self.following.saturating_sub(1);
+        self.window.restart();
+        self.capture = Capture::new(self.alloc);
+        self.needed = 1;
+        Ok(true)
     }
 
     // Gives up the bytes of the last packet.

@@ -10,15 +10,16 @@ ghost use Rattle.iscsi_explain.specs.Showing.{AreEntries};
 ghost use Rattle.iscsi_stream.specs.declared.counts.Counts.{Counts};
 ghost use Rattle.iscsi_stream.specs.declared.fault.ToolFault.{ToolFault};
 
-use crate::captured::{Captured, Wanted};
+use crate::captured::Wanted;
 use crate::fault::CapturesFault;
+use crate::undigested::Undigested;
 use iscsi_explain::{Form, show_in_form};
 use iscsi_stream::{ToolFault, normalise, show};
 use std::alloc::Global;
 use std::io::{Read, Write};
 
 /// Reads a direction to its end and writes its canonical stream, as `iscsi_stream::normalise` does
-/// for the stream of its bytes.
+/// for the stream of its bytes without digests.
 ///
 /// A fault of the capture or of the direction comes after what is due for all whole PDUs before it.
 /// `Reads` comes where 16,777,216 reads did not reach the end of the direction.
@@ -26,7 +27,7 @@ use std::io::{Read, Write};
 /// `Write` where a write fails. After a fault the direction is used no more.
 pub fn normalise_captured<R: Read, W: Write>(
     alloc: Global,
-    captured: &mut Captured<'_, R>,
+    captured: &mut Undigested<'_, R>,
     w: &mut W,
 ) -> Result<(), CapturesFault>
     ensures writes { (said : Result Counts ToolFault) × (bytes : List ℕ) × (written : List ℕ)
@@ -42,7 +43,7 @@ pub fn normalise_captured<R: Read, W: Write>(
 /// the stream of its bytes. Its faults are those of `normalise_captured`.
 pub fn show_captured<R: Read, W: Write>(
     alloc: Global,
-    captured: &mut Captured<'_, R>,
+    captured: &mut Undigested<'_, R>,
     w: &mut W,
 ) -> Result<(), CapturesFault>
     ensures writes { (said : Result Counts ToolFault) × (bytes : List ℕ) × (written : List ℕ)
@@ -58,7 +59,7 @@ pub fn show_captured<R: Read, W: Write>(
 pub fn tell_captured<R: Read, W: Write>(
     alloc: Global,
     form: Form,
-    captured: &mut Captured<'_, R>,
+    captured: &mut Undigested<'_, R>,
     w: &mut W,
 ) -> Result<(), CapturesFault>
     ensures writes { (written : List ℕ) × Appends (W.contents w.old) (W.contents w.new) written

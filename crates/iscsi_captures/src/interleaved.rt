@@ -34,12 +34,12 @@ pub struct Showing<'a> {
     pub times: Times,
     /// The time zone of `Times::Local`.
     pub zone: &'a TimeZone<'a>,
-    /// The name of the capture, as remarks have it.
-    pub name: &'a str,
+    /// The names of the capture's files, as remarks have them.
+    pub names: &'a [&'a str],
 }
 
-/// Reads a capture to its end and writes each PDU of both directions in a form, in the order in which
-/// they became whole. Without a number these are all connections that begin with a login request, and
+/// Reads a capture, which is all files of a `CaptureFile`, to its end. Writes each PDU of both
+/// directions in a form, in the order in which they became whole. Without a number these are all connections that begin with a login request, and
 /// those with port 3260 that begin before the capture.
 ///
 /// Each fault of a direction is a remark, and the reading goes on: past missing bytes within a data
@@ -60,19 +60,19 @@ pub struct Showing<'a> {
 pub fn show_capture<R: Read, W: Write, E: Write>(
     alloc: Global,
     showing: Showing<'_>,
+    file: &mut CaptureFile,
     source: &mut R,
     w: &mut W,
     errors: &mut E,
 ) -> Result<(), CapturesFault>
     ensures moves { WroteBytes (W.contents w.old) (W.contents w.new) }
 {
-    let mut file = CaptureFile::new(alloc)?;
     let mut stage = Stage::new(alloc, showing);
-    let read = stage.read_all(&mut file, source, w, errors);
+    let read = stage.read_all(file, source, w, errors);
     let ended = stage.end();
     let written = write_gathered(&mut stage.told.out, w);
-    stage.tell(errors);
-    stage.concluded(first_of(written, read), ended, errors)
+    stage.tell(file, errors);
+    stage.concluded(first_of(written, read), ended, file, errors)
 }
 
 /// The connections of a capture, as far as they are shown.
@@ -139,7 +139,7 @@ impl<'a> Stage<'a> {
     {
         if !file.is_at_hand() {
             write_gathered(&mut self.told.out, w)?;
-            self.tell(errors);
+            self.tell(file, errors);
             return self.read_on(file, source);
         }
         if let Stood::Packet(packet) = file.stand()? {
@@ -174,11 +174,11 @@ impl<'a> Stage<'a> {
     }
 
     // Writes a line for each remark but the last. A failed write of one is not told.
-    fn tell<E: Write>(&mut self, errors: &mut E)
+    fn tell<E: Write>(&mut self, file: &CaptureFile, errors: &mut E)
         ensures kept { self.new.told.out ≡ self.old.told.out }
     {
         let remarks = std::mem::replace(&mut self.told.remarks, Vec::new(self.alloc));
-        tell_lines(remarks, &mut self.fault, self.showing.name, errors);
+        tell_lines(remarks, &mut self.fault, self.showing.names, file, errors);
     }
 
     // Takes a packet. One with no segment that is read is passed over.
@@ -258,6 +258,7 @@ impl<'a> Stage<'a> {
         &self,
         read: Result<(), CapturesFault>,
         ended: Result<(), CapturesFault>,
+        file: &CaptureFile,
         errors: &mut E,
     ) -> Result<(), CapturesFault> {
         let Err(failed) = first_of(read, ended) else {
@@ -267,8 +268,7 @@ impl<'a> Stage<'a> {
             };
         };
         if let Some(last) = self.fault {
-            let name = self.showing.name;
-            let _ = writeln!(errors, "{name}: {last}");
+            tell_line(&last, self.showing.names, file, errors);
         }
         Err(failed)
     }
@@ -290,14 +290,24 @@ impl<'a> Stage<'a> {
 fn tell_lines<E: Write>(
     remarks: Vec<CapturesFault>,
     fault: &mut Option<CapturesFault>,
-    name: &str,
+    names: &[&str],
+    file: &CaptureFile,
     errors: &mut E,
 ) {
     for remark in remarks {
         if let Some(last) = fault.replace(remark) {
-            let _ = writeln!(errors, "{name}: {last}");
+            tell_line(&last, names, file, errors);
         }
     }
+}
+
+// Writes the line of a remark, with the name of its file.
+fn tell_line<E: Write>(remark: &CapturesFault, names: &[&str], file: &CaptureFile, errors: &mut E) {
+    let name = match names.get(file.file_of(remark)) {
+        Some(name) => *name,
+        None => "",
+    };
+    let _ = writeln!(errors, "{name}: {remark}");
 }
 
 // The first fault of two.

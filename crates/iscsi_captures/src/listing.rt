@@ -15,8 +15,8 @@ use capture_connections::{Connection, Connections, Half, Stop, heard_of};
 use std::alloc::{AllocError, Global};
 use std::io::{Read, Write};
 
-/// Reads a capture to its end, and writes a line for each of its connections, in the order of their
-/// first packets.
+/// Reads a capture, which is all files of a `CaptureFile`, to its end. Writes a line for each of its
+/// connections, in the order of their first packets.
 ///
 /// Packets that are fragments, lack headers or are of a link that is not read are passed over: they
 /// show as gaps. Without any connection, why the first of them was is the fault. If the file has a
@@ -24,6 +24,7 @@ use std::io::{Read, Write};
 /// `NoMemory` comes before any line or after all of those, and `Write` if a write fails, after a part.
 pub fn list_connections<R: Read, W: Write>(
     alloc: Global,
+    file: &mut CaptureFile,
     source: &mut R,
     w: &mut W,
 ) -> Result<(), CapturesFault>
@@ -33,7 +34,7 @@ pub fn list_connections<R: Read, W: Write>(
     ensures end { OnOk result (IsAtEnd (R.remaining source.new)) }
 {
     let mut connections = Connections::new(alloc);
-    let read = read_all(alloc, source, &mut connections);
+    let read = read_all(alloc, file, source, &mut connections);
     let Ok(lines) = lines_of(alloc, connections.list()) else {
         return Err(CapturesFault::NoMemory);
     };
@@ -70,13 +71,13 @@ fn write_lines<W: Write>(w: &mut W, lines: &[u8]) -> Result<(), WriteFailed>
 // Reads a capture to its end. After 2^64 - 1 steps a read counts as failed.
 fn read_all<R: Read>(
     alloc: Global,
+    file: &mut CaptureFile,
     source: &mut R,
     connections: &mut Connections,
 ) -> Result<(), CapturesFault>
     ensures fault { IfErr result (IsFileFault (R.remaining source.new)) }
     ensures end { OnOk result (IsAtEnd (R.remaining source.new)) }
 {
-    let mut file = CaptureFile::new(alloc)?;
     let mut passed = PassedOver::new();
     let mut out = Vec::new(alloc);
     for _ in 0..u64::MAX {

@@ -4,8 +4,11 @@ use capture_file::Packet;
 
 /// When a packet was captured, in nanoseconds from 1970 on; 2^64 - 1 for a time behind the year 2554.
 pub(crate) fn nanoseconds_of(packet: &Packet<'_>) -> u64 {
-    if packet.second == 0 {
-        return 0;
+    match packet.second {
+        0 => return 0,
+        1_000_000 => return packet.time.saturating_mul(1_000),
+        1_000_000_000 => return packet.time,
+        _ => {}
     }
     let whole = packet.time / packet.second;
     let rest = packet.time % packet.second;

@@ -18,10 +18,11 @@ const LONGEST_TEXT: usize = 65_536;
 
 /// A digest that is wrong.
 #[derive(Clone, Copy, Drop)]
-pub(crate) struct WrongDigest {
-    pub(crate) part: Summed,
+pub struct WrongDigest {
+    /// The part that it is for.
+    pub part: Summed,
     /// Where its PDU begins in the direction.
-    pub(crate) offset: u64,
+    pub offset: u64,
 }
 
 /// What is read of one direction.
@@ -221,9 +222,9 @@ impl Reading {
         self.pass_runs(manner, requests, bytes, is_known, out)
     }
 
-    // Whether a PDU may have digests, or still tell of them: not behind a login without, nor behind
-    // a place that was assumed without.
-    fn has_sums(&self) -> bool {
+    /// Whether a PDU may have digests, or still tell of them: not behind a login without, nor behind
+    /// a place that was assumed without.
+    pub(crate) fn has_sums(&self) -> bool {
         !self.walk.digests().are_none() || (self.known.is_none() && !self.assumed)
     }
 
@@ -278,8 +279,18 @@ impl Reading {
         Ok(run.len)
     }
 
-    // Goes over the first of some bytes, and notes what they say of digests.
-    fn walk_run(&mut self, bytes: &[u8], is_known: bool) -> Result<Run, AllocError> {
+    /// Whether the digests are known, since the login is over.
+    pub(crate) fn knows_sums(&self) -> bool {
+        self.known.is_some()
+    }
+
+    /// Whether the next byte is one of a digest.
+    pub(crate) fn is_at_sum(&self) -> bool {
+        self.walk.is_at_sum()
+    }
+
+    /// Goes over the first of some bytes, and notes what they say of digests.
+    pub(crate) fn walk_run(&mut self, bytes: &[u8], is_known: bool) -> Result<Run, AllocError> {
         if self.known.is_none() && !self.assumed {
             self.walk.agree(self.offers.agreed(self.heard));
         }

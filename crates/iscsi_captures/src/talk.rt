@@ -83,8 +83,9 @@ impl Talk {
         let side = scene.said.side;
         self.voice(side).keep(scene, connection.half(side), bytes)?;
         if self.standing == Standing::Shown {
-            self.say(scene, connection, side, fresh, told)?;
-            return self.follow(scene, connection, side, false, told);
+            let speaker = self.speaker(connection, side);
+            self.say(speaker, scene, side, fresh, told)?;
+            return self.follow(speaker, scene, connection, side, false, told);
         }
         self.wait(scene, side, fresh)?;
         self.decide(scene, connection, told)
@@ -151,8 +152,9 @@ impl Talk {
         for side in [initiator, initiator.other()] {
             let alloc = self.alloc;
             let pending = std::mem::replace(&mut self.voice(side).pending, Vec::new(alloc));
-            self.say(scene, connection, side, &pending, told)?;
-            self.follow(scene, connection, side, at_end, told)?;
+            let speaker = self.speaker(connection, side);
+            self.say(speaker, scene, side, &pending, told)?;
+            self.follow(speaker, scene, connection, side, at_end, told)?;
         }
         Ok(())
     }
@@ -189,13 +191,12 @@ impl Talk {
     // Tells what an end said.
     fn say(
         &mut self,
+        speaker: Speaker,
         scene: Scene,
-        connection: &Connection,
         side: Side,
         bytes: &[u8],
         told: &mut Told,
     ) -> Result<(), CapturesFault> {
-        let speaker = self.speaker(connection, side);
         match side {
             Side::Lower => self
                 .lower
@@ -209,13 +210,13 @@ impl Talk {
     // Follows an end past missing bytes.
     fn follow(
         &mut self,
+        speaker: Speaker,
         scene: Scene,
         connection: &Connection,
         side: Side,
         at_end: bool,
         told: &mut Told,
     ) -> Result<(), CapturesFault> {
-        let speaker = self.speaker(connection, side);
         let half = connection.half(side);
         match side {
             Side::Lower => self
@@ -246,8 +247,8 @@ impl Talk {
         }
         let initiator = connection.initiator();
         for side in [initiator, initiator.other()] {
-            self.follow(scene, connection, side, true, told)?;
             let speaker = self.speaker(connection, side);
+            self.follow(speaker, scene, connection, side, true, told)?;
             self.voice(side).end(speaker, scene, told)?;
         }
         Ok(())

@@ -106,6 +106,11 @@ impl Walk {
         self.part == Part::Segment
     }
 
+    /// Whether the bytes that are next are those of a sum.
+    pub(crate) fn is_at_sum(&self) -> bool {
+        matches!(self.part, Part::HeaderSum | Part::SegmentSum)
+    }
+
     /// The four bytes that were held.
     pub(crate) fn held(&self) -> [u8; 4] {
         self.held

@@ -96,6 +96,13 @@ impl Window {
         Err(ReadFault::Failed)
     }
 
+    /// Begins anew, before the first byte of another file. Nothing is at hand.
+    pub(crate) fn restart(&mut self) {
+        self.from = 0;
+        self.to = 0;
+        self.at = 0;
+    }
+
     // Moves the bytes at hand to the front of the buffer.
     fn move_front(&mut self) {
         let from = self.from;

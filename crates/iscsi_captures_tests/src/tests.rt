@@ -7,11 +7,12 @@ mod files;
 mod interleaved;
 mod listings;
 mod live;
+mod recordings;
 mod segments;
 mod streams;
 
 use crate::asserts::{same_bytes, same_text};
-use iscsi_captures::{Captured, CapturesFault, Wanted, normalise_captured};
+use iscsi_captures::{CapturesFault, Undigested, Wanted, normalise_captured};
 use std::alloc::Global;
 use std::fmt::Debug;
 use std::io::{Read, Write};
@@ -66,6 +67,6 @@ pub fn normalise<R: Read, W: Write>(
     wanted: Wanted,
     w: &mut W,
 ) -> Result<(), CapturesFault> {
-    let mut captured = Captured::new(alloc, source, wanted)?;
+    let mut captured = Undigested::new(alloc, 1, source, wanted)?;
     normalise_captured(alloc, &mut captured, w)
 }

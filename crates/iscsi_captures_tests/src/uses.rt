@@ -1,6 +1,6 @@
 //! What another program does with `iscsi_captures`.
 
-use iscsi_captures::{Captured, CapturesFault, End, Wanted, show_captured};
+use iscsi_captures::{CapturesFault, End, Undigested, Wanted, show_captured};
 use std::alloc::Global;
 use std::io::{Read, Write};
 
@@ -14,6 +14,6 @@ pub fn show_initiator<R: Read, W: Write>(
         connection: 0,
         end: End::Initiator,
     };
-    let mut captured = Captured::new(alloc, file, wanted)?;
+    let mut captured = Undigested::new(alloc, 1, file, wanted)?;
     show_captured(alloc, &mut captured, output)
 }

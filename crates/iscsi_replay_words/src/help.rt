@@ -9,12 +9,13 @@ pub const PROGRAM: &str = "\nRecorded sessions:\n  \
 pub(crate) const JOB: &str =
     "Print the job of a recorded session: each request with its outcome\n\n\
     Usage: lanthovur job [--data <FILE>] <INITIATOR> <TARGET>\n       \
-    lanthovur job [--data <FILE>] --capture <FILE> --connection <K>\n\n\
+    lanthovur job [--data <FILE>] --capture <FILE> ... --connection <K>\n\n\
     Arguments:\n  \
     <INITIATOR>        File with the bytes from the initiator\n  \
     <TARGET>           File with the bytes from the target\n\n\
     Options:\n      \
-    --capture <FILE>   Read a capture file (pcap or pcapng) instead; - is standard input\n      \
+    --capture <FILE>   Read a capture file (pcap or pcapng) instead; - is standard input. May be\n                         \
+    repeated\n      \
     --connection <K>   Connection to read, by its number in the list of 'connections'\n      \
     --data <FILE>      Put data of over 512 bytes into a file\n  \
     -h, --help         Print help\n";

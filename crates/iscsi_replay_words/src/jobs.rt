@@ -4,7 +4,7 @@ use crate::data_file::{DataFault, DataWriter};
 use crate::ending::Ending;
 use crate::job_words::{JobAsked, Source};
 use crate::tap::Tap;
-use iscsi_captures::CapturesFault;
+use iscsi_captures::{CapturesFault, Recording};
 use iscsi_job::{Asked, JobFault, Noted, Recorder, Which};
 use iscsi_job_text::{Entry, FORM, Stored, Time, WriteFault, read_some, write_entry};
 use iscsi_replay::words_of_command;
@@ -43,7 +43,7 @@ pub(crate) fn write_job<W: Write>(rt: &HostRuntime, asked: JobAsked<'_>, w: &mut
         data,
         began: None,
     };
-    match write_session(rt, asked.source, &mut output) {
+    match write_session(rt, asked.source, asked.captures.as_slice(), &mut output) {
         Ok(ending) | Err(ending) => ending,
     }
 }
@@ -52,17 +52,17 @@ pub(crate) fn write_job<W: Write>(rt: &HostRuntime, asked: JobAsked<'_>, w: &mut
 fn write_session<W: Write>(
     rt: &HostRuntime,
     source: Source<'_>,
+    captures: &[&str],
     output: &mut Output<'_, W>,
 ) -> Result<Ending, Ending> {
     output.begin()?;
     let ending = match source {
         Source::Streams(first, second) => write_streams(rt, first, second, output)?,
-        Source::Capture("-", connection) => {
-            write_capture(rt.alloc(), &mut rt.stdin(), "-", connection, output)?
-        }
-        Source::Capture(file, connection) => match fs::open(rt, file) {
-            Ok(mut source) => write_capture(rt.alloc(), &mut source, file, connection, output)?,
-            Err(_) => unread(rt.alloc(), file),
+        Source::Capture(connection) => match Recording::open(rt, captures) {
+            Ok(mut source) => {
+                write_capture(rt.alloc(), &mut source, captures, connection, output)?
+            }
+            Err(unopened) => unread(rt.alloc(), name_of(captures, unopened.file)),
         },
     };
     output.flush()?;
@@ -141,15 +141,23 @@ fn hear_piece<R: Read>(
     }
 }
 
+// The name of a file of a capture.
+fn name_of<'a>(captures: &[&'a str], file: usize) -> &'a str {
+    match captures.get(file) {
+        Some(name) => name,
+        None => "",
+    }
+}
+
 // Writes the job of a connection of a capture.
 fn write_capture<R: Read, W: Write>(
     alloc: Global,
     source: &mut R,
-    file: &str,
+    captures: &[&str],
     connection: usize,
     output: &mut Output<'_, W>,
 ) -> Result<Ending, Ending> {
-    let Ok(mut tap) = Tap::new(alloc, connection) else {
+    let Ok(mut tap) = Tap::new(alloc, captures.len(), connection) else {
         return Err(Ending::NoMemory);
     };
     let mut recorder = Recorder::new(alloc);
@@ -164,6 +172,7 @@ fn write_capture<R: Read, W: Write>(
     }
     for which in [Which::Initiator, Which::Target] {
         if let Some(fault) = recorder.fault(which) {
+            let file = name_of(captures, tap.file_of(which));
             return Ok(captured_fault(alloc, file, &fault, tap.fault(which)));
         }
     }

@@ -42,7 +42,7 @@ fn ended<E: Write>(ending: Ending, errors: &mut E) -> u8 {
 
 // How the words behind `job` end.
 fn job_ending<S: AsStr, W: Write>(rt: &HostRuntime, words: &[S], w: &mut W) -> Ending {
-    match job_of(words) {
+    match job_of(rt.alloc(), words) {
         Ok(asked) => write_job(rt, asked, w),
         Err(refusal) => refusal.ending(rt.alloc(), "job", help::JOB),
     }

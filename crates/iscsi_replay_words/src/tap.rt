@@ -1,7 +1,7 @@
 //! Both directions of a connection of a capture, in one pass over it.
 
 use capture_connections::{Connection, Connections, Half, Heard, Start, Stop, heard_of};
-use iscsi_captures::{CaptureFile, CapturesFault, Numbered, Stood};
+use iscsi_captures::{CaptureFile, CapturesFault, DigestFilter, End, Numbered, Stood, WrongDigest};
 use iscsi_job::{JobFault, Recorder, Which};
 use std::alloc::{AllocError, Global};
 use std::io::Read;
@@ -18,19 +18,26 @@ pub(crate) struct Tap {
     // why the first packet was passed over, if one was
     passed: Option<CapturesFault>,
     known: Vec<u8>,
+    // what is known without digests
+    plain: Vec<u8>,
+    from_initiator: DigestFilter,
+    from_target: DigestFilter,
     initiator: Option<CapturesFault>,
     target: Option<CapturesFault>,
 }
 
 impl Tap {
     /// A connection of which nothing was read. It takes the memory of a file's buffer.
-    pub(crate) fn new(alloc: Global, connection: usize) -> Result<Tap, AllocError> {
+    pub(crate) fn new(alloc: Global, files: usize, connection: usize) -> Result<Tap, AllocError> {
         Ok(Tap {
-            file: CaptureFile::new(alloc)?,
+            file: CaptureFile::of_files(alloc, files)?,
             connections: Connections::new(alloc),
             wanted: connection,
             passed: None,
             known: Vec::new(alloc),
+            plain: Vec::new(alloc),
+            from_initiator: DigestFilter::new(alloc),
+            from_target: DigestFilter::new(alloc),
             initiator: None,
             target: None,
         })
@@ -41,6 +48,14 @@ impl Tap {
         match which {
             Which::Initiator => self.initiator,
             Which::Target => self.target,
+        }
+    }
+
+    /// The number of the file, from 0, that the fault of an end is told of.
+    pub(crate) fn file_of(&self, which: Which) -> usize {
+        match self.fault(which) {
+            Some(fault) => self.file.file_of(&fault),
+            None => self.file.file_of(&CapturesFault::Read),
         }
     }
 
@@ -93,13 +108,50 @@ impl Tap {
         if self.fault(which).is_some() {
             return Ok(true);
         }
+        let mut fault = fault;
         if matches!(fault, None | Some(CapturesFault::Cut { .. })) {
-            recorder.hear(which, now, &self.known)?;
+            self.plain.clear();
+            if let Some(wrong) = self.filter(which)? {
+                fault = Some(self.digest(which, wrong));
+            }
+            recorder.hear(which, now, &self.plain)?;
         }
         if fault.is_some() {
             self.stop(which, fault, recorder)?;
         }
         Ok(true)
+    }
+
+    // Leaves in `plain` what is known without digests, up to one that is wrong.
+    fn filter(&mut self, which: Which) -> Result<Option<WrongDigest>, JobFault> {
+        let said = match which {
+            Which::Initiator => {
+                self.from_initiator.hears(&self.from_target);
+                self.from_initiator.take(&self.known, &mut self.plain)
+            }
+            Which::Target => {
+                self.from_target.hears(&self.from_initiator);
+                self.from_target.take(&self.known, &mut self.plain)
+            }
+        };
+        match said {
+            Ok(wrong) => Ok(wrong),
+            Err(_) => Err(JobFault::NoMemory),
+        }
+    }
+
+    // That a digest is wrong, which ends in the last packet that was read.
+    fn digest(&self, which: Which, wrong: WrongDigest) -> CapturesFault {
+        CapturesFault::Digest {
+            connection: self.wanted,
+            end: match which {
+                Which::Initiator => End::Initiator,
+                Which::Target => End::Target,
+            },
+            part: wrong.part,
+            offset: wrong.offset,
+            packet: self.file.packets(),
+        }
     }
 
     // Follows an end no further.

@@ -9,6 +9,8 @@ use std::convert::AsStr;
 pub(crate) enum Refusal<'a> {
     /// They ask for help.
     Help,
+    /// Memory ran out.
+    NoMemory,
     /// Something is missing: this.
     Missing(&'static str),
     /// Something is wrong with a word: what, and the word.
@@ -22,6 +24,7 @@ impl Refusal<'_> {
     pub(crate) fn ending(self, alloc: Global, job: &str, page: &str) -> Ending {
         let lines = match self {
             Refusal::Help => String::from_str(alloc, page),
+            Refusal::NoMemory => return Ending::NoMemory,
             Refusal::Missing(_) | Refusal::Wrong(_, _) | Refusal::Value(_, _) => {
                 self.usage(alloc, job)
             }
@@ -43,7 +46,7 @@ impl Refusal<'_> {
     // Appends what is wrong.
     fn write(self, text: &mut String) -> Result<(), AllocError> {
         match self {
-            Refusal::Help => Ok(()),
+            Refusal::Help | Refusal::NoMemory => Ok(()),
             Refusal::Missing(what) => write!(text, "error: {what}"),
             Refusal::Wrong(what, word) => write!(text, "error: {what} '{word}'"),
             Refusal::Value(option, value) => {

@@ -30,7 +30,7 @@ use Rattle.iscsi_tool.specs.CaptureComparisons.{ComparesCaptures}
 use Rattle.iscsi_tool.specs.Telling.{TellingOutput}
 use Rattle.iscsi_comparison.specs.Comparisons.{RunsFiles, comparison_exit_status}
 use Rattle.iscsi_filters.specs.Filters.{filter_exit_status}
-use Rattle.iscsi_words.specs.Jobs.{IsJob, SaysWords}
+use Rattle.iscsi_words.specs.Jobs.{IsJob, IsJobOver, SaysWords}
 use Rattle.iscsi_tool.specs.Filtering.{Filters}
 
 -- The exit status of an outcome: 0 if the job is done, 1 if two streams differ, else that of the
@@ -94,10 +94,10 @@ abbrev pub EndsLoop : Outcome → List ℕ → List ℕ → Type 0
 EndsLoop ends script written =
     (said : Result (Unit {0}) ServeFault) × LoopPost said script written × (ends ≡ of_session said)
 
--- A job over a capture ran, and that is how it ended.
+-- A job over a capture ran, and that is how it ended. It is told of as one over one of its files.
 abbrev pub EndsCapture : CaptureJob → Outcome → List ℕ → Type 0
-EndsCapture job ends written = (said : Result (Unit {0}) CapturesFault)
-    × WritesCapture job.work said written × (ends ≡ of_capture job said)
+EndsCapture job ends written = (said : Result (Unit {0}) CapturesFault) × (told : CaptureJob)
+    × WritesCapture job.work said written × IsJobOver job told × (ends ≡ of_capture told said)
 
 -- A comparison of two captures ran, and that is how it ended.
 abbrev pub EndsCaptures : CaptureComparison → Outcome → List ℕ → Type 0

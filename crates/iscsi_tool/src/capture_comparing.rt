@@ -9,7 +9,7 @@ ghost use Rattle.iscsi_comparison.specs.declared.comparing.ComparisonFault.{Comp
 ghost use Rattle.iscsi_compare.specs.declared.verdict.Verdict.{Verdict};
 
 use crate::capturing::{not_opened, not_read};
-use iscsi_captures::{Captured, CapturesFault};
+use iscsi_captures::{CapturesFault, Undigested};
 use iscsi_compare::{Verdict, Which};
 use iscsi_comparison::{ComparisonFault, compare_bytes};
 use iscsi_stream::ToolFault;
@@ -80,10 +80,10 @@ fn compare_from<R: Read, Q: Read, W: Write>(
     ensures compares { (written : List ℕ) × Appends (W.contents w.old) (W.contents w.new) written
         × ComparesCaptures comparison.entry.sameness result written }
 {
-    let Ok(mut mine) = Captured::new(alloc, first, comparison.wanted) else {
+    let Ok(mut mine) = Undigested::new(alloc, 1, first, comparison.wanted) else {
         return Err(NO_MEMORY);
     };
-    let Ok(mut other) = Captured::new(alloc, second, comparison.other) else {
+    let Ok(mut other) = Undigested::new(alloc, 1, second, comparison.other) else {
         return Err(NO_MEMORY);
     };
     compare_captured(alloc, comparison, &mut mine, &mut other, w)
@@ -93,8 +93,8 @@ fn compare_from<R: Read, Q: Read, W: Write>(
 fn compare_captured<R: Read, Q: Read, W: Write>(
     alloc: Global,
     comparison: CaptureComparison<'_>,
-    mine: &mut Captured<'_, R>,
-    other: &mut Captured<'_, Q>,
+    mine: &mut Undigested<'_, R>,
+    other: &mut Undigested<'_, Q>,
     w: &mut W,
 ) -> Result<Verdict, CaptureComparisonFault>
     ensures compares { (written : List ℕ) × Appends (W.contents w.old) (W.contents w.new) written

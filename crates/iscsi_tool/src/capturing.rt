@@ -11,36 +11,36 @@ ghost use Rattle.iscsi_tool.specs.inner.Capturing.{not_opened, not_read};
 use crate::answering::answer;
 use crate::local_zone::LocalZone;
 use iscsi_captures::{
-    Captured, CapturesFault, End, Showing, Wanted, list_connections, normalise_captured,
-    show_capture, show_captured, tell_captured,
+    CaptureFile, CapturesFault, End, Recording, Showing, Undigested, Wanted, list_connections,
+    normalise_captured, show_capture, show_captured, tell_captured,
 };
 use iscsi_explain::Form;
 use iscsi_stream::ToolFault;
-use iscsi_words::{CaptureJob, CaptureWork, STDIN};
-use std::alloc::Global;
-use std::fs;
+use iscsi_words::{CaptureJob, CaptureWork, named};
+use std::alloc::{AllocError, Global};
 use std::io::{ErrorKind, Read, Write};
 
-/// Runs a job over a capture. A file that cannot be opened is absent, not permitted, or one that cannot be
-/// read.
+/// Runs a job over the files of a capture, and leaves the number of the one that a fault is told of. A
+/// file that cannot be opened is absent, not permitted, or one that cannot be read.
 pub(crate) fn run_capture<W: Write>(
     rt: &HostRuntime,
     job: CaptureJob<'_>,
+    names: &[&str],
+    told: &mut usize,
     w: &mut W,
 ) -> Result<(), CapturesFault>
     requires work { CanWork job.work }
     ensures writes { (written : List ℕ) × Appends (W.contents w.old) (W.contents w.new) written
         × WritesCapture job.entry.work result written }
 {
-    if job.file == STDIN {
-        let mut input = rt.stdin();
-        return capture_from(rt, job, &mut input, w);
-    }
-    let mut input = match fs::open(rt, job.file) {
+    let mut input = match Recording::open(rt, names) {
         Ok(input) => input,
-        Err(error) => return Err(not_opened(error.kind())),
+        Err(unopened) => {
+            *told = unopened.file;
+            return Err(unopened.fault);
+        }
     };
-    capture_from(rt, job, &mut input, w)
+    capture_from(rt, job, names, told, &mut input, w)
 }
 
 /// Why a file is not opened, by the kind of the system's error.
@@ -62,9 +62,12 @@ pub(crate) fn not_read(fault: Option<CapturesFault>, connection: usize) -> Captu
 }
 
 // Runs a job over the capture that a reader gives.
+#[tactic(auto, using(crate::proofs::RunningLemmas::writes_nothing, crate::proofs::RunningLemmas::wrote_none))]
 fn capture_from<R: Read, W: Write>(
     rt: &HostRuntime,
     job: CaptureJob<'_>,
+    names: &[&str],
+    told: &mut usize,
     source: &mut R,
     w: &mut W,
 ) -> Result<(), CapturesFault>
@@ -74,9 +77,11 @@ fn capture_from<R: Read, W: Write>(
 {
     let alloc = rt.alloc();
     match job.work {
-        CaptureWork::List => list_connections(alloc, source, w),
+        CaptureWork::List => list_from(alloc, names.len(), told, source, w),
         CaptureWork::ShowAll { form, only, times } => {
-            let name = job.blamed(CapturesFault::NoSession).unwrap_or(job.file);
+            let Ok(names) = told_names(alloc, names) else {
+                return Err(CapturesFault::NoMemory);
+            };
             let local = LocalZone::read(rt, times);
             let zone = local.zone();
             let showing = Showing {
@@ -84,72 +89,169 @@ fn capture_from<R: Read, W: Write>(
                 only,
                 times,
                 zone: &zone,
-                name,
+                names: names.as_slice(),
             };
-            show_capture(alloc, showing, source, w, &mut rt.stderr())
+            show_all_from(rt, showing, told, source, w)
         }
-        CaptureWork::Tell(wanted, form) => tell_from(alloc, source, wanted, form, w),
-        CaptureWork::Answer { connection, blocks } => answer_from(
-            alloc, source, connection, blocks, w,
-        ),
-        CaptureWork::Show(wanted) => show_from(alloc, source, wanted, w),
-        CaptureWork::Normalise(wanted) => normalise_from(alloc, source, wanted, w),
+        work => direction_from(alloc, work, names.len(), told, source, w),
+    }
+}
+
+// The names of files in the lines of remarks.
+fn told_names<'a>(alloc: Global, names: &[&'a str]) -> Result<Vec<&'a str>, AllocError> {
+    let mut told = Vec::new(alloc);
+    for name in names {
+        told.push(named(name))?;
+    }
+    Ok(told)
+}
+
+// The lines of the connections of several files.
+fn list_from<R: Read, W: Write>(
+    alloc: Global,
+    files: usize,
+    told: &mut usize,
+    source: &mut R,
+    w: &mut W,
+) -> Result<(), CapturesFault>
+    ensures writes { (written : List ℕ) × Appends (W.contents w.old) (W.contents w.new) written }
+{
+    let Ok(mut file) = CaptureFile::of_files(alloc, files) else {
+        return Err(CapturesFault::NoMemory);
+    };
+    let said = list_connections(alloc, &mut file, source, w);
+    if let Err(fault) = &said {
+        *told = file.file_of(fault);
+    }
+    said
+}
+
+// The PDUs of all connections that are shown.
+fn show_all_from<R: Read, W: Write>(
+    rt: &HostRuntime,
+    showing: Showing<'_>,
+    told: &mut usize,
+    source: &mut R,
+    w: &mut W,
+) -> Result<(), CapturesFault>
+    ensures writes { (written : List ℕ) × Appends (W.contents w.old) (W.contents w.new) written }
+{
+    let alloc = rt.alloc();
+    let Ok(mut file) = CaptureFile::of_files(alloc, showing.names.len()) else {
+        return Err(CapturesFault::NoMemory);
+    };
+    let said = show_capture(alloc, showing, &mut file, source, w, &mut rt.stderr());
+    if let Err(fault) = &said {
+        *told = file.file_of(fault);
+    }
+    said
+}
+
+// A job over one direction of several files.
+#[tactic(auto, using(crate::proofs::RunningLemmas::writes_nothing, crate::proofs::RunningLemmas::wrote_none))]
+fn direction_from<R: Read, W: Write>(
+    alloc: Global,
+    work: CaptureWork,
+    files: usize,
+    told: &mut usize,
+    source: &mut R,
+    w: &mut W,
+) -> Result<(), CapturesFault>
+    requires work { CanWork work }
+    ensures writes { (written : List ℕ) × Appends (W.contents w.old) (W.contents w.new) written
+        × WritesCapture work result written }
+{
+    let Ok(mut direction) = Undigested::new(alloc, files, source, wanted_of(work)) else {
+        return Err(CapturesFault::NoMemory);
+    };
+    let said = run_direction(alloc, work, &mut direction, w);
+    if let Err(fault) = &said {
+        *told = direction.file_of(fault);
+    }
+    said
+}
+
+// The direction that a job reads.
+fn wanted_of(work: CaptureWork) -> Wanted {
+    match work {
+        CaptureWork::Show(wanted) | CaptureWork::Tell(wanted, _) | CaptureWork::Normalise(wanted) =>
+            wanted,
+        CaptureWork::Answer { connection, .. } => Wanted {
+            connection,
+            end: End::Initiator,
+        },
+        CaptureWork::List | CaptureWork::ShowAll { .. } => Wanted {
+            connection: 0,
+            end: End::Initiator,
+        },
+    }
+}
+
+// Runs a job over a direction. One over all of a capture does nothing.
+#[tactic(auto, using(crate::proofs::RunningLemmas::writes_nothing, crate::proofs::RunningLemmas::wrote_none))]
+fn run_direction<R: Read, W: Write>(
+    alloc: Global,
+    work: CaptureWork,
+    direction: &mut Undigested<'_, R>,
+    w: &mut W,
+) -> Result<(), CapturesFault>
+    requires work { CanWork work }
+    ensures writes { (written : List ℕ) × Appends (W.contents w.old) (W.contents w.new) written
+        × WritesCapture work result written }
+{
+    match work {
+        CaptureWork::Show(_) => show_from(alloc, direction, w),
+        CaptureWork::Tell(_, form) => tell_from(alloc, direction, form, w),
+        CaptureWork::Normalise(_) => normalise_from(alloc, direction, w),
+        CaptureWork::Answer { connection, blocks } => {
+            answer_from(alloc, direction, connection, blocks, w)
+        }
+        CaptureWork::List => Ok(()),
+        CaptureWork::ShowAll { .. } => Ok(()),
     }
 }
 
 // The lines of one direction of a capture.
 fn show_from<R: Read, W: Write>(
     alloc: Global,
-    source: &mut R,
-    wanted: Wanted,
+    direction: &mut Undigested<'_, R>,
     w: &mut W,
 ) -> Result<(), CapturesFault>
     ensures writes { (written : List ℕ) × Appends (W.contents w.old) (W.contents w.new) written
         × ShowsCaptured result written }
 {
-    let Ok(mut captured) = Captured::new(alloc, source, wanted) else {
-        return Err(CapturesFault::NoMemory);
-    };
-    show_captured(alloc, &mut captured, w)
+    show_captured(alloc, direction, w)
 }
 
 // The canonical stream of one direction of a capture.
 fn normalise_from<R: Read, W: Write>(
     alloc: Global,
-    source: &mut R,
-    wanted: Wanted,
+    direction: &mut Undigested<'_, R>,
     w: &mut W,
 ) -> Result<(), CapturesFault>
     ensures writes { (written : List ℕ) × Appends (W.contents w.old) (W.contents w.new) written
         × NormalisesCaptured result written }
 {
-    let Ok(mut captured) = Captured::new(alloc, source, wanted) else {
-        return Err(CapturesFault::NoMemory);
-    };
-    normalise_captured(alloc, &mut captured, w)
+    normalise_captured(alloc, direction, w)
 }
 
 // The PDUs of one direction of a capture, each in a form.
 fn tell_from<R: Read, W: Write>(
     alloc: Global,
-    source: &mut R,
-    wanted: Wanted,
+    direction: &mut Undigested<'_, R>,
     form: Form,
     w: &mut W,
 ) -> Result<(), CapturesFault>
     ensures writes { (written : List ℕ) × Appends (W.contents w.old) (W.contents w.new) written
         × TellsCaptured form result written }
 {
-    let Ok(mut captured) = Captured::new(alloc, source, wanted) else {
-        return Err(CapturesFault::NoMemory);
-    };
-    tell_captured(alloc, form, &mut captured, w)
+    tell_captured(alloc, form, direction, w)
 }
 
 // The answers of a target to the initiator's side of a connection of a capture.
 fn answer_from<R: Read, W: Write>(
     alloc: Global,
-    source: &mut R,
+    direction: &mut Undigested<'_, R>,
     connection: usize,
     blocks: u64,
     w: &mut W,
@@ -159,15 +261,8 @@ fn answer_from<R: Read, W: Write>(
     ensures writes { (written : List ℕ) × Appends (W.contents w.old) (W.contents w.new) written
         × AnswersCaptured blocks result written }
 {
-    let wanted = Wanted {
-        connection,
-        end: End::Initiator,
-    };
-    let Ok(mut captured) = Captured::new(alloc, source, wanted) else {
-        return Err(CapturesFault::NoMemory);
-    };
-    let said = answer(alloc, blocks, &mut captured, w);
-    answered(said, captured.fault(), connection)
+    let said = answer(alloc, blocks, direction, w);
+    answered(said, direction.fault(), connection)
 }
 
 // How answering a direction ended. A read fails if the direction has a fault, and tells it.

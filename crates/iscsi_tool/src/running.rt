@@ -5,8 +5,8 @@ ghost use Rattle.std.specs.Prelude.{◌≡◌, ℕ, List, IfOk, IfErr, map, stri
 ghost use Rattle.std.specs.Io.KnownBytes.{Appends, Consumes};
 ghost use Rattle.iscsi_tool.specs.declared.running.Outcome.{Outcome};
 ghost use Rattle.iscsi_serve_words.specs.Words.{words_status};
-ghost use Rattle.iscsi_words.specs.Jobs.{IsJob, SaysWords};
-ghost use Rattle.iscsi_tool.specs.Running.{EndsComparison, JobRuns, RunsWords, of_capture, of_captures, of_comparison, of_filter, of_service, of_session, outcome_status};
+ghost use Rattle.iscsi_words.specs.Jobs.{CanWork, IsJob, SaysWords};
+ghost use Rattle.iscsi_tool.specs.Running.{EndsCapture, EndsComparison, JobRuns, RunsWords, of_capture, of_captures, of_comparison, of_filter, of_service, of_session, outcome_status};
 
 use crate::capture_comparing::run_comparison;
 use crate::capturing::run_capture;
@@ -21,7 +21,9 @@ use iscsi_loop::run_loop;
 use iscsi_serve_words::LineFault;
 use iscsi_serving::ServeFault;
 use iscsi_stream::ToolFault;
-use iscsi_words::{CaptureComparison, CaptureComparisonFault, CaptureJob, Job, read_words};
+use iscsi_words::{
+    CaptureComparison, CaptureComparisonFault, CaptureJob, Job, capture_names, read_words,
+};
 use std::convert::AsStr;
 use std::io;
 use std::io::{Read, Write};
@@ -198,7 +200,7 @@ fn run<'a, S: AsStr, R: Read, W: Write>(
 #[tactic(auto, using(crate::proofs::RunningLemmas::reads_nothing, crate::proofs::RunningLemmas::writes_nothing))]
 fn run_job<'a, S: AsStr, R: Read, W: Write>(
     rt: &HostRuntime,
-    words: &[S],
+    words: &'a [S],
     job: Job<'a>,
     r: &mut R,
     w: &mut W,
@@ -216,7 +218,7 @@ fn run_job<'a, S: AsStr, R: Read, W: Write>(
         Job::Loop { blocks, piece } => ended(run_loop(rt, blocks, piece, r, w)),
         Job::Compare(comparison) => compare(rt, comparison, r, w),
         Job::Tell(telling) => filtered(run_telling(rt.alloc(), telling, r, w)),
-        Job::Capture(capture) => captured(capture, run_capture(rt, capture, w)),
+        Job::Capture(capture) => capture_over(rt, words, capture, w),
         Job::CompareCaptures(comparison) => {
             compared_captures(comparison, run_comparison(rt, comparison, w))
         }
@@ -231,6 +233,26 @@ fn filtered<'a>(said: Result<(), ToolFault>) -> Outcome<'a>
         Ok(()) => Outcome::Done,
         Err(fault) => Outcome::Filter(fault),
     }
+}
+
+// Runs a job over the files of a capture that these words name.
+#[tactic(auto, using(crate::proofs::RunningLemmas::writes_nothing, crate::proofs::RunningLemmas::wrote_none, crate::proofs::RunningLemmas::told_itself, crate::proofs::RunningLemmas::ends_capture))]
+fn capture_over<'a, S: AsStr, W: Write>(
+    rt: &HostRuntime,
+    words: &'a [S],
+    job: CaptureJob<'a>,
+    w: &mut W,
+) -> Outcome<'a>
+    requires work { CanWork job.work }
+    ensures ends { (written : List ℕ) × Appends (W.contents w.old) (W.contents w.new) written
+        × EndsCapture job.entry result written }
+{
+    let Ok(names) = capture_names(rt.alloc(), words, job) else {
+        return captured(job, Err(CapturesFault::NoMemory));
+    };
+    let mut told = 0;
+    let said = run_capture(rt, job, names.as_slice(), &mut told, w);
+    captured(job.over(names.as_slice(), told), said)
 }
 
 // The outcome of a job over a capture.

@@ -1,8 +1,9 @@
 -- Which jobs can be run: the numbers of each are in their ranges.
-use Rattle.std.specs.Prelude.{◌≤◌, ◌<◌, ℕ, List}
+use Rattle.std.specs.Prelude.{◌≡◌, ◌≤◌, ◌<◌, ℕ, List}
 use Rattle.scsi_disk.specs.Disk.{most_blocks}
 use Rattle.iscsi_serve_words.specs.Said.{SaysJob}
 use Rattle.iscsi_serve_words.specs.Services.{IsServeJob}
+use Rattle.iscsi_words.specs.declared.capture_words.CaptureJob.{CaptureJob}
 use Rattle.iscsi_words.specs.declared.capture_words.CaptureWork.{CaptureWork}
 use Rattle.iscsi_words.specs.declared.capture_words.CaptureWork.TheVariants as capture
 use Rattle.iscsi_words.specs.declared.filter.Work.{Work}
@@ -14,6 +15,10 @@ use Rattle.iscsi_words.specs.declared.words.Job.TheVariants as job
 abbrev pub CanWork : CaptureWork → Type 0
 CanWork (capture.Answer connection blocks) = (0 < blocks) × (blocks ≤ most_blocks)
 CanWork _ = Unit {0}
+
+-- A job over a capture is told of as this one: the same work, and of one file the very same job.
+abbrev pub IsJobOver : CaptureJob → CaptureJob → Type 0
+IsJobOver job told = (told.work ≡ job.work) × (job.files ≡ 1 → told ≡ job)
 
 -- The disk of a target has 1 to 2^40 blocks.
 abbrev pub HasDisk : Work → Type 0

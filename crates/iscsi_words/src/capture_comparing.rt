@@ -56,7 +56,7 @@ impl CaptureComparison<'_> {
 }
 
 /// The name of a capture in the line of a fault.
-pub(crate) fn named(file: &str) -> &str {
+pub fn named(file: &str) -> &str {
     if file == STDIN {
         "standard input"
     } else {

@@ -1,19 +1,20 @@
 //! The jobs over capture files, and their words. One file, since the jobs share most words.
 
 ghost use Rattle.std.specs.Prelude.{◌<◌, IfOk, IfSome};
-ghost use Rattle.iscsi_words.specs.Jobs.{CanWork, IsOtherJob};
+ghost use Rattle.iscsi_words.specs.Jobs.{CanWork, IsJobOver, IsOtherJob};
 
 use crate::capture_comparing::{CaptureComparison, STDIN, named};
-use crate::commands::{answer_row, compare_row, normalise_row, show_row};
+use crate::commands::{answer_row, compare_row, connections_row, normalise_row, show_row};
 use crate::telling::form_of;
-use crate::words::Job;
+use crate::words::{Job, read_again};
 use clap::ArgMatches;
 use iscsi_captures::{CapturesFault, End, Times, Wanted};
 use iscsi_comparison::Sameness;
 use iscsi_explain::Form;
 use iscsi_options::number_of;
-use iscsi_serve_words::{LineFault, Word, WordKind, needed_blocks};
-use std::alloc::Global;
+use iscsi_serve_words::{CommandRow, LineFault, Word, WordKind, needed_blocks};
+use std::alloc::{AllocError, Global};
+use std::convert::AsStr;
 
 /// What is done with a capture.
 #[derive(Clone, Copy, Debug)]
@@ -48,13 +49,29 @@ pub enum CaptureWork {
 /// A job over a capture.
 #[derive(Clone, Copy, Debug)]
 pub struct CaptureJob<'a> {
-    /// The name of the file; `-` is the standard input of the process.
+    /// The name of the first file; `-` is the standard input of the process.
     pub file: &'a str,
+    /// How many files the recording has: `capture_names` gives their names.
+    pub files: usize,
     /// What is done with it.
     pub work: CaptureWork,
 }
 
-impl CaptureJob<'_> {
+impl<'a> CaptureJob<'a> {
+    /// The job with another one of its files as the one that faults are told of. A job over one file
+    /// stays as it is.
+    pub fn over(self, names: &[&'a str], file: usize) -> CaptureJob<'a>
+        ensures job { IsJobOver self.entry result }
+    {
+        if self.files == 1 {
+            return self;
+        }
+        match names.get(file) {
+            Some(name) => CaptureJob { file: name, ..self },
+            None => self,
+        }
+    }
+
     /// The name of the input in the line of a fault; none where the fault is not the input's.
     pub fn blamed(&self, fault: CapturesFault) -> Option<&str> {
         match fault {
@@ -81,9 +98,9 @@ impl CaptureJob<'_> {
 
 const CAPTURE: Word = Word {
     name: "capture",
-    kind: WordKind::Value("FILE"),
+    kind: WordKind::Values("FILE"),
     beside: None,
-    help: "Read a capture file (pcap or pcapng) instead; - is standard input",
+    help: "Read a capture (pcap, pcapng) instead; - is standard input; may be repeated",
 };
 
 const CONNECTION: Word = Word {
@@ -107,6 +124,22 @@ pub(crate) const TIMES: &[Word] = &[Word {
     beside: Some("capture"),
     help: "Print each packet's number and time: utc, local or relative",
 }];
+
+/// The words of the program that lists connections.
+pub(crate) const LISTED: &[Word] = &[
+    Word {
+        name: "FILE",
+        kind: WordKind::File,
+        beside: None,
+        help: "Capture file; - is standard input",
+    },
+    Word {
+        name: "capture",
+        kind: WordKind::Values("FILE"),
+        beside: None,
+        help: "Read several files as one recording, in this order",
+    },
+];
 
 /// The words of a program that may read a capture.
 pub(crate) const DIRECTION: &[Word] = &[CAPTURE, CONNECTION, END];
@@ -132,18 +165,53 @@ pub(crate) const TWO_CAPTURES: &[Word] = &[
 ];
 
 /// The job of listing a capture's connections.
-pub(crate) fn connections_of<'a>(asked: &ArgMatches<'a>) -> Job<'a>
-    ensures job { IsOtherJob result }
+pub(crate) fn listed_job<'a>(alloc: Global, asked: &ArgMatches<'a>) -> Result<Job<'a>, LineFault>
+    ensures job { IfOk result IsOtherJob }
 {
-    Job::Capture(CaptureJob {
-        file: asked.get_str("FILE").unwrap_or(""),
-        work: CaptureWork::List,
-    })
+    let named = asked.get_strs("capture").is_some();
+    match asked.get_str("FILE") {
+        Some(file) if !named => Ok(Job::Capture(CaptureJob {
+            file,
+            files: 1,
+            work: CaptureWork::List,
+        })),
+        None if named => {
+            recorded_job(
+                alloc,
+                connections_row(),
+                asked,
+                CaptureWork::List,
+                BAD_LISTED,
+            )
+        }
+        _ => Err(connections_row().refusal(alloc, BAD_LISTED)),
+    }
+}
+
+const BAD_LISTED: &str =
+    "connections are those of one file, '<FILE>', or of several, '--capture <FILE>' for each";
+
+/// The names of the files of a job's recording, in their order. The words are those that asked for it.
+pub fn capture_names<'a, S: AsStr>(
+    alloc: Global,
+    words: &'a [S],
+    job: CaptureJob<'a>,
+) -> Result<Vec<&'a str>, AllocError> {
+    let mut names = Vec::new(alloc);
+    if job.files == 1 {
+        names.push(job.file)?;
+        return Ok(names);
+    }
+    let matches = read_again(alloc, words)?;
+    if let Some((_, asked)) = matches.subcommand() {
+        names.extend_from_slice(asked.get_strs("capture").unwrap_or(&[]))?;
+    }
+    Ok(names)
 }
 
 /// Whether words ask for a capture.
 pub(crate) fn asks_for_capture(asked: &ArgMatches<'_>) -> bool {
-    asked.get_str("capture").is_some()
+    asked.get_strs("capture").is_some()
         || asked.get_str("connection").is_some()
         || asked.get_str("from").is_some()
 }
@@ -156,8 +224,10 @@ pub(crate) fn shown_job<'a>(alloc: Global, asked: &ArgMatches<'a>) -> Result<Job
     let Some(times) = times_of(word) else {
         return Err(show_row().bad_value(alloc, word.unwrap_or(""), BAD_TIME));
     };
-    match (asked.get_str("capture"), shown_work(asked, times)) {
-        (Some(file), Some(work)) if !asked.get_flag("hex") => capture_job(file, work),
+    match shown_work(asked, times) {
+        Some(work) if !asked.get_flag("hex") => {
+            recorded_job(alloc, show_row(), asked, work, BAD_SHOWN)
+        }
         _ => Err(show_row().refusal(alloc, BAD_SHOWN)),
     }
 }
@@ -210,9 +280,10 @@ pub(crate) fn normalised_job<'a>(
     ensures job { IfOk result IsOtherJob }
 {
     let bytes_alone = !asked.get_flag("hex") && !asked.get_flag("text");
-    match (asked.get_str("capture"), wanted_of(asked)) {
-        (Some(file), Some(wanted)) if bytes_alone => {
-            capture_job(file, CaptureWork::Normalise(wanted))
+    match wanted_of(asked) {
+        Some(wanted) if bytes_alone => {
+            let work = CaptureWork::Normalise(wanted);
+            recorded_job(alloc, normalise_row(), asked, work, BAD_CAPTURE)
         }
         _ => Err(normalise_row().refusal(alloc, BAD_CAPTURE)),
     }
@@ -229,11 +300,13 @@ pub(crate) fn answered_job<'a>(alloc: Global, asked: &ArgMatches<'a>) -> Result<
         Some(digits) => connection_number(digits),
         None => None,
     };
-    match (asked.get_str("capture"), number, needed_blocks(asked)) {
-        (Some(file), Some(connection), Ok(blocks)) if !asked.get_flag("hex") => {
-            capture_job(file, CaptureWork::Answer { connection, blocks })
+    let named = asked.get_strs("capture").is_some();
+    match (number, needed_blocks(asked)) {
+        (Some(connection), Ok(blocks)) if named && !asked.get_flag("hex") => {
+            let work = CaptureWork::Answer { connection, blocks };
+            recorded_job(alloc, answer_row(), asked, work, BAD_ANSWERED)
         }
-        (Some(_), Some(_), Err(fault)) => Err(answer_row().bad_size(alloc, fault)),
+        (Some(_), Err(fault)) if named => Err(answer_row().bad_size(alloc, fault)),
         _ => Err(answer_row().refusal(alloc, BAD_ANSWERED)),
     }
 }
@@ -281,13 +354,35 @@ const TWICE_STDIN: &str =
 const BAD_COMPARED: &str = "captures are compared with '--capture <A> [B] --connection <K>[,<L>] \
     --from initiator|target', and without '--hex'";
 
-// A job over a capture.
-fn capture_job<'a>(file: &'a str, work: CaptureWork) -> Result<Job<'a>, LineFault>
+// A job over the files that `--capture` names. Without any it is refused with a text, and so are two
+// that are standard input.
+fn recorded_job<'a>(
+    alloc: Global,
+    row: &CommandRow,
+    asked: &ArgMatches<'a>,
+    work: CaptureWork,
+    text: &str,
+) -> Result<Job<'a>, LineFault>
     requires work { CanWork work }
     ensures job { IfOk result IsOtherJob }
 {
-    Ok(Job::Capture(CaptureJob { file, work }))
+    let Some(names) = asked.get_strs("capture") else {
+        return Err(row.refusal(alloc, text));
+    };
+    if names.iter().filter(|name| **name == STDIN).count() > 1 {
+        return Err(row.refusal(alloc, STDIN_AGAIN));
+    }
+    match names.first() {
+        Some(file) => Ok(Job::Capture(CaptureJob {
+            file,
+            files: names.len(),
+            work,
+        })),
+        None => Err(row.refusal(alloc, text)),
+    }
 }
+
+const STDIN_AGAIN: &str = "one file of a recording at most is standard input";
 
 // The numbers of the connections that two captures are compared by.
 fn both_numbers(asked: &ArgMatches<'_>) -> Option<(usize, usize)> {

@@ -1,6 +1,6 @@
 //! The commands but `serve`, as rows: what their help says, and their words.
 
-use crate::capture_words::{DIRECTION, INITIATOR, TIMES, TWO_CAPTURES};
+use crate::capture_words::{DIRECTION, INITIATOR, LISTED, TIMES, TWO_CAPTURES};
 use crate::examples;
 use crate::telling::FORMS;
 use iscsi_serve_words::{CommandRow, SIZE, Word, WordKind};
@@ -69,20 +69,13 @@ const COMPARE: &CommandRow = &CommandRow {
     words: &[HEX, STREAMS, TWO_CAPTURES],
 };
 
-const FILE: &[Word] = &[Word {
-    name: "FILE",
-    kind: WordKind::NeededFile,
-    beside: None,
-    help: "Capture file; - is standard input",
-}];
-
 const CONNECTIONS: &CommandRow = &CommandRow {
     name: "connections",
     bin_name: "lanthovur connections",
     about: "List the TCP connections of a capture file (pcap or pcapng)",
-    usage: None,
+    usage: Some("lanthovur connections <FILE>\n       lanthovur connections --capture <FILE> ..."),
     examples: None,
-    words: &[FILE],
+    words: &[LISTED],
 };
 
 const ANSWER: &CommandRow = &CommandRow {

@@ -9,8 +9,8 @@ mod filter;
 mod telling;
 mod words;
 
-pub use capture_comparing::{CaptureComparison, CaptureComparisonFault, STDIN};
-pub use capture_words::{CaptureJob, CaptureWork};
+pub use capture_comparing::{CaptureComparison, CaptureComparisonFault, STDIN, named};
+pub use capture_words::{CaptureJob, CaptureWork, capture_names};
 pub use filter::{Filter, Work};
 pub use telling::Telling;
 pub use words::{Job, read_words};

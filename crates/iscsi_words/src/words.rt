@@ -7,8 +7,7 @@ ghost use Rattle.iscsi_words.specs.declared.words.Job.TheVariants as job;
 
 use crate::capture_comparing::CaptureComparison;
 use crate::capture_words::{
-    CaptureJob, answered_job, asks_for_capture, compared_job, connections_of, normalised_job,
-    shown_job,
+    CaptureJob, answered_job, asks_for_capture, compared_job, listed_job, normalised_job, shown_job,
 };
 use crate::commands::{
     answer_row, compare_row, connections_row, loop_row, normalise_row, show_row,
@@ -149,6 +148,17 @@ pub fn read_words<'a, S: AsStr>(alloc: Global, words: &'a [S]) -> Result<Job<'a>
     job_of(alloc, &matches)
 }
 
+/// Reads words again that were read. The error is want of memory.
+pub(crate) fn read_again<'a, S: AsStr>(
+    alloc: Global,
+    words: &'a [S],
+) -> Result<ArgMatches<'a>, AllocError> {
+    match command(alloc)?.try_get_matches_from(words) {
+        Ok(matches) => Ok(matches),
+        Err(_) => Err(AllocError),
+    }
+}
+
 // Whether the words are those of a service.
 fn is_service<S: AsStr>(words: &[S]) -> bool {
     match words.first() {
@@ -203,7 +213,7 @@ fn job_of<'a>(alloc: Global, matches: &ArgMatches<'a>) -> Result<Job<'a>, LineFa
         Some(JobWord::Show) => show_of(alloc, asked),
         Some(JobWord::Normalise) => normalise_of(alloc, asked),
         Some(JobWord::Compare) => comparison_of(alloc, asked),
-        Some(JobWord::Connections) => Ok(connections_of(asked)),
+        Some(JobWord::Connections) => listed_job(alloc, asked),
         Some(JobWord::Answer) => answer_of(alloc, asked),
         Some(JobWord::Loop) => loop_of(alloc, asked),
         Some(JobWord::Serve) | None => Err(no_command(alloc)),
@@ -259,7 +269,7 @@ fn normal_work(asked: &ArgMatches<'_>) -> Work
 fn answer_of<'a>(alloc: Global, asked: &ArgMatches<'a>) -> Result<Job<'a>, LineFault>
     ensures disk { IfOk result IsOtherJob }
 {
-    if asked.get_str("capture").is_some() || asked.get_str("connection").is_some() {
+    if asked.get_strs("capture").is_some() || asked.get_str("connection").is_some() {
         return answered_job(alloc, asked);
     }
     match needed_blocks(asked) {

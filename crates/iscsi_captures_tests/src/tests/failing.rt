@@ -3,7 +3,7 @@
 use super::captures::{LOGIN, WHOLE};
 use super::{bytes_of, normalise};
 use crate::asserts::{same, same_bytes};
-use iscsi_captures::{CapturesFault, End, Wanted, list_connections};
+use iscsi_captures::{CaptureFile, CapturesFault, End, Wanted, list_connections};
 use iscsi_test_support::{Sink, Source, Steps};
 use std::alloc::Global;
 use std::process::Abort;
@@ -68,7 +68,8 @@ fn a_block_that_is_passed_over_may_be_cut_off(rt: HostRuntime) {
     for length in 29..file.len() {
         let mut source = &file[..length];
         let mut out = Vec::new(rt.alloc());
-        let result = list_connections(rt.alloc(), &mut source, &mut out);
+        let mut files = CaptureFile::new(rt.alloc()).expect(&rt, "memory");
+        let result = list_connections(rt.alloc(), &mut files, &mut source, &mut out);
         let due = Err(CapturesFault::Truncated { at: 28 });
         same(&rt, &result, &due, &length);
     }
@@ -88,7 +89,8 @@ fn a_read_that_fails_is_told(rt: HostRuntime) {
     same(&rt, &result, &Err(CapturesFault::Read), &"stream");
     same_bytes(&rt, &out, &login, &"stream");
     let mut source = Source::new(&file, steps);
-    let result = list_connections(rt.alloc(), &mut source, &mut out);
+    let mut files = CaptureFile::new(rt.alloc()).expect(&rt, "memory");
+    let result = list_connections(rt.alloc(), &mut files, &mut source, &mut out);
     same(&rt, &result, &Err(CapturesFault::Read), &"lines");
 }
 

@@ -7,7 +7,7 @@ use super::captures::{
 };
 use super::{bytes_of, ends_so};
 use crate::asserts::same_bytes;
-use iscsi_captures::{Showing, Times, show_capture};
+use iscsi_captures::{CaptureFile, Showing, Times, show_capture};
 use iscsi_explain::Form;
 use jiff::tz::TimeZone;
 use std::alloc::Global;
@@ -204,14 +204,14 @@ const BROKEN: &[(&str, Form, &[&str], &str, &str)] = &[
     ),
 ];
 
-// How a capture is shown, if not with other times.
-fn plainly<'a>(form: Form, only: Option<usize>, zone: &'a TimeZone<'a>) -> Showing<'a> {
+/// How a capture is shown, if not with other times.
+pub fn plainly<'a>(form: Form, only: Option<usize>, zone: &'a TimeZone<'a>) -> Showing<'a> {
     Showing {
         form,
         only,
         times: Times::Connection,
         zone,
-        name: "a",
+        names: &["a"],
     }
 }
 
@@ -229,7 +229,15 @@ fn is_shown(
     let mut source = file.as_slice();
     let mut out = Vec::new(alloc);
     let mut lines = Vec::new(alloc);
-    let result = show_capture(alloc, showing, &mut source, &mut out, &mut lines);
+    let mut files = CaptureFile::new(alloc).expect(rt, "memory");
+    let result = show_capture(
+        alloc,
+        showing,
+        &mut files,
+        &mut source,
+        &mut out,
+        &mut lines,
+    );
     let mut all = String::new(alloc);
     for part in due {
         all.push_str(part).expect(rt, "memory");

@@ -5,7 +5,7 @@ use super::captures::{
 };
 use super::{bytes_of, ends_so};
 use crate::asserts::same_bytes;
-use iscsi_captures::list_connections;
+use iscsi_captures::{CaptureFile, list_connections};
 use std::alloc::Global;
 use std::process::Abort;
 
@@ -51,7 +51,8 @@ fn is_listed(rt: &impl Abort, alloc: Global, capture: &str, lines: &[u8], fault:
     let file = bytes_of(rt, alloc, capture);
     let mut source = file.as_slice();
     let mut out = Vec::new(alloc);
-    let result = list_connections(alloc, &mut source, &mut out);
+    let mut files = CaptureFile::new(alloc).expect(rt, "memory");
+    let result = list_connections(alloc, &mut files, &mut source, &mut out);
     same_bytes(rt, &out, lines, &lines);
     ends_so(rt, alloc, result, fault, &lines);
 }

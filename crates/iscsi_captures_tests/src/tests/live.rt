@@ -4,7 +4,7 @@ use super::bytes_of;
 use super::captures::WHOLE;
 use super::interleaved::{LOGIN_LINE, PING_LINE};
 use crate::asserts::same;
-use iscsi_captures::{Showing, Times, show_capture};
+use iscsi_captures::{CaptureFile, Showing, Times, show_capture};
 use iscsi_explain::Form;
 use jiff::tz::TimeZone;
 use std::alloc::Global;
@@ -108,9 +108,10 @@ fn is_shown_at_once(rt: &impl Abort, alloc: Global, file: &[u8], ends: &[usize])
         only: None,
         times: Times::Connection,
         zone: &TimeZone::UTC,
-        name: "a",
+        names: &["a"],
     };
-    let result = show_capture(alloc, showing, &mut pipe, &mut seen, &mut lines);
+    let mut files = CaptureFile::new(alloc).expect(rt, "memory");
+    let result = show_capture(alloc, showing, &mut files, &mut pipe, &mut seen, &mut lines);
     same(rt, &result, &Ok(()), &ends);
     same(rt, &seen.taken.len(), &DUE.1, &ends);
     same(rt, &pipe.early, &0, &ends);

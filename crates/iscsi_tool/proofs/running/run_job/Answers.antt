@@ -17,10 +17,10 @@ pub returns-in-Capture : goal.returns-in-Capture
 returns-in-Capture g c = record {
   runs = (
     [],
-    c.run_capture.ensures.writes.0,
+    c.capture_over.ensures.ends.0,
     Consumes-nil (g.R.Read.remaining c.args.r.now),
-    c.run_capture.ensures.writes.1,
-    rw c.in-Capture.is ((c.run_capture.result, c.run_capture.ensures.writes.2, c.captured.ensures.outcome), refl),
+    c.capture_over.ensures.ends.1,
+    rw c.in-Capture.is (c.capture_over.ensures.ends.2, refl),
   );
 }
 
