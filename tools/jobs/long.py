@@ -121,6 +121,23 @@ def held(program, *words, give=None):
     return written, told, process.returncode, most[0] / 1024
 
 
+# What a target says to keys of which it takes one value alone (RFC 7143, section 13). Numbers are taken as they are offered.
+ANSWERS = {b"AuthMethod": b"None", b"HeaderDigest": b"None", b"DataDigest": b"None", b"InitialR2T": b"Yes", b"ImmediateData": b"Yes",
+           b"DataPDUInOrder": b"Yes", b"DataSequenceInOrder": b"Yes"}
+# The keys that say something, and ask nothing.
+DECLARED = (b"InitiatorName", b"InitiatorAlias", b"TargetName", b"SessionType", b"MaxRecvDataSegmentLength")
+
+
+def answers_to(keys, is_operational):
+    """What a target answers to the keys of a login."""
+    said = [b"MaxRecvDataSegmentLength=262144"] if is_operational else [b"TargetPortalGroupTag=1"]
+    for pair in keys.split(b"\0"):
+        name, _, value = pair.partition(b"=")
+        if name and name not in DECLARED:
+            said.append(name + b"=" + ANSWERS.get(name, value))
+    return b"".join(it + b"\0" for it in said)
+
+
 class Taker:
     """A target that says GOOD to each command, and zeros to each read."""
 
@@ -139,7 +156,7 @@ class Taker:
             opcode, tag, cmd = head[0] & 0x3F, head[16:20], int.from_bytes(head[24:28], "big")
             window = struct.pack(">II", cmd + (0 if opcode in (0x03, 0x05) else 1), cmd + 64)
             if opcode == 0x03:
-                text = LOGIN[1] if head[1] & 0x0C == 0 else b"MaxRecvDataSegmentLength=262144\0"
+                text = answers_to(data, head[1] & 0x0C != 0)
                 out = pdu(0x23, head[1] & 0x8F, head[8:14] + b"\0\1" + tag + bytes(4) + struct.pack(">I", stat) + window + bytes(12), text)
             elif opcode == 0x01:
                 wanted = int.from_bytes(head[20:24], "big")
