@@ -1,14 +1,17 @@
 -- Lines of a text, and what two entries say.
 use Rattle.std.specs.Prelude.{◌==◌, ◌&&◌, ◌||◌, not, if◌then◌else◌}
-use Rattle.std.proofs.Common.{◌≡◌, ◌<◌, ◌≤◌, ℕ, Bool, true, false, List, [], ◌∷◌, length, map, Option, Some, None, refl, sym, ap, ◌∙◌, arith}
-use Rattle.std.specs.List.{list_all}
+use Rattle.std.proofs.Common.{◌≡◌, ◌<◌, ◌≤◌, ◌-◌, ℕ, Bool, true, false, List, [], ◌∷◌, length, map, Option, Some, None, refl, sym, ap, ◌∙◌, arith}
+use Rattle.std.specs.List.{list_all, slice_get}
+use Rattle.std.proofs.lemmas.Bool.{eqb-true}
+use native.Mathlib.Numerals.{unary_clauses}
 use Rattle.iscsi_job.specs.declared.item.Asked.{Asked}
 use Rattle.iscsi_job.specs.declared.item.Ended.{Ended}
 use Rattle.iscsi_job_text.specs.declared.entry.Entry.{Entry}
 use Rattle.iscsi_job_text.specs.declared.entry.Stored.{Stored}
 use Rattle.iscsi_job_text.specs.declared.entry.Time.{Time}
 use Rattle.iscsi_job_text.specs.Words.{before, behind, in_front}
-use Rattle.iscsi_job_text.specs.Entries.{PendingEntry, begun_pending, entry_of_lines, pending_with_line, with_lines_below, text_lines, blank_of, is_plain_byte, said, said_if, AskTheSame, GaveTheSame}
+use Rattle.iscsi_job_text.specs.Entries.{said, said_if, AskTheSame, GaveTheSame}
+use Rattle.iscsi_job_text.specs.Jobs.{EndsLine, text_lines, blank_of, is_plain_byte}
 
 -- ---- lines
 
@@ -51,28 +54,27 @@ shorter (b ∷ bs) some = go (b == 0x0a) (not_longer 0x0a bs)
     go true more = omega arith
     go false more = omega arith
 
--- the first line of a text begins a request
-pub lines_begun : (text first rest : List ℕ) (pending : PendingEntry) → 0 < length text → first ≡ before 0x0a text → rest ≡ behind 0x0a text
-    → begun_pending first ≡ Some pending
-    → entry_of_lines (text_lines text) ≡ with_lines_below (Some pending) (text_lines rest)
-lines_begun text first rest pending some front back begun =
-    ap entry_of_lines (next_line text some) ∙ ap (λ (bs : List ℕ). with_lines_below (begun_pending bs) (text_lines (behind 0x0a text))) (sym front)
-    ∙ ap (λ (it : Option PendingEntry). with_lines_below it (text_lines (behind 0x0a text))) begun
-    ∙ ap (λ (bs : List ℕ). with_lines_below (Some pending) (text_lines bs)) (sym back)
-
--- one line more is added to it
-pub lines_more : (text rest line more : List ℕ) (old new : PendingEntry) → entry_of_lines (text_lines text) ≡ with_lines_below (Some old) (text_lines rest)
-    → 0 < length rest → line ≡ before 0x0a rest → more ≡ behind 0x0a rest → pending_with_line old line ≡ Some new
-    → entry_of_lines (text_lines text) ≡ with_lines_below (Some new) (text_lines more)
-lines_more text rest line more old new so_far some front back adds =
-    so_far ∙ ap (with_lines_below (Some old)) (next_line rest some)
-    ∙ ap (λ (bs : List ℕ). with_lines_below (pending_with_line old bs) (text_lines (behind 0x0a rest))) (sym front)
-    ∙ ap (λ (it : Option PendingEntry). with_lines_below it (text_lines (behind 0x0a rest))) adds
-    ∙ ap (λ (bs : List ℕ). with_lines_below (Some new) (text_lines bs)) (sym back)
-
 -- and what is left is shorter
 pub lines_shorter : (rest more : List ℕ) → 0 < length rest → more ≡ behind 0x0a rest → length more < length rest
 lines_shorter rest more some back = omega (arith, shorter rest some, ap length back)
+
+-- a text with this last byte ends with a line end
+line_end : (bs : List ℕ) → slice_get bs (length bs - 1) ≡ Some 0x0a → EndsLine bs
+line_end [] none = absurd (nothing_there none)
+  where
+    nothing_there : ◌≡◌ {A = Option ℕ} None (Some 0x0a) → ⊥
+    nothing_there e = cc
+line_end (b ∷ []) last = ([], ap (λ (b : ℕ). b ∷ []) (some_same b last))
+  where
+    some_same : (b : ℕ) → Some b ≡ Some 0x0a → b ≡ 0x0a
+    some_same b e = cc
+line_end (b ∷ c ∷ bs) last =
+    let less : length (c ∷ bs) - 1 ≡ length bs = omega arith in
+    let rest = line_end (c ∷ bs) (ap (slice_get (c ∷ bs)) less ∙ (simp unary_clauses at last)) in
+    (b ∷ rest.0, ap (λ (them : List ℕ). b ∷ them) rest.1)
+
+pub last_line_end : (bs : List ℕ) (b : ℕ) → Some b ≡ slice_get bs (length bs - 1) → (b == 0x0a) ≡ true → EndsLine bs
+last_line_end bs b last is = line_end bs (sym last ∙ ap Some (eqb-true b 0x0a is))
 
 -- ---- blanks
 

@@ -1,2 +1,5 @@
 pub mod WordLemmas
 pub mod EntryLemmas
+pub mod JobLemmas
+pub mod LineLemmas
+pub mod RequestLemmas

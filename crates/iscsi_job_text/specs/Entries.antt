@@ -1,10 +1,10 @@
 -- What the lines of a request mean together: the request, when it was sent, and what came of it (own
 -- rules).
-use Rattle.std.specs.Prelude.{◌≡◌, ℕ, ◌==◌, ◌||◌, ◌&&◌, not, Bool, false, if◌then◌else◌, List, [], ◌∷◌, Option, Some, None, is_some, is_none, option_map, map, codes}
+use Rattle.std.specs.Prelude.{◌≡◌, ℕ, ◌||◌, Bool, false, if◌then◌else◌, List, [], Option, Some, None, is_some, is_none, option_map, codes}
 use Rattle.iscsi_job.specs.declared.item.Ended.{Ended}
 use Rattle.iscsi_job_text.specs.declared.entry.Entry.{Entry}
 use Rattle.iscsi_job_text.specs.declared.entry.Time.{Time}
-use Rattle.iscsi_job_text.specs.Words.{Reading, ◌>>=◌, means, is_next, words_behind, line_words, in_front, number, optional}
+use Rattle.iscsi_job_text.specs.Words.{Reading, ◌>>=◌, means, is_next, words_behind, line_words, number, optional}
 use Rattle.iscsi_job_text.specs.Requests.{Request, request_of, whole_line}
 use Rattle.iscsi_job_text.specs.Outcomes.{Outcome, outcome_in}
 
@@ -89,36 +89,6 @@ pending_with_line pending line =
     if pending.has_outcome then None
     else option_map (added_to pending.entry) (entry_with_line pending.entry line)
 
--- The request with the lines below it.
-abbrev pub with_lines_below : Option PendingEntry → List (List ℕ) → Option PendingEntry
-with_lines_below None lines = None
-with_lines_below (Some pending) [] = Some pending
-with_lines_below (Some pending) (line ∷ lines) = with_lines_below (pending_with_line pending line) lines
-
--- The request that lines mean, of which the first begins it.
-abbrev pub entry_of_lines : List (List ℕ) → Option PendingEntry
-entry_of_lines [] = None
-entry_of_lines (line ∷ lines) = with_lines_below (begun_pending line) lines
-
--- ---- texts
-
--- The lines of a text, of which the last may lack its end.
-abbrev pub text_lines : List ℕ → List (List ℕ)
-text_lines [] = []
-text_lines (b ∷ bs) = if b == 0x0a then [] ∷ text_lines bs else in_front b (text_lines bs)
-
--- A tab and a carriage return are blanks.
-abbrev pub blank_of : ℕ → ℕ
-blank_of b = if b == 0x09 || b == 0x0d then 0x20 else b
-
--- A byte is no blank but a space.
-abbrev pub is_plain_byte : ℕ → Bool
-is_plain_byte b = not (b == 0x09) && not (b == 0x0d)
-
--- The request that a text means, if it has the lines of one alone.
-abbrev pub entry_in : List ℕ → Option PendingEntry
-entry_in text = entry_of_lines (text_lines (map blank_of text))
-
 -- ---- what a text says
 
 abbrev pub said_if : Option Ended → Entry → Entry
@@ -131,10 +101,6 @@ said_if None entry = record entry {
 -- What a text says of an entry: all, but that it leaves out what came of a request without an outcome.
 abbrev pub said : Entry → Entry
 said entry = said_if entry.item.ended entry
-
--- The text means a request of which all is said that is said of this one.
-abbrev pub Says : List ℕ → Entry → Type 0
-Says text entry = option_map (λ pending. said pending.entry) (entry_in text) ≡ Some (said entry)
 
 -- Two entries ask the same, ended alike, and have the same times and places.
 pub record AskTheSame (one other : Entry) : Type 0 where

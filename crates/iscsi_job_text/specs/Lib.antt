@@ -7,3 +7,5 @@ pub mod Came
 pub mod Entries
 pub mod Pendings
 pub mod Taking
+pub mod Jobs
+pub mod Reading

@@ -1,13 +1,13 @@
 //! The lines of a request and of what came of it, written.
 
-ghost use Rattle.std.specs.Prelude.{◌≡◌, ◌++◌, true, List, ℕ, Some, IfOk, OnOk, string_bytes};
+ghost use Rattle.std.specs.Prelude.{◌≡◌, ◌++◌, true, false, List, ℕ, [], ◌∷◌, Some, None, IfOk, IfSome, OnOk, string_bytes};
 ghost use Rattle.std.specs.List.{list_all};
-ghost use Rattle.iscsi_job_text.specs.Entries.{AskTheSame, GaveTheSame, Says, blank_of, entry_of_lines, is_plain_byte, said, text_lines};
-ghost use Rattle.iscsi_job_text.specs.Pendings.{pending_held};
+ghost use Rattle.iscsi_job_text.specs.Entries.{AskTheSame, GaveTheSame, said};
+ghost use Rattle.iscsi_job_text.specs.Jobs.{EndsLine, Says, is_plain_byte, requests_from, text_lines};
 
 use crate::entry::{Entry, Time};
-use crate::entry_reading::Pending;
-use crate::fault::{LineFault, LineReason, WriteFault};
+use crate::fault::{LineFault, WriteFault};
+use crate::job_reading::{entry_of, take_line};
 use crate::outcome_writing::write_ending;
 use crate::request_writing::write_asking;
 use crate::words::parted;
@@ -71,13 +71,23 @@ fn write_time(time: Time, text: &mut String) -> Result<(), WriteFault> {
 fn says(alloc: Global, lines: &[u8], entry: &Entry) -> Result<bool, WriteFault>
     ensures { IfOk result (λ same. same ≡ true → Says lines.now entry.now) }
 {
-    if !is_plain(lines) {
+    if !is_plain(lines) || !ends_line(lines) {
         return Ok(false);
     }
     match read_back(alloc, lines) {
-        Ok(again) => Ok(is_same(&again.entry, entry)),
+        Ok(Some(again)) => Ok(is_same(&again, entry)),
+        Ok(None) | Err(LineFault::Refused(_)) => Ok(false),
         Err(LineFault::NoMemory) => Err(WriteFault::NoMemory),
-        Err(LineFault::Refused(_)) => Ok(false),
+    }
+}
+
+// Whether a text ends with a line end.
+fn ends_line(text: &[u8]) -> bool
+    ensures { result ≡ true → EndsLine text.now }
+{
+    match text.last() {
+        Some(byte) => *byte == b'\n',
+        None => false,
     }
 }
 
@@ -88,23 +98,21 @@ fn is_plain(text: &[u8]) -> bool
     text.iter().all(|byte| *byte != b'\t' && *byte != b'\r')
 }
 
-// What the lines of a request mean.
-#[tactic(auto, using(crate::proofs::EntryLemmas::no_line))]
-fn read_back(alloc: Global, text: &[u8]) -> Result<Pending, LineFault>
-    ensures { IfOk result (λ found.
-        entry_of_lines (text_lines text.now) ≡ Some (pending_held found)) }
+// The one request that lines mean, if they mean no other one.
+fn read_back(alloc: Global, text: &[u8]) -> Result<Option<Entry>, LineFault>
+    ensures { IfOk result (λ found. IfSome found (λ entry.
+        requests_from false None (text_lines text.now) ≡ Some (entry ∷ []))) }
 {
-    if text.is_empty() {
-        return Err(LineFault::Refused(LineReason::Request));
-    }
-    let (first, mut rest) = parted(text, b'\n');
-    let mut pending = Pending::begun_by(alloc, first)?;
+    let mut pending = None;
+    let mut rest = text;
     while rest.len() > 0 {
         let (line, more) = parted(rest, b'\n');
-        pending.add(alloc, line)?;
+        if take_line(alloc, false, &mut pending, line)?.is_some() {
+            return Ok(None);
+        }
         rest = more;
     }
-    Ok(pending)
+    Ok(entry_of(pending))
 }
 
 // Whether two requests, and what a text says of them, are the same.

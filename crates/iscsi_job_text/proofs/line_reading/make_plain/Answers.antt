@@ -1,8 +1,8 @@
 use Rattle.std.proofs.Common.{arith, get_or}
 use Rattle.std.proofs.lemmas.List.{get_or_default}
 use Rattle.std.proofs.lemmas.List.Edits.{map_over_more}
-use Rattle.iscsi_job_text.specs.Entries.{blank_of}
-use Rattle.iscsi_job_text.proofs.job_reading.make_plain.Goals as goal
+use Rattle.iscsi_job_text.specs.Jobs.{blank_of}
+use Rattle.iscsi_job_text.proofs.line_reading.make_plain.Goals as goal
 
 pub loop-at-preserved : goal.loop-at-preserved
 loop-at-preserved c =
