@@ -164,7 +164,8 @@ ROWS = [
     Row("no file to compare", ["compare"], says=b"<A>", status=2),
     Row("three files to compare", ["compare", "a", "b", "c"], says=b"'c'", status=2),
     # Words that are no job.
-    Row("help", ["--help"], b"", b"", HELP, 2),
+    Row("help", ["--help"], b"", HELP, b"", 0),
+    Row("the same", ["help"], b"", HELP, b"", 0),
     Row("an unknown word", ["shoe"], says=b"shoe", status=2),
     Row("no blocks", ["answer"], says=b"--blocks", status=2),
     Row("too few blocks", ["answer", "--blocks", "0"], says=b"'0' is no number of blocks: '--blocks <N>' takes a number from 1 to", status=2),

@@ -161,7 +161,8 @@ class Serve(Target):
 @functools.cache
 def has_plain(program):
     """Whether a build has the word for the bare profile. Older ones have that profile without a word."""
-    return b"--plain" in subprocess.run([program, "serve", "--help"], capture_output=True).stderr
+    ran = subprocess.run([program, "serve", "--help"], capture_output=True)
+    return b"--plain" in ran.stdout + ran.stderr
 
 
 class AtOnce(Serve):

@@ -14,11 +14,11 @@ use std::io::Write;
 use std::process::ExitCode;
 
 /// Runs the service that the words of a command line ask for, the first of which is `serve`, and returns
-/// the exit status. It is 0 if the service is done and 2 for words that ask for no service or for help.
-/// Else it is that of the fault.
+/// the exit status. It is 0 if the service is done or help is asked for, and 2 for words that ask for no
+/// service. Else it is that of the fault.
 ///
-/// The lines of faults, usage and help go to the stream that is given; a write there that fails changes
-/// nothing. `listening`, and the lines of sessions, go to the standard streams of the process.
+/// The lines of faults and usage go to the stream that is given; a write there that fails changes nothing.
+/// Help, `listening`, and the lines of sessions go to the standard streams of the process.
 pub fn run_serve_words<S: AsStr, E: Write>(rt: &HostRuntime, words: &[S], errors: &mut E) -> u8
     // What was asked for is what the words say.
     ensures runs { (asked : Result ServeJob LineFault) × IfOk asked (SaysJob (map S.text words.now))
@@ -26,7 +26,7 @@ pub fn run_serve_words<S: AsStr, E: Write>(rt: &HostRuntime, words: &[S], errors
 {
     let job = match read_serve_words(rt.alloc(), words) {
         Ok(job) => job,
-        Err(fault) => return refused(&fault, errors),
+        Err(fault) => return refused(rt, &fault, errors),
     };
     match serve_storage(rt, words, job) {
         Ok(()) => 0,
@@ -37,11 +37,14 @@ pub fn run_serve_words<S: AsStr, E: Write>(rt: &HostRuntime, words: &[S], errors
     }
 }
 
-// Tells why words are refused, and returns the exit status.
-fn refused<E: Write>(fault: &LineFault, errors: &mut E) -> u8
+// Writes help, or tells why words are refused, and returns the exit status.
+fn refused<E: Write>(rt: &HostRuntime, fault: &LineFault, errors: &mut E) -> u8
     ensures status { result ≡ words_status fault.now }
 {
-    let _ = fault.tell(errors);
+    let _ = match fault {
+        LineFault::Help(_) => fault.tell(&mut rt.stdout()),
+        LineFault::Usage(_) | LineFault::NoMemory => fault.tell(errors),
+    };
     fault.status()
 }
 
@@ -50,7 +53,7 @@ pub fn run_serve_program(rt: &HostRuntime) -> ExitCode {
     let mut errors = rt.stderr();
     let status = match read_command_line(rt) {
         Ok(words) => run_serve_words(rt, words.as_slice(), &mut errors),
-        Err(fault) => refused(&fault, &mut errors),
+        Err(fault) => refused(rt, &fault, &mut errors),
     };
     ExitCode::from(status)
 }

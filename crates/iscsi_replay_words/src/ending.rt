@@ -15,6 +15,8 @@ pub(crate) enum Ending {
     NoMemory,
     /// A line could not be written.
     Write,
+    /// The words ask for this page of help.
+    Help(&'static str),
     /// Something is refused or fails: the exit status, and lines that say what.
     Told(u8, String),
 }
@@ -33,11 +35,11 @@ impl Ending {
         Ending::told(status, format!(in alloc; "{name}: {fault}\n"))
     }
 
-    /// The exit status: 0 if all is done, 1 if outcomes differ or something is refused, 2 for words,
-    /// 3 for memory, and 4 for reading, writing and the network.
+    /// The exit status: 0 if all is done or help is asked for, 1 if outcomes differ or something is refused,
+    /// 2 for words, 3 for memory, and 4 for reading, writing and the network.
     pub(crate) fn status(&self) -> u8 {
         match self {
-            Ending::Done => 0,
+            Ending::Done | Ending::Help(_) => 0,
             Ending::Differ => 1,
             Ending::NoMemory => 3,
             Ending::Write => 4,
@@ -45,10 +47,10 @@ impl Ending {
         }
     }
 
-    /// Writes what there is to say.
+    /// Writes what there is to say of a fault.
     pub(crate) fn tell<E: Write>(&self, w: &mut E) -> io::Result<()> {
         match self {
-            Ending::Done | Ending::Differ => Ok(()),
+            Ending::Done | Ending::Differ | Ending::Help(_) => Ok(()),
             Ending::NoMemory => w.write_all(b"memory\n"),
             Ending::Write => w.write_all(b"write failed\n"),
             Ending::Told(_, lines) => w.write_all(lines.as_bytes()),

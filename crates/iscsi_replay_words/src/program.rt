@@ -1,4 +1,4 @@
-//! What the words `job` and `replay` do.
+//! What the words `job` and `replay` do, and their help.
 
 use crate::ending::Ending;
 use crate::help;
@@ -9,12 +9,12 @@ use crate::replays::run_replay;
 use std::convert::AsStr;
 use std::io::Write;
 
-/// Does what a command line asks for, if its first word is `job` or `replay`, and returns the exit
-/// status; nothing of other words.
+/// Does what a command line asks for, if its first word is `job` or `replay`, or it asks for the help of
+/// one of them. Returns the exit status; nothing of other words.
 ///
-/// The status is 0 if all is done, 1 if outcomes differ or something is refused, 2 for words that ask
-/// for nothing or for help, 3 for memory, and 4 for reading, writing and the network. What there is to
-/// say of that goes to `errors`; a write there that fails changes nothing.
+/// The status is 0 if all is done or help is written, 1 if outcomes differ or something is refused, 2 for
+/// words that ask for nothing, 3 for memory, and 4 for reading, writing and the network. Faults and usage go
+/// to `errors`; a write there that fails changes nothing.
 pub fn run_recorded<S: AsStr, W: Write, E: Write>(
     rt: &HostRuntime,
     words: &[S],
@@ -24,18 +24,33 @@ pub fn run_recorded<S: AsStr, W: Write, E: Write>(
     let [word, rest @ ..] = words else {
         return None;
     };
-    match word.as_str() {
-        "job" => Some(ended(job_ending(rt, rest, w), errors)),
-        "replay" => {
-            let ending = replay_ending(rt, rest, w, errors);
-            Some(ended(ending, errors))
-        }
+    let ending = match word.as_str() {
+        "job" => job_ending(rt, rest, w),
+        "replay" => replay_ending(rt, rest, w, errors),
+        "help" => Ending::Help(page_of(rest)?),
+        _ => return None,
+    };
+    Some(ended(ending, w, errors))
+}
+
+// The page of help that the words behind `help` ask for, if it is of one of these.
+fn page_of<S: AsStr>(words: &[S]) -> Option<&'static str> {
+    match words {
+        [word] => match word.as_str() {
+            "job" => Some(help::JOB),
+            "replay" => Some(help::REPLAY),
+            _ => None,
+        },
         _ => None,
     }
 }
 
-// Tells an ending, and returns its status.
-fn ended<E: Write>(ending: Ending, errors: &mut E) -> u8 {
+// Writes help, or tells a fault, and returns the status.
+fn ended<W: Write, E: Write>(ending: Ending, w: &mut W, errors: &mut E) -> u8 {
+    let ending = match ending {
+        Ending::Help(page) if w.write_all(page.as_bytes()).is_err() => Ending::Write,
+        ending => ending,
+    };
     let _ = ending.tell(errors);
     ending.status()
 }

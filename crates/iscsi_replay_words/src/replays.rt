@@ -4,7 +4,7 @@ use crate::data_file::{DataFault, fetch};
 use crate::ending::Ending;
 use crate::replay_words::Replay;
 use iscsi_job::Item;
-use iscsi_job_text::{Entry, JobReader, Stored, TextFault, write_request};
+use iscsi_job_text::{Entry, JobReader, LineReason, Stored, TextFault, write_request};
 use iscsi_replay::{Account, Live, Lost, ReplayFault, Replaying, Tcp, writes};
 use iscsi_stream::write_fully;
 use std::alloc::{AllocError, Global};
@@ -161,14 +161,25 @@ impl<'a, R: Read + Drop> Job<'a, R> {
     }
 }
 
-// The ending by a text that is no job.
+// The ending by a text that is no job. One whose first line is no text may well be a capture.
 fn no_job(alloc: Global, file: &str, fault: &TextFault) -> Ending {
     let status = match fault {
         TextFault::NoMemory => 3,
         TextFault::Read => 4,
+        TextFault::Line {
+            line: 1,
+            reason: LineReason::Utf8,
+        } => return Ending::told(1, no_text(alloc, file, fault)),
         TextFault::TooLong(_) | TextFault::Line { .. } => 1,
     };
     Ending::failed(alloc, status, file, fault)
+}
+
+// That a file is no text, and what makes a job of a capture.
+fn no_text(alloc: Global, file: &str, fault: &TextFault) -> Result<String, AllocError> {
+    format!(in alloc;
+        "{file}: {fault}\nthe job of a capture is made by 'lanthovur job --capture'\n"
+    )
 }
 
 // Refuses a request that may write, unless the job may.

@@ -21,15 +21,14 @@ pub(crate) enum Refusal<'a> {
 
 impl Refusal<'_> {
     /// How the words behind this one end, which has this page of help.
-    pub(crate) fn ending(self, alloc: Global, job: &str, page: &str) -> Ending {
-        let lines = match self {
-            Refusal::Help => String::from_str(alloc, page),
-            Refusal::NoMemory => return Ending::NoMemory,
+    pub(crate) fn ending(self, alloc: Global, job: &str, page: &'static str) -> Ending {
+        match self {
+            Refusal::Help => Ending::Help(page),
+            Refusal::NoMemory => Ending::NoMemory,
             Refusal::Missing(_) | Refusal::Wrong(_, _) | Refusal::Value(_, _) => {
-                self.usage(alloc, job)
+                Ending::told(2, self.usage(alloc, job))
             }
-        };
-        Ending::told(2, lines)
+        }
     }
 
     // What is wrong, and where help stands.

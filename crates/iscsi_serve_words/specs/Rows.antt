@@ -54,7 +54,6 @@ abbrev pub bare_program : App
 bare_program = on_top (λ top. record top {
   no_binary_name = true;
   disable_version_flag = true;
-  disable_help_subcommand = true;
   subcommand_required = true;
 }) (new_app (codes "lanthovur"))
 

@@ -21,10 +21,12 @@ pub enum LineFault {
     /// Memory ran out.
     #[error("memory")]
     NoMemory,
-    /// The words are no job; the text says why and what would be one, or is the help that was asked
-    /// for.
+    /// The words are no job; the text says why, and what would be one.
     #[error("{0}")]
     Usage(String),
+    /// The words ask for help, which is this text.
+    #[error("{0}")]
+    Help(String),
 }
 
 impl From<AllocError> for LineFault {
@@ -40,11 +42,12 @@ impl<T: Drop> From<AllocFailed<T>> for LineFault {
 }
 
 impl LineFault {
-    /// The exit status of words that ask for no job or for help, 2; 3 if memory ran out.
+    /// The exit status of words that are no job, 2; 0 of those that ask for help, and 3 if memory ran out.
     pub fn status(&self) -> u8
         ensures status { result ≡ words_status self.now }
     {
         match self {
+            LineFault::Help(_) => 0,
             LineFault::Usage(_) => 2,
             LineFault::NoMemory => 3,
         }
@@ -53,7 +56,7 @@ impl LineFault {
     /// Writes why the words are refused, or the help.
     pub fn tell<E: Write>(&self, w: &mut E) -> io::Result<()> {
         match self {
-            LineFault::Usage(text) => write!(w, "{text}"),
+            LineFault::Usage(text) | LineFault::Help(text) => write!(w, "{text}"),
             LineFault::NoMemory => writeln!(w, "memory"),
         }
     }
@@ -81,13 +84,15 @@ fn unread(alloc: Global, error: &io::Error) -> LineFault {
     }
 }
 
-/// The fault of words that clap refuses, or whose help was asked for: `NoMemory` if memory ran out
-/// then, or for the text.
+/// Why clap reads no job from words: they are none, or ask for help. `NoMemory` if memory ran out then, or
+/// for the text.
 pub fn usage(alloc: Global, error: Error) -> LineFault {
-    if matches!(error.kind(), ErrorKind::OutOfMemory) {
+    let kind = error.kind();
+    if matches!(kind, ErrorKind::OutOfMemory) {
         return LineFault::NoMemory;
     }
     match format!(in alloc; "{error}") {
+        Ok(text) if matches!(kind, ErrorKind::DisplayHelp) => LineFault::Help(text),
         Ok(text) => LineFault::Usage(text),
         Err(_) => LineFault::NoMemory,
     }
@@ -102,7 +107,6 @@ pub fn bare_command<'a>(alloc: Global) -> Result<Command<'a>, AllocError>
         .after_help(examples::PROGRAM)
         .no_binary_name(true)
         .disable_version_flag(true)
-        .disable_help_subcommand(true)
         .subcommand_required(true)
         .bin_name("lanthovur")?;
     Ok(command)

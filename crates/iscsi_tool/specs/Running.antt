@@ -1,5 +1,5 @@
 -- How a run of the program ends, and with which exit status.
-use Rattle.std.specs.Prelude.{◌≡◌, ℕ, true, List, [], Option, Result, Ok, Err, IfOk}
+use Rattle.std.specs.Prelude.{◌≡◌, ◌⊎◌, ℕ, true, List, [], take, Option, Result, Ok, Err, IfOk, string_bytes}
 use Rattle.iscsi_stream.specs.declared.fault.ToolFault.{ToolFault}
 use Rattle.iscsi_compare.specs.declared.verdict.Verdict.{Verdict}
 use Rattle.iscsi_compare.specs.declared.verdict.Verdict.TheVariants as verdict
@@ -16,7 +16,9 @@ use Rattle.iscsi_words.specs.declared.filter.Filter.{Filter}
 use Rattle.iscsi_words.specs.declared.filter.Work.TheVariants.{Normalise}
 use Rattle.iscsi_tool.specs.declared.running.Outcome.{Outcome}
 use Rattle.iscsi_tool.specs.declared.running.Outcome.TheVariants as outcome
+use Rattle.iscsi_stream.specs.declared.fault.ToolFault.TheVariants as tool
 use Rattle.iscsi_serve_words.specs.declared.command_line.LineFault.{LineFault}
+use Rattle.iscsi_serve_words.specs.declared.command_line.LineFault.TheVariants as line
 use Rattle.iscsi_serve_words.specs.declared.serve_words.ServeJob.{ServeJob}
 use Rattle.iscsi_serve_words.specs.Words.{words_status}
 use Rattle.iscsi_disk_service.specs.declared.storing.DiskFault.{DiskFault}
@@ -135,12 +137,20 @@ abbrev pub AsksFor : {S : Type 0} → List S → Result Job LineFault → Type 0
 AsksFor words asked =
     words ≡ [] → asked ≡ Ok (job.Filter (record { work = Normalise; hex = true }))
 
--- What was asked for ended so: the job ran, or nothing was read and written.
+-- Words that ask for no job ended so: their help was written, or a front of it where the writer failed, and
+-- else nothing.
+abbrev pub TellsWords : LineFault → Outcome → List ℕ → Type 0
+TellsWords (line.Help text) ends written =
+    ((ends ≡ outcome.Words (line.Help text)) × (written ≡ string_bytes text))
+    ⊎ ((ends ≡ outcome.Filter tool.Write) × ((n : ℕ) × (written ≡ take n (string_bytes text))))
+TellsWords fault ends written = (ends ≡ outcome.Words fault) × (written ≡ [])
+
+-- What was asked for ended so: the job ran, or nothing was read, and only help was written.
 abbrev pub RunsAsked : Result Job LineFault → Outcome → List ℕ → Option (List ℕ) → List ℕ → Type 0
 RunsAsked (Ok asked) ends read left written =
     IsJob asked × JobRuns asked ends read left written
 RunsAsked (Err fault) ends read left written =
-    (ends ≡ outcome.Words fault) × (read ≡ []) × (written ≡ [])
+    TellsWords fault ends written × (read ≡ [])
 
 -- A command line, of words with these texts, ended so. A service that it asks for is what the words say.
 abbrev pub RunsWords : {S : Type 0} → List S → List (List ℕ) → Outcome → List ℕ → Option (List ℕ)

@@ -6,7 +6,7 @@ ghost use Rattle.std.specs.Io.KnownBytes.{Appends, Consumes};
 ghost use Rattle.iscsi_tool.specs.declared.running.Outcome.{Outcome};
 ghost use Rattle.iscsi_serve_words.specs.Words.{words_status};
 ghost use Rattle.iscsi_words.specs.Jobs.{CanWork, IsJob, SaysWords};
-ghost use Rattle.iscsi_tool.specs.Running.{EndsCapture, EndsComparison, JobRuns, RunsWords, of_capture, of_captures, of_comparison, of_filter, of_service, of_session, outcome_status};
+ghost use Rattle.iscsi_tool.specs.Running.{EndsCapture, EndsComparison, JobRuns, RunsWords, TellsWords, of_capture, of_captures, of_comparison, of_filter, of_service, of_session, outcome_status};
 
 use crate::capture_comparing::run_comparison;
 use crate::capturing::run_capture;
@@ -20,7 +20,7 @@ use iscsi_filters::status;
 use iscsi_loop::run_loop;
 use iscsi_serve_words::LineFault;
 use iscsi_serving::ServeFault;
-use iscsi_stream::ToolFault;
+use iscsi_stream::{ToolFault, write_fully};
 use iscsi_words::{
     CaptureComparison, CaptureComparisonFault, CaptureJob, Job, capture_names, read_words,
 };
@@ -35,7 +35,7 @@ pub enum Outcome<'a> {
     Done,
     /// The two streams differ.
     Differ,
-    /// The words ask for no job, or for help.
+    /// The words ask for no job: they are none, or ask for help, which was written.
     Words(LineFault),
     /// A filter stopped.
     Filter(ToolFault),
@@ -52,8 +52,8 @@ pub enum Outcome<'a> {
 }
 
 impl Outcome<'_> {
-    /// The exit status is 0 if the job is done, and 1 if input is refused or two streams differ. It
-    /// is 2 for words that ask for no job or for help, 3 for memory, and 4 for reading, writing,
+    /// The exit status is 0 if the job is done or help is written, and 1 if input is refused or two
+    /// streams differ. It is 2 for words that are no job, 3 for memory, and 4 for reading, writing,
     /// files and the network.
     pub fn status(&self) -> u8
         ensures status { result ≡ outcome_status self.now }
@@ -72,10 +72,10 @@ impl Outcome<'_> {
     }
 
     // Writes what there is to say: the usage, or the fault's line. The line of a fault of an input
-    // names the file.
+    // names the file. Help is no fault.
     fn tell<E: Write>(&self, w: &mut E) -> io::Result<()> {
         match self {
-            Outcome::Done | Outcome::Differ => Ok(()),
+            Outcome::Done | Outcome::Differ | Outcome::Words(LineFault::Help(_)) => Ok(()),
             Outcome::Words(fault) => fault.tell(w),
             Outcome::Filter(fault) => writeln!(w, "{fault}"),
             Outcome::Service(fault) => fault.tell(w),
@@ -145,9 +145,9 @@ pub fn run_read<R: Read, W: Write, E: Write>(
     }
 }
 
-/// Runs the job that words ask for, from a reader to a writer, and returns the exit status. The
-/// lines of faults, usage and help go to the third stream; a write there that fails changes
-/// nothing.
+/// Runs the job that words ask for, from a reader to a writer, and returns the exit status. Help goes
+/// to the writer, too. The lines of faults and usage go to the third stream; a write there that fails
+/// changes nothing.
 ///
 /// A service prints `listening`, and the lines of its sessions' faults, to the standard streams of
 /// the process. Files are those of the process, too, and so is the standard input of a capture.
@@ -192,8 +192,22 @@ fn run<'a, S: AsStr, R: Read, W: Write>(
 {
     match read_words(rt.alloc(), words) {
         Ok(job) => run_job(rt, words, job, r, w),
-        Err(fault) => Outcome::Words(fault),
+        Err(fault) => unasked(fault, w),
     }
+}
+
+// How words end that ask for no job: help is written.
+#[tactic(auto, using(crate::proofs::RunningLemmas::writes_nothing))]
+fn unasked<'a, W: Write>(fault: LineFault, w: &mut W) -> Outcome<'a>
+    ensures tells { (written : List ℕ) × Appends (W.contents w.old) (W.contents w.new) written
+        × TellsWords fault result written }
+{
+    if let LineFault::Help(text) = &fault {
+        if let Err(stopped) = write_fully(w, text.as_bytes()) {
+            return Outcome::Filter(stopped);
+        }
+    }
+    Outcome::Words(fault)
 }
 
 // How a job ends that these words ask for.

@@ -228,7 +228,7 @@ pub(crate) fn shown_job<'a>(alloc: Global, asked: &ArgMatches<'a>) -> Result<Job
         Some(work) if !asked.get_flag("hex") => {
             recorded_job(alloc, show_row(), asked, work, BAD_SHOWN)
         }
-        _ => Err(show_row().refusal(alloc, BAD_SHOWN)),
+        _ => Err(unread_direction(alloc, show_row(), asked, BAD_SHOWN)),
     }
 }
 
@@ -285,7 +285,7 @@ pub(crate) fn normalised_job<'a>(
             let work = CaptureWork::Normalise(wanted);
             recorded_job(alloc, normalise_row(), asked, work, BAD_CAPTURE)
         }
-        _ => Err(normalise_row().refusal(alloc, BAD_CAPTURE)),
+        _ => Err(unread_direction(alloc, normalise_row(), asked, BAD_CAPTURE)),
     }
 }
 
@@ -307,7 +307,7 @@ pub(crate) fn answered_job<'a>(alloc: Global, asked: &ArgMatches<'a>) -> Result<
             recorded_job(alloc, answer_row(), asked, work, BAD_ANSWERED)
         }
         (Some(_), Err(fault)) if named => Err(answer_row().bad_size(alloc, fault)),
-        _ => Err(answer_row().refusal(alloc, BAD_ANSWERED)),
+        _ => Err(unread_direction(alloc, answer_row(), asked, BAD_ANSWERED)),
     }
 }
 
@@ -344,6 +344,14 @@ pub(crate) fn compared_job<'a>(
                     },
                 }))
             }
+        (_, None) if asked.get_str("connection").is_some() => {
+            let numbers = asked.get_str("connection").unwrap_or("");
+            Err(compare_row().bad_value(alloc, numbers, BAD_CONNECTIONS))
+        }
+        (None, _) if asked.get_str("from").is_some() => {
+            let end = asked.get_str("from").unwrap_or("");
+            Err(compare_row().bad_value(alloc, end, BAD_END))
+        }
         _ => Err(compare_row().refusal(alloc, BAD_COMPARED)),
     }
 }
@@ -353,6 +361,31 @@ const TWICE_STDIN: &str =
 
 const BAD_COMPARED: &str = "captures are compared with '--capture <A> [B] --connection <K>[,<L>] \
     --from initiator|target', and without '--hex'";
+
+const BAD_CONNECTION: &str =
+    "is no number of a connection: '--connection <K>' takes one from the list of 'connections'";
+
+const BAD_CONNECTIONS: &str =
+    "is no number of a connection: '--connection <K>[,<L>]' takes those of the list of 'connections'";
+
+const BAD_END: &str = "is no end: '--from <END>' takes initiator or target";
+
+// The usage error for words of a direction: it names the value that is wrong, or else says which words go
+// together.
+fn unread_direction(
+    alloc: Global,
+    row: &CommandRow,
+    asked: &ArgMatches<'_>,
+    forms: &str,
+) -> LineFault {
+    match (asked.get_str("connection"), asked.get_str("from")) {
+        (Some(digits), _) if connection_number(digits).is_none() => {
+            row.bad_value(alloc, digits, BAD_CONNECTION)
+        }
+        (_, Some(end)) if end_of(asked).is_none() => row.bad_value(alloc, end, BAD_END),
+        _ => row.refusal(alloc, forms),
+    }
+}
 
 // A job over the files that `--capture` names. Without any it is refused with a text, and so are two
 // that are standard input.

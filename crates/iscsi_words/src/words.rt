@@ -125,7 +125,7 @@ fn command<'a>(alloc: Global) -> Result<Command<'a>, AllocError> {
 }
 
 /// The job that the words of a command line ask for, without the program's name. Words that are no
-/// job, and those that ask for help, return `Usage` with the text to print.
+/// job return `Usage` with the text to print, and those that ask for help `Help`.
 #[tactic(auto, using(crate::proofs::JobLemmas::other_job, crate::proofs::JobLemmas::says_nothing))]
 pub fn read_words<'a, S: AsStr>(alloc: Global, words: &'a [S]) -> Result<Job<'a>, LineFault>
     ensures unasked { words.now ≡ [] →
@@ -172,7 +172,7 @@ fn is_service<S: AsStr>(words: &[S]) -> bool {
 fn unread<S: AsStr>(alloc: Global, words: &[S], error: Error) -> LineFault {
     let text = match usage(alloc, error) {
         LineFault::Usage(text) => text,
-        LineFault::NoMemory => return LineFault::NoMemory,
+        other => return other,
     };
     let word = match words.first() {
         Some(word) => word.as_str(),
@@ -181,10 +181,20 @@ fn unread<S: AsStr>(alloc: Global, words: &[S], error: Error) -> LineFault {
     let Some(file) = stray_file(word, text.as_str()) else {
         return LineFault::Usage(text);
     };
-    match format!(in alloc; "{text}\n{word} reads standard input: ./lanthovur {word} < {file}\n") {
+    let hint = if is_capture_name(file) {
+        format!(in alloc; "{text}\na capture is named so: ./lanthovur {word} --capture {file}\n")
+    } else {
+        format!(in alloc; "{text}\n{word} reads standard input: ./lanthovur {word} < {file}\n")
+    };
+    match hint {
         Ok(text) => LineFault::Usage(text),
         Err(_) => LineFault::NoMemory,
     }
+}
+
+// Whether a file has a name that captures have.
+fn is_capture_name(file: &str) -> bool {
+    file.ends_with(".pcap") || file.ends_with(".pcapng") || file.ends_with(".cap")
 }
 
 // The file that a command which reads standard input was given, by the text of its usage error.

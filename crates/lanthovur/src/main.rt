@@ -12,17 +12,17 @@ fn main(rt: HostRuntime) -> ExitCode {
     let words = read_command_line(&rt);
     let mut output = rt.stdout();
     let mut errors = rt.stderr();
-    let mut asks_for_help = false;
+    let mut asks_for_all = false;
     if let Ok(words) = &words {
         if let Some(status) = run_recorded(&rt, words.as_slice(), &mut output, &mut errors) {
             return ExitCode::from(status);
         }
-        asks_for_help =
-            matches!(words.as_slice(), [word] if matches!(word.as_str(), "-h" | "--help"));
+        asks_for_all =
+            matches!(words.as_slice(), [word] if matches!(word.as_str(), "-h" | "--help" | "help"));
     }
     let status = run_read(&rt, &words, &mut rt.stdin(), &mut output, &mut errors);
-    if asks_for_help {
-        let _ = errors.write_all(PROGRAM.as_bytes());
+    if asks_for_all && status == 0 {
+        let _ = output.write_all(PROGRAM.as_bytes());
     }
     ExitCode::from(status)
 }

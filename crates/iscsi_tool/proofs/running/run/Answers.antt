@@ -1,14 +1,16 @@
 use Rattle.std.proofs.Common.{[], Err, refl}
-use Rattle.std.proofs.KnownBytes.{Appends-nil, Consumes-nil}
+use Rattle.std.proofs.KnownBytes.{Consumes-nil}
 use Rattle.iscsi_tool.proofs.running.run.Goals as goal
 
 pub returns-in-Err : goal.returns-in-Err
-returns-in-Err g c = record {
-  runs = (
-    [],
-    [],
-    Consumes-nil (g.R.Read.remaining c.args.r.now),
-    Appends-nil (g.W.Write.contents c.args.w.now),
-    (Err c.in-Err.fault, c.in-Err.ensures.unasked, tt, (refl, refl, refl)),
-  );
-}
+returns-in-Err g c =
+    let told = c.unasked.ensures.tells in
+    record {
+      runs = (
+        [],
+        told.0,
+        Consumes-nil (g.R.Read.remaining c.args.r.now),
+        told.1,
+        (Err c.in-Err.fault, c.in-Err.ensures.unasked, tt, (told.2, refl)),
+      );
+    }
