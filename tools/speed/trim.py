@@ -1,5 +1,5 @@
 #!/usr/bin/env python3
-"""How long reads of 4 KiB take beside a session that trims 10 GiB, as fstrim does: by WRITE SAME(16) with UNMAP of 4 MiB each.
+"""How long reads of 4 KiB take beside a session that trims 10 GiB, as Linux does for fstrim: by UNMAP of 4 MiB each.
 
     tools/speed/trim.py [--gib N] [--outstanding N] [PROGRAM]
 
@@ -19,7 +19,7 @@ import tempfile
 import time
 
 TOP = os.path.dirname(os.path.dirname(os.path.dirname(os.path.abspath(__file__))))
-GIB, MIB, BLOCK = 1 << 30, 1 << 20, 512
+GIB, MIB = 1 << 30, 1 << 20
 # How many seconds the reader reads alone.
 ALONE = 3
 
@@ -105,7 +105,8 @@ def trim(port, size, outstanding):
             session.answer()
         if n < count:
             lba = n * 8192
-            session.ask(b"\xa1", BLOCK, b"\x93\x08" + lba.to_bytes(8, "big") + (8192).to_bytes(4, "big") + b"\0\0", bytes(BLOCK))
+            ranges = (22).to_bytes(2, "big") + (16).to_bytes(2, "big") + bytes(4) + lba.to_bytes(8, "big") + (8192).to_bytes(4, "big") + bytes(4)
+            session.ask(b"\xa1", len(ranges), b"\x42" + bytes(6) + len(ranges).to_bytes(2, "big") + bytes(7), ranges)
     print(f"  trimmed {count * 4} MiB in {time.monotonic() - began:.1f} s")
 
 
