@@ -1,6 +1,7 @@
 -- Lines of texts, and the requests that they mean.
 use Rattle.std.specs.Prelude.{◌==◌, if◌then◌else◌, option_and_then, option_map}
 use Rattle.std.proofs.Common.{◌≡◌, ◌<◌, ℕ, Bool, true, false, List, [], ◌∷◌, ◌++◌, length, map, Option, Some, None, refl, sym, ap, ◌∙◌, arith}
+use Rattle.std.proofs.lemmas.Option.{none-some}
 use Rattle.iscsi_job_text.specs.declared.entry.Entry.{Entry}
 use Rattle.iscsi_job_text.specs.Words.{before, behind, in_front, line_words, is_all_taken}
 use Rattle.iscsi_job_text.specs.Entries.{PendingEntry, begun_pending}
@@ -54,11 +55,8 @@ job_has_line front ends =
 -- ---- requests of two texts
 
 -- what lines give behind one that was taken
-abbrev behind_line : Option LineTaken → List (List ℕ) → Option (List Entry)
+abbrev pub behind_line : Option LineTaken → List (List ℕ) → Option (List Entry)
 behind_line it lines = option_and_then (λ it. with_finished it.finished (requests_from false it.pending lines)) it
-
-nothing_some : {A : Type 0} (a : A) → None ≡ Some a → ⊥
-nothing_some a e = cc
 
 -- the request that is read comes before those of more lines
 left_before : (p : Option PendingEntry) (lines : List (List ℕ)) (some : List Entry) → requests_from false None lines ≡ Some some
@@ -80,8 +78,8 @@ left_before p (line ∷ lines) some e = go (is_all_taken (line_words line)) (is_
         → behind_line (if t then Some (goes_on None) else (if i then option_map (λ it. goes_on (Some it)) (line_added None line) else option_map (begins_behind None) q)) lines ≡ Some some
         → behind_line (if t then Some (goes_on p) else (if i then option_map (λ it. goes_on (Some it)) (line_added p line) else option_map (begins_behind p) q)) lines ≡ Some (request_left p ++ some)
     go true i q again e = again e
-    go false true q again e = absurd (nothing_some some e)
-    go false false None again e = absurd (nothing_some some e)
+    go false true q again e = absurd (none-some some e)
+    go false false None again e = absurd (none-some some e)
     go false false (Some q) again e = last p (Some q) e
 
 -- more lines behind those that gave some requests
@@ -89,7 +87,7 @@ put_behind : (it : Option Entry) (got more : Option (List Entry)) (some others :
     → ((them : List Entry) → got ≡ Some them → more ≡ Some (them ++ others))
     → with_finished it got ≡ Some some → with_finished it more ≡ Some (some ++ others)
 put_behind None got more some others step e = step some e
-put_behind (Some entry) None more some others step e = absurd (nothing_some some e)
+put_behind (Some entry) None more some others step e = absurd (none-some some e)
 put_behind (Some entry) (Some them) more some others step e =
     ap (option_map (λ (them : List Entry). entry ∷ them)) (step them refl)
     ∙ ap (option_map (λ (them : List Entry). them ++ others)) e
@@ -97,7 +95,7 @@ put_behind (Some entry) (Some them) more some others step e =
 line_behind : (it : Option LineTaken) (lines more : List (List ℕ)) (some others : List Entry)
     → ((p : Option PendingEntry) (them : List Entry) → requests_from false p lines ≡ Some them → requests_from false p (lines ++ more) ≡ Some (them ++ others))
     → behind_line it lines ≡ Some some → behind_line it (lines ++ more) ≡ Some (some ++ others)
-line_behind None lines more some others step e = absurd (nothing_some some e)
+line_behind None lines more some others step e = absurd (none-some some e)
 line_behind (Some it) lines more some others step e =
     put_behind it.finished (requests_from false it.pending lines) (requests_from false it.pending (lines ++ more)) some others (step it.pending) e
 

@@ -4,6 +4,7 @@ use Rattle.std.proofs.Common.{◌≡◌, ◌≢◌, ◌<◌, ◌≤◌, ◌-◌,
 use Rattle.std.specs.Prelude.{slice_range}
 use Rattle.std.specs.List.{AllByRecursion}
 use Rattle.std.specs.Io.KnownBytes.{Consumes, IsAtEnd}
+use Rattle.std.proofs.lemmas.Option.{none-some}
 use Rattle.std.proofs.lemmas.List.{append_assoc, append-nil, drop-drop, drop-take, drop_all, length-take}
 use Rattle.std.proofs.Math.Seq.{drop-append-add}
 use Rattle.std.proofs.lemmas.List.Elements.{All-append, All-from_recursion, recursion_from_All}
@@ -16,6 +17,17 @@ use Rattle.iscsi_job_text.proofs.EntryLemmas.{next_line}
 use Rattle.iscsi_job_text.proofs.JobLemmas.{plain_both}
 use Rattle.iscsi_job_text.proofs.WordLemmas.{found_front, found_behind, lacking_front, lacking_behind}
 
+-- ---- cases that can't be
+
+pub true_false : ◌≡◌ {A = Bool} true false → ⊥
+true_false e = cc
+
+pub false_true : ◌≡◌ {A = Bool} false true → ⊥
+false_true e = cc
+
+pub same_bytes : {bs cs : List ℕ} → Some bs ≡ Some cs → bs ≡ cs
+same_bytes e = cc
+
 -- ---- the front of a piece
 
 -- a front with its line end is taken
@@ -27,12 +39,9 @@ end_taken ahead old new front back splits grows = record {
   taken = splits.whole ∙ ap (λ (bs : List ℕ). front ++ 0x0a ∷ bs) (sym rest);
   line = grows;
   bound = bound;
-  left = λ (e : ◌≡◌ {A = Bool} true false). absurd (differ e);
+  left = λ (e : ◌≡◌ {A = Bool} true false). absurd (true_false e);
 }
   where
-    differ : ◌≡◌ {A = Bool} true false → ⊥
-    differ e = cc
-
     rest : drop (length front + 1) ahead ≡ back
     rest = ap (drop (length front + 1)) splits.whole ∙ drop-append-add front (0x0a ∷ back) 1
 
@@ -164,14 +173,11 @@ line_ended old now taken new left known so_far part plain same first some = reco
   rest = so_far.rest;
   known = so_far.is;
   more = λ (e : ◌≡◌ {A = Bool} true true). lines;
-  none = λ (e : ◌≡◌ {A = Bool} true false). absurd (differ e);
+  none = λ (e : ◌≡◌ {A = Bool} true false). absurd (true_false e);
   first = λ (e : ◌≡◌ {A = Bool} true true). first ∙ ap (λ (n : ℕ). n == 0) (part.count ∙ so_far.count);
   some = λ (e : ◌≡◌ {A = Bool} true true). some;
 }
   where
-    differ : ◌≡◌ {A = Bool} true false → ⊥
-    differ e = cc
-
     back : List ℕ
     back = taken.ahead ++ so_far.rest
 
@@ -190,10 +196,7 @@ pub piece_read : (old now part_taken new : LinesHeld) (left : List ℕ) (known m
 piece_read old now taken new left known more so_far part line count consumes = go known more so_far consumes
   where
     go : (known more : Option (List ℕ)) (so_far : SoFar old now left known) → Consumes known more new.ahead → SoFar old new left more
-    go None more so_far consumes = absurd (nothing so_far.is)
-      where
-        nothing : None ≡ Some so_far.rest → ⊥
-        nothing e = cc
+    go None more so_far consumes = absurd (none-some so_far.rest so_far.is)
     go (Some rest) None so_far consumes = absurd consumes
     go (Some rest) (Some more) so_far consumes = record {
       rest = more;
@@ -201,29 +204,20 @@ piece_read old now taken new left known more so_far part line count consumes = g
       whole =
           behind_it old now taken left (Some rest) false so_far part
           ∙ ap (λ (bs : List ℕ). taken.line ++ (bs ++ so_far.rest)) (part.left refl)
-          ∙ ap (λ (bs : List ℕ). taken.line ++ bs) (sym (some_same so_far.is) ∙ consumes)
+          ∙ ap (λ (bs : List ℕ). taken.line ++ bs) (sym (same_bytes so_far.is) ∙ consumes)
           ∙ ap (λ (bs : List ℕ). bs ++ (new.ahead ++ more)) (sym line);
       inside = rw line (inside_it old now taken left (Some rest) false so_far part);
       count = count ∙ part.count ∙ so_far.count;
     }
-      where
-        some_same : {bs cs : List ℕ} → Some bs ≡ Some cs → bs ≡ cs
-        some_same e = cc
 
 -- nothing more is read
 end_whole : (old now : LinesHeld) (left : List ℕ) (known : Option (List ℕ)) (so_far : SoFar old now left known) → now.ahead ≡ [] → IsAtEnd known
     → (so_far.rest ≡ []) × (old.ahead ++ left ≡ now.line)
-end_whole old now left None so_far empty at_end = absurd (nothing so_far.is)
-  where
-    nothing : None ≡ Some so_far.rest → ⊥
-    nothing e = cc
+end_whole old now left None so_far empty at_end = absurd (none-some so_far.rest so_far.is)
 end_whole old now left (Some known) so_far empty at_end = (none, whole)
   where
-    some_same : {bs cs : List ℕ} → Some bs ≡ Some cs → bs ≡ cs
-    some_same e = cc
-
     none : so_far.rest ≡ []
-    none = sym (some_same so_far.is) ∙ at_end
+    none = sym (same_bytes so_far.is) ∙ at_end
 
     whole : old.ahead ++ left ≡ now.line
     whole = so_far.whole ∙ ap (λ (bs : List ℕ). now.line ++ (bs ++ so_far.rest)) empty ∙ ap (λ (bs : List ℕ). now.line ++ bs) none ∙ append-nil now.line
@@ -236,14 +230,11 @@ line_at_end old now new left known so_far empty at_end has plain same first some
   rest = so_far.rest;
   known = so_far.is;
   more = λ (e : ◌≡◌ {A = Bool} true true). lines;
-  none = λ (e : ◌≡◌ {A = Bool} true false). absurd (differ e);
+  none = λ (e : ◌≡◌ {A = Bool} true false). absurd (true_false e);
   first = λ (e : ◌≡◌ {A = Bool} true true). first ∙ ap (λ (n : ℕ). n == 0) so_far.count;
   some = λ (e : ◌≡◌ {A = Bool} true true). some;
 }
   where
-    differ : ◌≡◌ {A = Bool} true false → ⊥
-    differ e = cc
-
     ends : (so_far.rest ≡ []) × (old.ahead ++ left ≡ now.line)
     ends = end_whole old now left known so_far empty at_end
 
@@ -266,19 +257,13 @@ pub ended_by : (is_last : Bool) (old now part_taken new : LinesHeld) (left : Lis
     → new.line ≡ map blank_of part_taken.line → new.ahead ≡ part_taken.ahead → (new.count == 1) ≡ (part_taken.count == 0)
     → (new.count == 0) ≡ false → SoFar old now left known → ReadsLine old new left known true
 ended_by true old now taken new left known is part plain same first some so_far = line_ended old now taken new left known so_far part plain same first some
-ended_by false old now taken new left known is part plain same first some so_far = absurd (differ is)
-  where
-    differ : ◌≡◌ {A = Bool} false true → ⊥
-    differ e = cc
+ended_by false old now taken new left known is part plain same first some so_far = absurd (false_true is)
 
 -- the line is what was read before the text ended
 pub at_end_by : (is_last : Bool) (old now part_taken read new : LinesHeld) (left : List ℕ) (known more : Option (List ℕ)) → is_last ≡ false → TakesPart now part_taken is_last
     → read.line ≡ part_taken.line → read.count ≡ part_taken.count → Consumes known more read.ahead → read.ahead ≡ [] → IsAtEnd more
     → 0 < length read.line → new.line ≡ map blank_of read.line → new.ahead ≡ read.ahead → (new.count == 1) ≡ (read.count == 0)
     → (new.count == 0) ≡ false → SoFar old now left known → ReadsLine old new left more true
-at_end_by true old now taken read new left known more is part line count consumes empty at_end has plain same first some so_far = absurd (differ is)
-  where
-    differ : ◌≡◌ {A = Bool} true false → ⊥
-    differ e = cc
+at_end_by true old now taken read new left known more is part line count consumes empty at_end has plain same first some so_far = absurd (true_false is)
 at_end_by false old now taken read new left known more is part line count consumes empty at_end has plain same first some so_far =
     line_at_end old read new left more (piece_read old now taken read left known more so_far part line count consumes) empty at_end has plain same first some
